@@ -1,0 +1,57 @@
+-- The paper's number, rank and tag of each answer. Assumes nothing: these are definitions.
+use Prim.Native.Nat.{ℕ}
+use mathlib.Core.Bool.{Bool, true, false}
+use Rattle.strip.specs.declared.Element.{Element}
+use Rattle.strip.specs.declared.Refusal.{Refusal}
+use Rattle.strip.specs.declared.Refusal.the-variants.{BadShape, Damaged, TooSoon, BadRank, Full, Empty}
+use Rattle.strip.specs.declared.Answer.{Answer}
+use Rattle.strip.specs.declared.Answer.the-variants.{Done, Out, Refused}
+use Rattle.strip.specs.declared.Count.{Count}
+use Rattle.strip.specs.declared.Count.the-variants.{Held, Unknown}
+
+-- an element of this rank and tag
+abbrev pub element : ℕ → ℕ → Element
+element r t = record { rank = record { 0 = r }; tag = record { 0 = t } }
+
+-- the element that stands where there is none: "A refusal, idle cycle or push answers rank 0, tag 0"
+unfoldable pub blank : Element
+blank = element 0 0
+
+-- what the order goes by: "Lower rank leaves first"
+unfoldable pub key : Element → ℕ
+key e = e .rank .0
+
+-- column "No." of the table of refusals
+abbrev pub refusalNumber : Refusal → ℕ
+refusalNumber BadShape = 1
+refusalNumber Damaged = 2
+refusalNumber TooSoon = 3
+refusalNumber BadRank = 4
+refusalNumber Full = 5
+refusalNumber Empty = 6
+
+-- .. and 0 where nothing is refused
+abbrev pub numberOf : Answer → ℕ
+numberOf Done = 0
+numberOf (Out e) = 0
+numberOf (Refused r) = refusalNumber r
+
+abbrev pub elementOf : Answer → Element
+elementOf Done = blank
+elementOf (Out e) = e
+elementOf (Refused r) = blank
+
+abbrev pub rankOf : Answer → ℕ
+rankOf a = elementOf a .rank .0
+
+abbrev pub tagOf : Answer → ℕ
+tagOf a = elementOf a .tag .0
+
+-- held: its number, and what it answers. "In every queue a refused held answers 0"
+abbrev pub countNumber : Count → ℕ
+countNumber (Held n) = 0
+countNumber (Unknown r) = refusalNumber r
+
+abbrev pub countOf : Count → ℕ
+countOf (Held n) = n
+countOf (Unknown r) = 0
