@@ -35,9 +35,9 @@ pub enum Count {
     Unknown(Refusal),
 }
 
-// What may be asked of a queue. Nothing asks for nothing: an idle cycle.
+// What may be asked of a queue. Idle asks for nothing.
 pub enum Request {
-    Nothing,
+    Idle,
     Push(Element),
     Pop,
     Replace(Element),

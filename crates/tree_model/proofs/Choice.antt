@@ -1,0 +1,202 @@
+-- The laws of the three choices of a slot. What comes after goes by these laws alone.
+-- Assumes nothing.
+use Prim.Native.Nat.{_*_, _+_, _<_, _≤_, suc, zero, ℕ}
+use native.Mathlib.Nat.{le-of-lt, le-of-suc-le-suc, not-suc-le-zero}
+use native.Mathlib.Omega.{arith}
+use mathlib.Core.Bool.{_&&_, _||_, Bool, cond, false, not, true, true≢false}
+use mathlib.Core.List.{[], _∷_, List}
+use mathlib.Core.Path.{_≡_, refl, subst}
+use lib.Dec.{leb}
+use lib.ListN.{getD, length}
+use borrow.Author.Tests.{eqb-false, eqb-true, leb-false, leb-true}
+use Rattle.laws.specs.Lists.{All, all-at, all-map}
+use Rattle.laws.specs.Tests.{and-left, and-right}
+use Rattle.strip.specs.Answers.{key}
+use Rattle.tree_model.specs.Node.{every, firstEmpty, isEmpty, leastCount, lowest, seek, slotAt, sumCounts, vacant}
+use Rattle.tree_model.specs.declared.Slot.{Slot}
+
+-- ---- the first empty slot
+pub empty-found : (nd : List Slot) → firstEmpty nd < length nd → slotAt nd (firstEmpty nd) .count ≡ 0
+unfolding firstEmpty seek slotAt isEmpty
+empty-found [] h = absurd (not-suc-le-zero h)
+empty-found (s ∷ ss) h = go (isEmpty s) refl h (empty-found ss)
+  where
+    go : (b : Bool) → isEmpty s ≡ b → cond b 0 (suc (firstEmpty ss)) < suc (length ss)
+        → (firstEmpty ss < length ss → slotAt ss (firstEmpty ss) .count ≡ 0) → getD (s ∷ ss) (cond b 0 (suc (firstEmpty ss))) vacant .count ≡ 0
+    go true e h ih = eqb-true (s .count) 0 e
+    go false e h ih = ih (le-of-suc-le-suc h)
+
+pub none-empty : (nd : List Slot) → length nd ≤ firstEmpty nd → All (λ s. 0 < s .count) nd
+unfolding firstEmpty seek isEmpty
+none-empty [] h = tt
+none-empty (s ∷ ss) h = go (isEmpty s) refl h (none-empty ss)
+  where
+    go : (b : Bool) → isEmpty s ≡ b → suc (length ss) ≤ cond b 0 (suc (firstEmpty ss))
+        → (length ss ≤ firstEmpty ss → All (λ s. 0 < s .count) ss) → (0 < s .count) × All (λ s. 0 < s .count) ss
+    go true e h ih = absurd (not-suc-le-zero h)
+    go false e h ih = (pos (s .count) (eqb-false (s .count) 0 e), ih (le-of-suc-le-suc h))
+      where
+        pos : (n : ℕ) → (n ≡ 0 → ⊥) → 0 < n
+        pos zero h = absurd (h refl)
+        pos (suc n) h = omega arith
+
+-- ---- the smallest count
+pub every-all : (f : Slot → Bool) (ss : List Slot) → every f ss ≡ true → All (λ u. f u ≡ true) ss
+unfolding every
+every-all f [] e = tt
+every-all f (u ∷ ss) e = (and-left (f u) (every f ss) e, every-all f ss (and-right (f u) (every f ss) e))
+
+-- a count that some slot's count is below is not least
+fails : (c n : ℕ) (ss : List Slot) → every (λ u. leb n (u .count)) ss ≡ false → All (λ u. c ≤ u .count) ss → c < n
+unfolding every
+fails c n [] e h = absurd (true≢false e)
+fails c n (u ∷ ss) e h = go (leb n (u .count)) refl e (λ e. fails c n ss e (h .1))
+  where
+    go : (b : Bool) → leb n (u .count) ≡ b → (b && every (λ u. leb n (u .count)) ss) ≡ false
+        → (every (λ u. leb n (u .count)) ss ≡ false → c < n) → c < n
+    go true p e ih = ih e
+    go false p e ih = omega (arith, leb-false n (u .count) p, h .0)
+
+pub least-in : (nd : List Slot) → 0 < length nd → leastCount nd < length nd
+unfolding leastCount seek every
+least-in [] h = absurd (not-suc-le-zero h)
+least-in (s ∷ []) h = omega arith
+least-in (s ∷ t ∷ ss) h = go (every (λ u. leb (s .count) (u .count)) (t ∷ ss)) (least-in (t ∷ ss) (omega arith))
+  where
+    go : (b : Bool) → leastCount (t ∷ ss) < suc (length ss) → cond b 0 (suc (leastCount (t ∷ ss))) < suc (suc (length ss))
+    go true h = omega arith
+    go false h = omega arith
+
+pub least-le : (nd : List Slot) → All (λ u. slotAt nd (leastCount nd) .count ≤ u .count) nd
+unfolding leastCount seek slotAt
+least-le [] = tt
+least-le (s ∷ ss) = go (every (λ u. leb (s .count) (u .count)) ss) refl (least-le ss)
+  where
+    go : (b : Bool) → every (λ u. leb (s .count) (u .count)) ss ≡ b → All (λ u. slotAt ss (leastCount ss) .count ≤ u .count) ss
+        → (getD (s ∷ ss) (cond b 0 (suc (leastCount ss))) vacant .count ≤ s .count)
+        × All (λ u. getD (s ∷ ss) (cond b 0 (suc (leastCount ss))) vacant .count ≤ u .count) ss
+    go true e ih = (omega arith, all-map _ _ (λ u p. leb-true (s .count) (u .count) p) ss (every-all _ ss e))
+    go false e ih = (le-of-lt (fails (slotAt ss (leastCount ss) .count) (s .count) ss e ih), ih)
+
+-- ---- the lowest key
+pub record IsLowest (nd : List Slot) (j : ℕ) : Type 0 where
+  pub inside : j < length nd
+  pub occupied : 0 < slotAt nd j .count
+  pub least : All (λ u. 0 < u .count → key (slotAt nd j .element) ≤ key (u .element)) nd
+
+-- u is no rival of an element of key r
+abbrev rival : ℕ → Slot → Bool
+rival r u = isEmpty u || leb r (key (u .element))
+
+pos : (n : ℕ) → (n ≡ 0 → ⊥) → 0 < n
+pos zero h = absurd (h refl)
+pos (suc n) h = omega arith
+
+pub filled : (s : Slot) → isEmpty s ≡ false → 0 < s .count
+unfolding isEmpty
+filled s e = pos (s .count) (eqb-false (s .count) 0 e)
+
+pub void : (s : Slot) → isEmpty s ≡ true → s .count ≡ 0
+unfolding isEmpty
+void s e = eqb-true (s .count) 0 e
+
+no-rival : (r : ℕ) (u : Slot) → rival r u ≡ true → 0 < u .count → r ≤ key (u .element)
+no-rival r u e h = go (isEmpty u) refl e
+  where
+    go : (b : Bool) → isEmpty u ≡ b → (b || leb r (key (u .element))) ≡ true → r ≤ key (u .element)
+    go true p e = absurd (not-suc-le-zero (subst (λ (n : ℕ). 0 < n) (void u p) h))
+    go false p e = leb-true r (key (u .element)) e
+
+-- where there is a rival, one slot is occupied by a lower key
+beaten : (r c : ℕ) (ss : List Slot) → every (rival r) ss ≡ false → (0 < sumCounts ss) × (All (λ u. 0 < u .count → c ≤ key (u .element)) ss → c < r)
+unfolding every sumCounts
+beaten r c [] e = absurd (true≢false e)
+beaten r c (u ∷ ss) e = go (isEmpty u) refl (leb r (key (u .element))) refl e (λ e. beaten r c ss e)
+  where
+    go : (a : Bool) → isEmpty u ≡ a → (b : Bool) → leb r (key (u .element)) ≡ b → ((a || b) && every (rival r) ss) ≡ false
+        → (every (rival r) ss ≡ false → (0 < sumCounts ss) × (All (λ u. 0 < u .count → c ≤ key (u .element)) ss → c < r))
+        → (0 < u .count + sumCounts ss) × ((0 < u .count → c ≤ key (u .element)) × All (λ u. 0 < u .count → c ≤ key (u .element)) ss → c < r)
+    go true p b q e ih = (omega (arith, ih e .0), λ h. ih e .1 (h .1))
+    go false p true q e ih = (omega (arith, ih e .0), λ h. ih e .1 (h .1))
+    go false p false q e ih = (omega (arith, filled u p), λ h. omega (arith, h .0 (filled u p), leb-false r (key (u .element)) q))
+
+pub lowest-is : (nd : List Slot) → 0 < sumCounts nd → IsLowest nd (lowest nd)
+unfolding lowest seek slotAt sumCounts
+lowest-is [] h = absurd (not-suc-le-zero h)
+lowest-is (s ∷ ss) h = go (isEmpty s) refl (every (rival (key (s .element))) ss) refl (lowest-is ss)
+  where
+    go : (a : Bool) → isEmpty s ≡ a → (b : Bool) → every (rival (key (s .element))) ss ≡ b → (0 < sumCounts ss → IsLowest ss (lowest ss))
+        → IsLowest (s ∷ ss) (cond (not a && b) 0 (suc (lowest ss)))
+    go true p b q ih =
+        let i = ih (omega (arith, void s p)) in
+        record { inside = omega (arith, i .inside); occupied = i .occupied; least = (λ h. omega (arith, void s p), i .least) }
+    go false p true q ih = record { inside = omega arith; occupied = filled s p; least = (λ h. omega arith, all-map _ _ (no-rival (key (s .element))) ss (every-all _ ss q)) }
+    go false p false q ih =
+        let i = ih (beaten (key (s .element)) 0 ss q .0) in
+        record { inside = omega (arith, i .inside); occupied = i .occupied; least = (λ h. le-of-lt (beaten (key (s .element)) _ ss q .1 (i .least)), i .least) }
+
+-- a bound on all counts bounds their sum
+pub counts-lower : (c : ℕ) (nd : List Slot) → All (λ u. c ≤ u .count) nd → length nd * c ≤ sumCounts nd
+unfolding sumCounts
+counts-lower c [] h = omega arith
+counts-lower c (u ∷ nd) h = omega (arith, h .0, counts-lower c nd (h .1))
+
+pub all-slotAt : (P : Slot → Type 0) (nd : List Slot) (j : ℕ) → All P nd → j < length nd → P (slotAt nd j)
+unfolding slotAt
+all-slotAt P nd j h lt = all-at P nd j vacant h lt
+
+-- ---- leftmost: for the code that finds the place. A place with the laws is the place
+pub least-left : (nd : List Slot) (i : ℕ) → i < leastCount nd → slotAt nd (leastCount nd) .count < slotAt nd i .count
+unfolding leastCount seek slotAt
+least-left [] i h = absurd (not-suc-le-zero h)
+least-left (s ∷ ss) i h = go (every (λ u. leb (s .count) (u .count)) ss) refl i h (least-left ss)
+  where
+    go : (b : Bool) → every (λ u. leb (s .count) (u .count)) ss ≡ b → (i : ℕ) → i < cond b 0 (suc (leastCount ss))
+        → ((i : ℕ) → i < leastCount ss → slotAt ss (leastCount ss) .count < slotAt ss i .count)
+        → getD (s ∷ ss) (cond b 0 (suc (leastCount ss))) vacant .count < getD (s ∷ ss) i vacant .count
+    go true e i h ih = absurd (not-suc-le-zero h)
+    go false e zero h ih = fails (slotAt ss (leastCount ss) .count) (s .count) ss e (least-le ss)
+    go false e (suc i) h ih = ih i (le-of-suc-le-suc h)
+
+pub least-unique : (nd : List Slot) (j : ℕ) → j < length nd
+    → ((i : ℕ) → i < length nd → slotAt nd j .count ≤ slotAt nd i .count) → ((i : ℕ) → i < j → slotAt nd j .count < slotAt nd i .count) → leastCount nd ≡ j
+least-unique nd j inside le left =
+    let b : ℕ = leastCount nd in
+    let b-in : b < length nd = least-in nd (omega arith) in
+    let b-le : slotAt nd b .count ≤ slotAt nd j .count = all-slotAt (λ u. slotAt nd b .count ≤ u .count) nd j (least-le nd) inside in
+    let l : ¬ (b < j) = λ h. omega (arith, left b h) in
+    let r : ¬ (j < b) = λ h. omega (arith, least-left nd j h, le b b-in) in
+    omega arith
+
+pub lowest-left : (nd : List Slot) → 0 < sumCounts nd → (i : ℕ) → i < lowest nd → 0 < slotAt nd i .count → key (slotAt nd (lowest nd) .element) < key (slotAt nd i .element)
+unfolding lowest seek slotAt sumCounts
+lowest-left [] h i l o = absurd (not-suc-le-zero h)
+lowest-left (s ∷ ss) h i l o = go (isEmpty s) refl (every (rival (key (s .element))) ss) refl i l o (lowest-left ss)
+  where
+    go : (a : Bool) → isEmpty s ≡ a → (b : Bool) → every (rival (key (s .element))) ss ≡ b → (i : ℕ) → i < cond (not a && b) 0 (suc (lowest ss)) → 0 < getD (s ∷ ss) i vacant .count
+        → (0 < sumCounts ss → (i : ℕ) → i < lowest ss → 0 < slotAt ss i .count → key (slotAt ss (lowest ss) .element) < key (slotAt ss i .element))
+        → key (getD (s ∷ ss) (cond (not a && b) 0 (suc (lowest ss))) vacant .element) < key (getD (s ∷ ss) i vacant .element)
+    go true p b q zero l o ih = absurd (not-suc-le-zero (subst (λ (n : ℕ). 0 < n) (void s p) o))
+    go true p b q (suc i) l o ih = ih (omega (arith, void s p)) i (le-of-suc-le-suc l) o
+    go false p true q i l o ih = absurd (not-suc-le-zero l)
+    go false p false q zero l o ih = beaten (key (s .element)) _ ss q .1 (lowest-is ss (beaten (key (s .element)) 0 ss q .0) .least)
+    go false p false q (suc i) l o ih = ih (beaten (key (s .element)) 0 ss q .0) i (le-of-suc-le-suc l) o
+
+-- some slot is occupied
+counts-pos : (nd : List Slot) (j : ℕ) → 0 < slotAt nd j .count → 0 < sumCounts nd
+unfolding slotAt sumCounts vacant
+counts-pos [] j h = absurd (not-suc-le-zero h)
+counts-pos (s ∷ ss) zero h = omega arith
+counts-pos (s ∷ ss) (suc j) h = omega (arith, counts-pos ss j h)
+
+pub lowest-unique : (nd : List Slot) (j : ℕ) → j < length nd → 0 < slotAt nd j .count
+    → ((i : ℕ) → i < length nd → 0 < slotAt nd i .count → key (slotAt nd j .element) ≤ key (slotAt nd i .element))
+    → ((i : ℕ) → i < j → 0 < slotAt nd i .count → key (slotAt nd j .element) < key (slotAt nd i .element)) → lowest nd ≡ j
+lowest-unique nd j inside occ le left =
+    let b : ℕ = lowest nd in
+    let some : 0 < sumCounts nd = counts-pos nd j occ in
+    let i = lowest-is nd some in
+    let b-le : key (slotAt nd b .element) ≤ key (slotAt nd j .element) = all-slotAt (λ u. 0 < u .count → key (slotAt nd b .element) ≤ key (u .element)) nd j (i .least) inside occ in
+    let l : ¬ (b < j) = λ h. omega (arith, left b h (i .occupied)) in
+    let r : ¬ (j < b) = λ h. omega (arith, lowest-left nd some j h occ, le b (i .inside) (i .occupied)) in
+    omega arith

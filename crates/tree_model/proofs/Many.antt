@@ -1,0 +1,105 @@
+-- How many elements of a tree pass a test; the sum of a sound node's counts; the least key of a sound tree.
+-- Assumes nothing.
+use Prim.Native.Nat.{_*_, _+_, _<_, _≤_, suc, zero, ℕ}
+use native.Mathlib.Omega.{arith}
+use mathlib.Core.Bool.{Bool, false, true}
+use mathlib.Core.List.{[], _∷_}
+use mathlib.Core.Path.{_≡_, ap, refl, subst, sym}
+use lib.Dec.{ltb}
+use lib.ListN.{length, length-map, List·getD-map}
+use borrow.Author.Tests.{le-ltb, lt-ltb, ltb-true}
+use Rattle.laws.specs.Lists.{All, all-any, all-both, all-map, all-of-map, sum-le, sum-upper, sum-zero, sumOf}
+use Rattle.strip.specs.Answers.{key}
+use Rattle.strip.specs.declared.Element.{Element}
+use Rattle.tree_model.proofs.Choice.{lowest-is}
+use Rattle.tree_model.specs.Damage.{room}
+use Rattle.tree_model.specs.Node.{low, slotAt, sumCounts, vacant}
+use Rattle.tree_model.specs.Tree.{always, at, bare, below, Fit, held, hit, lowOf, many, nothing, own, ownBy, slots, something, Sound, Tree}
+use Rattle.tree_model.specs.declared.Slot.{Slot}
+
+pub hit-le : (b : Bool) → hit b ≤ 1
+hit-le true = omega arith
+hit-le false = omega arith
+
+own-le : (c : ℕ) (f g : Element → Bool) (e : Element) → hit (f e) ≤ hit (g e) → ownBy c f e ≤ ownBy c g e
+own-le zero f g e h = omega arith
+own-le (suc c) f g e h = h
+
+pub many-le : (f g : Element → Bool) → ((e : Element) → hit (f e) ≤ hit (g e)) → (k : ℕ) (t : Tree k) → many f k t ≤ many g k t
+unfolding many
+many-le f g h zero t = omega arith
+many-le f g h (suc k) t = sum-le _ _ t (all-any _ (λ z. omega (arith, own-le (z .0 .count) f g (z .0 .element) (h (z .0 .element)), many-le f g h k (z .1))) t)
+
+pub many-held : (f : Element → Bool) (k : ℕ) (t : Tree k) → many f k t ≤ held k t
+many-held f k t = many-le f always (λ e. hit-le (f e)) k t
+
+pub not-under : (r : ℕ) (e : Element) → r ≤ key e → hit (below r e) ≡ 0
+not-under r e h = ap hit (le-ltb (key e) r h)
+
+under-mono : (r q : ℕ) (e : Element) → r ≤ q → hit (below r e) ≤ hit (below q e)
+under-mono r q e h = go (ltb (key e) r) refl
+  where
+    go : (b : Bool) → ltb (key e) r ≡ b → hit b ≤ hit (below q e)
+    go true p = rw (lt-ltb (key e) q (omega (arith, ltb-true (key e) r p))) (omega arith)
+    go false p = omega arith
+
+-- Nothing below q, so Nothing below r
+pub none-under : (r q k : ℕ) (t : Tree k) → r ≤ q → many (below q) k t ≡ 0 → many (below r) k t ≡ 0
+none-under r q k t h z = omega (arith, many-le (below r) (below q) (λ e. under-mono r q e h) k t)
+
+pub own-zero : (f : Element → Bool) (s : Slot) → s .count ≡ 0 → own f s ≡ 0
+own-zero f s e = ap (λ (c : ℕ). ownBy c f (s .element)) e
+
+pub own-suc : (f : Element → Bool) (s : Slot) (c : ℕ) → s .count ≡ suc c → own f s ≡ hit (f (s .element))
+own-suc f s c e = ap (λ (c : ℕ). ownBy c f (s .element)) e
+
+-- ---- the sum of the counts
+fit-count : (k : ℕ) (s : Slot) (t : Tree k) → Fit k s t → s .count ≡ own always s + held k t
+unfolding vacant
+fit-count k s t (nothing e h) = omega (arith, ap (λ (s : Slot). s .count) e, own-zero always s (ap (λ (s : Slot). s .count) e))
+fit-count k s t (something c u) = omega (arith, own-suc always s (held k t) c)
+
+pub sum-counts : (m k : ℕ) (t : Tree (suc k)) → All (λ z. Sound m k (z .1) × Fit k (z .0) (z .1)) t → sumCounts (slots k t) ≡ held (suc k) t
+unfolding sumCounts slots many sumOf
+sum-counts m k [] h = refl
+sum-counts m k (z ∷ t) h = omega (arith, fit-count k (z .0) (z .1) (h .0 .1), sum-counts m k t (h .1))
+
+own-one : (c : ℕ) (f : Element → Bool) (e : Element) → ownBy c f e ≤ 1
+own-one zero f e = omega arith
+own-one (suc c) f e = hit-le (f e)
+
+pub held-room : (m k : ℕ) (t : Tree k) → Sound m k t → held k t ≤ room m k
+unfolding many room
+held-room m zero t s = omega arith
+held-room m (suc k) t s =
+    subst (λ (n : ℕ). held (suc k) t ≤ n * suc (room m k)) (s .0)
+    (sum-upper _ (suc (room m k)) t (all-map _ _ (λ z h. omega (arith, own-one (z .0 .count) always (z .0 .element), held-room m k (z .1) (h .0))) t (s .1)))
+
+-- ---- slots and places
+pub slot-at : (k : ℕ) (t : Tree (suc k)) (j : ℕ) → slotAt (slots k t) j ≡ at k t j .0
+unfolding slotAt slots at
+slot-at k t j = List·getD-map (λ (z : Slot × Tree k). z .0) t j (vacant, bare k)
+
+pub length-slots : (k : ℕ) (t : Tree (suc k)) → length (slots k t) ≡ length t
+unfolding slots
+length-slots k t = length-map t (λ (z : Slot × Tree k). z .0)
+
+pub all-slots : (k : ℕ) (P : Slot → Type 0) (t : Tree (suc k)) → All P (slots k t) → All (λ z. P (z .0)) t
+unfolding slots
+all-slots k P t h = all-of-map (λ (z : Slot × Tree k). z .0) P t h
+
+-- ---- no element of a sound tree has a lower key than the one that a Take gives
+fit-under : (k r : ℕ) (s : Slot) (t : Tree k) → Fit k s t → (0 < s .count → r ≤ key (s .element)) → own (below r) s + many (below r) k t ≡ 0
+unfolding vacant
+fit-under k r s t (nothing e h) l = omega (arith, own-zero (below r) s (ap (λ (s : Slot). s .count) e), many-held (below r) k t)
+fit-under k r s t (something c u) l =
+    let h : r ≤ key (s .element) = l (omega arith) in
+    omega (arith, own-suc (below r) s (held k t) c, not-under r (s .element) h, none-under r (key (s .element)) k t h u)
+
+pub low-least : (m k : ℕ) (t : Tree k) → Sound m k t → 0 < held k t → many (below (key (lowOf k t))) k t ≡ 0
+unfolding many lowOf low
+low-least m zero t s h = refl
+low-least m (suc k) t s h =
+    let i = lowest-is (slots k t) (subst (λ (n : ℕ). 0 < n) (sym (sum-counts m k t (s .1))) h) in
+    sum-zero _ t (all-map _ _ (λ z p. fit-under k (key (low (slots k t))) (z .0) (z .1) (p .0 .1) (p .1)) t
+    (all-both _ _ t (s .1) (all-slots k (λ u. 0 < u .count → key (low (slots k t)) ≤ key (u .element)) t (i .least))))

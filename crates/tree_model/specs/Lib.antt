@@ -1,0 +1,7 @@
+pub mod Node
+pub mod Levels
+pub mod Words
+pub mod Damage
+pub mod Calls
+pub mod Tree
+pub mod Serve
