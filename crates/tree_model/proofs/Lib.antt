@@ -6,3 +6,5 @@ pub mod Hang
 pub mod Path
 pub mod Words
 pub mod Serve
+pub mod Exactly
+pub mod Promises

@@ -40,7 +40,7 @@ module _ (m k : ℕ) (some : 0 < m) (ls : Levels (suc k)) (st : Store m k ls) wh
   unfolding slots treeOf
   root-slots = slots-hang root _
 
-  root-sum : sumCounts root ≡ held (suc k) t
+  pub root-sum : sumCounts root ≡ held (suc k) t
   root-sum = ap sumCounts (sym root-slots) ∙ sum-counts m k t (st .sound .1)
 
   root-low : low root ≡ lowOf (suc k) t

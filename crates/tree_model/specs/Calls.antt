@@ -30,11 +30,11 @@ slotLimit = 5460
 
 -- "Order M is 2, 4 or 8"
 unfoldable pub orderOk : ℕ → Bool
-orderOk m = eqb m 2 || eqb m 4 || eqb m 8
+orderOk m = eqb m 2 || (eqb m 4 || eqb m 8)
 
 -- "Levels L at least 1", the capacity within the limit, and a slice that holds it: "A shorter slice is refused"
 unfoldable pub shapeOk : ℕ → ℕ → ℕ → Bool
-shapeOk m levels len = orderOk m && leb 1 levels && leb (room m levels) slotLimit && leb (width * room m levels) len
+shapeOk m levels len = orderOk m && (leb 1 levels && (leb (room m levels) slotLimit && leb (width * room m levels) len))
 
 -- ---- what a request comes to at a root that is in order: its answer, and the work at node 0
 pub record Ruling : Type 0 where

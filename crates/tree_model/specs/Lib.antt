@@ -5,3 +5,4 @@ pub mod Damage
 pub mod Calls
 pub mod Tree
 pub mod Serve
+pub mod Promise

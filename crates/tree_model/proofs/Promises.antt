@@ -1,0 +1,312 @@
+-- The promises: from a cleared store, over any list of requests, the tree is sound, nothing is damaged, it holds exactly what went in and
+-- has not come out, and what comes out has the lowest rank. Assumes nothing.
+use Prim.Native.Nat.{_*_, _+_, _<_, _≤_, suc, zero, ℕ}
+use native.Mathlib.Nat.{add-assoc, not-suc-le-zero, one-mul, zero-add, zero-mul}
+use native.Mathlib.Omega.{arith}
+use mathlib.Core.Bool.{Bool, cond, false, true}
+use mathlib.Core.List.{[], _++_, _∷_, List}
+use mathlib.Core.Path.{_∙_, _≡_, ap, ap₂, refl, subst, sym}
+use lib.ListN.{drop, getD, getD-replicate, length, length-append, length-drop, length-replicate, List·getD-append, replicate}
+use Rattle.laws.specs.Lists.{sumOf}
+use Rattle.laws.specs.Sums.{grid, sum-index, sumTo, to-add, to-append, to-ext, to-zero}
+use Rattle.strip.specs.Answers.{blank, element, key}
+use Rattle.strip.specs.declared.Answer.{Answer}
+use Rattle.strip.specs.declared.Answer.the-variants.{Done, Out, Refused}
+use Rattle.strip.specs.declared.Count.the-variants.{Held}
+use Rattle.strip.specs.declared.Element.{Element}
+use Rattle.strip.specs.declared.Refusal.the-variants.{BadShape, Damaged}
+use Rattle.strip.specs.declared.Request.{Request}
+use Rattle.tree_model.proofs.Exactly.{called-fine, exactly-clear, is-shape, no-damage, order-pos, shape-is}
+use Rattle.tree_model.proofs.Hang.{below-less}
+use Rattle.tree_model.proofs.Path.{node-ok, root-path}
+use Rattle.tree_model.proofs.Serve.{answered, cleared-holds, cleared-store, root-slots, root-sum}
+use Rattle.tree_model.proofs.Words.{apply-length, level-node, node-length, node-slot, size-room, tab-ext, words-apply}
+use Rattle.tree_model.specs.Calls.{called, carriedOut, cleared, counted, outcome, Outcome, rootOf, rootOk, rule, Ruling, shapeOk, verdict, wayOk}
+use Rattle.tree_model.specs.Damage.{nodeOk, room}
+use Rattle.tree_model.specs.Levels.{apply, Level, Levels, work}
+use Rattle.tree_model.specs.Node.{slotAt, sumCounts, vacant}
+use Rattle.tree_model.specs.Promise.{allBrought, allGiven, answers, Damage, leaves, same, Shape, stored}
+use Rattle.tree_model.specs.Serve.{bareLevels, brought, given, holding, Least, ruled, serve, Store}
+use Rattle.tree_model.specs.Tree.{always, below, hang, many, own, Sound, Tree, treeOf}
+use Rattle.tree_model.specs.Words.{applyWords, levelOf, levelsOf, nodeOf, size, slotOf, tabulate, width, wipe}
+use Rattle.tree_model.specs.declared.Slot.{Slot}
+
+-- ---- the slots of a store and the elements of its trees
+hang-sum : (f : Element → Bool) (k : ℕ) (nd : List Slot) (g : ℕ → Tree k)
+    → sumOf (λ (z : Slot × Tree k). own f (z .0) + many f k (z .1)) (hang nd g) ≡ sumOf (own f) nd + sumTo (length nd) (λ j. many f k (g j))
+unfolding sumOf sumTo hang
+hang-sum f k [] g = refl
+hang-sum f k (s ∷ nd) g = omega (arith, hang-sum f k nd (λ j. g (suc j)))
+
+node-sum : (f : Element → Bool) (m : ℕ) (ws : List ℕ) (i : ℕ) → sumOf (own f) (nodeOf m ws i) ≡ sumTo m (λ j. own f (slotOf ws (i + j)))
+unfolding slotAt
+node-sum f m ws i =
+    sum-index (own f) (nodeOf m ws i) vacant ∙ ap (λ (n : ℕ). sumTo n (λ j. own f (getD (nodeOf m ws i) j vacant))) (node-length m ws i)
+    ∙ to-ext m _ _ (λ j lt. ap (own f) (slot-here j lt))
+  where
+    slot-here : (j : ℕ) → j < m → getD (nodeOf m ws i) j vacant ≡ slotOf ws (i + j)
+    slot-here j lt = node-slot m ws i j lt
+
+-- the slots of k levels hold what the trees at the nodes of the first of them hold
+levels-sum : (f : Element → Bool) (m k : ℕ) (ws : List ℕ) (b c : ℕ)
+    → sumTo (size m k c) (λ i. own f (slotOf ws (b + i))) ≡ sumTo c (λ n. many f k (treeOf m k (levelsOf m k ws b c) n))
+unfolding size many treeOf levelsOf sumTo
+levels-sum f m zero ws b c = sym (to-zero c)
+levels-sum f m (suc k) ws b c =
+    let O : ℕ → ℕ = λ i. own f (slotOf ws (b + i)) in
+    let M : ℕ → ℕ = λ i. many f k (treeOf m k (levelsOf m k ws (b + c * m) (c * m)) i) in
+    let S : ℕ → ℕ = λ n. sumTo m (λ j. O (n * m + j)) in
+    let rows : sumTo c (λ n. many f (suc k) (treeOf m (suc k) (levelsOf m (suc k) ws b c) n)) ≡ sumTo c (λ n. S n + sumTo m (λ j. M (n * m + j))) =
+    to-ext c (λ n. many f (suc k) (treeOf m (suc k) (levelsOf m (suc k) ws b c) n)) (λ n. S n + sumTo m (λ j. M (n * m + j))) (λ n l. row n l) in
+    let deeper : sumTo (size m k (c * m)) (λ i. O (c * m + i)) ≡ sumTo (c * m) M =
+    to-ext (size m k (c * m)) (λ i. O (c * m + i)) (λ i. own f (slotOf ws (b + c * m + i))) (λ i l. ap (λ (p : ℕ). own f (slotOf ws p)) (omega arith))
+    ∙ levels-sum f m k ws (b + c * m) (c * m) in
+    omega (arith, rows, to-add c S (λ n. sumTo m (λ j. M (n * m + j))), grid c m O, grid c m M, to-append (c * m) (size m k (c * m)) O, deeper)
+  where
+    row : (n : ℕ) → n < c → many f (suc k) (treeOf m (suc k) (levelsOf m (suc k) ws b c) n)
+        ≡ sumTo m (λ j. own f (slotOf ws (b + (n * m + j)))) + sumTo m (λ j. many f k (treeOf m k (levelsOf m k ws (b + c * m) (c * m)) (n * m + j)))
+    row n l =
+        let G : ℕ → Tree k = λ j. treeOf m k (levelsOf m k ws (b + c * m) (c * m)) (n * m + j) in
+        let nd : List Slot = nodeOf m ws (b + n * m) in
+        let own-sum : sumOf (own f) nd ≡ sumTo m (λ j. own f (slotOf ws (b + (n * m + j)))) =
+        node-sum f m ws (b + n * m) ∙ to-ext m _ _ (λ j lt. ap (λ (p : ℕ). own f (slotOf ws p)) (add-assoc b (n * m) j)) in
+        ap (λ (nd : List Slot). many f (suc k) (hang nd G)) (level-node m ws b c n l) ∙ hang-sum f k nd G
+        ∙ ap₂ (λ (a n : ℕ). a + sumTo n (λ j. many f k (G j))) own-sum (node-length m ws (b + n * m))
+
+-- ---- a cleared store
+wiped-slot : (n : ℕ) (ws : List ℕ) (i : ℕ) → i < n → slotOf (wipe n ws) i ≡ vacant
+unfolding slotOf wipe vacant blank
+wiped-slot n ws i h = slot-zero (zero-at (3 * i) (omega arith)) (zero-at (3 * i + 1) (omega arith)) (zero-at (3 * i + 2) (omega arith))
+  where
+    zero-at : (p : ℕ) → p < n * 3 → getD (replicate (n * 3) 0 ++ drop (n * 3) ws) p 0 ≡ 0
+    zero-at p lt = List·getD-append (replicate (n * 3) 0) (drop (n * 3) ws) 0 p (subst (λ (a : ℕ). p < a) (sym (length-replicate (n * 3) 0)) lt) ∙ getD-replicate (n * 3) p 0 0 lt
+
+    slot-zero : {r t c : ℕ} → r ≡ 0 → t ≡ 0 → c ≡ 0 → _≡_ {A = Slot} (record { element = element r t; count = c }) (record { element = element 0 0; count = 0 })
+    slot-zero p q o = λ i. record { element = record { rank = record { 0 = p i }; tag = record { 0 = q i } }; count = o i }
+
+tab-same : {A : Type 0} (n : ℕ) (a : A) → tabulate n (λ i. a) ≡ replicate n a
+unfolding tabulate
+tab-same zero a = refl
+tab-same (suc n) a = ap (λ (l : List _). a ∷ l) (tab-same n a)
+
+wiped-levels : (m k n : ℕ) (ws : List ℕ) (b c : ℕ) → b + size m k c ≤ n → levelsOf m k (wipe n ws) b c ≡ bareLevels m k c
+unfolding levelsOf bareLevels size levelOf nodeOf
+wiped-levels m zero n ws b c h = refl
+wiped-levels m (suc k) n ws b c h =
+    ap₂ (λ (l : Level) (r : Levels k). (l, r))
+    (tab-ext c _ _ (λ a ha. tab-ext m _ _ (λ j hj. wiped-slot n ws (b + a * m + j) (omega (arith, below-less m a c j ha hj))) ∙ tab-same m vacant) ∙ tab-same c (replicate m vacant))
+    (wiped-levels m k n ws (b + c * m) (c * m) (omega arith))
+
+-- ---- the words of a store
+pub stored-holding : (m k : ℕ) (ws : List ℕ) (f : Element → Bool) → stored (room m (suc k)) ws f ≡ holding m k (levelsOf m (suc k) ws 0 1) f
+unfolding stored holding sumTo
+stored-holding m k ws f =
+    let e : size m (suc k) 1 ≡ room m (suc k) = size-room m (suc k) 1 ∙ one-mul (room m (suc k)) in
+    let p : sumTo (room m (suc k)) (λ i. own f (slotOf ws i)) ≡ sumTo (size m (suc k) 1) (λ i. own f (slotOf ws (0 + i))) =
+    ap (λ (n : ℕ). sumTo n (λ i. own f (slotOf ws i))) (sym e)
+    ∙ to-ext (size m (suc k) 1) (λ i. own f (slotOf ws i)) (λ i. own f (slotOf ws (0 + i))) (λ i l. ap (λ (j : ℕ). own f (slotOf ws j)) (sym (zero-add i))) in
+    omega (arith, p, levels-sum f m (suc k) ws 0 1)
+
+-- what is kept between calls: the shape, and a sound store
+pub record Kept (m k : ℕ) (ws : List ℕ) : Type 0 where
+  pub shape : Shape m (suc k) (length ws)
+  pub store : Store m k (levelsOf m (suc k) ws 0 1)
+
+pub root-node : (m : ℕ) (ws : List ℕ) → getD (levelOf m ws 0 1) 0 [] ≡ rootOf m ws
+root-node m ws = level-node m ws 0 1 0 (omega arith) ∙ ap (nodeOf m ws) (rw zero-mul)
+
+module _ (m k : ℕ) (ws : List ℕ) (kept : Kept m k ws) where
+  abbrev ls : Levels (suc k)
+  ls = levelsOf m (suc k) ws 0 1
+
+  some : 0 < m
+  some = order-pos (kept .shape)
+
+  pub same-ruling : (r : Request) → ruled m k r ls ≡ verdict m (suc k) r ws
+  unfolding ruled levelsOf
+  same-ruling r = ap (rule (room m (suc k)) r) (root-node m ws)
+
+  pub sound-root : rootOk m (suc k) ws ≡ true
+  unfolding levelsOf
+  sound-root =
+      ap (nodeOk (room m k)) (sym (root-node m ws)) ∙ ap (nodeOk (room m k)) (sym (root-slots m k some ls (kept .store)))
+      ∙ node-ok m k (treeOf m (suc k) ls 0) (kept .store .sound)
+
+  pub sound-way : (r : Request) → wayOk m (suc k) (verdict m (suc k) r ws .op) ws ≡ true
+  sound-way r =
+      subst (λ (g : Ruling). wayOk m (suc k) (g .op) ws ≡ true) (same-ruling r)
+      (root-path m some (suc k) (ruled m k r ls .op) ls (kept .store .shaped) (kept .store .sound) (answered m k some ls (kept .store) r .can))
+
+  -- a call on a kept store is what its ruling says
+  pub kept-called : (r : Request) → called m (suc k) r ws ≡ outcome (verdict m (suc k) r ws .answer) (applyWords m (suc k) (work (verdict m (suc k) r ws .op) 0) 0 1 ws)
+  kept-called r = called-fine m (suc k) r ws (is-shape m (suc k) (length ws) (kept .shape)) sound-root (sound-way r)
+
+  pub kept-words : (r : Request) → levelsOf m (suc k) (called m (suc k) r ws .words) 0 1 ≡ serve m k r ls
+  unfolding serve
+  kept-words r =
+      ap (λ (o : Outcome). levelsOf m (suc k) (o .words) 0 1) (kept-called r)
+      ∙ words-apply m some (suc k) (work (verdict m (suc k) r ws .op) 0) 0 1 ws fits (sound-way r) .0
+      ∙ ap (λ (g : Ruling). apply m (suc k) (work (g .op) 0) ls) (sym (same-ruling r))
+    where
+      fits : width * (0 + size m (suc k) 1) ≤ length ws
+      fits = omega (arith, kept .shape .slice, size-room m (suc k) 1)
+
+  pub kept-answer : (r : Request) → called m (suc k) r ws .answer ≡ ruled m k r ls .answer
+  kept-answer r = ap (λ (o : Outcome). o .answer) (kept-called r) ∙ ap (λ (g : Ruling). g .answer) (sym (same-ruling r))
+
+-- every call keeps the slice's length
+pub called-length : (m levels : ℕ) (r : Request) (ws : List ℕ) → length (called m levels r ws .words) ≡ length ws
+unfolding called carriedOut
+called-length m levels r ws = go (shapeOk m levels (length ws)) (rootOk m levels ws) (wayOk m levels (verdict m levels r ws .op) ws)
+  where
+    done : Outcome
+    done = outcome (verdict m levels r ws .answer) (applyWords m levels (work (verdict m levels r ws .op) 0) 0 1 ws)
+
+    go : (a b c : Bool) → length (cond a (cond b (cond c done (outcome (Refused Damaged) ws)) (outcome (Refused Damaged) ws)) (outcome (Refused BadShape) ws) .words) ≡ length ws
+    go false b c = refl
+    go true false c = refl
+    go true true false = refl
+    go true true true = apply-length m levels (work (verdict m levels r ws .op) 0) 0 1 ws
+
+-- PAST: no call touches a word past the capacity, whatever the words
+pub past-stands : (m levels : ℕ) (r : Request) (ws : List ℕ) (p : ℕ) → width * room m levels ≤ p → getD (called m levels r ws .words) p 0 ≡ getD ws p 0
+unfolding called carriedOut
+past-stands m levels r ws p h = go (shapeOk m levels (length ws)) refl (rootOk m levels ws) (wayOk m levels (verdict m levels r ws .op) ws) refl
+  where
+    done : Outcome
+    done = outcome (verdict m levels r ws .answer) (applyWords m levels (work (verdict m levels r ws .op) 0) 0 1 ws)
+
+    go : (a : Bool) → shapeOk m levels (length ws) ≡ a → (b c : Bool) → wayOk m levels (verdict m levels r ws .op) ws ≡ c
+        → getD (cond a (cond b (cond c done (outcome (Refused Damaged) ws)) (outcome (Refused Damaged) ws)) (outcome (Refused BadShape) ws) .words) p 0 ≡ getD ws p 0
+    go false s b c w = refl
+    go true s false c w = refl
+    go true s true false w = refl
+    go true s true true w =
+        let sh = shape-is m levels (length ws) s in
+        words-apply m (order-pos sh) levels (work (verdict m levels r ws .op) 0) 0 1 ws (omega (arith, sh .slice, size-room m levels 1)) w .1 p (omega (arith, size-room m levels 1))
+
+-- ---- lists of requests
+module _ (m k : ℕ) where
+  pub called-kept : (r : Request) (ws : List ℕ) → Kept m k ws → Kept m k (called m (suc k) r ws .words)
+  called-kept r ws kept =
+      record {
+        shape = subst (λ (n : ℕ). Shape m (suc k) n) (sym (called-length m (suc k) r ws)) (kept .shape);
+        store = subst (λ (l : Levels (suc k)). Store m k l) (sym (kept-words m k ws kept r)) (answered m k (order-pos (kept .shape)) (levelsOf m (suc k) ws 0 1) (kept .store) r .store);
+      }
+
+  pub leaves-kept : (rs : List Request) (ws : List ℕ) → Kept m k ws → Kept m k (leaves m (suc k) rs ws)
+  unfolding leaves
+  leaves-kept [] ws kept = kept
+  leaves-kept (r ∷ rs) ws kept = leaves-kept rs (called m (suc k) r ws .words) (called-kept r ws kept)
+
+  call-sum : (r : Request) (ws : List ℕ) → Kept m k ws → (f : Element → Bool)
+      → stored (room m (suc k)) (called m (suc k) r ws .words) f + given (called m (suc k) r ws .answer) f ≡ stored (room m (suc k)) ws f + brought r (called m (suc k) r ws .answer) f
+  call-sum r ws kept f =
+      rw (stored-holding m k (called m (suc k) r ws .words) f, stored-holding m k ws f, kept-words m k ws kept r, kept-answer m k ws kept r)
+      (answered m k (order-pos (kept .shape)) (levelsOf m (suc k) ws 0 1) (kept .store) r .sum f)
+
+  list-sum : (rs : List Request) (ws : List ℕ) → Kept m k ws → (f : Element → Bool)
+      → stored (room m (suc k)) (leaves m (suc k) rs ws) f + allGiven (answers m (suc k) rs ws) f ≡ stored (room m (suc k)) ws f + allBrought rs (answers m (suc k) rs ws) f
+  unfolding leaves answers allGiven allBrought
+  list-sum [] ws kept f = refl
+  list-sum (r ∷ rs) ws kept f = omega (arith, call-sum r ws kept f, list-sum rs (called m (suc k) r ws .words) (called-kept r ws kept) f)
+
+-- ---- from a cleared store. The number of levels is any that passes the shape
+abbrev pub start : ℕ → ℕ → List ℕ → List ℕ
+start m levels ws = cleared m levels ws .words
+
+wipe-length : (n : ℕ) (ws : List ℕ) → n * width ≤ length ws → length (wipe n ws) ≡ length ws
+unfolding wipe
+wipe-length n ws h = rw (length-append, length-replicate, length-drop) (omega arith)
+
+module _ (m k : ℕ) (ws : List ℕ) (sh : Shape m (suc k) (length ws)) where
+  start-is : start m (suc k) ws ≡ wipe (room m (suc k)) ws
+  start-is = ap (λ (o : Outcome). o .words) (exactly-clear m (suc k) ws .2 sh)
+
+  start-bare : levelsOf m (suc k) (start m (suc k) ws) 0 1 ≡ bareLevels m (suc k) 1
+  start-bare =
+      ap (λ (v : List ℕ). levelsOf m (suc k) v 0 1) start-is
+      ∙ wiped-levels m (suc k) (room m (suc k)) ws 0 1 (omega (arith, size-room m (suc k) 1))
+
+  start-kept : Kept m k (start m (suc k) ws)
+  start-kept =
+      record {
+        shape = subst (λ (v : List ℕ). Shape m (suc k) (length v)) (sym start-is) (subst (λ (n : ℕ). Shape m (suc k) n) (sym (wipe-length (room m (suc k)) ws (omega (arith, sh .slice)))) sh);
+        store = subst (λ (l : Levels (suc k)). Store m k l) (sym start-bare) (cleared-store m k);
+      }
+
+  start-empty : (f : Element → Bool) → stored (room m (suc k)) (start m (suc k) ws) f ≡ 0
+  start-empty f = stored-holding m k (start m (suc k) ws) f ∙ ap (λ (l : Levels (suc k)). holding m k l f) start-bare ∙ cleared-holds m k f
+
+-- the call held on a kept store
+counted-is : (m levels : ℕ) (ws : List ℕ) → shapeOk m levels (length ws) ≡ true → rootOk m levels ws ≡ true → counted m levels ws ≡ Held (sumCounts (rootOf m ws))
+unfolding counted
+counted-is m levels ws s o = rw (s, o)
+
+kept-sum : (m k : ℕ) (ws : List ℕ) → Kept m k ws → sumCounts (rootOf m ws) ≡ holding m k (levelsOf m (suc k) ws 0 1) always
+unfolding holding levelsOf
+kept-sum m k ws kept = ap sumCounts (sym (root-node m ws)) ∙ root-sum m k (order-pos (kept .shape)) (levelsOf m (suc k) ws 0 1) (kept .store)
+
+-- THE PROMISES. Any order and number of levels that pass the shape, any words to start with, any list of requests.
+-- `after` are the words that the list leaves, from a cleared store
+abbrev pub after : ℕ → ℕ → List Request → List ℕ → List ℕ
+after m levels rs ws = leaves m levels rs (start m levels ws)
+
+module _ (m : ℕ) (ws : List ℕ) (rs : List Request) where
+  -- HOLDS: of every kind of element as many are stored as went in and have not come out
+  pub holds : (levels : ℕ) → Shape m levels (length ws) → (f : Element → Bool)
+      → stored (room m levels) (after m levels rs ws) f + allGiven (answers m levels rs (start m levels ws)) f ≡ allBrought rs (answers m levels rs (start m levels ws)) f
+  holds zero sh f = absurd (not-suc-le-zero (sh .some))
+  holds (suc k) sh f = omega (arith, list-sum m k rs (start m (suc k) ws) (start-kept m k ws sh) f, start-empty m k ws sh f)
+
+  -- .. so each pair as often
+  pub pairs : (levels : ℕ) → Shape m levels (length ws) → (e : Element)
+      → stored (room m levels) (after m levels rs ws) (same e) + allGiven (answers m levels rs (start m levels ws)) (same e)
+      ≡ allBrought rs (answers m levels rs (start m levels ws)) (same e)
+  pairs levels sh e = holds levels sh (same e)
+
+  -- LEAST: what comes out has the lowest rank of all stored and, in a replace, of the newcomer
+  pub least : (levels : ℕ) → Shape m levels (length ws) → (r : Request)
+      → Least (stored (room m levels) (after m levels rs ws)) r (called m levels r (after m levels rs ws) .answer)
+  least zero sh r = absurd (not-suc-le-zero (sh .some))
+  least (suc k) sh r =
+      let now : List ℕ = after m (suc k) rs ws in
+      let kept = leaves-kept m k rs (start m (suc k) ws) (start-kept m k ws sh) in
+      subst (λ (a : Answer). Least (stored (room m (suc k)) now) r a) (sym (kept-answer m k now kept r))
+      (least-same (holding m k (levelsOf m (suc k) now 0 1)) (stored (room m (suc k)) now) (λ f. sym (stored-holding m k now f)) r
+      (ruled m k r (levelsOf m (suc k) now 0 1) .answer) (answered m k (order-pos sh) (levelsOf m (suc k) now 0 1) (kept .store) r .least))
+    where
+      least-same : (g h : (Element → Bool) → ℕ) → ((f : Element → Bool) → g f ≡ h f) → (r : Request) (a : Answer) → Least g r a → Least h r a
+      least-same g h p r Done l = tt
+      least-same g h p r (Out e) l = (sym (p (below (key e))) ∙ l .0, l .1)
+      least-same g h p r (Refused n) l = tt
+
+  -- SOUND: every count is one plus what lies below, no rank lies above a lower one, and an empty slot is all zero with nothing below
+  pub sound : (levels : ℕ) → Shape m levels (length ws) → Sound m levels (treeOf m levels (levelsOf m levels (after m levels rs ws) 0 1) 0)
+  sound zero sh = absurd (not-suc-le-zero (sh .some))
+  sound (suc k) sh = leaves-kept m k rs (start m (suc k) ws) (start-kept m k ws sh) .store .sound
+
+  -- UNDAMAGED: no call is refused for damage, and none for the shape
+  pub undamaged : (levels : ℕ) → Shape m levels (length ws) → (r : Request) → Damage m levels r (after m levels rs ws) → ⊥
+  undamaged zero sh r d = not-suc-le-zero (sh .some)
+  undamaged (suc k) sh r d =
+      let now : List ℕ = after m (suc k) rs ws in
+      let kept = leaves-kept m k rs (start m (suc k) ws) (start-kept m k ws sh) in
+      no-damage m (suc k) r now (sound-root m k now kept) (sound-way m k now kept r) d
+
+  pub shape-kept : (levels : ℕ) → Shape m levels (length ws) → Shape m levels (length (after m levels rs ws))
+  shape-kept zero sh = absurd (not-suc-le-zero (sh .some))
+  shape-kept (suc k) sh = leaves-kept m k rs (start m (suc k) ws) (start-kept m k ws sh) .shape
+
+  -- the call held answers how many are stored
+  pub held-says : (levels : ℕ) → Shape m levels (length ws) → counted m levels (after m levels rs ws) ≡ Held (stored (room m levels) (after m levels rs ws) always)
+  held-says zero sh = absurd (not-suc-le-zero (sh .some))
+  held-says (suc k) sh =
+      let now : List ℕ = after m (suc k) rs ws in
+      let kept = leaves-kept m k rs (start m (suc k) ws) (start-kept m k ws sh) in
+      counted-is m (suc k) now (is-shape m (suc k) (length now) (kept .shape)) (sound-root m k now kept)
+      ∙ ap Held (kept-sum m k now kept ∙ sym (stored-holding m k now always))
+
+-- PINNED: what a contract says of answer and words allows one outcome only
+pub pinned : (o : Outcome) (a b : Answer) (v w : List ℕ) → outcome a v ≡ o → outcome b w ≡ o → (a ≡ b) × (v ≡ w)
+pinned o a b v w p q = (ap (λ (o : Outcome). o .answer) (p ∙ sym q), ap (λ (o : Outcome). o .words) (p ∙ sym q))
