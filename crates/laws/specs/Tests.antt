@@ -1,6 +1,8 @@
 -- Tests: what a computed yes or no says. Assumes nothing.
+use Prim.Native.Nat.{_-_, pred, suc, zero, ℕ}
+use native.Mathlib.Omega.{arith}
+use mathlib.Core.Bool.{_&&_, _||_, Bool, cond, false, false≢true, not, true}
 use mathlib.Core.Path.{_≡_, refl}
-use mathlib.Core.Bool.{Bool, true, false, cond, not, _&&_, _||_, false≢true}
 
 pub and-left : (a b : Bool) → (a && b) ≡ true → a ≡ true
 and-left true b e = refl
@@ -27,3 +29,16 @@ not-so false h = refl
 pub cond-path : {A B : Type 0} (f : A → B) (t : Bool) (x y : A) (z : B) → f x ≡ z → f y ≡ z → f (cond t x y) ≡ z
 cond-path f true x y z p q = p
 cond-path f false x y z p q = q
+
+pub and-unit : (b : Bool) → (b && true) ≡ b
+and-unit true = refl
+and-unit false = refl
+
+pub and-assoc : (a b c : Bool) → ((a && b) && c) ≡ (a && (b && c))
+and-assoc true b c = refl
+and-assoc false b c = refl
+
+-- the code's n - 1 is the number before n
+pub sub-one : (n : ℕ) → n - 1 ≡ pred n
+sub-one zero = refl
+sub-one (suc n) = omega arith

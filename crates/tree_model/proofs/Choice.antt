@@ -5,10 +5,10 @@ use native.Mathlib.Nat.{le-of-lt, le-of-suc-le-suc, not-suc-le-zero}
 use native.Mathlib.Omega.{arith}
 use mathlib.Core.Bool.{_&&_, _||_, Bool, cond, false, not, true, true≢false}
 use mathlib.Core.List.{[], _∷_, List}
-use mathlib.Core.Path.{_≡_, refl, subst}
-use lib.Dec.{leb}
+use mathlib.Core.Path.{_≡_, ap, refl, subst}
+use lib.Dec.{leb, ltb}
 use lib.ListN.{getD, length}
-use borrow.Author.Tests.{eqb-false, eqb-true, leb-false, leb-true}
+use borrow.Author.Tests.{eqb-false, eqb-true, leb-false, leb-true, ltb-false, ltb-true, ne-eqb}
 use Rattle.laws.specs.Lists.{All, all-at, all-map}
 use Rattle.laws.specs.Tests.{and-left, and-right}
 use Rattle.strip.specs.Answers.{key}
@@ -200,3 +200,31 @@ lowest-unique nd j inside occ le left =
     let l : ¬ (b < j) = λ h. omega (arith, left b h (i .occupied)) in
     let r : ¬ (j < b) = λ h. omega (arith, lowest-left nd some j h occ, le b (i .inside) (i .occupied)) in
     omega arith
+
+-- where all are empty there is none, and the length stands for it
+pub lowest-none : (nd : List Slot) → ((i : ℕ) → i < length nd → slotAt nd i .count ≡ 0) → lowest nd ≡ length nd
+unfolding lowest seek slotAt isEmpty
+lowest-none [] h = refl
+lowest-none (s ∷ ss) h = rw (h 0 (omega arith)) (ap suc (lowest-none ss (λ i lt. h (suc i) (omega arith))))
+
+-- a place with the law of the first empty one is that place
+pub first-unique : (nd : List Slot) (j : ℕ) → j < length nd → ((a : ℕ) → a < j → slotAt nd a .count ≡ 0 → ⊥) → slotAt nd j .count ≡ 0 → firstEmpty nd ≡ j
+unfolding firstEmpty seek slotAt isEmpty
+first-unique [] j h f g = absurd (not-suc-le-zero h)
+first-unique (s ∷ nd) zero h f g = rw g
+first-unique (s ∷ nd) (suc j) h f g = rw (ne-eqb (s .count) 0 (f 0 (omega arith))) (ap suc (first-unique nd j (le-of-suc-le-suc h) (λ a l. f (suc a) (omega arith)) g))
+
+-- an empty slot has the smallest count, so the leftmost smallest is the first empty one where there is one
+pub least-empty : (nd : List Slot) → 0 < length nd → slotAt nd (leastCount nd) .count ≡ 0 → firstEmpty nd ≡ leastCount nd
+least-empty nd h z = first-unique nd (leastCount nd) (least-in nd h) (λ a l e. omega (arith, least-left nd a l)) z
+
+pub least-full : (nd : List Slot) → (slotAt nd (leastCount nd) .count ≡ 0 → ⊥) → length nd ≤ firstEmpty nd
+least-full nd f = go (ltb (firstEmpty nd) (length nd)) refl
+  where
+    go : (b : Bool) → ltb (firstEmpty nd) (length nd) ≡ b → length nd ≤ firstEmpty nd
+    go true e =
+        let i : firstEmpty nd < length nd = ltb-true (firstEmpty nd) (length nd) e in
+        let z : slotAt nd (firstEmpty nd) .count ≡ 0 = empty-found nd i in
+        let l : slotAt nd (leastCount nd) .count ≤ slotAt nd (firstEmpty nd) .count = all-slotAt (λ u. slotAt nd (leastCount nd) .count ≤ u .count) nd (firstEmpty nd) (least-le nd) i in
+        absurd (f (omega arith))
+    go false e = ltb-false (firstEmpty nd) (length nd) e

@@ -26,7 +26,7 @@ use Rattle.strip.specs.declared.Request.{Request}
 use Rattle.strip.specs.declared.Request.the-variants.{Idle, Pop, Push, Replace}
 use Rattle.tree_model.proofs.Nothing.{op-work, work-none}
 use Rattle.tree_model.proofs.Words.{node-length}
-use Rattle.tree_model.specs.Calls.{called, carriedOut, cleared, counted, orderOk, outcome, Outcome, rootOf, rootOk, rule, Ruling, ruling, shapeOk, slotLimit, verdict, wayOk}
+use Rattle.tree_model.specs.Calls.{called, carriedOut, cleared, counted, orderOk, Outcome, outcome, rootOf, rootOk, rule, ruling, Ruling, shapeOk, slotLimit, verdict, wayOk}
 use Rattle.tree_model.specs.Damage.{fine, hasRoom, hasSome, isBlank, lifts, nodeOk, pathOk, readOk, room, slotOk, stepOk}
 use Rattle.tree_model.specs.Levels.{Level, Levels, stepWork, top, work}
 use Rattle.tree_model.specs.Node.{every, isEmpty, isNothing, low, lowest, slotAt, sumCounts}
@@ -147,12 +147,16 @@ pub order-pos : {m levels len : ℕ} → Shape m levels len → 0 < m
 order-pos s = ⊎-elim (λ e. omega arith) (λ d. ⊎-elim (λ e. omega arith) (λ e. omega arith) d) (s .order)
 
 -- ---- a root that is in order holds at most the capacity
+pub slot-limit : (r : ℕ) (s : Slot) → slotOk r s ≡ true → s .count ≤ suc r
+unfolding slotOk
+slot-limit r s e = leb-true (s .count) (suc r) (and-left (leb (s .count) (suc r)) (not (isEmpty s) || isBlank (s .element)) e)
+
 every-sum : (r : ℕ) (nd : List Slot) → nodeOk r nd ≡ true → sumCounts nd ≤ length nd * suc r
-unfolding nodeOk every sumCounts slotOk
+unfolding nodeOk every sumCounts
 every-sum r [] e = omega arith
 every-sum r (s ∷ nd) e =
     let a = and-left (slotOk r s) (every (slotOk r) nd) e in
-    omega (arith, leb-true (s .count) (suc r) (and-left (leb (s .count) (suc r)) (not (isEmpty s) || isBlank (s .element)) a), every-sum r nd (and-right (slotOk r s) (every (slotOk r) nd) e))
+    omega (arith, slot-limit r s a, every-sum r nd (and-right (slotOk r s) (every (slotOk r) nd) e))
 
 pub root-limit : (m levels : ℕ) (ws : List ℕ) → 1 ≤ levels → rootOk m levels ws ≡ true → sumCounts (rootOf m ws) ≤ room m levels
 unfolding room

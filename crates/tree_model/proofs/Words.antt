@@ -161,7 +161,7 @@ module _ (m : ℕ) where
   level-ext ws ws′ b c h = tab-ext c _ _ (λ n hn. tab-ext m _ _ (λ j hj. h (b + n * m + j) (omega (arith, below-less m n c j hn hj))))
 
 -- ---- where the tests pass, a step writes to a place of its node
-some-sum : (nd : List Slot) → every isEmpty nd ≡ false → 0 < sumCounts nd
+pub some-sum : (nd : List Slot) → every isEmpty nd ≡ false → 0 < sumCounts nd
 unfolding every sumCounts
 some-sum [] e = absurd (true≢false e)
 some-sum (u ∷ nd) e = go (isEmpty u) refl e (some-sum nd)

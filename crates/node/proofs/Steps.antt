@@ -1,0 +1,274 @@
+-- What the code of a node's tests and steps has read makes the test's answer and the step. Assumes nothing.
+use Prim.Native.Nat.{_*_, _+_, _-_, _<_, _≤_, pred, suc, zero, ℕ}
+use native.Mathlib.Nat.{mul-le-mul, mul-le-mul-right, suc-add, zero-add}
+use native.Mathlib.Numerals.{add-one}
+use native.Mathlib.Omega.{arith}
+use mathlib.Core.Bool.{_&&_, _||_, Bool, cond, false, not, true}
+use mathlib.Core.List.{List}
+use mathlib.Core.Path.{_∙_, _≡_, ap, ap₂, refl, subst, sym}
+use lib.Dec.{eqb, leb, ltb}
+use lib.ListN.{length}
+use borrow.Author.Tests.{eq-eqb, eqb-true, le-leb, le-ltb, leb-false, leb-true, lt-leb, lt-ltb, not-false, not-true}
+use Rattle.laws.specs.Lists.{All, all-both, all-map}
+use Rattle.laws.specs.Tests.{and-right, and-unit, sub-one}
+use Rattle.node.specs.Scan.{Capacity, childOf, ChildrenIn, Doable, liftOk, lowBelow, NodeIn}
+use Rattle.strip.specs.Answers.{blank, key}
+use Rattle.strip.specs.declared.Element.{Element}
+use Rattle.tree_model.proofs.Choice.{all-slotAt, every-all, least-empty, least-full, least-in, least-le, lowest-is, lowest-none, void}
+use Rattle.tree_model.proofs.Exactly.{slot-limit}
+use Rattle.tree_model.proofs.Path.{all-every}
+use Rattle.tree_model.proofs.Words.{has-sum, node-length, node-slot, some-sum}
+use Rattle.tree_model.specs.Calls.{slotLimit}
+use Rattle.tree_model.specs.Damage.{hasRoom, hasSome, lifts, nodeOk, readOk, room, slotOk, stepOk}
+use Rattle.tree_model.specs.Node.{every, firstEmpty, isEmpty, keep, leastCount, low, lowest, move, opMove, pass, putBy, putMove, slotAt, sumCounts, swapBy, swapMove, takeBy, takeMove}
+use Rattle.tree_model.specs.Words.{nodeMove, nodeOf, slotOf}
+use Rattle.tree_model.specs.declared.Move.{Move}
+use Rattle.tree_model.specs.declared.Op.{Op}
+use Rattle.tree_model.specs.declared.Op.the-variants.{Nothing, Put, Swap, Take}
+use Rattle.tree_model.specs.declared.Slot.{Slot}
+
+-- ---- numbers
+pub room-next : (m i : ℕ) → m * (room m i + 1) ≡ room m (i + 1)
+unfolding room
+room-next m i = rw (add-one, add-one)
+
+room-mono : (m i d : ℕ) → 0 < m → room m i ≤ room m (d + i)
+unfolding room
+room-mono m i zero h = rw zero-add (omega arith)
+room-mono m i (suc d) h = rw suc-add (omega (arith, room-mono m i d h, mul-le-mul-right (suc (room m (d + i))) h))
+
+pub room-up : (m i j : ℕ) → 0 < m → i ≤ j → room m i ≤ room m j
+room-up m i j h l = let e : j - i + i ≡ j = omega arith in subst (λ (n : ℕ). room m i ≤ room m n) e (room-mono m i (j - i) h)
+
+pub capacity-end : (m levels i r : ℕ) → i ≡ levels → r ≡ room m i → Capacity m levels r
+capacity-end m levels i r e p =
+    let q : r ≡ room m levels = p ∙ ap (room m) e in
+    record { within = λ h. q; above = λ h. omega arith }
+
+pub capacity-above : (m levels i r : ℕ) → 0 < m → i ≤ levels → slotLimit < r → r ≡ room m i → Capacity m levels r
+capacity-above m levels i r h l a p = record { within = λ w. absurd (omega (arith, room-up m i levels h l)); above = λ w. a }
+
+pub child-in : (m f j : ℕ) (ws : List ℕ) → 0 < m → j < m → ChildrenIn m f ws → NodeIn m (f + j * m) ws
+child-in m f j ws h lt c = record { order = h; words = omega (arith, mul-le-mul-right m lt) }
+
+pub child-small : (m j : ℕ) → m ≤ 8 → j < m → j * m ≤ 64
+child-small m j h lt = omega (arith, mul-le-mul h h, mul-le-mul-right m lt)
+
+-- a slot's count by its words
+module _ (m : ℕ) (ws : List ℕ) (i : ℕ) (j : ℕ) (a : Slot) (inside : j < m) (read : a ≡ slotOf ws (i + j)) where
+  abbrev nd : List Slot
+  nd = nodeOf m ws i
+
+  pub read-slot : (p : ℕ) → j ≡ p → slotAt nd p ≡ a
+  read-slot p e = ap (slotAt nd) (sym e) ∙ node-slot m ws i j inside ∙ sym read
+
+  -- ---- put
+  module _ (at-least : j ≡ leastCount nd) where
+    least-count-is : slotAt nd (leastCount nd) .count ≡ a .count
+    least-count-is = ap (λ (s : Slot). s .count) (read-slot (leastCount nd) at-least)
+
+    pub least-small : slotAt nd (leastCount nd) .count ≤ slotLimit → a .count ≤ slotLimit
+    least-small h = omega (arith, least-count-is)
+
+    pub put-first : (x : Element) (v : Move) → a .count ≡ 0 → v ≡ move j x 1 Nothing → v ≡ putMove x nd
+    unfolding putMove putBy
+    put-first x v z e =
+        let len : 0 < length nd = omega (arith, node-length m ws i) in
+        let f : firstEmpty nd ≡ leastCount nd = least-empty nd len (least-count-is ∙ z) in
+        let t : ltb (firstEmpty nd) (length nd) ≡ true = lt-ltb (firstEmpty nd) (length nd) (omega (arith, least-in nd len)) in
+        e ∙ ap (λ (p : ℕ). move p x 1 Nothing) (at-least ∙ sym f) ∙ sym (ap (λ (b : Bool). putBy b x nd) t)
+
+    put-full : (x : Element) → (a .count ≡ 0 → ⊥) → putMove x nd ≡ move j (keep x (a .element)) (suc (a .count)) (Put (pass x (a .element)))
+    unfolding putMove putBy
+    put-full x n =
+        ap (λ (b : Bool). putBy b x nd) (le-ltb (firstEmpty nd) (length nd) (least-full nd (λ z. n (sym least-count-is ∙ z))))
+        ∙ ap (λ (p : ℕ). move p (keep x (slotAt nd p .element)) (suc (slotAt nd p .count)) (Put (pass x (slotAt nd p .element)))) (sym at-least)
+        ∙ ap (λ (s : Slot). move j (keep x (s .element)) (suc (s .count)) (Put (pass x (s .element)))) (read-slot j refl)
+
+    put-by : (x : Element) (b : Bool) → ltb (key x) (key (a .element)) ≡ b → (a .count ≡ 0 → ⊥)
+        → move j (cond b x (a .element)) (a .count + 1) (Put (cond b (a .element) x)) ≡ putMove x nd
+    unfolding keep pass
+    put-by x b t n = sym (put-full x n ∙ ap₂ (λ (b : Bool) (c : ℕ). move j (cond b x (a .element)) c (Put (cond b (a .element) x))) t (sym (add-one (a .count))))
+
+    pub put-lower : (x : Element) (b : Bool) (v : Move) → b ≡ ltb (key x) (key (a .element)) → b ≡ true → (a .count ≡ 0 → ⊥)
+        → v ≡ move j x (a .count + 1) (Put (a .element)) → v ≡ putMove x nd
+    put-lower x b v t e n p = p ∙ put-by x true (sym t ∙ e) n
+
+    pub put-higher : (x : Element) (b : Bool) (v : Move) → b ≡ ltb (key x) (key (a .element)) → b ≡ false → (a .count ≡ 0 → ⊥)
+        → v ≡ move j (a .element) (a .count + 1) (Put x) → v ≡ putMove x nd
+    put-higher x b v t e n p = p ∙ put-by x false (sym t ∙ e) n
+
+    -- the test: the smallest count leaves room exactly where not every count is at its limit
+    room-test : (r : ℕ) → nodeOk r nd ≡ true → leb (a .count) r ≡ hasRoom r nd
+    unfolding hasRoom nodeOk
+    room-test r ok = go (leb (a .count) r) refl (every (λ s. eqb (s .count) (suc r)) nd) refl
+      where
+        go : (b : Bool) → leb (a .count) r ≡ b → (d : Bool) → every (λ s. eqb (s .count) (suc r)) nd ≡ d → b ≡ not d
+        go true p true q =
+            let e = all-slotAt (λ s. eqb (s .count) (suc r) ≡ true) nd (leastCount nd) (every-all (λ s. eqb (s .count) (suc r)) nd q) (least-in nd (omega (arith, node-length m ws i))) in
+            absurd (omega (arith, eqb-true (slotAt nd (leastCount nd) .count) (suc r) e, least-count-is, leb-true (a .count) r p))
+        go true p false q = refl
+        go false p true q = refl
+        go false p false q =
+            let lim : All (λ s. s .count ≤ suc r) nd = all-map (λ s. slotOk r s ≡ true) _ (λ s e. slot-limit r s e) nd (every-all (slotOk r) nd ok) in
+            let least : All (λ s. a .count ≤ s .count) nd = subst (λ (n : ℕ). All (λ s. n ≤ s .count) nd) least-count-is (least-le nd) in
+            let same : All (λ s. eqb (s .count) (suc r) ≡ true) nd =
+            all-map (λ s. (s .count ≤ suc r) × (a .count ≤ s .count)) _ (λ s h. eq-eqb (s .count) (suc r) (omega (arith, h .0, h .1, leb-false (a .count) r p))) nd (all-both _ _ nd lim least) in
+            sym q ∙ all-every _ nd same
+
+    pub put-test : (r : ℕ) (t : Bool) → t ≡ nodeOk r nd → (t && leb (a .count) r) ≡ (nodeOk r nd && hasRoom r nd)
+    put-test r t e = go (nodeOk r nd) refl
+      where
+        go : (b : Bool) → nodeOk r nd ≡ b → (t && leb (a .count) r) ≡ (nodeOk r nd && hasRoom r nd)
+        go true p = rw (e, p) (room-test r p)
+        go false p = rw (e, p)
+
+  -- ---- take and swap
+  module _ (f : ℕ) (at-lowest : j ≡ lowest nd) where
+    abbrev child : ℕ → List Slot
+    child = childOf m f ws
+
+    low-count : slotAt nd (lowest nd) .count ≡ a .count
+    low-count = ap (λ (s : Slot). s .count) (read-slot (lowest nd) at-lowest)
+
+    pub take-ends : (b : Element) (v : Move) → a .count ≤ 1 → b ≡ blank → v ≡ move j b 0 Nothing → v ≡ takeMove nd (lowBelow m f ws)
+    unfolding takeMove takeBy
+    take-ends b v h eb e =
+        e ∙ ap₂ (λ (p : ℕ) (b : Element). move p b 0 Nothing) at-lowest eb
+        ∙ sym (ap (λ (t : Bool). takeBy t nd (lowBelow m f ws)) (le-leb (slotAt nd (lowest nd) .count) 1 (omega (arith, low-count))))
+
+    pub take-lifts : (up : Element) (v : Move) → 1 < a .count → up ≡ low (child j) → v ≡ move j up (a .count - 1) Take → v ≡ takeMove nd (lowBelow m f ws)
+    unfolding takeMove takeBy
+    take-lifts up v h eu e =
+        let d : a .count - 1 ≡ pred (slotAt nd (lowest nd) .count) = ap (λ (n : ℕ). n - 1) (sym low-count) ∙ sub-one (slotAt nd (lowest nd) .count) in
+        e ∙ ap₂ (λ (up : Element) (n : ℕ). move j up n Take) eu d ∙ ap (λ (p : ℕ). move p (low (child p)) (pred (slotAt nd (lowest nd) .count)) Take) at-lowest
+        ∙ sym (ap (λ (t : Bool). takeBy t nd (lowBelow m f ws)) (lt-leb (slotAt nd (lowest nd) .count) 1 (omega (arith, low-count))))
+
+    swap-as : (x : Element) (b : Bool) → (leb (a .count) 1 || not (ltb (key (low (child j))) (key x))) ≡ b → swapMove x nd (lowBelow m f ws) ≡ swapBy b x nd (lowBelow m f ws)
+    unfolding swapMove
+    swap-as x b e =
+        ap (λ (t : Bool). swapBy t x nd (lowBelow m f ws))
+        (ap₂ (λ (n p : ℕ). leb n 1 || not (ltb (key (low (child p))) (key x))) low-count (sym at-lowest) ∙ e)
+
+    swap-kept : (x : Element) (v : Move) → (leb (a .count) 1 || not (ltb (key (low (child j))) (key x))) ≡ true → v ≡ move j x (a .count) Nothing → v ≡ swapMove x nd (lowBelow m f ws)
+    unfolding swapBy
+    swap-kept x v t e = e ∙ ap₂ (λ (p n : ℕ). move p x n Nothing) at-lowest (sym low-count) ∙ sym (swap-as x true t)
+
+    pub swap-ends : (x : Element) (v : Move) → a .count ≤ 1 → v ≡ move j x (a .count) Nothing → v ≡ swapMove x nd (lowBelow m f ws)
+    swap-ends x v h e = swap-kept x v (rw (le-leb (a .count) 1 h)) e
+
+    pub swap-stays : (x up : Element) (b : Bool) (v : Move) → 1 < a .count → up ≡ low (child j) → b ≡ ltb (key up) (key x) → b ≡ false
+        → v ≡ move j x (a .count) Nothing → v ≡ swapMove x nd (lowBelow m f ws)
+    swap-stays x up b v h eu t eb e = swap-kept x v (rw (lt-leb (a .count) 1 h, ← eu, ← t, eb)) e
+
+    pub swap-lifts : (x up : Element) (b : Bool) (v : Move) → 1 < a .count → up ≡ low (child j) → b ≡ ltb (key up) (key x) → b ≡ true
+        → v ≡ move j up (a .count) (Swap x) → v ≡ swapMove x nd (lowBelow m f ws)
+    unfolding swapBy
+    swap-lifts x up b v h eu t eb e =
+        e ∙ ap₂ (λ (up : Element) (n : ℕ). move j up n (Swap x)) eu (sym low-count)
+        ∙ ap (λ (p : ℕ). move p (low (child p)) (slotAt nd (lowest nd) .count) (Swap x)) at-lowest
+        ∙ sym (swap-as x false (rw (lt-leb (a .count) 1 h, ← eu, ← t, eb)))
+
+    -- the node below, where the count is above 1
+    pub child-node : 0 < m → (1 < slotAt nd (lowest nd) .count → ChildrenIn m f ws) → 1 < a .count → NodeIn m (f + j * m) ws
+    child-node h g lt = child-in m f j ws h inside (g (omega (arith, low-count)))
+
+    -- ---- the tests of a take or swap
+    lifts-is : (b : Bool) → leb (a .count) 1 ≡ b → lifts Take nd ≡ not b
+    unfolding lifts
+    lifts-is b e = ap (λ (n : ℕ). not (leb n 1)) low-count ∙ ap not e
+
+    pub lift-ends : (k : ℕ) → (nodeOk (room m k) nd && hasSome nd) ≡ true → a .count ≤ 1 → true ≡ liftOk m k nd child
+    unfolding liftOk stepOk readOk
+    lift-ends k ok h = rw (lifts-is true (le-leb (a .count) 1 h), ok)
+
+    pub lift-reads : (k : ℕ) (t : Bool) → (nodeOk (room m k) nd && hasSome nd) ≡ true → 1 < a .count
+        → t ≡ (nodeOk (room m (k - 1)) (child j) && hasSome (child j)) → t ≡ liftOk m k nd child
+    unfolding liftOk stepOk readOk
+    lift-reads k t ok h e =
+        let d : k - 1 ≡ pred k = sub-one k in
+        e ∙ ap₂ (λ (n p : ℕ). nodeOk (room m n) (child p) && hasSome (child p)) d at-lowest ∙ sym (rw (lifts-is false (lt-leb (a .count) 1 h), ok))
+
+    -- a count above 1 in a node in order has a level below it
+    pub below-some : (k : ℕ) → nodeOk (room m k) nd ≡ true → 1 < a .count → 1 ≤ k
+    unfolding nodeOk room
+    below-some zero ok h =
+        let lim = all-slotAt (λ s. slotOk 0 s ≡ true) nd (lowest nd) (every-all (slotOk 0) nd ok) (subst (λ (p : ℕ). p < length nd) at-lowest (omega (arith, node-length m ws i))) in
+        absurd (omega (arith, slot-limit 0 (slotAt nd (lowest nd)) lim, low-count))
+    below-some (suc k) ok h = omega arith
+
+-- the first test of a take or swap, by the capacity that was counted
+module _ (m k cap : ℕ) (nd : List Slot) (t : Bool) (counted : Capacity m k cap) (limit : room m k ≤ slotLimit) (read : t ≡ (nodeOk cap nd && hasSome nd)) where
+  read-as : t ≡ (nodeOk (room m k) nd && hasSome nd)
+  read-as = read ∙ ap (λ (n : ℕ). nodeOk n nd && hasSome nd) (counted .within limit)
+
+  pub read-yes : not t ≡ false → (nodeOk (room m k) nd && hasSome nd) ≡ true
+  read-yes e = sym read-as ∙ not-false t e
+
+  pub read-no : (child : ℕ → List Slot) → not t ≡ true → false ≡ liftOk m k nd child
+  unfolding liftOk stepOk readOk
+  read-no child e = rw (← read-as, not-true t e)
+
+  pub read-again : (n : ℕ) → k ≡ n → t ≡ (nodeOk (room m n) nd && hasSome nd)
+  read-again n e = read-as ∙ ap (λ (n : ℕ). nodeOk (room m n) nd && hasSome nd) e
+
+-- some slot is occupied exactly where the scan finds one
+pub some-test : (m : ℕ) (ws : List ℕ) (i j : ℕ) (r : ℕ) (t : Bool) → j ≡ lowest (nodeOf m ws i) → t ≡ nodeOk r (nodeOf m ws i)
+    → (t && ltb j m) ≡ (nodeOk r (nodeOf m ws i) && hasSome (nodeOf m ws i))
+unfolding hasSome
+some-test m ws i j r t e et = rw et (ap (λ (b : Bool). nodeOk r (nodeOf m ws i) && b) (go (every isEmpty nd) refl))
+  where
+    nd : List Slot
+    nd = nodeOf m ws i
+
+    go : (b : Bool) → every isEmpty (nodeOf m ws i) ≡ b → ltb j m ≡ not b
+    go true p = le-ltb j m (omega (arith, e, lowest-none nd (λ a h. void (slotAt nd a) (all-slotAt (λ s. isEmpty s ≡ true) nd a (every-all isEmpty nd p) h)), node-length m ws i))
+    go false p = lt-ltb j m (omega (arith, e, lowest-is nd (some-sum nd p) .inside, node-length m ws i))
+
+pub lowest-in : (m : ℕ) (ws : List ℕ) (i j : ℕ) → 0 < sumCounts (nodeOf m ws i) → j ≡ lowest (nodeOf m ws i) → j < m
+lowest-in m ws i j h e = omega (arith, lowest-is (nodeOf m ws i) h .inside, node-length m ws i)
+
+pub some-in : (m : ℕ) (ws : List ℕ) (i j r : ℕ) → (nodeOk r (nodeOf m ws i) && hasSome (nodeOf m ws i)) ≡ true → j ≡ lowest (nodeOf m ws i) → j < m
+some-in m ws i j r ok e = lowest-in m ws i j (has-sum (nodeOf m ws i) (and-right (nodeOk r (nodeOf m ws i)) (hasSome (nodeOf m ws i)) ok)) e
+
+-- ---- any operation
+module _ (m k : ℕ) (o : Op) (nd : List Slot) (child : ℕ → List Slot) where
+  pub step-nothing : o ≡ Nothing → true ≡ stepOk m k o nd child
+  unfolding stepOk readOk lifts
+  step-nothing e = rw e
+
+  pub step-put : (x : Element) (cap : ℕ) (t : Bool) → o ≡ Put x → Capacity m k cap → room m k ≤ slotLimit → t ≡ (nodeOk cap nd && hasRoom cap nd) → t ≡ stepOk m k o nd child
+  unfolding stepOk readOk lifts
+  step-put x cap t e c l p =
+      p ∙ ap (λ (n : ℕ). nodeOk n nd && hasRoom n nd) (c .within l) ∙ sym (and-unit (nodeOk (room m k) nd && hasRoom (room m k) nd)) ∙ ap (λ (o : Op). stepOk m k o nd child) (sym e)
+
+  pub step-take : (t : Bool) → o ≡ Take → t ≡ liftOk m k nd child → t ≡ stepOk m k o nd child
+  unfolding liftOk
+  step-take t e p = p ∙ ap (λ (o : Op). stepOk m k o nd child) (sym e)
+
+  pub step-swap : (x : Element) (t : Bool) → o ≡ Swap x → t ≡ liftOk m k nd child → t ≡ stepOk m k o nd child
+  unfolding liftOk stepOk readOk lifts
+  step-swap x t e p = p ∙ ap (λ (o : Op). stepOk m k o nd child) (sym e)
+
+-- the step of any operation
+module _ (m : ℕ) (o : Op) (i f : ℕ) (ws : List ℕ) (v : Move) where
+  pub move-nothing : (b : Element) → o ≡ Nothing → b ≡ blank → v ≡ move m b 0 Nothing → v ≡ nodeMove m o i f ws
+  unfolding nodeMove opMove
+  move-nothing b e eb p =
+      p ∙ ap₂ (λ (n : ℕ) (b : Element). move n b 0 Nothing) (sym (node-length m ws i)) eb ∙ ap (λ (o : Op). nodeMove m o i f ws) (sym e)
+
+  pub move-put : (x : Element) → o ≡ Put x → v ≡ putMove x (nodeOf m ws i) → v ≡ nodeMove m o i f ws
+  unfolding nodeMove opMove
+  move-put x e p = p ∙ ap (λ (o : Op). nodeMove m o i f ws) (sym e)
+
+  pub move-take : o ≡ Take → v ≡ takeMove (nodeOf m ws i) (lowBelow m f ws) → v ≡ nodeMove m o i f ws
+  unfolding nodeMove opMove
+  move-take e p = p ∙ ap (λ (o : Op). nodeMove m o i f ws) (sym e)
+
+  pub move-swap : (x : Element) → o ≡ Swap x → v ≡ swapMove x (nodeOf m ws i) (lowBelow m f ws) → v ≡ nodeMove m o i f ws
+  unfolding nodeMove opMove
+  move-swap x e p = p ∙ ap (λ (o : Op). nodeMove m o i f ws) (sym e)
+
+-- what an operation needs, by its kind
+pub needs-of : (m : ℕ) (o o′ : Op) (i f : ℕ) (ws : List ℕ) → o ≡ o′ → Doable m o i f ws → Doable m o′ i f ws
+needs-of m o o′ i f ws e d = subst (λ (o : Op). Doable m o i f ws) e d

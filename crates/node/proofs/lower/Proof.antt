@@ -1,0 +1,14 @@
+-- `node::lower` meets its contract. Assumes nothing.
+use borrow.Author.Needs.{needs}
+use Rattle.strip.specs.Answers.{key}
+use Rattle.node.proofs.lower.Statement.{statement}
+use Rattle.node.proofs.lower.Tie as tie
+use Rattle.node.proofs.lower.Reads as reads
+use Rattle.node.proofs.lower.Lts as lts
+
+returns : tie.Need-returns
+unfolding key
+returns c = search needs
+
+pub lower-spec : {M : Type 1} → statement M
+lower-spec = tie.close (tie.spec returns)

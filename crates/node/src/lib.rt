@@ -1,0 +1,304 @@
+// The step of an operation at one node, over the lent words. A node is named by the number of its first slot.
+ghost use mathlib.Core.Path.{_≡_};
+ghost use mathlib.Core.Bool.{_&&_};
+ghost use Prim.Native.Nat.{_+_, _*_, _<_, _≤_};
+ghost use lib.ListN.{length};
+ghost use lib.Dec.{ltb};
+ghost use Rattle.strip.specs.Answers.{blank, key};
+ghost use Rattle.tree_model.specs.Node.{slotAt, leastCount, lowest, low, sumCounts, move, putMove, takeMove, swapMove};
+ghost use Rattle.tree_model.specs.Words.{width, slotOf, write, nodeOf, nodeMove};
+ghost use Rattle.tree_model.specs.Damage.{slotOk, nodeOk, hasRoom, hasSome, stepOk};
+ghost use Rattle.tree_model.specs.Calls.{slotLimit};
+ghost use Rattle.node.specs.Scan.{beats, NodeIn, StepIn, Doable, childOf, lowBelow, liftOk, Capacity};
+use strip::Element;
+use strip::Rank;
+use strip::Tag;
+use tree_model::Move;
+use tree_model::Op;
+use tree_model::Slot;
+
+// The largest capacity of a tree.
+pub const SLOT_LIMIT: usize = 5460;
+
+// ---- words
+
+pub fn slot_at(s: &[u32], i: usize) -> Slot
+    requires { ⌜ width * i + 3 ≤ length (now s) ⌝ }
+    ensures { λ r. ⌜ r ≡ slotOf (now (s .entry)) i ⌝ }
+{
+    let at = 3 * i;
+    let element = Element {
+        rank: Rank(s[at]),
+        tag: Tag(s[at + 1]),
+    };
+    Slot {
+        element,
+        count: s[at + 2],
+    }
+}
+
+pub fn write_slot(s: &mut [u32], i: usize, slot: Slot)
+    requires { ⌜ width * i + 3 ≤ length (now s) ⌝ }
+    ensures { λ _. ⌜ now (s .exit) ≡ write (now (s .entry)) i slot ⌝ }
+{
+    let at = 3 * i;
+    let element = slot.element;
+    let rank = element.rank;
+    let tag = element.tag;
+    s[at] = rank.0;
+    s[at + 1] = tag.0;
+    s[at + 2] = slot.count;
+}
+
+// ---- choices
+
+// The slot with the smallest count, leftmost on a tie. An empty slot has count 0, so where there is one this is the first of them.
+pub fn least_count(s: &[u32], at: usize, order: usize) -> usize
+    requires { ⌜ NodeIn order at (now s) ⌝ }
+    ensures place { λ r. ⌜ r ≡ leastCount (nodeOf order (now (s .entry)) at) ⌝ }
+    ensures within { λ r. ⌜ r < order ⌝ }
+{
+    let mut best = 0;
+    let mut j = 0;
+    while j < order {
+        if slot_at(s, at + j).count < slot_at(s, at + best).count {
+            best = j;
+        }
+        j += 1;
+    }
+    best
+}
+
+fn lower(a: Element, b: Element) -> bool
+    ensures { λ r. ⌜ r ≡ ltb (key a) (key b) ⌝ }
+{
+    let p = a.rank;
+    let q = b.rank;
+    p.0 < q.0
+}
+
+// Whether slot j is occupied, and there is no best yet or its rank is lower than the best one's.
+fn better(s: &[u32], at: usize, order: usize, j: usize, best: usize) -> bool
+    requires { ⌜ NodeIn order at (now s) × (j < order) × (best ≤ order) ⌝ }
+    ensures { λ r. ⌜ r ≡ beats (nodeOf order (now (s .entry)) at) j best ⌝ }
+{
+    let a = slot_at(s, at + j);
+    if a.count == 0 {
+        return false;
+    }
+    if best == order {
+        return true;
+    }
+    let b = slot_at(s, at + best);
+    lower(a.element, b.element)
+}
+
+// The occupied slot of lowest rank, leftmost on a tie; the order where all are empty.
+pub fn lowest_slot(s: &[u32], at: usize, order: usize) -> usize
+    requires { ⌜ NodeIn order at (now s) ⌝ }
+    ensures place { λ r. ⌜ r ≡ lowest (nodeOf order (now (s .entry)) at) ⌝ }
+    ensures within { λ r. ⌜ r ≤ order ⌝ }
+{
+    let mut best = order;
+    let mut j = 0;
+    while j < order {
+        if better(s, at, order, j, best) {
+            best = j;
+        }
+        j += 1;
+    }
+    best
+}
+
+pub fn no_element() -> Element
+    ensures { λ r. ⌜ r ≡ blank ⌝ }
+{
+    Element {
+        rank: Rank(0),
+        tag: Tag(0),
+    }
+}
+
+// What a take gives at a node.
+pub fn lowest_element(s: &[u32], at: usize, order: usize) -> Element
+    requires { ⌜ NodeIn order at (now s) ⌝ }
+    ensures { λ r. ⌜ r ≡ low (nodeOf order (now (s .entry)) at) ⌝ }
+{
+    let j = lowest_slot(s, at, order);
+    if j == order {
+        return no_element();
+    }
+    let a = slot_at(s, at + j);
+    a.element
+}
+
+// The sum of a node's counts.
+pub fn sum_counts(s: &[u32], at: usize, order: usize) -> usize
+    requires { ⌜ NodeIn order at (now s) × (order ≤ 8) ⌝ }
+    ensures { λ r. ⌜ r ≡ sumCounts (nodeOf order (now (s .entry)) at) ⌝ }
+{
+    let mut sum: usize = 0;
+    let mut j = 0;
+    while j < order {
+        let a = slot_at(s, at + j);
+        sum += a.count as usize;
+        j += 1;
+    }
+    sum
+}
+
+// ---- tests for damage
+
+fn slot_ok(a: Slot, room: usize) -> bool
+    requires { ⌜ room ≤ slotLimit ⌝ }
+    ensures { λ r. ⌜ r ≡ slotOk room a ⌝ }
+{
+    let element = a.element;
+    let rank = element.rank;
+    let tag = element.tag;
+    let count = a.count as usize;
+    (count <= room + 1) & ((count != 0) | ((rank.0 == 0) & (tag.0 == 0)))
+}
+
+// Whether no slot of a node is damaged, with room for so many below each.
+pub fn node_ok(s: &[u32], at: usize, order: usize, room: usize) -> bool
+    requires { ⌜ NodeIn order at (now s) × (room ≤ slotLimit) ⌝ }
+    ensures { λ r. ⌜ r ≡ nodeOk room (nodeOf order (now (s .entry)) at) ⌝ }
+{
+    let mut ok = true;
+    let mut j = 0;
+    while j < order {
+        ok = ok & slot_ok(slot_at(s, at + j), room);
+        j += 1;
+    }
+    ok
+}
+
+// Whether a node that a put works at is in order: the smallest count leaves room, or every count is at its limit.
+fn put_ok(s: &[u32], at: usize, order: usize, room: usize) -> bool
+    requires { ⌜ NodeIn order at (now s) × (room ≤ slotLimit) ⌝ }
+    ensures { λ r. ⌜ r ≡ (nodeOk room (nodeOf order (now (s .entry)) at) && hasRoom room (nodeOf order (now (s .entry)) at)) ⌝ }
+{
+    let j = least_count(s, at, order);
+    let a = slot_at(s, at + j);
+    node_ok(s, at, order, room) & (a.count as usize <= room)
+}
+
+// Whether a node that a take, a swap or a read for the lowest works at is in order.
+fn take_ok(s: &[u32], at: usize, order: usize, room: usize) -> bool
+    requires { ⌜ NodeIn order at (now s) × (room ≤ slotLimit) ⌝ }
+    ensures { λ r. ⌜ r ≡ (nodeOk room (nodeOf order (now (s .entry)) at) && hasSome (nodeOf order (now (s .entry)) at)) ⌝ }
+{
+    let j = lowest_slot(s, at, order);
+    node_ok(s, at, order, room) & (j < order)
+}
+
+// How many elements so many levels under one slot hold, where that is within the limit; else a number above the limit.
+pub fn capacity(order: usize, levels: usize) -> usize
+    requires { ⌜ (0 < order) × (order ≤ 8) ⌝ }
+    ensures { λ r. ⌜ Capacity order levels r ⌝ }
+{
+    let mut slots: usize = 0;
+    let mut i = 0;
+    while i < levels && slots <= SLOT_LIMIT {
+        slots = order * (slots + 1);
+        i += 1;
+    }
+    slots
+}
+
+// Whether the node, and the one below the chosen place where a take or swap lifts from there, are in order, with `below` levels below.
+fn lift_ok(s: &[u32], at: usize, first: usize, order: usize, below: usize) -> bool
+    requires { ⌜ StepIn order at first below (now s) ⌝ }
+    ensures { λ r. ⌜ r ≡ liftOk order below (nodeOf order (now (s .entry)) at) (childOf order first (now (s .entry))) ⌝ }
+{
+    if !take_ok(s, at, order, capacity(order, below)) {
+        return false;
+    }
+    let j = lowest_slot(s, at, order);
+    let a = slot_at(s, at + j);
+    if a.count <= 1 {
+        return true;
+    }
+    take_ok(s, first + j * order, order, capacity(order, below - 1))
+}
+
+// Whether all that an operation's step reads is in order, with `below` levels below.
+pub fn step_ok(s: &[u32], at: usize, first: usize, order: usize, below: usize, op: Op) -> bool
+    requires { ⌜ StepIn order at first below (now s) ⌝ }
+    ensures { λ r. ⌜ r ≡ stepOk order below op (nodeOf order (now (s .entry)) at) (childOf order first (now (s .entry))) ⌝ }
+{
+    match op {
+        Op::Nothing => true,
+        Op::Put(_) => put_ok(s, at, order, capacity(order, below)),
+        Op::Take => lift_ok(s, at, first, order, below),
+        Op::Swap(_) => lift_ok(s, at, first, order, below),
+    }
+}
+
+// ---- steps
+
+fn step(place: usize, element: Element, count: u32, rest: Op) -> Move
+    ensures { λ r. ⌜ r ≡ move place element count rest ⌝ }
+{
+    let slot = Slot { element, count };
+    Move { place, slot, rest }
+}
+
+pub fn put_move(s: &[u32], at: usize, order: usize, x: Element) -> Move
+    requires { ⌜ NodeIn order at (now s) × (slotAt (nodeOf order (now s) at) (leastCount (nodeOf order (now s) at)) .count ≤ slotLimit) ⌝ }
+    ensures { λ r. ⌜ r ≡ putMove x (nodeOf order (now (s .entry)) at) ⌝ }
+{
+    let j = least_count(s, at, order);
+    let a = slot_at(s, at + j);
+    if a.count == 0 {
+        return step(j, x, 1, Op::Nothing);
+    }
+    let y = a.element;
+    if lower(x, y) {
+        return step(j, x, a.count + 1, Op::Put(y));
+    }
+    step(j, y, a.count + 1, Op::Put(x))
+}
+
+pub fn take_move(s: &[u32], at: usize, first: usize, order: usize) -> Move
+    requires { ⌜ NodeIn order at (now s) × Doable order Op.Take at first (now s) ⌝ }
+    ensures { λ r. ⌜ r ≡ takeMove (nodeOf order (now (s .entry)) at) (lowBelow order first (now (s .entry))) ⌝ }
+{
+    let j = lowest_slot(s, at, order);
+    let a = slot_at(s, at + j);
+    if a.count <= 1 {
+        return step(j, no_element(), 0, Op::Nothing);
+    }
+    let up = lowest_element(s, first + j * order, order);
+    step(j, up, a.count - 1, Op::Take)
+}
+
+pub fn swap_move(s: &[u32], at: usize, first: usize, order: usize, x: Element) -> Move
+    requires { ⌜ NodeIn order at (now s) × Doable order Op.Take at first (now s) ⌝ }
+    ensures { λ r. ⌜ r ≡ swapMove x (nodeOf order (now (s .entry)) at) (lowBelow order first (now (s .entry))) ⌝ }
+{
+    let j = lowest_slot(s, at, order);
+    let a = slot_at(s, at + j);
+    if a.count <= 1 {
+        return step(j, x, a.count, Op::Nothing);
+    }
+    let up = lowest_element(s, first + j * order, order);
+    if lower(up, x) {
+        return step(j, up, a.count, Op::Swap(x));
+    }
+    step(j, x, a.count, Op::Nothing)
+}
+
+// The step of any operation.
+pub fn move_of(s: &[u32], at: usize, first: usize, order: usize, op: Op) -> Move
+    requires { ⌜ NodeIn order at (now s) × Doable order op at first (now s) ⌝ }
+    ensures { λ r. ⌜ r ≡ nodeMove order op at first (now (s .entry)) ⌝ }
+{
+    match op {
+        Op::Nothing => step(order, no_element(), 0, Op::Nothing),
+        Op::Put(x) => put_move(s, at, order, x),
+        Op::Take => take_move(s, at, first, order),
+        Op::Swap(x) => swap_move(s, at, first, order, x),
+    }
+}
