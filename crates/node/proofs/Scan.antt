@@ -20,6 +20,7 @@ use Rattle.tree_model.specs.Damage.{nodeOk, slotOk}
 use Rattle.tree_model.specs.Node.{every, isEmpty, leastCount, low, lowest, slotAt, sumCounts, vacant}
 use Rattle.tree_model.specs.Words.{nodeOf, slotOf}
 use Rattle.tree_model.specs.declared.Slot.{Slot}
+
 last-case : (a j : ℕ) (P : Type 0) → a < suc j → (a < j → P) → (a ≡ j → P) → P
 last-case a j P h f g = go (ltb a j) refl
   where

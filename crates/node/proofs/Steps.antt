@@ -1,9 +1,9 @@
 -- What the code of a node's tests and steps has read makes the test's answer and the step. Assumes nothing.
 use Prim.Native.Nat.{_*_, _+_, _-_, _<_, _≤_, pred, suc, zero, ℕ}
-use native.Mathlib.Nat.{mul-le-mul, mul-le-mul-right, suc-add, zero-add}
+use native.Mathlib.Nat.{mul-le-mul, mul-le-mul-right, pos-of-ne-zero, suc-add, zero-add}
 use native.Mathlib.Numerals.{add-one}
 use native.Mathlib.Omega.{arith}
-use mathlib.Core.Bool.{_&&_, _||_, Bool, cond, false, not, true}
+use mathlib.Core.Bool.{_&&_, _||_, Bool, cond, false, false≢true, not, true}
 use mathlib.Core.List.{List}
 use mathlib.Core.Path.{_∙_, _≡_, ap, ap₂, refl, subst, sym}
 use lib.Dec.{eqb, leb, ltb}
@@ -18,10 +18,10 @@ use Rattle.tree_model.proofs.Choice.{all-slotAt, every-all, least-empty, least-
 use Rattle.tree_model.proofs.Exactly.{slot-limit}
 use Rattle.tree_model.proofs.Path.{all-every}
 use Rattle.tree_model.proofs.Words.{has-sum, node-length, node-slot, some-sum}
-use Rattle.tree_model.specs.Calls.{slotLimit}
+use Rattle.tree_model.specs.Calls.{orderOk, shapeOk, slotLimit}
 use Rattle.tree_model.specs.Damage.{hasRoom, hasSome, lifts, nodeOk, readOk, room, slotOk, stepOk}
 use Rattle.tree_model.specs.Node.{every, firstEmpty, isEmpty, keep, leastCount, low, lowest, move, opMove, pass, putBy, putMove, slotAt, sumCounts, swapBy, swapMove, takeBy, takeMove}
-use Rattle.tree_model.specs.Words.{nodeMove, nodeOf, slotOf}
+use Rattle.tree_model.specs.Words.{nodeMove, nodeOf, slotOf, width}
 use Rattle.tree_model.specs.declared.Move.{Move}
 use Rattle.tree_model.specs.declared.Op.{Op}
 use Rattle.tree_model.specs.declared.Op.the-variants.{Nothing, Put, Swap, Take}
@@ -272,3 +272,50 @@ module _ (m : ℕ) (o : Op) (i f : ℕ) (ws : List ℕ) (v : Move) where
 -- what an operation needs, by its kind
 pub needs-of : (m : ℕ) (o o′ : Op) (i f : ℕ) (ws : List ℕ) → o ≡ o′ → Doable m o i f ws → Doable m o′ i f ws
 needs-of m o o′ i f ws e d = subst (λ (o : Op). Doable m o i f ws) e d
+
+-- ---- the shape
+pub order-range : (m : ℕ) → orderOk m ≡ true → (0 < m) × (m ≤ 8)
+unfolding orderOk
+order-range m e = go (eqb m 2) refl (eqb m 4) refl (eqb m 8) refl e
+  where
+    go : (a : Bool) → eqb m 2 ≡ a → (b : Bool) → eqb m 4 ≡ b → (c : Bool) → eqb m 8 ≡ c → (a || (b || c)) ≡ true → (0 < m) × (m ≤ 8)
+    go true p b q c r e = (omega (arith, eqb-true m 2 p), omega (arith, eqb-true m 2 p))
+    go false p true q c r e = (omega (arith, eqb-true m 4 q), omega (arith, eqb-true m 4 q))
+    go false p false q true r e = (omega (arith, eqb-true m 8 r), omega (arith, eqb-true m 8 r))
+    go false p false q false r e = absurd (false≢true e)
+
+module _ (m levels len : ℕ) (ok : Bool) (order : ok ≡ orderOk m) where
+  pub shape-order : not ok ≡ true → false ≡ shapeOk m levels len
+  unfolding shapeOk
+  shape-order e = rw (← order, not-true ok e)
+
+  pub shape-range : not ok ≡ false → (0 < m) × (m ≤ 8)
+  shape-range e = order-range m (sym order ∙ not-false ok e)
+
+  pub shape-levels : levels ≡ 0 → false ≡ shapeOk m levels len
+  unfolding shapeOk
+  shape-levels e = go (orderOk m)
+    where
+      go : (b : Bool) → false ≡ (b && (leb 1 levels && (leb (room m levels) slotLimit && leb (width * room m levels) len)))
+      go true = rw (lt-leb 1 levels (omega arith))
+      go false = refl
+
+  pub shape-above : (r : ℕ) → not ok ≡ false → (levels ≡ 0 → ⊥) → Capacity m levels r → slotLimit < r → false ≡ shapeOk m levels len
+  unfolding shapeOk
+  shape-above r e n c h =
+      let big : slotLimit < room m levels = go (leb (room m levels) slotLimit) refl in
+      rw (← order, not-false ok e, le-leb 1 levels (omega (arith, pos-of-ne-zero n)), lt-leb (room m levels) slotLimit big)
+    where
+      go : (b : Bool) → leb (room m levels) slotLimit ≡ b → slotLimit < room m levels
+      go true p = absurd (omega (arith, c .within (leb-true (room m levels) slotLimit p), leb-true (room m levels) slotLimit p))
+      go false p = leb-false (room m levels) slotLimit p
+
+  pub shape-slice : (r : ℕ) → not ok ≡ false → (levels ≡ 0 → ⊥) → Capacity m levels r → r ≤ slotLimit → leb (3 * r) len ≡ shapeOk m levels len
+  unfolding shapeOk
+  shape-slice r e n c h =
+      let low : room m levels ≤ slotLimit = go (leb (room m levels) slotLimit) refl in
+      rw (← order, not-false ok e, le-leb 1 levels (omega (arith, pos-of-ne-zero n)), le-leb (room m levels) slotLimit low, c .within low)
+    where
+      go : (b : Bool) → leb (room m levels) slotLimit ≡ b → room m levels ≤ slotLimit
+      go true p = leb-true (room m levels) slotLimit p
+      go false p = absurd (omega (arith, c .above (leb-false (room m levels) slotLimit p)))

@@ -15,6 +15,7 @@ use Rattle.tree_model.specs.Words.{nodeOf, width}
 use Rattle.tree_model.specs.declared.Op.{Op}
 use Rattle.tree_model.specs.declared.Op.the-variants.{Nothing, Put, Swap, Take}
 use Rattle.tree_model.specs.declared.Slot.{Slot}
+
 pub record NodeIn (m i : ℕ) (ws : List ℕ) : Type 0 where
   pub order : 0 < m
   pub words : width * (i + m) ≤ length ws

@@ -8,7 +8,7 @@ ghost use Rattle.strip.specs.Answers.{blank, key};
 ghost use Rattle.tree_model.specs.Node.{slotAt, leastCount, lowest, low, sumCounts, move, putMove, takeMove, swapMove};
 ghost use Rattle.tree_model.specs.Words.{width, slotOf, write, nodeOf, nodeMove};
 ghost use Rattle.tree_model.specs.Damage.{slotOk, nodeOk, hasRoom, hasSome, stepOk};
-ghost use Rattle.tree_model.specs.Calls.{slotLimit};
+ghost use Rattle.tree_model.specs.Calls.{slotLimit, orderOk, shapeOk};
 ghost use Rattle.node.specs.Scan.{beats, NodeIn, StepIn, Doable, childOf, lowBelow, liftOk, Capacity};
 use strip::Element;
 use strip::Rank;
@@ -301,4 +301,30 @@ pub fn move_of(s: &[u32], at: usize, first: usize, order: usize, op: Op) -> Move
         Op::Take => take_move(s, at, first, order),
         Op::Swap(x) => swap_move(s, at, first, order, x),
     }
+}
+
+// ---- the shape
+
+fn order_ok(order: usize) -> bool
+    ensures { λ r. ⌜ r ≡ orderOk order ⌝ }
+{
+    (order == 2) | ((order == 4) | (order == 8))
+}
+
+// Whether order, levels and the slice's length are those of a tree. No number of levels, however large, wraps: the count of slots stops
+// once it is above the limit.
+pub fn shape_ok(order: usize, levels: usize, len: usize) -> bool
+    ensures { λ r. ⌜ r ≡ shapeOk order levels len ⌝ }
+{
+    if !order_ok(order) {
+        return false;
+    }
+    if levels == 0 {
+        return false;
+    }
+    let slots = capacity(order, levels);
+    if SLOT_LIMIT < slots {
+        return false;
+    }
+    3 * slots <= len
 }

@@ -12,6 +12,7 @@ use Rattle.tree_model.specs.declared.Op.{Op}
 use Rattle.tree_model.specs.declared.Op.the-variants.{Nothing, Put, Swap, Take}
 use Rattle.tree_model.specs.declared.Slot.{Slot}
 use Rattle.tree_model.specs.declared.Work.{Work}
+
 pub is-none : (o : Op) → isNothing o ≡ true → o ≡ Nothing
 unfolding isNothing
 is-none Nothing e = refl

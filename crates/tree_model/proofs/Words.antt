@@ -28,6 +28,7 @@ use Rattle.tree_model.specs.declared.Op.{Op}
 use Rattle.tree_model.specs.declared.Op.the-variants.{Nothing, Put, Swap, Take}
 use Rattle.tree_model.specs.declared.Slot.{Slot}
 use Rattle.tree_model.specs.declared.Work.{Work}
+
 module _ {A : Type 0} where
   pub length-tab : (n : ℕ) (f : ℕ → A) → length (tabulate n f) ≡ n
   unfolding tabulate

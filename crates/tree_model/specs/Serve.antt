@@ -15,6 +15,7 @@ use Rattle.tree_model.specs.Damage.{room}
 use Rattle.tree_model.specs.Levels.{apply, Levels, Shaped, work}
 use Rattle.tree_model.specs.Node.{vacant}
 use Rattle.tree_model.specs.Tree.{below, held, hit, many, Sound, treeOf}
+
 unfoldable pub ruled : (m k : ℕ) → Request → Levels (suc k) → Ruling
 ruled m k r ls = rule (room m (suc k)) r (getD (ls .0) 0 [])
 

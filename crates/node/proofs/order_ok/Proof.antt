@@ -1,0 +1,14 @@
+-- `node::order_ok` meets its contract. Assumes nothing.
+use mathlib.Core.Path.{refl}
+use Rattle.tree_model.specs.Calls.{orderOk}
+use Rattle.node.proofs.order_ok.Statement.{statement}
+use Rattle.node.proofs.order_ok.Tie as tie
+use Rattle.node.proofs.order_ok.Reads as reads
+use Rattle.node.proofs.order_ok.Lts as lts
+
+returns : tie.Need-returns
+unfolding orderOk
+returns c = refl
+
+pub order-ok-spec : {M : Type 1} → statement M
+order-ok-spec = tie.close (tie.spec returns)
