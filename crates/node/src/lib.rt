@@ -69,7 +69,8 @@ pub fn least_count(s: &[u32], at: usize, order: usize) -> usize
     best
 }
 
-fn lower(a: Element, b: Element) -> bool
+// Whether a's rank is strictly lower than b's.
+pub fn lower(a: Element, b: Element) -> bool
     ensures { λ r. ⌜ r ≡ ltb (key a) (key b) ⌝ }
 {
     let p = a.rank;

@@ -228,4 +228,3 @@ pub apply-end : (m left b c n : ℕ) (o : Op) (ws : List ℕ) → left ≡ 0 →
 unfolding applyWords
 apply-end m zero b c n o ws e = refl
 apply-end m (suc k) b c n o ws e = absurd (omega arith)
-
