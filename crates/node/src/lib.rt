@@ -27,9 +27,11 @@ pub fn slot_at(s: &[u32], i: usize) -> Slot
     ensures { λ r. ⌜ r ≡ slotOf (now (s .entry)) i ⌝ }
 {
     let at = 3 * i;
+    let r = s[at];
+    let t = s[at + 1];
     let element = Element {
-        rank: Rank(s[at]),
-        tag: Tag(s[at + 1]),
+        rank: Rank(r),
+        tag: Tag(t),
     };
     Slot {
         element,

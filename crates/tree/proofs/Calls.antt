@@ -1,5 +1,5 @@
 -- What a call's tests have found makes its outcome. Assumes nothing.
-use Prim.Native.Nat.{_*_, _-_, _<_, _≤_, suc, zero, ℕ}
+use Prim.Native.Nat.{_*_, _+_, _-_, _<_, _≤_, suc, zero, ℕ}
 use native.Mathlib.Nat.{mul-suc, not-suc-le-zero}
 use native.Mathlib.Omega.{arith}
 use mathlib.Core.Bool.{Bool, cond, false, not, true}
@@ -26,7 +26,7 @@ use Rattle.tree_model.proofs.Exactly.{called-bad, called-fine, called-root, cal
 use Rattle.tree_model.proofs.Nothing.{op-work}
 use Rattle.tree_model.proofs.Path.{path-none}
 use Rattle.tree_model.proofs.Words.{size-room}
-use Rattle.tree_model.specs.Calls.{called, cleared, counted, outcome, rootOf, rootOk, rule, Ruling, ruling, shapeOk, slotLimit, verdict, wayOk}
+use Rattle.tree_model.specs.Calls.{called, cleared, counted, outcome, rootOf, rootOk, rule, ruling, Ruling, shapeOk, slotLimit, verdict, wayOk}
 use Rattle.tree_model.specs.Damage.{nodeOk, pathOk, room}
 use Rattle.tree_model.specs.Levels.{work}
 use Rattle.tree_model.specs.Node.{low, sumCounts}
@@ -154,11 +154,11 @@ module _ (m levels : ℕ) (ws : List ℕ) (h : ℕ) (op : Opened m levels ws h) 
         ∙ ap (λ (g : Ruling). outcome (g .answer) (applyWords m levels (work (g .op) 0) 0 1 ws)) rules)
 
   -- ---- the rules, by what the code has read
-  pub push-full : (x : Element) (cap : ℕ) → Capacity m levels cap → cap ≤ h → verdict m levels (Push x) ws ≡ ruling (Refused Full) Nothing
+  pub push-full : (x : Element) (cap : ℕ) → Capacity m levels cap → cap < h + 1 → verdict m levels (Push x) ws ≡ ruling (Refused Full) Nothing
   unfolding rule
   push-full x cap c l = rw (le-ltb (sumCounts (rootOf m ws)) (room m levels) (omega (arith, op .count, c .within opened-limit)))
 
-  pub push-puts : (x : Element) (cap : ℕ) → Capacity m levels cap → h < cap → verdict m levels (Push x) ws ≡ ruling Done (Put x)
+  pub push-puts : (x : Element) (cap : ℕ) → Capacity m levels cap → h + 1 ≤ cap → verdict m levels (Push x) ws ≡ ruling Done (Put x)
   unfolding rule
   push-puts x cap c l = rw (lt-ltb (sumCounts (rootOf m ws)) (room m levels) (omega (arith, op .count, c .within opened-limit)))
 

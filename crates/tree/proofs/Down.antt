@@ -26,6 +26,9 @@ use Rattle.tree_model.specs.declared.Slot.{Slot}
 use Rattle.tree_model.specs.declared.Work.{Work}
 use Rattle.tree.specs.Down.{Lies, Ready}
 
+pub not-zero : {n : ℕ} → 1 ≤ n → n ≡ 0 → ⊥
+not-zero h e = omega arith
+
 -- levels left that are not 0 are one more than the levels below
 at-level : (P : ℕ → ℕ → Type 0) → ((k : ℕ) → P (suc k) k) → (left : ℕ) → (left ≡ 0 → ⊥) → P left (left - 1)
 at-level P f zero ne = absurd (ne refl)

@@ -115,7 +115,7 @@ fn path_ok(
     requires { ⌜ Lies order left base width node (now s) ⌝ }
     ensures { λ r. ⌜ r ≡ pathOk order left (work op node) (levelsOf order left (now (s .entry)) base width) ⌝ }
 {
-    if left == 0 {
+    if left < 1 {
         return true;
     }
     let first = node * order;
@@ -163,7 +163,8 @@ pub fn push(store: &mut [u32], order: usize, levels: usize, rank: Rank, tag: Tag
     match count {
         Count::Unknown(n) => Answer::Refused(n),
         Count::Held(h) => {
-            if capacity(order, levels) <= h as usize {
+            let wanted = h as usize + 1;
+            if capacity(order, levels) < wanted {
                 return Answer::Refused(Refusal::Full);
             }
             let x = Element { rank, tag };

@@ -20,11 +20,14 @@ enum-known-count c = search needs
 enum-known-count-2 : tie.Need-enum-known-count-2
 enum-known-count-2 c = search needs
 
+cast-wanted : tie.Need-cast-wanted
+cast-wanted c = search needs
+
+add-wanted : tie.Need-add-wanted
+add-wanted c = search needs
+
 capacity-requires : tie.Need-capacity-requires
 capacity-requires c κs = opened-few _ (c .before .before .before .before .before .before .args .levels) _ _ (opened _ _ _ _ _ (c .before .before .before .held .ensures) (c .before .count2 .given .1))
-
-cast-if1 : tie.Need-cast-if1
-cast-if1 c = search needs
 
 same-length : tie.Need-same-length
 same-length c = search needs
@@ -63,8 +66,9 @@ push-spec =
     held-requires
     enum-known-count
     enum-known-count-2
+    cast-wanted
+    add-wanted
     capacity-requires
-    cast-if1
     same-length
     returns
     path-ok-requires
