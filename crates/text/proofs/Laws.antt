@@ -11,6 +11,7 @@ use lib.ListN.{getD, length, length-append, length-set, set, take}
 use lib.Seq.{length-take-le, take-suc}
 use borrow.Author.Tests.{le-ltb, lt-ltb}
 use Rattle.text.specs.Text.{decimalBy, overlay, value, valueFrom}
+
 pub overlay-length : (s : List ℕ) (i : ℕ) (xs : List ℕ) → length (overlay s i xs) ≡ length s
 unfolding overlay
 overlay-length s i [] = refl

@@ -5,6 +5,7 @@ use mathlib.Core.Bool.{cond}
 use mathlib.Core.List.{[], _++_, _∷_, List}
 use lib.Dec.{ltb}
 use lib.ListN.{set}
+
 unfoldable pub overlay : List ℕ → ℕ → List ℕ → List ℕ
 overlay s i [] = s
 overlay s i (x ∷ xs) = overlay (set s i x) (suc i) xs
