@@ -37,7 +37,7 @@ fn put_digits(out: &mut [u8], at: usize, n: u64, left: usize) -> usize
 // Lays a number in decimal into the buffer, and answers the place past it.
 pub fn put_number(out: &mut [u8], at: usize, n: u64) -> usize
     requires { ⌜ at + longest ≤ length (now out) ⌝ }
-    ensures { λ r. ⌜ (r ≡ at + length (decimal n)) × (now (out .exit) ≡ overlay (now (out .entry)) at (decimal n)) ⌝ }
+    ensures { λ r. ⌜ (r ≡ at + length (decimal n)) × (r ≤ at + longest) × (now (out .exit) ≡ overlay (now (out .entry)) at (decimal n)) ⌝ }
 {
     put_digits(out, at, n, 20)
 }

@@ -21,11 +21,11 @@ use Rattle.tree_model.proofs.Hang.{below-less}
 use Rattle.tree_model.proofs.Path.{node-ok, root-path}
 use Rattle.tree_model.proofs.Serve.{answered, cleared-holds, cleared-store, root-slots, root-sum}
 use Rattle.tree_model.proofs.Words.{apply-length, level-node, node-length, node-slot, size-room, tab-ext, words-apply}
-use Rattle.tree_model.specs.Calls.{called, carriedOut, cleared, counted, outcome, Outcome, rootOf, rootOk, rule, Ruling, shapeOk, verdict, wayOk}
+use Rattle.tree_model.specs.Calls.{called, carriedOut, counted, Outcome, outcome, rootOf, rootOk, rule, Ruling, shapeOk, verdict, wayOk}
 use Rattle.tree_model.specs.Damage.{nodeOk, room}
 use Rattle.tree_model.specs.Levels.{apply, Level, Levels, work}
 use Rattle.tree_model.specs.Node.{slotAt, sumCounts, vacant}
-use Rattle.tree_model.specs.Promise.{allBrought, allGiven, answers, Damage, leaves, same, Shape, stored}
+use Rattle.tree_model.specs.Promise.{after, allBrought, allGiven, answers, Damage, leaves, same, Shape, start, stored}
 use Rattle.tree_model.specs.Serve.{bareLevels, brought, given, holding, Least, ruled, serve, Store}
 use Rattle.tree_model.specs.Tree.{always, below, hang, many, own, Sound, Tree, treeOf}
 use Rattle.tree_model.specs.Words.{applyWords, levelOf, levelsOf, nodeOf, size, slotOf, tabulate, width, wipe}
@@ -212,9 +212,6 @@ module _ (m k : ℕ) where
   list-sum (r ∷ rs) ws kept f = omega (arith, call-sum r ws kept f, list-sum rs (called m (suc k) r ws .words) (called-kept r ws kept) f)
 
 -- ---- from a cleared store. The number of levels is any that passes the shape
-abbrev pub start : ℕ → ℕ → List ℕ → List ℕ
-start m levels ws = cleared m levels ws .words
-
 wipe-length : (n : ℕ) (ws : List ℕ) → n * width ≤ length ws → length (wipe n ws) ≡ length ws
 unfolding wipe
 wipe-length n ws h = rw (length-append, length-replicate, length-drop) (omega arith)
@@ -248,9 +245,6 @@ unfolding holding levelsOf
 kept-sum m k ws kept = ap sumCounts (sym (root-node m ws)) ∙ root-sum m k (order-pos (kept .shape)) (levelsOf m (suc k) ws 0 1) (kept .store)
 
 -- THE PROMISES. Any order and number of levels that pass the shape, any words to start with, any list of requests.
--- `after` are the words that the list leaves, from a cleared store
-abbrev pub after : ℕ → ℕ → List Request → List ℕ → List ℕ
-after m levels rs ws = leaves m levels rs (start m levels ws)
 
 module _ (m : ℕ) (ws : List ℕ) (rs : List Request) where
   -- HOLDS: of every kind of element as many are stored as went in and have not come out

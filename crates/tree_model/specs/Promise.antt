@@ -16,7 +16,7 @@ use Rattle.strip.specs.declared.Refusal.{Refusal}
 use Rattle.strip.specs.declared.Refusal.the-variants.{BadRank, BadShape, Damaged, Empty, Full, TooSoon}
 use Rattle.strip.specs.declared.Request.{Request}
 use Rattle.strip.specs.declared.Request.the-variants.{Idle, Pop, Push, Replace}
-use Rattle.tree_model.specs.Calls.{called, rootOf, slotLimit, verdict}
+use Rattle.tree_model.specs.Calls.{called, cleared, rootOf, slotLimit, verdict}
 use Rattle.tree_model.specs.Damage.{room}
 use Rattle.tree_model.specs.Levels.{Level, Levels, stepWork, top, work}
 use Rattle.tree_model.specs.Node.{lowest, slotAt, sumCounts}
@@ -133,6 +133,13 @@ leaves m levels (r ∷ rs) ws = leaves m levels rs (called m levels r ws .words)
 unfoldable pub answers : ℕ → ℕ → List Request → List ℕ → List Answer
 answers m levels [] ws = []
 answers m levels (r ∷ rs) ws = called m levels r ws .answer ∷ answers m levels rs (called m levels r ws .words)
+
+-- a cleared store to begin with, whatever the words were, and the words that a list leaves from there
+abbrev pub start : ℕ → ℕ → List ℕ → List ℕ
+start m levels ws = cleared m levels ws .words
+
+abbrev pub after : ℕ → ℕ → List Request → List ℕ → List ℕ
+after m levels rs ws = leaves m levels rs (start m levels ws)
 
 -- all that came out, and all that went in
 unfoldable pub allGiven : List Answer → (Element → Bool) → ℕ

@@ -1,5 +1,7 @@
 -- `text::put_number` meets its contract. Assumes nothing.
+use native.Mathlib.Omega.{arith}
 use borrow.Author.Needs.{needs}
+use Rattle.text.proofs.Laws.{decimal-short}
 use Rattle.text.specs.Text.{decimal}
 use Rattle.text.proofs.put_number.Statement.{statement}
 use Rattle.text.proofs.put_number.Tie as tie
@@ -15,7 +17,7 @@ same-length c = search needs
 
 returns : tie.Need-returns
 unfolding decimal
-returns c = search needs
+returns c = (c .before .before .put-digits .ensures .0, omega (arith, c .before .before .put-digits .ensures .0, decimal-short 20 (c .before .before .before .before .before .args .n)), c .before .before .put-digits .ensures .1)
 
 pub put-number-spec : {M : Type 1} → statement M
 put-number-spec = tie.close (tie.spec put-digits-requires same-length returns)

@@ -1,0 +1,15 @@
+-- The one claim over the table of worked cases, proved by computing the definitions. Assumes nothing.
+use mathlib.Core.Path.{refl}
+use Rattle.cases.specs.Table.{Right, table}
+use Rattle.laws.specs.Lists.{All}
+use Rattle.strip.specs.Answers.{blank, key}
+use Rattle.tree_model.specs.Calls.{called, carriedOut, cleared, orderOk, rule, shapeOk}
+use Rattle.tree_model.specs.Damage.{fine, hasRoom, hasSome, isBlank, lifts, nodeOk, pathOk, readOk, room, slotOk, stepOk}
+use Rattle.tree_model.specs.Levels.{levelMove, stepWork, top, work}
+use Rattle.tree_model.specs.Node.{every, firstEmpty, isEmpty, isNothing, keep, leastCount, low, lowest, opMove, pass, putBy, putMove, seek, slotAt, sumCounts, swapBy, swapMove, takeBy, takeMove, vacant}
+use Rattle.tree_model.specs.Promise.{answers, leaves}
+use Rattle.tree_model.specs.Words.{applyWords, levelOf, levelsOf, nodeOf, size, slotOf, stepWords, tabulate, wipe, write}
+
+pub cases : All Right table
+unfolding table blank key vacant isEmpty slotAt seek every firstEmpty leastCount lowest low sumCounts keep pass putBy putMove takeBy takeMove swapBy swapMove opMove isNothing top work levelMove stepWork slotOf write wipe tabulate nodeOf size levelOf levelsOf stepWords applyWords room isBlank slotOk nodeOk hasRoom hasSome readOk lifts stepOk fine pathOk orderOk shapeOk rule carriedOut called cleared leaves answers
+cases = ((refl, refl), ((refl, refl), ((refl, refl), ((refl, refl), ((refl, refl), ((refl, refl), tt))))))

@@ -1,0 +1,109 @@
+// 01's worked cases, run: what each call answers, as number, rank and tag, and the words it leaves.
+use strip::Answer;
+use strip::Rank;
+use strip::Tag;
+
+// Writes a number and a space.
+fn say(n: u32) {
+    let mut out = [0u8; 32];
+    let end = text::put_number(&mut out, 0, n as u64);
+    io::write_all(1, &out[..end]);
+    io::write_all(1, b" ");
+}
+
+fn say_answer(what: &[u8], a: Answer) {
+    let e = strip::given(a);
+    let rank = e.rank;
+    let tag = e.tag;
+    io::write_all(1, what);
+    say(strip::number(a));
+    say(rank.0);
+    say(tag.0);
+    io::write_all(1, b"\n");
+}
+
+fn say_words(words: &[u32]) {
+    let mut i = 0;
+    while i < words.len() {
+        say(words[i]);
+        i += 1;
+    }
+    io::write_all(1, b"\n");
+}
+
+fn push(store: &mut [u32], rank: u32, tag: u32) {
+    say_answer(b"push ", tree::push(store, 2, 2, Rank(rank), Tag(tag)));
+}
+
+fn pop(store: &mut [u32]) {
+    say_answer(b"pop ", tree::pop(store, 2, 2));
+}
+
+// Store A: cleared, then push 5/50, 3/30, 8/80, 1/10.
+fn fill(store: &mut [u32]) {
+    shaped(store, 2, 2);
+    push(store, 5, 50);
+    push(store, 3, 30);
+    push(store, 8, 80);
+    push(store, 1, 10);
+}
+
+fn popped(store: &mut [u32]) {
+    fill(store);
+    pop(store);
+    pop(store);
+    pop(store);
+    pop(store);
+    pop(store);
+}
+
+fn replaced(store: &mut [u32], rank: u32) {
+    fill(store);
+    say_answer(b"replace ", tree::replace(store, 2, 2, Rank(rank), Tag(7)));
+    say_words(store);
+}
+
+fn filled(store: &mut [u32]) {
+    fill(store);
+    push(store, 6, 6);
+    push(store, 7, 7);
+    push(store, 8, 8);
+    io::write_all(1, b"held ");
+    say(strip::counted(tree::held(store, 2, 2)));
+    io::write_all(1, b"\n");
+}
+
+// Clears a slice of a shape, and says the number of the answer.
+fn shaped(store: &mut [u32], order: usize, levels: usize) {
+    say_answer(b"clear ", tree::clear(store, order, levels));
+}
+
+fn shapes() {
+    let mut store = [0u32; 16384];
+    io::write_all(1, b"case 9\n");
+    shaped(&mut store, 4, 6);
+    shaped(&mut store, 4, 7);
+    shaped(&mut store, 2, 11);
+    shaped(&mut store, 2, 12);
+    shaped(&mut store, 8, 4);
+    shaped(&mut store, 8, 5);
+    shaped(&mut store, 3, 2);
+    shaped(&mut store, 2, 0);
+    shaped(&mut store, 2, 18446744073709551615);
+}
+
+fn main() {
+    let mut store = [9u32; 20];
+    io::write_all(1, b"cases 1 and 2\n");
+    fill(&mut store);
+    say_words(&store);
+    popped(&mut store);
+    say_words(&store);
+    io::write_all(1, b"cases 3, 4 and 5\n");
+    replaced(&mut store, 0);
+    replaced(&mut store, 1);
+    replaced(&mut store, 4);
+    io::write_all(1, b"case 7\n");
+    filled(&mut store);
+    shapes();
+}
