@@ -1,0 +1,3 @@
+-- What follows from the rules.
+pub mod Facts
+pub mod Exactly

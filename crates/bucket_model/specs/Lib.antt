@@ -1,0 +1,6 @@
+-- The bucket queue's rules.
+pub mod Layout
+pub mod Storeys
+pub mod Checks
+pub mod Calls
+pub mod Causes
