@@ -1,3 +1,4 @@
 -- What follows from the rules.
 pub mod Facts
+pub mod Taken
 pub mod Exactly
