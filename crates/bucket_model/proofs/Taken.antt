@@ -8,18 +8,10 @@ use native.Mathlib.Omega.{arith}
 use borrow.Author.Tests.{eq-eqb, ne-eqb, lt-ltb, le-ltb}
 use lib.Dec.{eqb, ltb}
 use lib.ListN.{length, set, length-set}
-use lib.Seq.{getD-set-same, getD-set-other}
 use Rattle.bucket_model.specs.Layout.{ranks, storeWords, word, headAt, tailAt, tagAt, nextAt, freeAt, heldAt}
 use Rattle.bucket_model.specs.Checks.{nextOf}
 use Rattle.bucket_model.specs.Calls.{Low, lastOf, takenWords}
-
--- ---- one word written
-
-pub same : (w : List ℕ) (a v : ℕ) → a < length w → word (set w a v) a ≡ v
-same w a v h = getD-set-same w a v 0 h
-
-pub other : (w : List ℕ) (a v j : ℕ) → (j ≡ a → ⊥) → word (set w a v) j ≡ word w j
-other w a v j h = getD-set-other w a j v 0 h
+use Rattle.bucket_model.proofs.Writes.{same, other}
 
 -- ---- the next of a node
 

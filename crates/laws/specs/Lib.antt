@@ -1,2 +1,4 @@
 pub mod Lists
 pub mod Tests
+pub mod Snoc
+pub mod Updates
