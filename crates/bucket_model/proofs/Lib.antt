@@ -5,3 +5,7 @@ pub mod Taken
 pub mod Tells
 pub mod Tower
 pub mod Exactly
+pub mod Chain
+pub mod Store
+pub mod Pop
+pub mod Push
