@@ -9,3 +9,6 @@ pub mod Chain
 pub mod Store
 pub mod Pop
 pub mod Push
+pub mod Replace
+pub mod Fill
+pub mod Clear
