@@ -12,3 +12,5 @@ pub mod Push
 pub mod Replace
 pub mod Fill
 pub mod Clear
+pub mod Order
+pub mod Case8

@@ -4,3 +4,5 @@ pub mod Storeys
 pub mod Checks
 pub mod Calls
 pub mod Causes
+pub mod Plain
+pub mod Case8
