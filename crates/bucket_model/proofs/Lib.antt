@@ -13,4 +13,5 @@ pub mod Replace
 pub mod Fill
 pub mod Clear
 pub mod Order
+pub mod Runs
 pub mod Case8

@@ -91,15 +91,16 @@ total-zero q (suc k) h =
     let e : length (q k) ≡ 0 = ap length (h k (omega arith)) in
     omega arith
 
-pub total-pos : (q : ℕ → List Node) (k j : ℕ) → j < k → 1 ≤ length (q j) → 1 ≤ total q k
+-- one chain is no longer than all
+pub total-ge : (q : ℕ → List Node) (k j : ℕ) → j < k → length (q j) ≤ total q k
 unfolding total
-total-pos q zero j h l = absurd (not-suc-le-zero h)
-total-pos q (suc k) j h l = elim (ℕ-discrete j k) [ yes e ↦ here e | no e ↦ there (λ p. total-pos q k j p l) e ]
+total-ge q zero j h = absurd (not-suc-le-zero h)
+total-ge q (suc k) j h = elim (ℕ-discrete j k) [ yes e ↦ here e | no e ↦ there (λ p. total-ge q k j p) e ]
   where
-    here : j ≡ k → 1 ≤ length (q k) + total q k
+    here : j ≡ k → length (q j) ≤ length (q k) + total q k
     here e = let a : length (q j) ≡ length (q k) = ap (λ (i : ℕ). length (q i)) e in omega arith
 
-    there : (j < k → 1 ≤ total q k) → (j ≡ k → ⊥) → 1 ≤ length (q k) + total q k
+    there : (j < k → length (q j) ≤ total q k) → (j ≡ k → ⊥) → length (q j) ≤ length (q k) + total q k
     there ih e = let a = ih (omega arith) in omega arith
 
 pub flag-zero : (xs : List Node) → flag xs ≡ 0 → xs ≡ []
@@ -141,8 +142,8 @@ module _ (b s : List ℕ) (n : ℕ) (m : ℕ → List ℕ) (z : Queue b s n m) w
       from : word s (heldAt n) ≡ 0 → (word b 0 ≡ 0 → ⊥) → ⊥
       from e p =
           let k = first (omega arith) in
-          let a = total-pos (z .q) ranks (lowestRank b) (k .within) (flag-one (z .q (lowestRank b)) (k .here)) in
-          omega (arith, held-total)
+          let a = total-ge (z .q) ranks (lowestRank b) (k .within) in
+          omega (arith, held-total, flag-one (z .q (lowestRank b)) (k .here))
 
   pub sound : Whole b s n
   sound =
@@ -162,7 +163,7 @@ module _ (b s : List ℕ) (n : ℕ) (m : ℕ → List ℕ) (z : Queue b s n m) w
     where
       go : (xs : List Node) → z .q r ≡ xs → z .q r ≡ []
       go [] p = p
-      go (x ∷ xs) p = let l : length (z .q r) ≡ suc (length xs) = ap length p in absurd (omega (arith, held-total, total-pos (z .q) ranks r h (omega arith)))
+      go (x ∷ xs) p = let l : length (z .q r) ≡ suc (length xs) = ap length p in absurd (omega (arith, held-total, total-ge (z .q) ranks r h))
 
   -- the pop that gives the first tag of the lowest rank
   pub record Popped (r t : ℕ) (ts : List ℕ) : Type 0 where
