@@ -14,4 +14,5 @@ pub mod Fill
 pub mod Clear
 pub mod Order
 pub mod Runs
+pub mod Promises
 pub mod Case8

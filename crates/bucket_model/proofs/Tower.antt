@@ -213,7 +213,6 @@ finds b p (u ∷ us) f s n z = join (finds b u us (up b (p .base)) (s .2) n (z .
             let q = storey-none b (p .base) (p .words) f (i / 64) (omega (arith, a .within, s .1)) (nz-zero (word b (p .base + i / 64)) (a .below (i / 64) c)) (z .0) (i % 64) (omega arith) in
             ap f (omega arith) ∙ q
 
-
 -- on the way down no word is 0
 pub open-way : (b : List ℕ) (p : Storey) (ps : List Storey) (f : ℕ → ℕ) → Shape (p ∷ ps) → Some b p ps → Tower b (p ∷ ps) f → Opens b (p ∷ ps)
 open-way b p [] f s n z = (tt, λ e. omega (arith, n .1))
