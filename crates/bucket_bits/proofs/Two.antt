@@ -13,7 +13,7 @@ use Rattle.bitmap.specs.Bits.{bitAt, Found}
 use Rattle.bucket_model.specs.Layout.{ranks, word}
 use Rattle.bucket_model.specs.Storeys.{bitWords, put, goesUp, edit, storeys, marked, unmarked, lowestRank, lowestOpen, rankBit, rankAgrees}
 use Rattle.bucket_model.proofs.Writes.{same, other}
-use Rattle.bucket_bits.specs.Ready.{putAt, leftBits, Clear, Raised, Marked, Unmarked, Led}
+use Rattle.bucket_bits.specs.Ready.{putAt, leftBits, Clear, Raised, Marked, Unmarked, Led, Signed, Told}
 
 -- ---- marking
 
@@ -112,28 +112,36 @@ left-cleared b t r e = rw e refl
 group-is : (b : List ℕ) → 64 * 0 + trailingZeros 64 (word b (0 + 0)) ≡ trailingZeros 64 (word b 0)
 group-is b = omega arith
 
-pub rank-is : (b : List ℕ) → lowestRank b ≡ 64 * trailingZeros 64 (word b 0) + trailingZeros 64 (word b (1 + trailingZeros 64 (word b 0)))
+rank-is : (b : List ℕ) → lowestRank b ≡ 64 * trailingZeros 64 (word b 0) + trailingZeros 64 (word b (1 + trailingZeros 64 (word b 0)))
 unfolding lowestRank
 rank-is b = rw (group-is b) refl
 
-pub way-shut : (b : List ℕ) → word b (1 + trailingZeros 64 (word b 0)) ≡ 0 → false ≡ lowestOpen b
+way-shut : (b : List ℕ) → word b (1 + trailingZeros 64 (word b 0)) ≡ 0 → false ≡ lowestOpen b
 unfolding lowestOpen
 way-shut b z = rw (group-is b, eq-eqb (word b (1 + trailingZeros 64 (word b 0))) 0 z) (sym (and-false (true && not (eqb (word b (0 + 0)) 0))))
 
-pub way-open : (b : List ℕ) → 0 < word b 0 → (word b (1 + trailingZeros 64 (word b 0)) ≡ 0 → ⊥) → true ≡ lowestOpen b
+way-open : (b : List ℕ) → 0 < word b 0 → (word b (1 + trailingZeros 64 (word b 0)) ≡ 0 → ⊥) → true ≡ lowestOpen b
 unfolding lowestOpen
 way-open b p z = rw (group-is b, ne-eqb (word b (1 + trailingZeros 64 (word b 0))) 0 z, ne-eqb (word b (0 + 0)) 0 (λ e. omega arith)) refl
 
-pub bit-is : (b : List ℕ) (r : ℕ) → rankBit b r ≡ eqb (bitAt (word b (1 + r / 64)) (r % 64)) 1
+bit-is : (b : List ℕ) (r : ℕ) → rankBit b r ≡ eqb (bitAt (word b (1 + r / 64)) (r % 64)) 1
 unfolding rankBit
 bit-is b r = refl
 
-pub agrees-is : (b : List ℕ) (r : ℕ) → r < ranks → rankAgrees b r ≡ not (Bool·beq (eqb (word b (1 + r / 64)) 0) (eqb (bitAt (word b 0) (r / 64)) 1))
+agrees-is : (b : List ℕ) (r : ℕ) → r < ranks → rankAgrees b r ≡ not (Bool·beq (eqb (word b (1 + r / 64)) 0) (eqb (bitAt (word b 0) (r / 64)) 1))
 unfolding rankAgrees
 agrees-is b r h =
     let a : 0 + r / 64 / 64 ≡ 0 = omega arith in
     let k : r / 64 % 64 ≡ r / 64 = omega arith in
     and-true (not (Bool·beq (eqb (word b (1 + r / 64)) 0) (eqb (bitAt (word b (0 + r / 64 / 64)) (r / 64 % 64)) 1))) ∙ rw (a, k) refl
+
+-- what the two words say is what the bits say
+pub told : (b : List ℕ) (top w r : ℕ) (bit agrees : Bool) → r < ranks → top ≡ word b 0 → w ≡ word b (1 + r / 64) → Signed top w r bit agrees → Told b r bit agrees
+told b top w r bit agrees h p q s =
+    record {
+      own = s .own ∙ ap (λ (x : ℕ). eqb (bitAt x (r % 64)) 1) q ∙ sym (bit-is b r);
+      group = s .group ∙ rw (p, q) refl ∙ sym (agrees-is b r h);
+    }
 
 -- ---- the way down
 

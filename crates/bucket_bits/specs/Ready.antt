@@ -7,7 +7,7 @@ use lib.Dec.{eqb}
 use lib.ListN.{length, set}
 use Rattle.bitmap.specs.Bits.{bitAt}
 use Rattle.bucket_model.specs.Layout.{ranks, word}
-use Rattle.bucket_model.specs.Storeys.{bitWords, put, unmarked, lowestRank, lowestOpen}
+use Rattle.bucket_model.specs.Storeys.{bitWords, put, unmarked, lowestRank, lowestOpen, rankBit, rankAgrees}
 
 -- one bit of the storey that begins at base, set or cleared
 abbrev pub putAt : Bool → List ℕ → ℕ → ℕ → List ℕ
@@ -46,6 +46,11 @@ pub record Led (b : List ℕ) (open? : Bool) (rank : ℕ) : Type 0 where
 pub record Signed (top w r : ℕ) (bit agrees : Bool) : Type 0 where
   pub own : bit ≡ eqb (bitAt w (r % 64)) 1
   pub group : agrees ≡ not (Bool·beq (eqb w 0) (eqb (bitAt top (r / 64)) 1))
+
+-- what all bits say of it
+pub record Told (b : List ℕ) (r : ℕ) (bit agrees : Bool) : Type 0 where
+  pub own : bit ≡ rankBit b r
+  pub group : agrees ≡ rankAgrees b r
 
 -- the bits that a pop of rank r leaves
 abbrev pub leftBits : List ℕ → Bool → ℕ → List ℕ

@@ -7,7 +7,7 @@ ghost use lib.ListN.{length};
 ghost use Rattle.bitmap.specs.Bits.{bitAt};
 ghost use Rattle.bucket_model.specs.Layout.{word, ranks};
 ghost use Rattle.bucket_model.specs.Storeys.{bitWords, put, marked, unmarked};
-ghost use Rattle.bucket_bits.specs.Ready.{putAt, leftBits, Clear, Raised, Marked, Unmarked, Led, Signed};
+ghost use Rattle.bucket_bits.specs.Ready.{putAt, leftBits, Clear, Raised, Marked, Unmarked, Led, Signed, Told};
 
 // Where each storey begins.
 const TOP: usize = 0;
@@ -49,7 +49,7 @@ pub fn way_down(bits: &[u64]) -> Way
 }
 
 // What the top word and its group's word say of a rank.
-pub fn read_signs(top: u64, word: u64, rank: u32) -> Signs
+fn read_signs(top: u64, word: u64, rank: u32) -> Signs
     requires { ⌜ rank < ranks ⌝ }
     ensures { λ r. ⌜ Signed top word rank (r .bit) (r .agrees) ⌝ }
 {
@@ -59,6 +59,15 @@ pub fn read_signs(top: u64, word: u64, rank: u32) -> Signs
         bit,
         agrees: (word == 0) != above,
     }
+}
+
+// What the bits say of a rank.
+pub fn signs_of(bits: &[u64], rank: u32) -> Signs
+    requires { ⌜ bitWords ≤ length (now bits) ⌝ ∗ ⌜ rank < ranks ⌝ }
+    ensures { λ r. ⌜ Told (now (bits .entry)) rank (r .bit) (r .agrees) ⌝ }
+{
+    let group = (rank / 64) as usize;
+    read_signs(bits[TOP], bits[LOW + group], rank)
 }
 
 // ---- writing
@@ -109,7 +118,7 @@ pub fn unmark(bits: &mut [u64], rank: u32)
 
 // ---- what stands after a pop of a rank that is not done yet: where it empties the bucket, the rank's bits are cleared
 
-pub fn word_left(bits: &[u64], empties: bool, rank: u32, group: usize) -> u64
+fn word_left(bits: &[u64], empties: bool, rank: u32, group: usize) -> u64
     requires { ⌜ Marked (now bits) rank ⌝ ∗ ⌜ group < 64 ⌝ }
     ensures { λ r. ⌜ r ≡ word (leftBits (now (bits .entry)) empties rank) (1 + group) ⌝ }
 {
@@ -138,4 +147,14 @@ pub fn top_left(bits: &[u64], empties: bool, rank: u32) -> u64
         return top;
     }
     bitmap::without(top, group)
+}
+
+// What the bits will say of a rank.
+pub fn signs_left(bits: &[u64], empties: bool, gone: u32, rank: u32) -> Signs
+    requires { ⌜ Marked (now bits) gone ⌝ ∗ ⌜ rank < ranks ⌝ }
+    ensures { λ r. ⌜ Told (leftBits (now (bits .entry)) empties gone) rank (r .bit) (r .agrees) ⌝ }
+{
+    let top = top_left(bits, empties, gone);
+    let word = word_left(bits, empties, gone, (rank / 64) as usize);
+    read_signs(top, word, rank)
 }
