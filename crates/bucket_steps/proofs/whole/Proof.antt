@@ -1,0 +1,14 @@
+-- `bucket_steps::whole` meets its contract. Assumes nothing.
+use mathlib.Core.Path.{refl}
+use Rattle.bucket_model.specs.Checks.{wholeOk}
+use Rattle.bucket_steps.proofs.whole.Statement.{statement}
+use Rattle.bucket_steps.proofs.whole.Tie as tie
+use Rattle.bucket_steps.proofs.whole.Reads as reads
+use Rattle.bucket_steps.proofs.whole.Lts as lts
+
+returns : tie.Need-returns
+unfolding wholeOk
+returns c = refl
+
+pub whole-spec : {M : Type 1} → statement M
+whole-spec = tie.close (tie.spec returns)

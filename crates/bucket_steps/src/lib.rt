@@ -1,0 +1,391 @@
+// The steps of the bucket queue's calls: what a call reads and tests, and what it writes once every test holds.
+//
+// The 32-bit words are 4,096 heads, 4,096 tails, n nodes of a tag and a next, the free link and the held count.
+// A link is a node's number plus one, and 0 is "none".
+ghost use mathlib.Core.Path.{_≡_};
+ghost use mathlib.Core.Bool.{Bool};
+ghost use Prim.Native.Nat.{_+_, _≤_, _<_};
+ghost use lib.ListN.{length};
+ghost use Rattle.strip.specs.Answers.{element};
+ghost use Rattle.bucket_model.specs.Layout.{ranks, pool, storeWords, word, headAt, tailAt, tagAt, freeAt, heldAt};
+ghost use Rattle.bucket_model.specs.Storeys.{bitWords};
+ghost use Rattle.bucket_model.specs.Checks.{shapeOk, wholeOk, nextOf, popOk, pushOk};
+ghost use Rattle.bucket_model.specs.Calls.{fill, blankWord, lastOf, slotOf, takenWords, takenBits, joinedWords, joinedBits, bucketOf, roomOf};
+ghost use Rattle.bucket_model.specs.Causes.{Shaped};
+ghost use Rattle.bucket_steps.specs.Ready.{asLow, asRoom, Freeing, Takable, Joinable, FoundLow};
+
+// How many words of 64 bits there are.
+const BITS: usize = 65;
+
+// Where each part of the 32-bit words begins; the heads begin at 0. Tags and nexts are counted from
+// the node that link 0 would name.
+const TAILS: usize = 4096;
+
+const NODES: usize = 8192;
+
+const TAGS: usize = 8190;
+
+const NEXTS: usize = 8191;
+
+const FREE: usize = 8192;
+
+const HELD: usize = 8193;
+
+const WORDS: usize = 8194;
+
+// How many words a node has.
+const NODE: usize = 2;
+
+// The lowest bucket as pop and replace test it: whether it passes, its rank, and the links read.
+pub struct Lowest {
+    pub good: bool,
+    pub rank: u32,
+    pub head: u32,
+    pub tail: u32,
+    pub next: u32,
+}
+
+// One bucket as push tests it: whether it passes, its tail, and the next of the node to be taken.
+pub struct Bucket {
+    pub good: bool,
+    pub tail: u32,
+    pub next: u32,
+}
+
+// ---- single words
+
+pub fn free_link(words: &[u32], n: u32) -> u32
+    requires { ⌜ storeWords n ≤ length (now words) ⌝ }
+    ensures { λ r. ⌜ r ≡ word (now (words .entry)) (freeAt n) ⌝ }
+{
+    words[FREE + NODE * (n as usize)]
+}
+
+pub fn held_count(words: &[u32], n: u32) -> u32
+    requires { ⌜ storeWords n ≤ length (now words) ⌝ }
+    ensures { λ r. ⌜ r ≡ word (now (words .entry)) (heldAt n) ⌝ }
+{
+    words[HELD + NODE * (n as usize)]
+}
+
+// The tag of the node that link names.
+pub fn tag_of(words: &[u32], n: u32, link: u32) -> u32
+    requires { ⌜ storeWords n ≤ length (now words) ⌝ ∗ ⌜ link ≤ n ⌝ }
+    ensures { λ r. ⌜ r ≡ word (now (words .entry)) (tagAt link) ⌝ }
+{
+    words[TAGS + NODE * (link as usize)]
+}
+
+// The next of the node that link names; 0 where it names none of the n nodes, so that garbage can be read before it is tested.
+fn next_of(words: &[u32], n: u32, link: u32) -> u32
+    requires { ⌜ storeWords n ≤ length (now words) ⌝ }
+    ensures { λ r. ⌜ r ≡ nextOf (now (words .entry)) n link ⌝ }
+{
+    if link == 0 {
+        return 0;
+    }
+    if n < link {
+        return 0;
+    }
+    words[NEXTS + NODE * (link as usize)]
+}
+
+// ---- tests
+
+pub fn shape(bits: usize, words: usize, n: u32) -> bool
+    ensures { λ r. ⌜ r ≡ shapeOk bits words n ⌝ }
+{
+    (1 <= n) & (n <= 4096) & (BITS <= bits) & (WORDS + NODE * (n as usize) <= words)
+}
+
+// What every call but clear tests.
+pub fn whole(top: u64, free: u32, held: u32, n: u32) -> bool
+    ensures { λ r. ⌜ r ≡ wholeOk top free held n ⌝ }
+{
+    (free <= n) & (held <= n) & ((free == 0) == (held == n)) & ((top == 0) == (held == 0))
+}
+
+// What a pop tests of its bucket; last is the tail's next.
+fn pop_fits(n: u32, head: u32, tail: u32, next: u32, last: u32) -> bool
+    ensures { λ r. ⌜ r ≡ popOk n head tail next last ⌝ }
+{
+    (head != 0)
+        & (tail != 0)
+        & (head <= n)
+        & (tail <= n)
+        & (next <= n)
+        & (last == 0)
+        & ((next == 0) == (head == tail))
+}
+
+// What a push tests of its bucket; next is that of the node at the free link, last the tail's.
+fn push_fits(
+    n: u32,
+    held: u32,
+    agrees: bool,
+    bit: bool,
+    head: u32,
+    tail: u32,
+    free: u32,
+    next: u32,
+    last: u32,
+) -> bool
+    requires { ⌜ held < n ⌝ }
+    ensures { λ r. ⌜ r ≡ pushOk n held agrees bit head tail free next last ⌝ }
+{
+    ((head == 0) == (tail == 0))
+        & ((head == 0) != bit)
+        & agrees
+        & (head <= n)
+        & (tail <= n)
+        & (next <= n)
+        & (last == 0)
+        & (free != tail)
+        & ((next == 0) == (held + 1 == n))
+}
+
+// ---- a pop: find, then take
+
+pub fn find_lowest(bits: &[u64], words: &[u32], n: u32) -> Lowest
+    requires { ⌜ Shaped (now bits) (now words) n ⌝ ∗ ⌜ 0 < word (now bits) 0 ⌝ }
+    ensures { λ r. ⌜ FoundLow (now (bits .entry)) (now (words .entry)) n (asLow r) ⌝ }
+{
+    let way = bucket_bits::way_down(bits);
+    if !way.open {
+        return Lowest {
+            good: false,
+            rank: 0,
+            head: 0,
+            tail: 0,
+            next: 0,
+        };
+    }
+    let rank = way.rank;
+    let head = words[rank as usize];
+    let tail = words[TAILS + rank as usize];
+    let next = next_of(words, n, head);
+    let last = next_of(words, n, tail);
+    let good = pop_fits(n, head, tail, next, last);
+    Lowest {
+        good,
+        rank,
+        head,
+        tail,
+        next,
+    }
+}
+
+// The tail of a bucket whose head is taken away.
+fn last_of(next: u32, tail: u32) -> u32
+    ensures { λ r. ⌜ r ≡ lastOf next tail ⌝ }
+{
+    if next == 0 {
+        return 0;
+    }
+    tail
+}
+
+// Takes the head out of its bucket, and puts the freed node first in the free chain.
+pub fn take(bits: &mut [u64], words: &mut [u32], n: u32, low: Lowest)
+    requires { ⌜ Takable (now bits) (now words) n (asLow low) ⌝ }
+    ensures { λ _. ⌜ (now (bits .exit) ≡ takenBits (now (bits .entry)) (asLow low)) × (now (words .exit) ≡ takenWords (now (words .entry)) n (asLow low)) ⌝ }
+{
+    let rank = low.rank;
+    let head = low.head;
+    let next = low.next;
+    let tail = last_of(next, low.tail);
+    let free = words[FREE + NODE * (n as usize)];
+    let held = words[HELD + NODE * (n as usize)];
+    words[rank as usize] = next;
+    words[TAILS + rank as usize] = tail;
+    words[TAGS + NODE * (head as usize)] = 0;
+    words[NEXTS + NODE * (head as usize)] = free;
+    words[FREE + NODE * (n as usize)] = head;
+    words[HELD + NODE * (n as usize)] = held - 1;
+    if next == 0 {
+        bucket_bits::unmark(bits, rank);
+    }
+}
+
+// ---- a push: find, then join
+
+pub fn find_bucket(bits: &[u64], words: &[u32], n: u32, rank: u32) -> Bucket
+    requires { ⌜ Shaped (now bits) (now words) n ⌝ ∗ ⌜ rank < ranks ⌝ ∗ ⌜ word (now words) (heldAt n) < n ⌝ }
+    ensures { λ r. ⌜ asRoom r ≡ bucketOf (now (bits .entry)) (now (words .entry)) n rank ⌝ }
+{
+    let signs = bucket_bits::signs_of(bits, rank);
+    let free = free_link(words, n);
+    let held = held_count(words, n);
+    let head = words[rank as usize];
+    let tail = words[TAILS + rank as usize];
+    let next = next_of(words, n, free);
+    let last = next_of(words, n, tail);
+    let good = push_fits(
+        n,
+        held,
+        signs.agrees,
+        signs.bit,
+        head,
+        tail,
+        free,
+        next,
+        last,
+    );
+    Bucket { good, tail, next }
+}
+
+// Where the link to a newcomer stands: the head of an empty bucket, or the next of its tail.
+fn slot_of(rank: u32, tail: u32) -> usize
+    ensures { λ r. ⌜ r ≡ slotOf rank tail ⌝ }
+{
+    if tail == 0 {
+        return rank as usize;
+    }
+    NEXTS + NODE * (tail as usize)
+}
+
+// Takes the node at the free link, and joins it behind the tail.
+pub fn join(
+    bits: &mut [u64],
+    words: &mut [u32],
+    n: u32,
+    rank: strip::Rank,
+    tag: strip::Tag,
+    to: Bucket,
+)
+    requires { ⌜ Joinable (now bits) (now words) n (rank .0) (to .tail) ⌝ }
+    ensures { λ _. ⌜ (now (bits .exit) ≡ joinedBits (now (bits .entry)) (element (rank .0) (tag .0)) (asRoom to)) × (now (words .exit) ≡ joinedWords (now (words .entry)) n (element (rank .0) (tag .0)) (asRoom to)) ⌝ }
+{
+    let r = rank.0;
+    let tail = to.tail;
+    let free = words[FREE + NODE * (n as usize)];
+    let held = words[HELD + NODE * (n as usize)];
+    let slot = slot_of(r, tail);
+    words[FREE + NODE * (n as usize)] = to.next;
+    words[TAGS + NODE * (free as usize)] = tag.0;
+    words[NEXTS + NODE * (free as usize)] = 0;
+    words[slot] = free;
+    words[TAILS + r as usize] = free;
+    words[HELD + NODE * (n as usize)] = held + 1;
+    if tail == 0 {
+        bucket_bits::mark(bits, r);
+    }
+}
+
+// ---- clear
+
+// Word j of a cleared store.
+fn blank(n: u32, j: usize) -> u32
+    requires { ⌜ n ≤ pool ⌝ ∗ ⌜ j < storeWords n ⌝ }
+    ensures { λ r. ⌜ r ≡ blankWord n j ⌝ }
+{
+    if j < NODES {
+        return 0;
+    }
+    let k = j - NODES;
+    let end = NODE * (n as usize);
+    if k == end {
+        return 1;
+    }
+    if k % NODE == 0 {
+        return 0;
+    }
+    if end <= k + 1 {
+        return 0;
+    }
+    (k / NODE + 2) as u32
+}
+
+pub fn wipe_words(words: &mut [u32], n: u32)
+    requires { ⌜ n ≤ pool ⌝ ∗ ⌜ storeWords n ≤ length (now words) ⌝ }
+    ensures { λ _. ⌜ now (words .exit) ≡ fill (blankWord n) (storeWords n) (now (words .entry)) ⌝ }
+{
+    let end = WORDS + NODE * (n as usize);
+    let mut j = 0;
+    while j < end {
+        words[j] = blank(n, j);
+        j += 1;
+    }
+}
+
+pub fn wipe_bits(bits: &mut [u64])
+    requires { ⌜ bitWords ≤ length (now bits) ⌝ }
+    ensures { λ _. ⌜ now (bits .exit) ≡ fill (λ j. 0) bitWords (now (bits .entry)) ⌝ }
+{
+    let mut j = 0;
+    while j < BITS {
+        bits[j] = 0;
+        j += 1;
+    }
+}
+
+// ---- a replace: what will stand after the pop of low, which is not done yet
+
+fn head_after(words: &[u32], n: u32, low: Lowest, rank: u32) -> u32
+    requires { ⌜ Freeing (now words) n (asLow low) ⌝ ∗ ⌜ rank < ranks ⌝ }
+    ensures { λ r. ⌜ r ≡ word (takenWords (now (words .entry)) n (asLow low)) (headAt rank) ⌝ }
+{
+    let own = low.rank;
+    if rank == own {
+        return low.next;
+    }
+    words[rank as usize]
+}
+
+fn tail_after(words: &[u32], n: u32, low: Lowest, rank: u32) -> u32
+    requires { ⌜ Freeing (now words) n (asLow low) ⌝ ∗ ⌜ rank < ranks ⌝ }
+    ensures { λ r. ⌜ r ≡ word (takenWords (now (words .entry)) n (asLow low)) (tailAt rank) ⌝ }
+{
+    let own = low.rank;
+    if rank == own {
+        return last_of(low.next, low.tail);
+    }
+    words[TAILS + rank as usize]
+}
+
+fn next_after(words: &[u32], n: u32, low: Lowest, link: u32) -> u32
+    requires { ⌜ Freeing (now words) n (asLow low) ⌝ }
+    ensures { λ r. ⌜ r ≡ nextOf (takenWords (now (words .entry)) n (asLow low)) n link ⌝ }
+{
+    let head = low.head;
+    if link == head {
+        return free_link(words, n);
+    }
+    next_of(words, n, link)
+}
+
+// The bucket of rank with all the tests of a push, on the store as after the pop: the node to be taken is
+// then the freed one, and its next the free link of today.
+pub fn find_room(bits: &[u64], words: &[u32], n: u32, low: Lowest, rank: u32) -> Bucket
+    requires { ⌜ Takable (now bits) (now words) n (asLow low) ⌝ ∗ ⌜ rank < ranks ⌝ ∗ ⌜ word (now words) (heldAt n) ≤ n ⌝ }
+    ensures { λ r. ⌜ asRoom r ≡ roomOf (takenBits (now (bits .entry)) (asLow low)) (takenWords (now (words .entry)) n (asLow low)) n rank ⌝ }
+{
+    let gone = low.rank;
+    let free = low.head;
+    let after = low.next;
+    let empties = after == 0;
+    let top = bucket_bits::top_left(bits, empties, gone);
+    let signs = bucket_bits::signs_left(bits, empties, gone, rank);
+    let held = held_count(words, n) - 1;
+    let next = free_link(words, n);
+    let head = head_after(words, n, low, rank);
+    let tail = tail_after(words, n, low, rank);
+    let last = next_after(words, n, low, tail);
+    let sound = whole(top, free, held, n);
+    let fits = push_fits(
+        n,
+        held,
+        signs.agrees,
+        signs.bit,
+        head,
+        tail,
+        free,
+        next,
+        last,
+    );
+    Bucket {
+        good: sound & fits,
+        tail,
+        next,
+    }
+}
