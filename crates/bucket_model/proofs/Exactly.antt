@@ -18,7 +18,7 @@ use Rattle.strip.specs.declared.Count.{Count}
 use Rattle.strip.specs.declared.Count.the-variants.{Held, Unknown}
 use Rattle.bucket_model.specs.Layout.{ranks, word, heldAt}
 use Rattle.bucket_model.specs.Storeys.{lowestRank}
-use Rattle.bucket_model.specs.Calls.{Outcome, outcome, refused, shapely, whole, cleared, heldCount, popped, popFound, pushed, pushFound, replaced, replaceFound, replaceJoined, lowOf, bucketOf, roomOf, takenBits, takenWords, given, Low, Room, joinedBits, joinedWords}
+use Rattle.bucket_model.specs.Calls.{Outcome, outcome, refused, shapely, wholly, cleared, heldCount, popped, popFound, pushed, pushFound, replaced, replaceFound, replaceJoined, lowOf, bucketOf, roomOf, takenBits, takenWords, given, Low, Room, joinedBits, joinedWords}
 use Rattle.bucket_model.specs.Causes.{Shaped, Whole, PopFit, PushFit, PushDamage, PopDamage, ReplaceDamage, ClearCause, PushCause, PopCause, ReplaceCause, HeldCause, Exactly, ExactlyCount}
 use Rattle.bucket_model.proofs.Taken.{held-after}
 use Rattle.bucket_model.proofs.Facts.{shape-facts, shape-test, whole-facts, whole-test, pop-facts, pop-test, pop-way, low-is, push-facts, push-test}
@@ -91,7 +91,7 @@ module _ (b w : List ℕ) (n : ℕ) where
 
   held-torn : Shaped b w n → (Whole b w n → ⊥) → heldCount b w n ≡ Unknown Damaged
   unfolding heldCount
-  held-torn s h = simp (shape-test b w n s, off (whole b w n) (Whole b w n) (whole-facts b w n) h)
+  held-torn s h = simp (shape-test b w n s, off (wholly b w n) (Whole b w n) (whole-facts b w n) h)
 
   pub held-told : Shaped b w n → Whole b w n → heldCount b w n ≡ Held (word w (heldAt n))
   unfolding heldCount
@@ -103,12 +103,12 @@ module _ (b w : List ℕ) (n : ℕ) where
       by : (q : Refusal) → heldCount b w n ≡ Unknown q → HeldCause b w n q → HeldCause b w n r
       by q p h = let u : Unknown q ≡ Unknown r = sym p ∙ e in let v : q ≡ r = cc in subst (HeldCause b w n) v h
 
-      torn : Shaped b w n → (t : Bool) → whole b w n ≡ t → HeldCause b w n r
+      torn : Shaped b w n → (t : Bool) → wholly b w n ≡ t → HeldCause b w n r
       torn s true p = let u : Held (word w (heldAt n)) ≡ Unknown r = sym (held-told s (whole-facts b w n p)) ∙ e in let z : _≡_ {A = ℕ} 0 1 = cc in absurd (omega arith)
-      torn s false p = let h = no-way (whole b w n) (Whole b w n) (whole-test b w n) p in by Damaged (held-torn s h) (s, h)
+      torn s false p = let h = no-way (wholly b w n) (Whole b w n) (whole-test b w n) p in by Damaged (held-torn s h) (s, h)
 
       shape : (t : Bool) → shapely b w n ≡ t → HeldCause b w n r
-      shape true p = torn (shape-facts b w n p) (whole b w n) refl
+      shape true p = torn (shape-facts b w n p) (wholly b w n) refl
       shape false p = let h = no-way (shapely b w n) (Shaped b w n) (shape-test b w n) p in by BadShape (held-bad h) h
 
   pub held-exactly : ExactlyCount (heldCount b w n) (HeldCause b w n)
@@ -132,7 +132,7 @@ module _ (b w : List ℕ) (n : ℕ) where
   module _ (s : Shaped b w n) where
     pop-torn : (Whole b w n → ⊥) → popped b w n ≡ refused Damaged b w
     unfolding popped
-    pop-torn h = simp (shape-test b w n s, off (whole b w n) (Whole b w n) (whole-facts b w n) h)
+    pop-torn h = simp (shape-test b w n s, off (wholly b w n) (Whole b w n) (whole-facts b w n) h)
 
     module _ (k : Whole b w n) where
       pub pop-none : word w (heldAt n) ≡ 0 → popped b w n ≡ refused Empty b w
@@ -154,11 +154,11 @@ module _ (b w : List ℕ) (n : ℕ) where
 
     pop-damaged : PopDamage b w n → popped b w n ≡ refused Damaged b w
     pop-damaged (inl h) = pop-torn h
-    pop-damaged (inr x) = go (whole b w n) refl
+    pop-damaged (inr x) = go (wholly b w n) refl
       where
-        go : (t : Bool) → whole b w n ≡ t → popped b w n ≡ refused Damaged b w
+        go : (t : Bool) → wholly b w n ≡ t → popped b w n ≡ refused Damaged b w
         go true e = pop-unfit (whole-facts b w n e) (λ p. omega (arith, x .0)) (x .1)
-        go false e = pop-torn (no-way (whole b w n) (Whole b w n) (whole-test b w n) e)
+        go false e = pop-torn (no-way (wholly b w n) (Whole b w n) (whole-test b w n) e)
 
   pop-ruled : Ruled (popped b w n) (PopCause b w n)
   pop-ruled = shape (shapely b w n) refl
@@ -178,12 +178,12 @@ module _ (b w : List ℕ) (n : ℕ) where
       held : (s : Shaped b w n) → Whole b w n → Goal
       held s k = elim (ℕ-discrete (word w (heldAt n)) 0) [ yes z ↦ said Empty (s, k, z) (pop-none s k z) | no z ↦ fit s k z (lowOf b w n .good) refl ]
 
-      torn : Shaped b w n → (t : Bool) → whole b w n ≡ t → Goal
+      torn : Shaped b w n → (t : Bool) → wholly b w n ≡ t → Goal
       torn s true e = held s (whole-facts b w n e)
-      torn s false e = let h = no-way (whole b w n) (Whole b w n) (whole-test b w n) e in said Damaged (s, inl h) (pop-torn s h)
+      torn s false e = let h = no-way (wholly b w n) (Whole b w n) (whole-test b w n) e in said Damaged (s, inl h) (pop-torn s h)
 
       shape : (t : Bool) → shapely b w n ≡ t → Goal
-      shape true e = torn (shape-facts b w n e) (whole b w n) refl
+      shape true e = torn (shape-facts b w n e) (wholly b w n) refl
       shape false e = let h = no-way (shapely b w n) (Shaped b w n) (shape-test b w n) e in said BadShape h (pop-bad h)
 
   pub pop-exactly : Exactly (popped b w n) b w (PopCause b w n)
@@ -215,7 +215,7 @@ module _ (b w : List ℕ) (n : ℕ) (e : Element) where
     module _ (l : r < ranks) where
       push-torn : (Whole b w n → ⊥) → pushed b w n e ≡ refused Damaged b w
       unfolding pushed
-      push-torn h = simp (shape-test b w n s, lt-ltb r ranks l, off (whole b w n) (Whole b w n) (whole-facts b w n) h)
+      push-torn h = simp (shape-test b w n s, lt-ltb r ranks l, off (wholly b w n) (Whole b w n) (whole-facts b w n) h)
 
       module _ (k : Whole b w n) where
         pub push-full : word w (heldAt n) ≡ n → pushed b w n e ≡ refused Full b w
@@ -237,11 +237,11 @@ module _ (b w : List ℕ) (n : ℕ) (e : Element) where
 
       push-damaged : PushDamage b w n r → pushed b w n e ≡ refused Damaged b w
       push-damaged (inl h) = push-torn h
-      push-damaged (inr x) = go (whole b w n) refl
+      push-damaged (inr x) = go (wholly b w n) refl
         where
-          go : (t : Bool) → whole b w n ≡ t → pushed b w n e ≡ refused Damaged b w
+          go : (t : Bool) → wholly b w n ≡ t → pushed b w n e ≡ refused Damaged b w
           go true q = push-unfit (whole-facts b w n q) (λ p. omega (arith, x .0)) (x .1)
-          go false q = push-torn (no-way (whole b w n) (Whole b w n) (whole-test b w n) q)
+          go false q = push-torn (no-way (wholly b w n) (Whole b w n) (whole-test b w n) q)
 
   push-ruled : Ruled (pushed b w n e) (PushCause b w n e)
   push-ruled = shape (shapely b w n) refl
@@ -261,12 +261,12 @@ module _ (b w : List ℕ) (n : ℕ) (e : Element) where
       held : (s : Shaped b w n) (l : r < ranks) → Whole b w n → Goal
       held s l k = elim (ℕ-discrete (word w (heldAt n)) n) [ yes z ↦ said Full (s, l, k, z) (push-full s l k z) | no z ↦ fit s l k z (bucketOf b w n r .good) refl ]
 
-      torn : (s : Shaped b w n) (l : r < ranks) (t : Bool) → whole b w n ≡ t → Goal
+      torn : (s : Shaped b w n) (l : r < ranks) (t : Bool) → wholly b w n ≡ t → Goal
       torn s l true p = held s l (whole-facts b w n p)
-      torn s l false p = let h = no-way (whole b w n) (Whole b w n) (whole-test b w n) p in said Damaged (s, l, inl h) (push-torn s l h)
+      torn s l false p = let h = no-way (wholly b w n) (Whole b w n) (whole-test b w n) p in said Damaged (s, l, inl h) (push-torn s l h)
 
       rank : Shaped b w n → Goal
-      rank s = elim (decLt r ranks) [ yes l ↦ torn s l (whole b w n) refl | no l ↦ said BadRank (s, omega arith) (push-high s (omega arith)) ]
+      rank s = elim (decLt r ranks) [ yes l ↦ torn s l (wholly b w n) refl | no l ↦ said BadRank (s, omega arith) (push-high s (omega arith)) ]
 
       shape : (t : Bool) → shapely b w n ≡ t → Goal
       shape true p = rank (shape-facts b w n p)
@@ -291,22 +291,22 @@ low-rank b w n g = ap (λ (l : Low). l .rank) (low-is b w n (pop-way b w n g))
 module _ (b w : List ℕ) (n r : ℕ) where
   pub room-test : Whole b w n → PushFit b w n r → roomOf b w n r .good ≡ true
   unfolding roomOf
-  room-test h k = and-true (whole b w n) (bucketOf b w n r .good) (whole-test b w n h) (push-test b w n r k)
+  room-test h k = and-true (wholly b w n) (bucketOf b w n r .good) (whole-test b w n h) (push-test b w n r k)
 
   room-off : PushDamage b w n r → roomOf b w n r .good ≡ false
   unfolding roomOf
   room-off h =
-      off (whole b w n && bucketOf b w n r .good) (Whole b w n × PushFit b w n r)
-      (λ e. (whole-facts b w n (and-left (whole b w n) (bucketOf b w n r .good) e), push-facts b w n r (and-right (whole b w n) (bucketOf b w n r .good) e)))
+      off (wholly b w n && bucketOf b w n r .good) (Whole b w n × PushFit b w n r)
+      (λ e. (whole-facts b w n (and-left (wholly b w n) (bucketOf b w n r .good) e), push-facts b w n r (and-right (wholly b w n) (bucketOf b w n r .good) e)))
       (λ x. ⊎-elim (λ (f : Whole b w n → ⊥). f (x .0)) (λ (f : (word w (heldAt n) < n) × (PushFit b w n r → ⊥)). f .1 (x .1)) h)
 
   room-damage : word w (heldAt n) < n → roomOf b w n r .good ≡ false → PushDamage b w n r
   unfolding roomOf
-  room-damage l e = go (whole b w n) refl
+  room-damage l e = go (wholly b w n) refl
     where
-      go : (t : Bool) → whole b w n ≡ t → PushDamage b w n r
-      go true p = inr (l, λ f. false≢true (sym e ∙ and-true (whole b w n) (bucketOf b w n r .good) p (push-test b w n r f)))
-      go false p = inl (no-way (whole b w n) (Whole b w n) (whole-test b w n) p)
+      go : (t : Bool) → wholly b w n ≡ t → PushDamage b w n r
+      go true p = inr (l, λ f. false≢true (sym e ∙ and-true (wholly b w n) (bucketOf b w n r .good) p (push-test b w n r f)))
+      go false p = inl (no-way (wholly b w n) (Whole b w n) (whole-test b w n) p)
 
 module _ (b w : List ℕ) (n : ℕ) (e : Element) where
   abbrev i : ℕ
@@ -330,7 +330,7 @@ module _ (b w : List ℕ) (n : ℕ) (e : Element) where
     module _ (l : i < ranks) where
       replace-torn : (Whole b w n → ⊥) → replaced b w n e ≡ refused Damaged b w
       unfolding replaced
-      replace-torn h = simp (shape-test b w n s, lt-ltb i ranks l, off (whole b w n) (Whole b w n) (whole-facts b w n) h)
+      replace-torn h = simp (shape-test b w n s, lt-ltb i ranks l, off (wholly b w n) (Whole b w n) (whole-facts b w n) h)
 
       module _ (k : Whole b w n) where
         pub replace-none : word w (heldAt n) ≡ 0 → replaced b w n e ≡ outcome (Out e) b w
@@ -370,16 +370,16 @@ module _ (b w : List ℕ) (n : ℕ) (e : Element) where
               replace-out g = replace-in ∙ simp g
 
       replace-damaged : ReplaceDamage b w n i → replaced b w n e ≡ refused Damaged b w
-      replace-damaged x = go (whole b w n) refl
+      replace-damaged x = go (wholly b w n) refl
         where
           sound : Whole b w n → ReplaceDamage b w n i → replaced b w n e ≡ refused Damaged b w
           sound k (inl (inl h)) = absurd (h k)
           sound k (inl (inr h)) = replace-unfit k (λ p. omega (arith, h .0)) (h .1)
           sound k (inr h) = replace-room k (λ p. omega (arith, h .0)) (h .1) (h .2) (room-off (takenBits b low) (takenWords w n low) n i (h .3))
 
-          go : (t : Bool) → whole b w n ≡ t → replaced b w n e ≡ refused Damaged b w
+          go : (t : Bool) → wholly b w n ≡ t → replaced b w n e ≡ refused Damaged b w
           go true p = sound (whole-facts b w n p) x
-          go false p = replace-torn (no-way (whole b w n) (Whole b w n) (whole-test b w n) p)
+          go false p = replace-torn (no-way (wholly b w n) (Whole b w n) (whole-test b w n) p)
 
   replace-ruled : Ruled (replaced b w n e) (ReplaceCause b w n e)
   replace-ruled = shape (shapely b w n) refl
@@ -410,12 +410,12 @@ module _ (b w : List ℕ) (n : ℕ) (e : Element) where
       held : (s : Shaped b w n) (l : i < ranks) → Whole b w n → Goal
       held s l k = elim (ℕ-discrete (word w (heldAt n)) 0) [ yes z ↦ out e b w (replace-none s l k z) | no z ↦ fit s l k z (low .good) refl ]
 
-      torn : (s : Shaped b w n) (l : i < ranks) (t : Bool) → whole b w n ≡ t → Goal
+      torn : (s : Shaped b w n) (l : i < ranks) (t : Bool) → wholly b w n ≡ t → Goal
       torn s l true p = held s l (whole-facts b w n p)
-      torn s l false p = let h = no-way (whole b w n) (Whole b w n) (whole-test b w n) p in said Damaged (s, l, inl (inl h)) (replace-torn s l h)
+      torn s l false p = let h = no-way (wholly b w n) (Whole b w n) (whole-test b w n) p in said Damaged (s, l, inl (inl h)) (replace-torn s l h)
 
       rank : Shaped b w n → Goal
-      rank s = elim (decLt i ranks) [ yes l ↦ torn s l (whole b w n) refl | no l ↦ said BadRank (s, omega arith) (replace-high s (omega arith)) ]
+      rank s = elim (decLt i ranks) [ yes l ↦ torn s l (wholly b w n) refl | no l ↦ said BadRank (s, omega arith) (replace-high s (omega arith)) ]
 
       shape : (t : Bool) → shapely b w n ≡ t → Goal
       shape true p = rank (shape-facts b w n p)

@@ -13,7 +13,7 @@ use Rattle.bitmap.specs.Bits.{bitAt, bit-lt}
 use Rattle.bucket_model.specs.Layout.{pool, storeWords, word, headAt, tailAt, nextAt, freeAt, heldAt}
 use Rattle.bucket_model.specs.Storeys.{Storey, storeys, bitWords, wordOf, bitOf, find, opens, agree, bitIs, lowestOpen, lowestRank, rankBit, rankAgrees}
 use Rattle.bucket_model.specs.Checks.{shapeOk, wholeOk, nextOf, popOk, pushOk}
-use Rattle.bucket_model.specs.Calls.{shapely, whole, lowOf, lowIn, bucketOf}
+use Rattle.bucket_model.specs.Calls.{shapely, wholly, lowOf, lowIn, bucketOf}
 use Rattle.bucket_model.specs.Causes.{Iff, Shaped, Whole, Opens, bitNo, lowestBit, Agrees, PopFit, PushFit}
 
 -- ---- two tests that agree
@@ -100,7 +100,7 @@ shape-test b w n h =
 
 -- ---- the whole queue
 
-pub whole-facts : (b w : List ℕ) (n : ℕ) → whole b w n ≡ true → Whole b w n
+pub whole-facts : (b w : List ℕ) (n : ℕ) → wholly b w n ≡ true → Whole b w n
 unfolding wholeOk
 whole-facts b w n e =
     let top = word b 0 in
@@ -119,7 +119,7 @@ whole-facts b w n e =
       empty = same-facts top 0 held 0 (and-right (t1 && t2 && t3) t4 e);
     }
 
-pub whole-test : (b w : List ℕ) (n : ℕ) → Whole b w n → whole b w n ≡ true
+pub whole-test : (b w : List ℕ) (n : ℕ) → Whole b w n → wholly b w n ≡ true
 unfolding wholeOk
 whole-test b w n h =
     let free = word w (freeAt n) in

@@ -33,8 +33,8 @@ refused r b w = outcome (Refused r) b w
 abbrev pub shapely : List ℕ → List ℕ → ℕ → Bool
 shapely b w n = shapeOk (length b) (length w) n
 
-abbrev pub whole : List ℕ → List ℕ → ℕ → Bool
-whole b w n = wholeOk (word b 0) (word w (freeAt n)) (word w (heldAt n)) n
+abbrev pub wholly : List ℕ → List ℕ → ℕ → Bool
+wholly b w n = wholeOk (word b 0) (word w (freeAt n)) (word w (heldAt n)) n
 
 -- ---- clear
 
@@ -65,7 +65,7 @@ cleared b w n =
 -- ---- held
 
 unfoldable pub heldCount : List ℕ → List ℕ → ℕ → Count
-heldCount b w n = cond (shapely b w n) (cond (whole b w n) (Held (word w (heldAt n))) (Unknown Damaged)) (Unknown BadShape)
+heldCount b w n = cond (shapely b w n) (cond (wholly b w n) (Held (word w (heldAt n))) (Unknown Damaged)) (Unknown BadShape)
 
 -- ---- pop
 
@@ -130,7 +130,7 @@ popFound b w n low =
 unfoldable pub popped : List ℕ → List ℕ → ℕ → Outcome
 popped b w n =
     cond (shapely b w n)
-    (cond (whole b w n)
+    (cond (wholly b w n)
     (cond (eqb (word w (heldAt n)) 0) (refused Empty b w) (popFound b w n (lowOf b w n)))
     (refused Damaged b w))
     (refused BadShape b w)
@@ -184,7 +184,7 @@ unfoldable pub pushed : List ℕ → List ℕ → ℕ → Element → Outcome
 pushed b w n e =
     cond (shapely b w n)
     (cond (ltb (e .rank .0) ranks)
-    (cond (whole b w n)
+    (cond (wholly b w n)
     (cond (eqb (word w (heldAt n)) n) (refused Full b w) (pushFound b w n e (bucketOf b w n (e .rank .0))))
     (refused Damaged b w))
     (refused BadRank b w))
@@ -196,7 +196,7 @@ pushed b w n e =
 unfoldable pub roomOf : List ℕ → List ℕ → ℕ → ℕ → Room
 roomOf b w n r =
     record {
-      good = whole b w n && bucketOf b w n r .good;
+      good = wholly b w n && bucketOf b w n r .good;
       tail = bucketOf b w n r .tail;
       next = bucketOf b w n r .next;
     }
@@ -222,7 +222,7 @@ unfoldable pub replaced : List ℕ → List ℕ → ℕ → Element → Outcome
 replaced b w n e =
     cond (shapely b w n)
     (cond (ltb (e .rank .0) ranks)
-    (cond (whole b w n)
+    (cond (wholly b w n)
     (cond (eqb (word w (heldAt n)) 0) (outcome (Out e) b w) (replaceFound b w n e (lowOf b w n)))
     (refused Damaged b w))
     (refused BadRank b w))

@@ -10,9 +10,15 @@ ghost use Rattle.strip.specs.Answers.{element};
 ghost use Rattle.bucket_model.specs.Layout.{ranks, pool, storeWords, word, headAt, tailAt, tagAt, freeAt, heldAt};
 ghost use Rattle.bucket_model.specs.Storeys.{bitWords};
 ghost use Rattle.bucket_model.specs.Checks.{shapeOk, wholeOk, nextOf, popOk, pushOk};
-ghost use Rattle.bucket_model.specs.Calls.{fill, blankWord, lastOf, slotOf, takenWords, takenBits, joinedWords, joinedBits, bucketOf, roomOf};
+ghost use Rattle.bucket_model.specs.Calls.{shapely, wholly, fill, blankWord, lastOf, slotOf, takenWords, takenBits, joinedWords, joinedBits, bucketOf, roomOf};
 ghost use Rattle.bucket_model.specs.Causes.{Shaped};
 ghost use Rattle.bucket_steps.specs.Ready.{asLow, asRoom, Freeing, Takable, Joinable, FoundLow};
+
+// How many ranks there are.
+pub const RANKS: u32 = 4096;
+
+// The most nodes that a pool may have.
+const POOL: u32 = 4096;
 
 // How many words of 64 bits there are.
 const BITS: usize = 65;
@@ -92,17 +98,34 @@ fn next_of(words: &[u32], n: u32, link: u32) -> u32
 
 // ---- tests
 
-pub fn shape(bits: usize, words: usize, n: u32) -> bool
+fn shape(bits: usize, words: usize, n: u32) -> bool
     ensures { λ r. ⌜ r ≡ shapeOk bits words n ⌝ }
 {
-    (1 <= n) & (n <= 4096) & (BITS <= bits) & (WORDS + NODE * (n as usize) <= words)
+    (1 <= n) & (n <= POOL) & (BITS <= bits) & (WORDS + NODE * (n as usize) <= words)
 }
 
 // What every call but clear tests.
-pub fn whole(top: u64, free: u32, held: u32, n: u32) -> bool
+fn whole(top: u64, free: u32, held: u32, n: u32) -> bool
     ensures { λ r. ⌜ r ≡ wholeOk top free held n ⌝ }
 {
     (free <= n) & (held <= n) & ((free == 0) == (held == n)) & ((top == 0) == (held == 0))
+}
+
+// Whether the slices are long enough for n nodes, and n is a number of nodes that there may be.
+pub fn is_shaped(bits: &[u64], words: &[u32], n: u32) -> bool
+    ensures { λ r. ⌜ r ≡ shapely (now (bits .entry)) (now (words .entry)) n ⌝ }
+{
+    shape(bits.len(), words.len(), n)
+}
+
+// The tests of the whole queue on its own words.
+pub fn is_whole(bits: &[u64], words: &[u32], n: u32) -> bool
+    requires { ⌜ Shaped (now bits) (now words) n ⌝ }
+    ensures { λ r. ⌜ r ≡ wholly (now (bits .entry)) (now (words .entry)) n ⌝ }
+{
+    let free = free_link(words, n);
+    let held = held_count(words, n);
+    whole(bits[0], free, held, n)
 }
 
 // What a pop tests of its bucket; last is the tail's next.
