@@ -55,10 +55,11 @@ pub fn pop(bits: &mut [u64], words: &mut [u32], n: u32) -> Answer
     if !low.good {
         return Answer::Refused(Refusal::Damaged);
     }
+    let rank = low.rank;
     let tag = bucket_steps::tag_of(words, n, low.head);
     bucket_steps::take(bits, words, n, low);
     Answer::Out(Element {
-        rank: Rank(low.rank),
+        rank: Rank(rank),
         tag: Tag(tag),
     })
 }
@@ -77,7 +78,8 @@ pub fn push(bits: &mut [u64], words: &mut [u32], n: u32, rank: Rank, tag: Tag) -
     if !bucket_steps::is_whole(bits, words, n) {
         return Answer::Refused(Refusal::Damaged);
     }
-    if bucket_steps::held_count(words, n) == n {
+    let left = n - bucket_steps::held_count(words, n);
+    if left == 0 {
         return Answer::Refused(Refusal::Full);
     }
     let to = bucket_steps::find_bucket(bits, words, n, r);
@@ -112,13 +114,13 @@ pub fn replace(bits: &mut [u64], words: &mut [u32], n: u32, rank: Rank, tag: Tag
     if r < low.rank {
         return Answer::Out(Element { rank, tag });
     }
-    let to = bucket_steps::find_room(bits, words, n, low, r);
-    if !to.good {
+    let room = bucket_steps::find_room(bits, words, n, low, r);
+    if !room.good {
         return Answer::Refused(Refusal::Damaged);
     }
     let out = bucket_steps::tag_of(words, n, low.head);
     bucket_steps::take(bits, words, n, low);
-    bucket_steps::join(bits, words, n, rank, tag, to);
+    bucket_steps::join(bits, words, n, rank, tag, room);
     Answer::Out(Element {
         rank: Rank(low.rank),
         tag: Tag(out),

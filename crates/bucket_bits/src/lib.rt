@@ -100,9 +100,9 @@ fn lower(bits: &mut [u64], base: usize, j: usize) -> bool
     ensures { λ r. ⌜ (now (bits .exit) ≡ putAt false (now (bits .entry)) base j) × (r ≡ eqb (put false (word (now (bits .entry)) (base + j / 64)) (j % 64)) 0) ⌝ }
 {
     let at = base + j / 64;
-    let word = bitmap::without(bits[at], j % 64);
-    bits[at] = word;
-    word == 0
+    let left = bitmap::without(bits[at], j % 64);
+    bits[at] = left;
+    left == 0
 }
 
 // The bits of a rank whose bucket is empty now and was not.

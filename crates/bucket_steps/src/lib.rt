@@ -141,7 +141,7 @@ fn pop_fits(n: u32, head: u32, tail: u32, next: u32, last: u32) -> bool
         & ((next == 0) == (head == tail))
 }
 
-// What a push tests of its bucket; next is that of the node at the free link, last the tail's.
+// What a push tests of its bucket; next is that of the node at the free link, behind the tail's.
 fn push_fits(
     n: u32,
     held: u32,
@@ -151,10 +151,10 @@ fn push_fits(
     tail: u32,
     free: u32,
     next: u32,
-    last: u32,
+    behind: u32,
 ) -> bool
     requires { ⌜ held < n ⌝ }
-    ensures { λ r. ⌜ r ≡ pushOk n held agrees bit head tail free next last ⌝ }
+    ensures { λ r. ⌜ r ≡ pushOk n held agrees bit head tail free next behind ⌝ }
 {
     ((head == 0) == (tail == 0))
         & ((head == 0) != bit)
@@ -162,7 +162,7 @@ fn push_fits(
         & (head <= n)
         & (tail <= n)
         & (next <= n)
-        & (last == 0)
+        & (behind == 0)
         & (free != tail)
         & ((next == 0) == (held + 1 == n))
 }

@@ -42,7 +42,7 @@ whole c = whole-facts (c .before .before .before .before .before .before .before
 
 -- there is room
 room : (c : tie.Else4) → word (c .before .before .before .before .before .before .before .before .before .before .before .before .before .before .args .words .now) (heldAt (c .before .before .before .before .before .before .before .before .before .before .before .before .before .before .args .n)) ≡ c .before .before .before .before .before .before .before .before .before .before .before .before .before .before .args .n → ⊥
-room c z = c .if4 .left (c .before .held-count .ensures ∙ z)
+room c z = c .if4 .left (omega (arith, c .before .held-count .ensures))
 
 is-shaped-requires : tie.Need-is-shaped-requires
 is-shaped-requires c κs = search needs
@@ -80,6 +80,9 @@ returns-3 c = push-torn _ _ _ (element (c .before .before .before .before .befor
 held-count-requires : tie.Need-held-count-requires
 held-count-requires c κs = shaped (c .before .before .before .before .before .before) .words
 
+sub-left : tie.Need-sub-left
+sub-left c = omega (arith, c .held-count .ensures, whole (c .before .before) .held≤)
+
 same-length-7 : tie.Need-same-length-7
 same-length-7 c = search needs
 
@@ -87,7 +90,7 @@ same-length-8 : tie.Need-same-length-8
 same-length-8 c = search needs
 
 returns-4 : tie.Need-returns-4
-returns-4 c = push-full _ _ _ (element (c .before .before .before .before .before .before .before .before .before .before .before .before .before .before .args .rank .0) (c .before .before .before .before .before .before .before .before .before .before .before .before .before .before .args .tag .0)) (ok (c .before .before .before .before .before .before .before .before)) (rank (c .before .before .before .before .before .before .before)) (sound (c .before .before .before)) (sym (c .before .held-count .ensures) ∙ c .if4 .taken)
+returns-4 c = push-full _ _ _ (element (c .before .before .before .before .before .before .before .before .before .before .before .before .before .before .args .rank .0) (c .before .before .before .before .before .before .before .before .before .before .before .before .before .before .args .tag .0)) (ok (c .before .before .before .before .before .before .before .before)) (rank (c .before .before .before .before .before .before .before)) (sound (c .before .before .before)) (omega (arith, c .if4 .taken, c .before .held-count .ensures, whole (c .before .before .before) .held≤))
 
 find-bucket-requires : tie.Need-find-bucket-requires
 find-bucket-requires c κs = (shaped (c .before .before .before .before .before .before .before .before .before .before), (rank (c .before .before .before .before .before .before .before .before .before), omega (arith, room (c .before .before), whole (c .before .before .before .before .before) .held≤)))
@@ -129,6 +132,7 @@ push-spec =
     same-length-6
     returns-3
     held-count-requires
+    sub-left
     same-length-7
     same-length-8
     returns-4
