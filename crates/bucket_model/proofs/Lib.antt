@@ -2,6 +2,7 @@
 pub mod Facts
 pub mod Writes
 pub mod Taken
+pub mod Joined
 pub mod Tells
 pub mod Tower
 pub mod Exactly
@@ -12,6 +13,7 @@ pub mod Push
 pub mod Replace
 pub mod Fill
 pub mod Clear
+pub mod Rest
 pub mod Order
 pub mod Runs
 pub mod Promises

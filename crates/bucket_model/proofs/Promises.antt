@@ -3,7 +3,7 @@ use mathlib.Core.Path.{_≡_, refl, sym, ap, subst, _∙_}
 use mathlib.Core.List.{List, [], _∷_, _++_}
 use mathlib.Core.Bool.{Bool, true, false, cond}
 use mathlib.Core.Logic.{_⊎_, inl, inr, ⊎-elim}
-use Prim.Native.Nat.{ℕ, zero, suc, _+_, _≤_, _<_}
+use Prim.Native.Nat.{ℕ, zero, suc, _+_, _*_, _^_, _≤_, _<_}
 use native.Mathlib.Decide.{ℕ-discrete, decLt}
 use native.Mathlib.Omega.{arith}
 use borrow.Author.Tests.{eq-eqb, ne-eqb, lt-ltb, le-ltb}
@@ -18,15 +18,16 @@ use Rattle.strip.specs.declared.Answer.the-variants.{Done, Out, Refused}
 use Rattle.strip.specs.declared.Count.the-variants.{Held}
 use Rattle.strip.specs.declared.Request.{Request}
 use Rattle.strip.specs.declared.Request.the-variants.{Nothing, Push, Pop, Replace}
-use Rattle.bucket_model.specs.Layout.{ranks, word, headAt, tailAt, freeAt, heldAt}
+use Rattle.bucket_model.specs.Layout.{ranks, storeWords, word, headAt, tailAt, freeAt, heldAt}
 use Rattle.bucket_model.specs.Storeys.{lowestRank}
 use Rattle.bucket_model.specs.Calls.{Outcome, outcome, refused, Low, Room, lowOf, bucketOf, takenBits, takenWords, joinedBits, joinedWords, cleared, heldCount, popped, pushed, replaced}
-use Rattle.bucket_model.specs.Causes.{Shaped, ClearCause, PushCause, PopCause, ReplaceCause, HeldCause, Exactly, ExactlyCount}
+use Rattle.bucket_model.specs.Causes.{Shaped, ClearCause, PushCause, PopCause, ReplaceCause, HeldCause, Exactly, ExactlyCount, Untouched}
 use Rattle.bucket_model.specs.Plain.{Call, ask, held, Said, answered, counted, Step, step, Store, store, asked, called, says, after, start, Reached, insert, plain, plainReplace, plainSays, plainAfter, elements, inOrder, stored, arrivals, departures, tagsAt, times, copies, saidNumber}
 use Rattle.bucket_model.proofs.Facts.{low-is, pop-way, pop-test}
 use Rattle.bucket_model.proofs.Taken.{free-after, taken-length}
-use Rattle.bucket_model.proofs.Writes.{same, other}
+use Rattle.bucket_model.proofs.Joined.{joined-tail}
 use Rattle.bucket_model.proofs.Exactly.{clear-exactly, held-exactly, pop-exactly, push-exactly, replace-exactly}
+use Rattle.bucket_model.proofs.Rest.{clear-rest, push-rest, pop-rest, replace-rest}
 use Rattle.bucket_model.proofs.Pop.{Popped, pops}
 use Rattle.bucket_model.proofs.Push.{Pushed, pushes}
 use Rattle.bucket_model.proofs.Runs.{Holds, Agree, calls, says-alike, after-holds, start-holds, stored-is, tags-stored, moved}
@@ -47,6 +48,20 @@ exactly-replace = replace-exactly
 
 pub exactly-held : (b w : List ℕ) (n : ℕ) → ExactlyCount (heldCount b w n) (HeldCause b w n)
 exactly-held = held-exactly
+
+-- ---- rest: "Longer slices are taken; the rest is never touched". The bits of a pop and a replace are words of 64 bits, as a slice's are
+
+pub rest-clear : (b w : List ℕ) (n : ℕ) → Untouched b w n (cleared b w n)
+rest-clear = clear-rest
+
+pub rest-push : (b w : List ℕ) (n : ℕ) (e : Element) → Untouched b w n (pushed b w n e)
+rest-push = push-rest
+
+pub rest-pop : (b w : List ℕ) (n : ℕ) → ((i : ℕ) → word b i < 2 ^ 64) → Untouched b w n (popped b w n)
+rest-pop = pop-rest
+
+pub rest-replace : (b w : List ℕ) (n : ℕ) → ((i : ℕ) → word b i < 2 ^ 64) → (e : Element) → Untouched b w n (replaced b w n e)
+rest-replace = replace-rest
 
 -- ---- pinned: any two outcomes that a contract allows are equal
 
@@ -231,3 +246,55 @@ least-replace n s e x r a = go (reached-holds n s r .0) (reached-holds n s r .1)
   where
     go : (l : List Element) → Holds s n l → All (λ y. x .rank .0 ≤ y .rank .0) (e ∷ stored (s .words) n)
     go l h = rw (stored-is s n l h) (replace-least n s e x l h a)
+
+-- ---- "The freed node .. becomes first in the free chain, so freed room is used at once"
+
+-- after a pop that gives x, the free link names the node that held x; a push of any rank that there is is taken then, even where the pool was full, and that node is the tail of its bucket
+pub record Reused (n : ℕ) (s t : Store) (x e : Element) : Type 0 where
+  pub free : word (t .words) (freeAt n) ≡ word (s .words) (headAt (x .rank .0))
+  pub taken : asked n (Push e) t .answer ≡ Done
+  pub node : word (asked n (Push e) t .words) (tailAt (e .rank .0)) ≡ word (s .words) (headAt (x .rank .0))
+
+module _ (n : ℕ) (s : Store) (l : List Element) (h : Holds s n l) (r t : ℕ) (ts : List ℕ) (p : Popped (s .bits) (s .words) n (h .m) (h .queue) r t ts) (e : Element) (k : e .rank .0 < ranks) where
+  abbrev b1 : List ℕ
+  b1 = takenBits (s .bits) (lowOf (s .bits) (s .words) n)
+
+  abbrev w1 : List ℕ
+  w1 = takenWords (s .words) n (lowOf (s .bits) (s .words) n)
+
+  freed : word w1 (freeAt n) ≡ word (s .words) (headAt r)
+  freed =
+      let g = pop-test (s .bits) (s .words) n (p .fit) in
+      free-after (s .words) n (lowOf (s .bits) (s .words) n) (h .queue .shape .words)
+      ∙ ap (λ (x : Low). x .head) (low-is (s .bits) (s .words) n (pop-way (s .bits) (s .words) n g))
+      ∙ ap (λ (i : ℕ). word (s .words) (headAt i)) (p .lowest)
+
+  again : Pushed b1 w1 n _ (p .after) (e .rank .0) k (e .tag .0)
+  again = ⊎-elim (λ x. absurd (omega (arith, x .1, p .held-is, h .queue .words .room))) (λ x. x .1) (pushes b1 w1 n _ (p .after) (e .rank .0) k (e .tag .0))
+
+  reused : Reused n s (store b1 w1) (element r t) e
+  unfolding asked
+  reused =
+      let long : storeWords n ≤ length w1 = p .after .shape .words in
+      record {
+        free = freed;
+        taken = ap (λ (o : Outcome). o .answer) (again .answer);
+        node = ap (λ (o : Outcome). word (o .words) (tailAt (e .rank .0))) (again .answer) ∙ joined-tail w1 n e (bucketOf b1 w1 n (e .rank .0)) k long ∙ freed;
+      }
+
+pub reuse : (n : ℕ) (s : Store) (x e : Element) → Reached n s → asked n Pop s .answer ≡ Out x → e .rank .0 < ranks
+    → Reused n s (store (asked n Pop s .bits) (asked n Pop s .words)) x e
+unfolding asked
+reuse n s x e a q k = go (reached-holds n s a .0) (reached-holds n s a .1)
+  where
+    go : (l : List Element) → Holds s n l → Reused n s (store (popped (s .bits) (s .words) n .bits) (popped (s .bits) (s .words) n .words)) x e
+    go l h = ⊎-elim (λ y. absurd (none (y .0))) (λ y. some (y .1) (y .2) (y .3) (y .4)) (pops (s .bits) (s .words) n (h .m) (h .queue))
+      where
+        none : popped (s .bits) (s .words) n ≡ refused Empty (s .bits) (s .words) → ⊥
+        none y = let u : Refused Empty ≡ Out x = sym (ap (λ (o : Outcome). o .answer) y) ∙ q in let z : _≡_ {A = ℕ} 0 1 = cc in omega arith
+
+        some : (r t : ℕ) (ts : List ℕ) → Popped (s .bits) (s .words) n (h .m) (h .queue) r t ts → Reused n s (store (popped (s .bits) (s .words) n .bits) (popped (s .bits) (s .words) n .words)) x e
+        some r t ts p =
+            let u : Out (element r t) ≡ Out x = sym (ap (λ (o : Outcome). o .answer) (p .answer)) ∙ q in
+            let v : element r t ≡ x = cc in
+            rw (← v, p .answer) (reused n s l h r t ts p e k)

@@ -8,7 +8,7 @@ use native.Mathlib.Decide.{ℕ-discrete}
 use native.Mathlib.Omega.{arith}
 use borrow.Author.Tests.{eq-eqb, ne-eqb}
 use lib.Dec.{eqb}
-use lib.ListN.{length, length-set}
+use lib.ListN.{length}
 use Rattle.laws.specs.Lists.{All}
 use Rattle.laws.specs.Tests.{cond-path}
 use Rattle.laws.specs.Updates.{upd, is-upd, upd-map}
@@ -23,6 +23,7 @@ use Rattle.bucket_model.specs.Calls.{Outcome, outcome, refused, Room, bu
 use Rattle.bucket_model.specs.Causes.{Iff, PushFit, lowestBit}
 use Rattle.bucket_model.proofs.Facts.{push-test}
 use Rattle.bucket_model.proofs.Taken.{next-in, next-none}
+use Rattle.bucket_model.proofs.Joined.{joined-length}
 use Rattle.bucket_model.proofs.Tower.{Ranks, ranks-ext, ranks-agree, ranks-bit, marks, marked-length}
 use Rattle.bucket_model.proofs.Exactly.{push-full, push-done}
 use Rattle.bucket_model.proofs.Chain.{Node, node, Mine, Chain}
@@ -60,13 +61,9 @@ module _ (s : List ℕ) (n : ℕ) (own : ℕ → ℕ) (c : ℕ) where
   last-apart [] z k h o e = omega arith
   last-apart (x ∷ xs) z k h o e = o (ap own e ∙ last-own (x .link) xs (z .mine .0 .owner) (z .mine .1))
 
-joined-bits-length : (b : List ℕ) (e : Element) (to : Room) → length (joinedBits b e to) ≡ length b
+pub joined-bits-length : (b : List ℕ) (e : Element) (to : Room) → length (joinedBits b e to) ≡ length b
 unfolding joinedBits
 joined-bits-length b e to = cond-path length (eqb (to .tail) 0) (marked b (e .rank .0)) b (length b) (marked-length b (e .rank .0)) refl
-
-joined-words-length : (s : List ℕ) (n : ℕ) (e : Element) (to : Room) → length (joinedWords s n e to) ≡ length s
-unfolding joinedWords
-joined-words-length s n e to = simp length-set
 
 tags-snoc : (xs : List Node) (y : Node) → tags (xs ++ y ∷ []) ≡ tags xs ++ y .tag ∷ []
 tags-snoc [] y = refl
@@ -192,7 +189,7 @@ module _ (b s : List ℕ) (n : ℕ) (m : ℕ → List ℕ) (z : Queue b s n m) (
             record {
               q = qj;
               own = upd (z .own) (x .link) r;
-              shape = shaped-after b s (joinedBits b (element r t) bk) (joinedWords s n (element r t) bk) n (joined-bits-length b (element r t) bk) (joined-words-length s n (element r t) bk) (z .shape);
+              shape = shaped-after b s (joinedBits b (element r t) bk) (joinedWords s n (element r t) bk) n (joined-bits-length b (element r t) bk) (joined-length s n (element r t) bk) (z .shape);
               words = joined s n (z .q) (z .own) (z .words) r r< x xs e t true;
               bits = bits-are (z .q r) refl;
               is = λ j l. tags-are j l;

@@ -98,3 +98,10 @@ module _ (w : List ℕ) (n : ℕ) (low : Low) (long : storeWords n ≤ length w)
     pub next-else : (l : ℕ) → (l ≡ low .head → ⊥) → nextOf (takenWords w n low) n l ≡ nextOf w n l
     unfolding takenWords nextOf
     next-else l e = elim (ℕ-discrete l 0) [ yes p ↦ rw (eq-eqb l 0 p) refl | no p ↦ rw (ne-eqb l 0 p) (elim (decLt n l) [ yes q ↦ rw (lt-ltb n l q) refl | no q ↦ rw (le-ltb n l (omega arith)) (next-word l e (omega arith) (omega arith)) ]) ]
+
+    -- past the store nothing is written
+    pub taken-past : (i : ℕ) → storeWords n ≤ i → word (takenWords w n low) i ≡ word w i
+    unfolding takenWords
+    taken-past i l =
+        other w5 _ _ i (λ e. omega arith) ∙ other w4 _ _ i (λ e. omega arith) ∙ other w3 _ _ i (λ e. omega arith)
+        ∙ other w2 _ _ i (λ e. omega arith) ∙ other w1 _ _ i (λ e. omega arith) ∙ other w _ _ i (λ e. omega arith)

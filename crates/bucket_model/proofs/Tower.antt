@@ -89,7 +89,7 @@ edit-length on b (p ∷ ps) j = cond-path length (goesUp on w v) (edit on b1 ps 
     b1 = set b (p .base + j / 64) (put on (word b (p .base + j / 64)) (j % 64))
 
 -- an edit leaves the words outside alone
-edit-off : (on : Bool) (b : List ℕ) (ps : List Storey) (j a : ℕ) → Bits ps j → Shape ps → Outside a ps → word (edit on b ps j) a ≡ word b a
+pub edit-off : (on : Bool) (b : List ℕ) (ps : List Storey) (j a : ℕ) → Bits ps j → Shape ps → Outside a ps → word (edit on b ps j) a ≡ word b a
 edit-off on b [] j a h s o = refl
 edit-off on b (p ∷ ps) j a h s o = go (goesUp on w v) (edit-off on b1 ps (j / 64) a (deeper p ps (s .1) j h) (s .2) (o .1))
   where
@@ -239,7 +239,7 @@ agrees b (p ∷ u ∷ us) f j s h z =
 abbrev storey : ℕ → Storey
 storey d = record { base = wordsOf d; words = 64 ^ d }
 
-past-all : (d a : ℕ) → wordsOf d ≤ a → Outside a (storeysOf d)
+pub past-all : (d a : ℕ) → wordsOf d ≤ a → Outside a (storeysOf d)
 past-all zero a h = tt
 past-all (suc d) a h = ((λ i l e. omega arith), past-all d a (omega arith))
 

@@ -145,3 +145,12 @@ pub record Exactly (o : Outcome) (b w : List ℕ) (cause : Refusal → Type 0) :
 pub record ExactlyCount (c : Count) (cause : Refusal → Type 0) : Type 0 where
   pub only : (r : Refusal) → c ≡ Unknown r → cause r
   pub always : (r : Refusal) → cause r → c ≡ Unknown r
+
+-- ---- the rest of longer slices
+
+-- "Longer slices are taken; the rest is never touched": as many words as before, and those past each part as they were
+pub record Untouched (b w : List ℕ) (n : ℕ) (o : Outcome) : Type 0 where
+  pub bits-long : length (o .bits) ≡ length b
+  pub words-long : length (o .words) ≡ length w
+  pub bits-rest : (i : ℕ) → bitWords ≤ i → word (o .bits) i ≡ word b i
+  pub words-rest : (i : ℕ) → storeWords n ≤ i → word (o .words) i ≡ word w i

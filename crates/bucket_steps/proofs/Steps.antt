@@ -56,11 +56,6 @@ module _ (w : List ℕ) (n : ℕ) (low : Low) (f : Freeing w n low) where
 
 -- ---- the bucket that a push joins
 
--- the slot for a newcomer's link stands below the free link
-pub slot< : (r tail n : ℕ) → r < ranks → tail ≤ n → slotOf r tail < freeAt n
-unfolding slotOf
-slot< r tail n h l = elim (ℕ-discrete tail 0) [ yes e ↦ rw (eq-eqb tail 0 e) (omega arith) | no e ↦ rw (ne-eqb tail 0 e) (omega arith) ]
-
 pub bucket-is : (b w : List ℕ) (n r : ℕ) (bit agrees good : Bool) (free held next last : ℕ) → Told b r bit agrees
     → free ≡ word w (freeAt n) → held ≡ word w (heldAt n) → next ≡ nextOf w n free → last ≡ nextOf w n (word w (tailAt r))
     → good ≡ pushOk n held agrees bit (word w (headAt r)) (word w (tailAt r)) free next last

@@ -5,7 +5,7 @@ use lib.ListN.{length-set}
 use borrow.Author.Tests.{eq-eqb, ne-eqb}
 use Rattle.bucket_model.specs.Layout.{freeAt}
 use Rattle.bucket_model.specs.Calls.{joinedWords, joinedBits}
-use Rattle.bucket_steps.proofs.Steps.{slot<}
+use Rattle.bucket_model.proofs.Joined.{slot<}
 use borrow.Author.Needs.{needs}
 use Rattle.bucket_steps.proofs.join.Statement.{statement}
 use Rattle.bucket_steps.proofs.join.Tie as tie
@@ -16,7 +16,7 @@ use Rattle.bucket_steps.proofs.slot_of.Reads as slot-of-reads
 
 -- the slot stands below the free link
 slot : (c : tie.After-slot-of) → c .slot-of .result < freeAt (c .before .before .before .before .before .args .n)
-slot c = rw (c .slot-of .ensures) (slot< _ _ _ (c .before .before .before .before .before .pre .rank<) (c .before .before .before .before .before .pre .tail≤))
+slot c = rw (c .slot-of .ensures) (slot< _ _ _ (c .before .before .before .before .before .pre .rank<) (omega (arith, c .before .before .before .before .before .pre .tail≤)))
 
 mul-free : tie.Need-mul-free
 mul-free c = search needs
