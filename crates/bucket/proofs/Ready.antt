@@ -1,12 +1,10 @@
--- Tests that have passed are what the steps ask for. Assumes nothing.
+-- Tests that have passed are what the functions below ask for. Assumes nothing.
 use mathlib.Core.Path.{_≡_, refl, sym, ap, subst, subst₂, _∙_}
-use mathlib.Core.Bool.{Bool, true, _&&_}
+use mathlib.Core.Bool.{true}
 use mathlib.Core.List.{List}
-use Prim.Native.Nat.{ℕ, _+_, _-_, _*_, _/_, _%_, _≤_, _<_}
+use Prim.Native.Nat.{ℕ, _+_, _-_, _/_, _%_, _≤_, _<_}
 use native.Mathlib.Omega.{arith}
-use lib.ListN.{length}
 use Rattle.laws.specs.Tests.{and-left, and-right}
-use Rattle.bitmap.specs.Bits.{bitAt}
 use Rattle.bucket_model.specs.Layout.{ranks, word, headAt, tailAt, freeAt, heldAt}
 use Rattle.bucket_model.specs.Storeys.{lowestRank}
 use Rattle.bucket_model.specs.Calls.{Low, Room, wholly, lowOf, bucketOf, roomOf, takenBits, takenWords}
@@ -14,8 +12,8 @@ use Rattle.bucket_model.specs.Causes.{Shaped, Whole}
 use Rattle.bucket_model.proofs.Facts.{whole-facts, pop-way, pop-facts, low-is, push-facts}
 use Rattle.bucket_model.proofs.Taken.{held-after, taken-length}
 use Rattle.bucket_model.proofs.Pop.{taken-bits-length, shaped-after}
-use Rattle.bucket_bits.specs.Ready.{Unmarked}
-use Rattle.bucket_steps.specs.Ready.{FoundLow, Freeing, Takable, Joinable}
+use Rattle.bucket_reads.specs.Ready.{FoundLow, Takable}
+use Rattle.bucket_writes.specs.Ready.{Joinable}
 
 -- something is held, so the top word is not 0
 pub top> : (b w : List ℕ) (n : ℕ) → Whole b w n → (word w (heldAt n) ≡ 0 → ⊥) → 0 < word b 0

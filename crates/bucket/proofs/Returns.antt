@@ -1,6 +1,6 @@
 -- Each answer of each call, from what the call has tested. Assumes nothing.
-use mathlib.Core.Path.{_≡_, refl, sym, ap, _∙_}
-use mathlib.Core.Bool.{Bool, true, false}
+use mathlib.Core.Path.{_≡_}
+use mathlib.Core.Bool.{true, false}
 use mathlib.Core.List.{List}
 use Prim.Native.Nat.{ℕ, _≤_, _<_}
 use borrow.Author.Tests.{eq-eqb, ne-eqb, lt-ltb, le-ltb}
@@ -11,7 +11,7 @@ use Rattle.strip.specs.declared.Answer.the-variants.{Done, Out}
 use Rattle.strip.specs.declared.Count.the-variants.{Held, Unknown}
 use Rattle.bucket_model.specs.Layout.{ranks, storeWords, word, tagAt, heldAt}
 use Rattle.bucket_model.specs.Storeys.{bitWords}
-use Rattle.bucket_model.specs.Calls.{Outcome, outcome, refused, shapely, wholly, fill, blankWord, cleared, heldCount, Low, Room, lowOf, takenBits, takenWords, popFound, popped, bucketOf, joinedBits, joinedWords, pushFound, pushed, roomOf, replaceFound, replaceJoined, replaced}
+use Rattle.bucket_model.specs.Calls.{outcome, refused, shapely, wholly, fill, blankWord, cleared, heldCount, Low, Room, lowOf, takenBits, takenWords, popFound, popped, bucketOf, joinedBits, joinedWords, pushFound, pushed, roomOf, replaceFound, replaceJoined, replaced}
 
 module _ (b w : List ℕ) (n : ℕ) where
   -- ---- clear

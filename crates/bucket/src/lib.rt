@@ -17,11 +17,11 @@ ghost use Rattle.bucket_model.specs.Calls.{outcome, cleared, pushed, popped, re
 pub fn clear(bits: &mut [u64], words: &mut [u32], n: u32) -> Answer
     ensures { λ r. ⌜ outcome r (now (bits .exit)) (now (words .exit)) ≡ cleared (now (bits .entry)) (now (words .entry)) n ⌝ }
 {
-    if !bucket_steps::is_shaped(bits, words, n) {
+    if !bucket_reads::is_shaped(bits, words, n) {
         return Answer::Refused(Refusal::BadShape);
     }
-    bucket_steps::wipe_bits(bits);
-    bucket_steps::wipe_words(words, n);
+    bucket_writes::wipe_bits(bits);
+    bucket_writes::wipe_words(words, n);
     Answer::Done
 }
 
@@ -29,35 +29,35 @@ pub fn clear(bits: &mut [u64], words: &mut [u32], n: u32) -> Answer
 pub fn held(bits: &[u64], words: &[u32], n: u32) -> Count
     ensures { λ r. ⌜ r ≡ heldCount (now (bits .entry)) (now (words .entry)) n ⌝ }
 {
-    if !bucket_steps::is_shaped(bits, words, n) {
+    if !bucket_reads::is_shaped(bits, words, n) {
         return Count::Unknown(Refusal::BadShape);
     }
-    if !bucket_steps::is_whole(bits, words, n) {
+    if !bucket_reads::is_whole(bits, words, n) {
         return Count::Unknown(Refusal::Damaged);
     }
-    Count::Held(bucket_steps::held_count(words, n))
+    Count::Held(bucket_reads::held_count(words, n))
 }
 
 // The first element of the lowest rank.
 pub fn pop(bits: &mut [u64], words: &mut [u32], n: u32) -> Answer
     ensures { λ r. ⌜ outcome r (now (bits .exit)) (now (words .exit)) ≡ popped (now (bits .entry)) (now (words .entry)) n ⌝ }
 {
-    if !bucket_steps::is_shaped(bits, words, n) {
+    if !bucket_reads::is_shaped(bits, words, n) {
         return Answer::Refused(Refusal::BadShape);
     }
-    if !bucket_steps::is_whole(bits, words, n) {
+    if !bucket_reads::is_whole(bits, words, n) {
         return Answer::Refused(Refusal::Damaged);
     }
-    if bucket_steps::held_count(words, n) == 0 {
+    if bucket_reads::held_count(words, n) == 0 {
         return Answer::Refused(Refusal::Empty);
     }
-    let low = bucket_steps::find_lowest(bits, words, n);
+    let low = bucket_reads::find_lowest(bits, words, n);
     if !low.good {
         return Answer::Refused(Refusal::Damaged);
     }
     let rank = low.rank;
-    let tag = bucket_steps::tag_of(words, n, low.head);
-    bucket_steps::take(bits, words, n, low);
+    let tag = bucket_reads::tag_of(words, n, low.head);
+    bucket_writes::take(bits, words, n, low);
     Answer::Out(Element {
         rank: Rank(rank),
         tag: Tag(tag),
@@ -68,25 +68,25 @@ pub fn pop(bits: &mut [u64], words: &mut [u32], n: u32) -> Answer
 pub fn push(bits: &mut [u64], words: &mut [u32], n: u32, rank: Rank, tag: Tag) -> Answer
     ensures { λ r. ⌜ outcome r (now (bits .exit)) (now (words .exit)) ≡ pushed (now (bits .entry)) (now (words .entry)) n (element (rank .0) (tag .0)) ⌝ }
 {
-    if !bucket_steps::is_shaped(bits, words, n) {
+    if !bucket_reads::is_shaped(bits, words, n) {
         return Answer::Refused(Refusal::BadShape);
     }
     let r = rank.0;
-    if bucket_steps::RANKS <= r {
+    if bucket_reads::RANKS <= r {
         return Answer::Refused(Refusal::BadRank);
     }
-    if !bucket_steps::is_whole(bits, words, n) {
+    if !bucket_reads::is_whole(bits, words, n) {
         return Answer::Refused(Refusal::Damaged);
     }
-    let left = n - bucket_steps::held_count(words, n);
+    let left = n - bucket_reads::held_count(words, n);
     if left == 0 {
         return Answer::Refused(Refusal::Full);
     }
-    let to = bucket_steps::find_bucket(bits, words, n, r);
+    let to = bucket_reads::find_bucket(bits, words, n, r);
     if !to.good {
         return Answer::Refused(Refusal::Damaged);
     }
-    bucket_steps::join(bits, words, n, rank, tag, to);
+    bucket_writes::join(bits, words, n, rank, tag, to);
     Answer::Done
 }
 
@@ -94,33 +94,33 @@ pub fn push(bits: &mut [u64], words: &mut [u32], n: u32, rank: Rank, tag: Tag) -
 pub fn replace(bits: &mut [u64], words: &mut [u32], n: u32, rank: Rank, tag: Tag) -> Answer
     ensures { λ r. ⌜ outcome r (now (bits .exit)) (now (words .exit)) ≡ replaced (now (bits .entry)) (now (words .entry)) n (element (rank .0) (tag .0)) ⌝ }
 {
-    if !bucket_steps::is_shaped(bits, words, n) {
+    if !bucket_reads::is_shaped(bits, words, n) {
         return Answer::Refused(Refusal::BadShape);
     }
     let r = rank.0;
-    if bucket_steps::RANKS <= r {
+    if bucket_reads::RANKS <= r {
         return Answer::Refused(Refusal::BadRank);
     }
-    if !bucket_steps::is_whole(bits, words, n) {
+    if !bucket_reads::is_whole(bits, words, n) {
         return Answer::Refused(Refusal::Damaged);
     }
-    if bucket_steps::held_count(words, n) == 0 {
+    if bucket_reads::held_count(words, n) == 0 {
         return Answer::Out(Element { rank, tag });
     }
-    let low = bucket_steps::find_lowest(bits, words, n);
+    let low = bucket_reads::find_lowest(bits, words, n);
     if !low.good {
         return Answer::Refused(Refusal::Damaged);
     }
     if r < low.rank {
         return Answer::Out(Element { rank, tag });
     }
-    let room = bucket_steps::find_room(bits, words, n, low, r);
+    let room = bucket_reads::find_room(bits, words, n, low, r);
     if !room.good {
         return Answer::Refused(Refusal::Damaged);
     }
-    let out = bucket_steps::tag_of(words, n, low.head);
-    bucket_steps::take(bits, words, n, low);
-    bucket_steps::join(bits, words, n, rank, tag, room);
+    let out = bucket_reads::tag_of(words, n, low.head);
+    bucket_writes::take(bits, words, n, low);
+    bucket_writes::join(bits, words, n, rank, tag, room);
     Answer::Out(Element {
         rank: Rank(low.rank),
         tag: Tag(out),

@@ -1,5 +1,5 @@
 -- The rules for storeys of any depth, written out for two. Assumes nothing.
-use mathlib.Core.Path.{_≡_, refl, sym, ap, subst, _∙_}
+use mathlib.Core.Path.{_≡_, refl, sym, ap, _∙_}
 use mathlib.Core.Bool.{Bool, true, false, cond, not, _&&_, Bool·beq, and-true, and-false, false≢true}
 use mathlib.Core.List.{List}
 use Prim.Native.Nat.{ℕ, _+_, _-_, _*_, _/_, _%_, _^_, _≤_, _<_}
@@ -11,7 +11,7 @@ use lib.Dec.{eqb}
 use lib.ListN.{length, set, length-set}
 use Rattle.bitmap.specs.Bits.{bitAt, Found}
 use Rattle.bucket_model.specs.Layout.{ranks, word}
-use Rattle.bucket_model.specs.Storeys.{bitWords, put, goesUp, edit, storeys, marked, unmarked, lowestRank, lowestOpen, rankBit, rankAgrees}
+use Rattle.bucket_model.specs.Storeys.{bitWords, put, goesUp, marked, unmarked, lowestRank, lowestOpen, rankBit, rankAgrees}
 use Rattle.bucket_model.proofs.Writes.{same, other}
 use Rattle.bucket_bits.specs.Ready.{putAt, leftBits, Clear, Raised, Marked, Unmarked, Led, Signed, Told}
 

@@ -2,15 +2,15 @@
 use mathlib.Core.Path.{_≡_, refl, sym, ap, _∙_}
 use mathlib.Core.Bool.{Bool, true, false, not, _&&_, Bool·beq, false≢true}
 use mathlib.Core.List.{List, [], _∷_}
-use Prim.Native.Nat.{ℕ, _+_, _*_, _/_, _%_, _≤_, _<_}
+use Prim.Native.Nat.{ℕ, _+_, _/_, _%_, _≤_, _<_}
 use native.Mathlib.Decide.{ℕ-discrete}
 use native.Mathlib.Omega.{arith}
-use lib.Dec.{leb, ltb, eqb}
+use lib.Dec.{leb, eqb}
 use lib.ListN.{length}
-use borrow.Author.Tests.{leb-true, eqb-true, eqb-false, not-true, eq-eqb, ne-eqb, le-leb, le-ltb}
+use borrow.Author.Tests.{leb-true, eqb-true, eqb-false, not-true, eq-eqb, ne-eqb, le-leb}
 use Rattle.laws.specs.Tests.{and-left, and-right, and-true}
-use Rattle.bitmap.specs.Bits.{bitAt, bit-lt}
-use Rattle.bucket_model.specs.Layout.{pool, storeWords, word, headAt, tailAt, nextAt, freeAt, heldAt}
+use Rattle.bitmap.specs.Bits.{bit-lt}
+use Rattle.bucket_model.specs.Layout.{pool, storeWords, word, headAt, tailAt, freeAt, heldAt}
 use Rattle.bucket_model.specs.Storeys.{Storey, storeys, bitWords, wordOf, bitOf, find, opens, agree, bitIs, lowestOpen, lowestRank, rankBit, rankAgrees}
 use Rattle.bucket_model.specs.Checks.{shapeOk, wholeOk, nextOf, popOk, pushOk}
 use Rattle.bucket_model.specs.Calls.{shapely, wholly, lowOf, lowIn, bucketOf}

@@ -1,13 +1,13 @@
 -- Words that a push leaves. Assumes nothing.
 use mathlib.Core.Path.{_≡_, _∙_}
 use mathlib.Core.List.{List}
-use Prim.Native.Nat.{ℕ, _+_, _*_, _≤_, _<_}
+use Prim.Native.Nat.{ℕ, _≤_, _<_}
 use native.Mathlib.Decide.{ℕ-discrete}
 use native.Mathlib.Omega.{arith}
 use borrow.Author.Tests.{eq-eqb, ne-eqb}
 use lib.ListN.{length, set, length-set}
 use Rattle.strip.specs.declared.Element.{Element}
-use Rattle.bucket_model.specs.Layout.{ranks, storeWords, word, headAt, tailAt, tagAt, nextAt, freeAt, heldAt}
+use Rattle.bucket_model.specs.Layout.{ranks, storeWords, word, tailAt, tagAt, nextAt, freeAt}
 use Rattle.bucket_model.specs.Calls.{Room, slotOf, joinedWords}
 use Rattle.bucket_model.proofs.Writes.{same, other}
 

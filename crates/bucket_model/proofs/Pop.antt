@@ -1,9 +1,9 @@
 -- The plain queue that a sound store stands for, and what a pop does to it. Assumes nothing.
 use mathlib.Core.Path.{_≡_, refl, sym, ap, subst, _∙_}
-use mathlib.Core.List.{List, [], _∷_, _++_}
-use mathlib.Core.Bool.{Bool, true, false, cond}
-use mathlib.Core.Logic.{_⊎_, inl, inr, ⊎-elim}
-use Prim.Native.Nat.{ℕ, zero, suc, _+_, _-_, _*_, _≤_, _<_}
+use mathlib.Core.List.{List, [], _∷_}
+use mathlib.Core.Bool.{true, cond}
+use mathlib.Core.Logic.{_⊎_, inl, inr}
+use Prim.Native.Nat.{ℕ, zero, suc, _+_, _-_, _≤_, _<_}
 use native.Mathlib.Decide.{ℕ-discrete}
 use native.Mathlib.Omega.{arith}
 use native.Mathlib.Nat.{not-suc-le-zero}
@@ -17,16 +17,16 @@ use Rattle.strip.specs.Answers.{element}
 use Rattle.strip.specs.declared.Element.{Element}
 use Rattle.strip.specs.declared.Refusal.the-variants.{Empty}
 use Rattle.strip.specs.declared.Answer.the-variants.{Out}
-use Rattle.bucket_model.specs.Layout.{ranks, word, headAt, tailAt, tagAt, nextAt, freeAt, heldAt}
+use Rattle.bucket_model.specs.Layout.{ranks, word, tailAt, nextAt, freeAt, heldAt}
 use Rattle.bucket_model.specs.Storeys.{unmarked, lowestRank}
 use Rattle.bucket_model.specs.Checks.{nextOf}
-use Rattle.bucket_model.specs.Calls.{Outcome, outcome, refused, given, Low, lowOf, lowIn, takenWords, takenBits, popped}
+use Rattle.bucket_model.specs.Calls.{outcome, refused, given, Low, lowOf, takenWords, takenBits, popped}
 use Rattle.bucket_model.specs.Causes.{Iff, Shaped, Whole, PopFit}
 use Rattle.bucket_model.proofs.Facts.{pop-test, pop-way, low-is}
 use Rattle.bucket_model.proofs.Taken.{next-in, taken-length, held-after}
-use Rattle.bucket_model.proofs.Tower.{Ranks, First, ranks-ext, ranks-none, ranks-first, ranks-open, unmarks, unmarked-length}
+use Rattle.bucket_model.proofs.Tower.{Ranks, First, lowWords, ranks-ext, ranks-none, ranks-first, ranks-open, unmarks, unmarked-length}
 use Rattle.bucket_model.proofs.Exactly.{pop-none, pop-out}
-use Rattle.bucket_model.proofs.Chain.{Node, node, Seg, Apart, Mine, Chain, Chains}
+use Rattle.bucket_model.proofs.Chain.{Node, node, Seg, Apart, Mine, Chain}
 use Rattle.bucket_model.proofs.Store.{lastFrom, lastLink, total, Words, taken}
 
 abbrev pub flag : List Node → ℕ
@@ -130,7 +130,7 @@ module _ (b s : List ℕ) (n : ℕ) (m : ℕ → List ℕ) (z : Queue b s n m) w
   held-total = z .words .held
 
   -- a rank that holds something
-  first : 0 < word b 0 → First (λ r. flag (z .q r)) 64 (lowestRank b)
+  first : 0 < word b 0 → First (λ r. flag (z .q r)) lowWords (lowestRank b)
   first h = ranks-first b (λ r. flag (z .q r)) (z .bits) h
 
   top-held : Iff (word b 0 ≡ 0) (word s (heldAt n) ≡ 0)
@@ -184,7 +184,7 @@ module _ (b s : List ℕ) (n : ℕ) (m : ℕ → List ℕ) (z : Queue b s n m) w
     top> : 0 < word b 0
     top> = let h : word b 0 ≡ 0 → ⊥ = λ p. some (top-held .to p) in omega arith
 
-    F : First (λ r. flag (z .q r)) 64 (lowestRank b)
+    F : First (λ r. flag (z .q r)) lowWords (lowestRank b)
     F = first top>
 
     C : Chain s n (z .own) r0 (x ∷ xs)

@@ -2,35 +2,31 @@
 use mathlib.Core.Path.{_≡_, refl, sym, ap, subst, _∙_}
 use mathlib.Core.List.{List, [], _∷_, _++_}
 use mathlib.Core.Bool.{Bool, true, false, cond}
-use mathlib.Core.Logic.{_⊎_, inl, inr, ⊎-elim}
-use Prim.Native.Nat.{ℕ, zero, suc, _+_, _*_, _^_, _≤_, _<_}
-use native.Mathlib.Decide.{ℕ-discrete, decLt}
+use mathlib.Core.Logic.{_⊎_, ⊎-elim}
+use Prim.Native.Nat.{ℕ, zero, suc, _+_, _^_, _≤_, _<_}
+use native.Mathlib.Decide.{decLt}
 use native.Mathlib.Omega.{arith}
-use borrow.Author.Tests.{eq-eqb, ne-eqb, lt-ltb, le-ltb}
+use borrow.Author.Tests.{lt-ltb, le-ltb}
 use lib.Dec.{eqb, ltb}
-use lib.ListN.{length, length-set}
+use lib.ListN.{length}
 use Rattle.laws.specs.Lists.{All, all-map}
 use Rattle.strip.specs.Answers.{element}
 use Rattle.strip.specs.declared.Element.{Element}
 use Rattle.strip.specs.declared.Refusal.the-variants.{BadRank, Full, Empty}
-use Rattle.strip.specs.declared.Answer.{Answer}
 use Rattle.strip.specs.declared.Answer.the-variants.{Done, Out, Refused}
-use Rattle.strip.specs.declared.Count.the-variants.{Held}
-use Rattle.strip.specs.declared.Request.{Request}
 use Rattle.strip.specs.declared.Request.the-variants.{Nothing, Push, Pop, Replace}
-use Rattle.bucket_model.specs.Layout.{ranks, storeWords, word, headAt, tailAt, freeAt, heldAt}
-use Rattle.bucket_model.specs.Storeys.{lowestRank}
-use Rattle.bucket_model.specs.Calls.{Outcome, outcome, refused, Low, Room, lowOf, bucketOf, takenBits, takenWords, joinedBits, joinedWords, cleared, heldCount, popped, pushed, replaced}
+use Rattle.bucket_model.specs.Layout.{ranks, storeWords, word, headAt, tailAt, freeAt}
+use Rattle.bucket_model.specs.Calls.{Outcome, refused, Low, lowOf, bucketOf, takenBits, takenWords, cleared, heldCount, popped, pushed, replaced}
 use Rattle.bucket_model.specs.Causes.{Shaped, ClearCause, PushCause, PopCause, ReplaceCause, HeldCause, Exactly, ExactlyCount, Untouched}
-use Rattle.bucket_model.specs.Plain.{Call, ask, held, Said, answered, counted, Step, step, Store, store, asked, called, says, after, start, Reached, insert, plain, plainReplace, plainSays, plainAfter, elements, inOrder, stored, arrivals, departures, tagsAt, times, copies, saidNumber}
+use Rattle.bucket_model.specs.Plain.{Call, ask, held, answered, Step, step, Store, store, asked, called, says, after, start, Reached, insert, plain, plainReplace, plainSays, plainAfter, elements, inOrder, stored, arrivals, departures, tagsAt, times, copies, saidNumber}
 use Rattle.bucket_model.proofs.Facts.{low-is, pop-way, pop-test}
-use Rattle.bucket_model.proofs.Taken.{free-after, taken-length}
+use Rattle.bucket_model.proofs.Taken.{free-after}
 use Rattle.bucket_model.proofs.Joined.{joined-tail}
 use Rattle.bucket_model.proofs.Exactly.{clear-exactly, held-exactly, pop-exactly, push-exactly, replace-exactly}
 use Rattle.bucket_model.proofs.Rest.{clear-rest, push-rest, pop-rest, replace-rest}
 use Rattle.bucket_model.proofs.Pop.{Popped, pops}
 use Rattle.bucket_model.proofs.Push.{Pushed, pushes}
-use Rattle.bucket_model.proofs.Runs.{Holds, Agree, calls, says-alike, after-holds, start-holds, stored-is, tags-stored, moved}
+use Rattle.bucket_model.proofs.Runs.{Holds, calls, says-alike, after-holds, start-holds, stored-is, tags-stored, moved}
 
 -- ---- exactly: the table "When a queue says no", for all inputs and every refusal
 

@@ -1,9 +1,9 @@
 -- What a push does to the plain queue. Assumes nothing.
 use mathlib.Core.Path.{_≡_, refl, sym, ap, subst, _∙_}
 use mathlib.Core.List.{List, [], _∷_, _++_}
-use mathlib.Core.Bool.{Bool, true, cond}
+use mathlib.Core.Bool.{true, cond}
 use mathlib.Core.Logic.{_⊎_, inl, inr}
-use Prim.Native.Nat.{ℕ, zero, suc, _+_, _≤_, _<_}
+use Prim.Native.Nat.{ℕ, suc, _+_, _≤_, _<_}
 use native.Mathlib.Decide.{ℕ-discrete}
 use native.Mathlib.Omega.{arith}
 use borrow.Author.Tests.{eq-eqb, ne-eqb}
@@ -17,17 +17,17 @@ use Rattle.strip.specs.declared.Element.{Element}
 use Rattle.strip.specs.declared.Refusal.the-variants.{Full}
 use Rattle.strip.specs.declared.Answer.the-variants.{Done}
 use Rattle.bucket_model.specs.Layout.{ranks, word, headAt, tailAt, nextAt, freeAt, heldAt}
-use Rattle.bucket_model.specs.Storeys.{storeys, marked}
+use Rattle.bucket_model.specs.Storeys.{marked}
 use Rattle.bucket_model.specs.Checks.{nextOf}
-use Rattle.bucket_model.specs.Calls.{Outcome, outcome, refused, Room, bucketOf, joinedWords, joinedBits, pushed}
-use Rattle.bucket_model.specs.Causes.{Iff, PushFit, lowestBit}
+use Rattle.bucket_model.specs.Calls.{outcome, refused, Room, bucketOf, joinedWords, joinedBits, pushed}
+use Rattle.bucket_model.specs.Causes.{Iff, PushFit}
 use Rattle.bucket_model.proofs.Facts.{push-test}
 use Rattle.bucket_model.proofs.Taken.{next-in, next-none}
 use Rattle.bucket_model.proofs.Joined.{joined-length}
 use Rattle.bucket_model.proofs.Tower.{Ranks, ranks-ext, ranks-agree, ranks-bit, marks, marked-length}
 use Rattle.bucket_model.proofs.Exactly.{push-full, push-done}
 use Rattle.bucket_model.proofs.Chain.{Node, node, Mine, Chain}
-use Rattle.bucket_model.proofs.Store.{lastFrom, lastLink, Words, joined}
+use Rattle.bucket_model.proofs.Store.{lastFrom, lastLink, joined}
 use Rattle.bucket_model.proofs.Pop.{Queue, flag, tags, seg-zero, seg-le, last≤, last-next, sound, shaped-after}
 
 -- ---- the bucket of a rank

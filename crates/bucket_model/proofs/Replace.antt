@@ -1,5 +1,5 @@
 -- What a replace does to the plain queue. Assumes nothing.
-use mathlib.Core.Path.{_≡_, refl, sym, ap, subst, _∙_}
+use mathlib.Core.Path.{_≡_, refl, _∙_}
 use mathlib.Core.List.{List, [], _∷_, _++_}
 use mathlib.Core.Logic.{_⊎_, inl, inr, ⊎-elim}
 use Prim.Native.Nat.{ℕ, _+_, _≤_, _<_}
@@ -10,8 +10,7 @@ use Rattle.strip.specs.Answers.{element}
 use Rattle.strip.specs.declared.Element.{Element}
 use Rattle.strip.specs.declared.Answer.the-variants.{Out}
 use Rattle.bucket_model.specs.Layout.{ranks, word, heldAt}
-use Rattle.bucket_model.specs.Storeys.{lowestRank}
-use Rattle.bucket_model.specs.Calls.{Outcome, outcome, given, Room, lowOf, takenBits, takenWords, bucketOf, roomOf, joinedBits, joinedWords, replaced}
+use Rattle.bucket_model.specs.Calls.{outcome, Room, lowOf, takenBits, takenWords, bucketOf, roomOf, joinedBits, joinedWords, replaced}
 use Rattle.bucket_model.proofs.Exactly.{room-test, replace-none, replace-back, replace-out}
 use Rattle.bucket_model.proofs.Pop.{Queue, Popped, pops, sound}
 use Rattle.bucket_model.proofs.Push.{Pushed, pushes}

@@ -1,15 +1,13 @@
 -- The words past the end of each part: no call touches them. Assumes nothing.
-use mathlib.Core.Path.{_≡_, refl, sym, ap, subst, _∙_}
+use mathlib.Core.Path.{_≡_, refl, ap, _∙_}
 use mathlib.Core.Bool.{Bool, true, false, cond}
 use mathlib.Core.List.{List, [], _∷_}
-use mathlib.Core.Logic.{_⊎_, inl, inr, ⊎-elim}
-use Prim.Native.Nat.{ℕ, zero, suc, _+_, _-_, _*_, _^_, _≤_, _<_}
-use native.Mathlib.Decide.{ℕ-discrete, decLt}
+use Prim.Native.Nat.{ℕ, zero, suc, _+_, _-_, _^_, _≤_, _<_}
 use native.Mathlib.Nat.{pow-suc, not-suc-le-zero, le-of-suc-le-suc}
 use native.Mathlib.Omega.{arith}
-use borrow.Author.Tests.{eq-eqb, ne-eqb, ltb-true}
+use borrow.Author.Tests.{ltb-true}
 use lib.Dec.{eqb, ltb}
-use lib.ListN.{length, set}
+use lib.ListN.{length}
 use Rattle.laws.specs.Tests.{cond-path, and-right}
 use Rattle.bitmap.specs.Bits.{lowest}
 use Rattle.strip.specs.declared.Element.{Element}
@@ -18,8 +16,7 @@ use Rattle.strip.specs.declared.Answer.{Answer}
 use Rattle.strip.specs.declared.Answer.the-variants.{Done, Out, Refused}
 use Rattle.bucket_model.specs.Layout.{ranks, depth, storeWords, word, heldAt}
 use Rattle.bucket_model.specs.Storeys.{wordsOf, storeysOf, storeys, bitWords, find, marked, unmarked, lowestRank}
-use Rattle.bucket_model.specs.Checks.{nextOf}
-use Rattle.bucket_model.specs.Calls.{Outcome, outcome, refused, given, fillFrom, fill, blankWord, cleared, Low, Room, lowOf, lowIn, lastOf, slotOf, takenWords, takenBits, bucketOf, roomOf, joinedWords, joinedBits, popFound, popped, pushFound, pushed, replaceFound, replaceJoined, replaced, shapely, wholly}
+use Rattle.bucket_model.specs.Calls.{Outcome, outcome, refused, given, fillFrom, fill, blankWord, cleared, Low, Room, lowOf, takenWords, takenBits, bucketOf, roomOf, joinedWords, joinedBits, popFound, popped, pushFound, pushed, replaceFound, replaceJoined, replaced, shapely, wholly}
 use Rattle.bucket_model.specs.Causes.{Whole, Opens, Untouched}
 use Rattle.bucket_model.proofs.Joined.{joined-length, joined-past}
 use Rattle.bucket_model.proofs.Facts.{shape-facts, whole-facts, pop-way, pop-facts, low-is, push-facts}

@@ -1,7 +1,6 @@
 -- From a cleared store the words do what the plain list does, call by call. Assumes nothing.
-use mathlib.Core.Path.{_≡_, refl, sym, ap, subst, _∙_}
+use mathlib.Core.Path.{_≡_, refl, sym, ap, _∙_}
 use mathlib.Core.List.{List, [], _∷_, _++_, append-assoc, append-nil}
-use mathlib.Core.Bool.{Bool, true, false, cond}
 use mathlib.Core.Logic.{_⊎_, inl, inr, ⊎-elim}
 use Prim.Native.Nat.{ℕ, zero, suc, _+_, _≤_, _<_}
 use native.Mathlib.Decide.{ℕ-discrete, decLt}
@@ -12,18 +11,16 @@ use Rattle.laws.specs.Lists.{All}
 use Rattle.laws.specs.Updates.{upd, is-upd}
 use Rattle.strip.specs.Answers.{element}
 use Rattle.strip.specs.declared.Element.{Element}
-use Rattle.strip.specs.declared.Refusal.the-variants.{BadRank, Full, Empty}
-use Rattle.strip.specs.declared.Answer.{Answer}
-use Rattle.strip.specs.declared.Answer.the-variants.{Done, Out, Refused}
+use Rattle.strip.specs.declared.Refusal.the-variants.{Full, Empty}
+use Rattle.strip.specs.declared.Answer.the-variants.{Out}
 use Rattle.strip.specs.declared.Count.the-variants.{Held}
 use Rattle.strip.specs.declared.Request.the-variants.{Nothing, Push, Pop, Replace}
-use Rattle.bucket_model.specs.Layout.{ranks, word, headAt, tagAt, nextAt, heldAt}
-use Rattle.bucket_model.specs.Calls.{Outcome, outcome, refused, cleared, pushed, popped, replaced, heldCount}
+use Rattle.bucket_model.specs.Layout.{ranks, word, tagAt, nextAt, heldAt}
+use Rattle.bucket_model.specs.Calls.{outcome, refused, pushed, popped, replaced}
 use Rattle.bucket_model.specs.Causes.{Shaped}
-use Rattle.bucket_model.specs.Plain.{Call, ask, held, Said, answered, counted, Step, step, Store, store, asked, called, says, after, start, insert, plain, plainSays, plainAfter, walk, lane, elements, inOrder, stored, came, went, arrivals, departures, tagsAt}
+use Rattle.bucket_model.specs.Plain.{Call, ask, held, Said, counted, Step, Store, asked, called, says, after, start, insert, plain, plainSays, plainAfter, walk, lane, elements, inOrder, stored, came, went, arrivals, departures, tagsAt}
 use Rattle.bucket_model.proofs.Exactly.{push-high, replace-high, held-told}
-use Rattle.bucket_model.proofs.Chain.{Node, Seg, Mine, Chain}
-use Rattle.bucket_model.proofs.Store.{total, Words}
+use Rattle.bucket_model.proofs.Chain.{Node, Seg, Mine}
 use Rattle.bucket_model.proofs.Pop.{Queue, tags, Popped, pops, sound, total-ge}
 use Rattle.bucket_model.proofs.Push.{Pushed, pushes}
 use Rattle.bucket_model.proofs.Replace.{Back, Swapped, replaces}

@@ -3,7 +3,7 @@ use mathlib.Core.Path.{_≡_, refl, sym, ap, subst, _∙_}
 use mathlib.Core.List.{List, [], _∷_, _++_}
 use mathlib.Core.Bool.{Bool}
 use mathlib.Core.Logic.{_⊎_, inl, inr, ⊎-elim}
-use Prim.Native.Nat.{ℕ, zero, suc, _+_, _-_, _*_, _≤_, _<_}
+use Prim.Native.Nat.{ℕ, zero, suc, _+_, _-_, _≤_, _<_}
 use native.Mathlib.Decide.{ℕ-discrete}
 use native.Mathlib.Omega.{arith}
 use native.Mathlib.Nat.{not-suc-le-zero}
@@ -12,10 +12,10 @@ use lib.ListN.{length, set, length-set, length-append}
 use Rattle.laws.specs.Lists.{All, all-map}
 use Rattle.laws.specs.Updates.{Upd, upd, is-upd}
 use Rattle.strip.specs.Answers.{element}
-use Rattle.bucket_model.specs.Layout.{ranks, storeWords, word, headAt, tailAt, tagAt, nextAt, freeAt, heldAt}
+use Rattle.bucket_model.specs.Layout.{ranks, storeWords, word, tailAt, tagAt, nextAt, freeAt, heldAt}
 use Rattle.bucket_model.specs.Calls.{Low, Room, lastOf, slotOf, takenWords, joinedWords}
 use Rattle.bucket_model.proofs.Writes.{same, other}
-use Rattle.bucket_model.proofs.Chain.{Node, node, Seg, Apart, Mine, Chain, Heads, Chains, Floats, floats, unhead, chains-off, float-tag, float-next, attach-front, attach-back, endSlot, end-all}
+use Rattle.bucket_model.proofs.Chain.{Node, node, Mine, Chain, Heads, Chains, Floats, floats, unhead, chains-off, float-tag, float-next, attach-front, attach-back, endSlot, end-all}
 
 -- the chains: one for each rank, and the free one
 abbrev pub Id : ℕ → ℕ → Type 0

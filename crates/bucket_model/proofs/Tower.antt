@@ -14,9 +14,9 @@ use Rattle.laws.specs.Tests.{cond-path}
 use Rattle.laws.specs.Updates.{Upd, same-upd}
 use Rattle.bitmap.specs.Bits.{bitAt, set-le}
 use Rattle.bucket_model.specs.Layout.{ranks, depth, word}
-use Rattle.bucket_model.specs.Storeys.{Storey, wordsOf, storeysOf, storeys, wordOf, put, goesUp, edit, find, opens, agree, marked, unmarked, lowestRank}
-use Rattle.bucket_model.specs.Causes.{Iff, Opens, bitNo, lowestBit, Agrees}
-use Rattle.bucket_model.proofs.Writes.{same, other}
+use Rattle.bucket_model.specs.Storeys.{Storey, wordsOf, storeysOf, storeys, wordOf, put, goesUp, edit, find, marked, unmarked, lowestRank}
+use Rattle.bucket_model.specs.Causes.{Iff, Opens, lowestBit, Agrees}
+use Rattle.bucket_model.proofs.Writes.{other}
 use Rattle.bucket_model.proofs.Tells.{nz, nz-one, nz-zero, Tells, storey-ext, storey-off, storey-more, storey-less, storey-down, storey-none, Down, up, up-word}
 
 -- word a is none of these storeys'
@@ -271,6 +271,10 @@ none-of b (suc d) f z e j h =
 abbrev higher : ℕ
 higher = depth - 1
 
+-- how many words the lowest storey has
+abbrev pub lowWords : ℕ
+lowWords = 64 ^ higher
+
 abbrev pub Ranks : List ℕ → (ℕ → ℕ) → Type 0
 Ranks b f = Tower b storeys f
 
@@ -280,7 +284,7 @@ ranks-ext b f f′ h z = tower-ext b storeys f f′ h z
 pub ranks-none : (b : List ℕ) (f : ℕ → ℕ) → Ranks b f → word b 0 ≡ 0 → (j : ℕ) → j < ranks → f j ≡ 0
 ranks-none b f z e j h = none-of b higher f z e j h
 
-pub ranks-first : (b : List ℕ) (f : ℕ → ℕ) → Ranks b f → 0 < word b 0 → First f (64 ^ higher) (lowestRank b)
+pub ranks-first : (b : List ℕ) (f : ℕ → ℕ) → Ranks b f → 0 < word b 0 → First f lowWords (lowestRank b)
 unfolding lowestRank
 ranks-first b f z h = finds b (storey higher) (storeysOf higher) f (shape-of depth) (some-of b higher h) z
 

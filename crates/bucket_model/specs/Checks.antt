@@ -1,9 +1,9 @@
 -- What a call tests, as computed yes or no. Causes.antt says the same in facts. These are definitions.
-use mathlib.Core.Bool.{Bool, true, false, cond, not, _&&_, Bool·beq}
+use mathlib.Core.Bool.{Bool, cond, not, _&&_, Bool·beq}
 use mathlib.Core.List.{List}
-use Prim.Native.Nat.{ℕ, zero, suc, _+_, _*_}
+use Prim.Native.Nat.{ℕ, _+_}
 use lib.Dec.{leb, ltb, eqb}
-use Rattle.bucket_model.specs.Layout.{ranks, pool, storeWords, word, nextAt}
+use Rattle.bucket_model.specs.Layout.{pool, storeWords, word, nextAt}
 use Rattle.bucket_model.specs.Storeys.{bitWords}
 
 -- "N or a slice length outside the above"

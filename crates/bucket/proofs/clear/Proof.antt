@@ -3,17 +3,12 @@ use mathlib.Core.Path.{_≡_, sym, _∙_}
 use mathlib.Core.Bool.{true}
 use borrow.Author.Tests.{not-true, not-false}
 use Rattle.bucket_model.specs.Calls.{shapely}
-use Rattle.bucket_model.specs.Causes.{Shaped, Whole}
-use Rattle.bucket_model.proofs.Facts.{shape-facts, whole-facts}
+use Rattle.bucket_model.specs.Causes.{Shaped}
+use Rattle.bucket_model.proofs.Facts.{shape-facts}
 use Rattle.bucket.proofs.Returns.{clear-bad, clear-done}
 use borrow.Author.Needs.{needs}
 use Rattle.bucket.proofs.clear.Statement.{statement}
 use Rattle.bucket.proofs.clear.Tie as tie
-use Rattle.bucket.proofs.clear.Reads as reads
-use Rattle.bucket.proofs.clear.Lts as lts
-use Rattle.bucket_steps.proofs.is_shaped.Reads as is-shaped-reads
-use Rattle.bucket_steps.proofs.wipe_bits.Reads as wipe-bits-reads
-use Rattle.bucket_steps.proofs.wipe_words.Reads as wipe-words-reads
 
 -- the shape is good
 ok : (c : tie.Else1) → shapely (c .before .before .before .before .before .before .args .bits .now) (c .before .before .before .before .before .before .args .words .now) (c .before .before .before .before .before .before .args .n) ≡ true

@@ -9,11 +9,6 @@ use Rattle.bucket.proofs.Returns.{held-bad, held-torn, held-told}
 use borrow.Author.Needs.{needs}
 use Rattle.bucket.proofs.held.Statement.{statement}
 use Rattle.bucket.proofs.held.Tie as tie
-use Rattle.bucket.proofs.held.Reads as reads
-use Rattle.bucket.proofs.held.Lts as lts
-use Rattle.bucket_steps.proofs.held_count.Reads as held-count-reads
-use Rattle.bucket_steps.proofs.is_shaped.Reads as is-shaped-reads
-use Rattle.bucket_steps.proofs.is_whole.Reads as is-whole-reads
 
 -- the shape is good
 ok : (c : tie.Else1) → shapely (c .before .before .before .before .args .bits .now) (c .before .before .before .before .args .words .now) (c .before .before .before .before .args .n) ≡ true

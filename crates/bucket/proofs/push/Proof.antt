@@ -14,13 +14,6 @@ use Rattle.bucket.proofs.Returns.{push-bad, push-high, push-torn, push-
 use borrow.Author.Needs.{needs}
 use Rattle.bucket.proofs.push.Statement.{statement}
 use Rattle.bucket.proofs.push.Tie as tie
-use Rattle.bucket.proofs.push.Reads as reads
-use Rattle.bucket.proofs.push.Lts as lts
-use Rattle.bucket_steps.proofs.find_bucket.Reads as find-bucket-reads
-use Rattle.bucket_steps.proofs.held_count.Reads as held-count-reads
-use Rattle.bucket_steps.proofs.is_shaped.Reads as is-shaped-reads
-use Rattle.bucket_steps.proofs.is_whole.Reads as is-whole-reads
-use Rattle.bucket_steps.proofs.join.Reads as join-reads
 
 -- the shape is good
 ok : (c : tie.Else1) → shapely (c .before .before .before .before .before .before .args .bits .now) (c .before .before .before .before .before .before .args .words .now) (c .before .before .before .before .before .before .args .n) ≡ true

@@ -9,22 +9,12 @@ use Rattle.bucket_model.specs.Layout.{ranks, word, heldAt}
 use Rattle.bucket_model.specs.Calls.{shapely, wholly}
 use Rattle.bucket_model.specs.Causes.{Shaped, Whole}
 use Rattle.bucket_model.proofs.Facts.{shape-facts, whole-facts}
-use Rattle.bucket_steps.specs.Ready.{asLow, Takable}
+use Rattle.bucket_reads.specs.Ready.{asLow, Takable}
 use Rattle.bucket.proofs.Ready.{top>, takable, joinable-after}
 use Rattle.bucket.proofs.Returns.{replace-bad, replace-high, replace-torn, replace-none, replace-unfit, replace-back, replace-shut, replace-out}
 use borrow.Author.Needs.{needs}
 use Rattle.bucket.proofs.replace.Statement.{statement}
 use Rattle.bucket.proofs.replace.Tie as tie
-use Rattle.bucket.proofs.replace.Reads as reads
-use Rattle.bucket.proofs.replace.Lts as lts
-use Rattle.bucket_steps.proofs.find_lowest.Reads as find-lowest-reads
-use Rattle.bucket_steps.proofs.find_room.Reads as find-room-reads
-use Rattle.bucket_steps.proofs.held_count.Reads as held-count-reads
-use Rattle.bucket_steps.proofs.is_shaped.Reads as is-shaped-reads
-use Rattle.bucket_steps.proofs.is_whole.Reads as is-whole-reads
-use Rattle.bucket_steps.proofs.join.Reads as join-reads
-use Rattle.bucket_steps.proofs.tag_of.Reads as tag-of-reads
-use Rattle.bucket_steps.proofs.take.Reads as take-reads
 
 -- the shape is good
 ok : (c : tie.Else1) → shapely (c .before .before .before .before .before .before .args .bits .now) (c .before .before .before .before .before .before .args .words .now) (c .before .before .before .before .before .before .args .n) ≡ true

@@ -5,9 +5,6 @@ use lib.Dec.{eqb}
 use borrow.Author.Needs.{needs}
 use Rattle.bucket_bits.proofs.lower.Statement.{statement}
 use Rattle.bucket_bits.proofs.lower.Tie as tie
-use Rattle.bucket_bits.proofs.lower.Reads as reads
-use Rattle.bucket_bits.proofs.lower.Lts as lts
-use Rattle.bitmap.proofs.without.Reads as without-reads
 
 add-at : tie.Need-add-at
 add-at c = search needs

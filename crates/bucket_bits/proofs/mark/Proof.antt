@@ -5,9 +5,6 @@ use Rattle.bucket_bits.proofs.Two.{clear-top, marked-both, marked-one}
 use borrow.Author.Needs.{needs}
 use Rattle.bucket_bits.proofs.mark.Statement.{statement}
 use Rattle.bucket_bits.proofs.mark.Tie as tie
-use Rattle.bucket_bits.proofs.mark.Reads as reads
-use Rattle.bucket_bits.proofs.mark.Lts as lts
-use Rattle.bucket_bits.proofs.raise.Reads as raise-reads
 
 raise-requires : tie.Need-raise-requires
 raise-requires c κs = search needs

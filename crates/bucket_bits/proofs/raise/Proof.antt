@@ -3,9 +3,6 @@ use mathlib.Core.Path.{refl}
 use borrow.Author.Needs.{needs}
 use Rattle.bucket_bits.proofs.raise.Statement.{statement}
 use Rattle.bucket_bits.proofs.raise.Tie as tie
-use Rattle.bucket_bits.proofs.raise.Reads as reads
-use Rattle.bucket_bits.proofs.raise.Lts as lts
-use Rattle.bitmap.proofs.with.Reads as with-reads
 
 add-at : tie.Need-add-at
 add-at c = search needs

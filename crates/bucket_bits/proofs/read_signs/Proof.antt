@@ -5,9 +5,6 @@ use lib.Dec.{eqb}
 use borrow.Author.Needs.{needs}
 use Rattle.bucket_bits.proofs.read_signs.Statement.{statement}
 use Rattle.bucket_bits.proofs.read_signs.Tie as tie
-use Rattle.bucket_bits.proofs.read_signs.Reads as reads
-use Rattle.bucket_bits.proofs.read_signs.Lts as lts
-use Rattle.bitmap.proofs.bit.Reads as bit-reads
 
 cast-bit : tie.Need-cast-bit
 cast-bit c = search needs

@@ -3,11 +3,6 @@ use Rattle.bucket_bits.proofs.Two.{told}
 use borrow.Author.Needs.{needs}
 use Rattle.bucket_bits.proofs.signs_left.Statement.{statement}
 use Rattle.bucket_bits.proofs.signs_left.Tie as tie
-use Rattle.bucket_bits.proofs.signs_left.Reads as reads
-use Rattle.bucket_bits.proofs.signs_left.Lts as lts
-use Rattle.bucket_bits.proofs.read_signs.Reads as read-signs-reads
-use Rattle.bucket_bits.proofs.top_left.Reads as top-left-reads
-use Rattle.bucket_bits.proofs.word_left.Reads as word-left-reads
 
 top-left-requires : tie.Need-top-left-requires
 top-left-requires c κs = search needs

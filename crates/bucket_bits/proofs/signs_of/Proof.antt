@@ -4,9 +4,6 @@ use Rattle.bucket_bits.proofs.Two.{told}
 use borrow.Author.Needs.{needs}
 use Rattle.bucket_bits.proofs.signs_of.Statement.{statement}
 use Rattle.bucket_bits.proofs.signs_of.Tie as tie
-use Rattle.bucket_bits.proofs.signs_of.Reads as reads
-use Rattle.bucket_bits.proofs.signs_of.Lts as lts
-use Rattle.bucket_bits.proofs.read_signs.Reads as read-signs-reads
 
 cast-group : tie.Need-cast-group
 cast-group c = search needs

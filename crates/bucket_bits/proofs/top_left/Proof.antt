@@ -1,5 +1,5 @@
 -- `bucket_bits::top_left` meets its contract. Assumes nothing.
-use mathlib.Core.Path.{_≡_, sym, ap, _∙_}
+use mathlib.Core.Path.{sym, ap, _∙_}
 use mathlib.Core.List.{List}
 use Prim.Native.Nat.{ℕ}
 use borrow.Author.Tests.{not-true, not-false}
@@ -8,9 +8,6 @@ use Rattle.bucket_bits.proofs.Two.{left-kept, left-cleared, top-left-cl
 use borrow.Author.Needs.{needs}
 use Rattle.bucket_bits.proofs.top_left.Statement.{statement}
 use Rattle.bucket_bits.proofs.top_left.Tie as tie
-use Rattle.bucket_bits.proofs.top_left.Reads as reads
-use Rattle.bucket_bits.proofs.top_left.Lts as lts
-use Rattle.bitmap.proofs.without.Reads as without-reads
 
 shared-slice-read-top : tie.Need-shared-slice-read-top
 shared-slice-read-top c = search needs

@@ -4,9 +4,6 @@ use Rattle.bucket_bits.proofs.Two.{raised-top, unmarked-both, unmarked-
 use borrow.Author.Needs.{needs}
 use Rattle.bucket_bits.proofs.unmark.Statement.{statement}
 use Rattle.bucket_bits.proofs.unmark.Tie as tie
-use Rattle.bucket_bits.proofs.unmark.Reads as reads
-use Rattle.bucket_bits.proofs.unmark.Lts as lts
-use Rattle.bucket_bits.proofs.lower.Reads as lower-reads
 
 lower-requires : tie.Need-lower-requires
 lower-requires c κs = search needs

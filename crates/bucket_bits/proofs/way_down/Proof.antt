@@ -4,9 +4,6 @@ use Rattle.bucket_bits.proofs.Two.{led-shut, led-open}
 use borrow.Author.Needs.{needs}
 use Rattle.bucket_bits.proofs.way_down.Statement.{statement}
 use Rattle.bucket_bits.proofs.way_down.Tie as tie
-use Rattle.bucket_bits.proofs.way_down.Reads as reads
-use Rattle.bucket_bits.proofs.way_down.Lts as lts
-use Rattle.bitmap.proofs.lowest.Reads as lowest-reads
 
 shared-slice-read-lowest : tie.Need-shared-slice-read-lowest
 shared-slice-read-lowest c = search needs

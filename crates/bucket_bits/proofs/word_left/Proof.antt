@@ -10,9 +10,6 @@ use Rattle.bucket_bits.proofs.Two.{left-kept, left-cleared, word-left-o
 use borrow.Author.Needs.{needs}
 use Rattle.bucket_bits.proofs.word_left.Statement.{statement}
 use Rattle.bucket_bits.proofs.word_left.Tie as tie
-use Rattle.bucket_bits.proofs.word_left.Reads as reads
-use Rattle.bucket_bits.proofs.word_left.Lts as lts
-use Rattle.bitmap.proofs.without.Reads as without-reads
 
 add-word : tie.Need-add-word
 add-word c = search needs
