@@ -6,8 +6,6 @@ use mathlib.Core.Logic.{_⊎_, inl, inr, ⊎-elim}
 use Prim.Native.Nat.{ℕ, _≤_, _<_}
 use native.Mathlib.Decide.{ℕ-discrete, decLt}
 use native.Mathlib.Omega.{arith}
-use lib.Dec.{ltb}
-use borrow.Author.Tests.{eq-eqb, ne-eqb, lt-ltb, le-ltb}
 use Rattle.laws.specs.Tests.{and-left, and-right, and-true}
 use Rattle.strip.specs.declared.Element.{Element}
 use Rattle.strip.specs.declared.Refusal.{Refusal}
@@ -15,11 +13,12 @@ use Rattle.strip.specs.declared.Refusal.the-variants.{BadShape, Damaged, TooSoo
 use Rattle.strip.specs.declared.Answer.{Answer}
 use Rattle.strip.specs.declared.Answer.the-variants.{Done, Out, Refused}
 use Rattle.strip.specs.declared.Count.the-variants.{Held, Unknown}
-use Rattle.bucket_model.specs.Layout.{ranks, word, heldAt}
+use Rattle.bucket_model.specs.Layout.{ranks, word, tagAt, heldAt}
 use Rattle.bucket_model.specs.Storeys.{lowestRank}
-use Rattle.bucket_model.specs.Calls.{Outcome, outcome, refused, shapely, wholly, cleared, heldCount, popped, popFound, pushed, pushFound, replaced, replaceFound, replaceJoined, lowOf, bucketOf, roomOf, takenBits, takenWords, given, Low, Room, joinedBits, joinedWords}
+use Rattle.bucket_model.specs.Calls.{Outcome, outcome, refused, shapely, wholly, cleared, heldCount, popped, pushed, replaced, lowOf, bucketOf, roomOf, takenBits, takenWords, given, Low, Room, joinedBits, joinedWords}
 use Rattle.bucket_model.specs.Causes.{Shaped, Whole, PopFit, PushFit, PushDamage, PopDamage, ReplaceDamage, ClearCause, PushCause, PopCause, ReplaceCause, HeldCause, Exactly, ExactlyCount}
 use Rattle.bucket_model.proofs.Taken.{held-after}
+use Rattle.bucket_model.proofs.Returns as told
 use Rattle.bucket_model.proofs.Facts.{shape-facts, shape-test, whole-facts, whole-test, pop-facts, pop-test, pop-way, low-is, push-facts, push-test}
 
 -- ---- a test that is false: its facts do not hold
@@ -59,8 +58,7 @@ only-from o cause (inr x) r e =
 
 module _ (b w : List ℕ) (n : ℕ) where
   clear-bad : (Shaped b w n → ⊥) → cleared b w n ≡ refused BadShape b w
-  unfolding cleared
-  clear-bad h = simp (off (shapely b w n) (Shaped b w n) (shape-facts b w n) h)
+  clear-bad h = sym (told.clear-bad b w n (off (shapely b w n) (Shaped b w n) (shape-facts b w n) h))
 
   clear-ruled : Ruled (cleared b w n) (ClearCause b w n)
   unfolding cleared
@@ -85,16 +83,13 @@ module _ (b w : List ℕ) (n : ℕ) where
 
 module _ (b w : List ℕ) (n : ℕ) where
   held-bad : (Shaped b w n → ⊥) → heldCount b w n ≡ Unknown BadShape
-  unfolding heldCount
-  held-bad h = simp (off (shapely b w n) (Shaped b w n) (shape-facts b w n) h)
+  held-bad h = sym (told.held-bad b w n (off (shapely b w n) (Shaped b w n) (shape-facts b w n) h))
 
   held-torn : Shaped b w n → (Whole b w n → ⊥) → heldCount b w n ≡ Unknown Damaged
-  unfolding heldCount
-  held-torn s h = simp (shape-test b w n s, off (wholly b w n) (Whole b w n) (whole-facts b w n) h)
+  held-torn s h = sym (told.held-torn b w n (shape-test b w n s) (off (wholly b w n) (Whole b w n) (whole-facts b w n) h))
 
   pub held-told : Shaped b w n → Whole b w n → heldCount b w n ≡ Held (word w (heldAt n))
-  unfolding heldCount
-  held-told s h = simp (shape-test b w n s, whole-test b w n h)
+  held-told s h = sym (told.held-told b w n (word w (heldAt n)) (shape-test b w n s) (whole-test b w n h) refl)
 
   held-only : (r : Refusal) → heldCount b w n ≡ Unknown r → HeldCause b w n r
   held-only r e = shape (shapely b w n) refl
@@ -125,31 +120,22 @@ module _ (b w : List ℕ) (n : ℕ) where
 
 module _ (b w : List ℕ) (n : ℕ) where
   pop-bad : (Shaped b w n → ⊥) → popped b w n ≡ refused BadShape b w
-  unfolding popped
-  pop-bad h = simp (off (shapely b w n) (Shaped b w n) (shape-facts b w n) h)
+  pop-bad h = sym (told.pop-bad b w n (off (shapely b w n) (Shaped b w n) (shape-facts b w n) h))
 
   module _ (s : Shaped b w n) where
     pop-torn : (Whole b w n → ⊥) → popped b w n ≡ refused Damaged b w
-    unfolding popped
-    pop-torn h = simp (shape-test b w n s, off (wholly b w n) (Whole b w n) (whole-facts b w n) h)
+    pop-torn h = sym (told.pop-torn b w n (shape-test b w n s) (off (wholly b w n) (Whole b w n) (whole-facts b w n) h))
 
     module _ (k : Whole b w n) where
       pub pop-none : word w (heldAt n) ≡ 0 → popped b w n ≡ refused Empty b w
-      unfolding popped
-      pop-none h = simp (shape-test b w n s, whole-test b w n k, eq-eqb (word w (heldAt n)) 0 h)
+      pop-none h = sym (told.pop-none b w n (shape-test b w n s) (whole-test b w n k) h)
 
       module _ (z : word w (heldAt n) ≡ 0 → ⊥) where
-        pop-found : popped b w n ≡ popFound b w n (lowOf b w n)
-        unfolding popped
-        pop-found = simp (shape-test b w n s, whole-test b w n k, ne-eqb (word w (heldAt n)) 0 z)
-
         pop-unfit : (PopFit b w n (lowestRank b) → ⊥) → popped b w n ≡ refused Damaged b w
-        unfolding popFound
-        pop-unfit h = pop-found ∙ simp (off (lowOf b w n .good) (PopFit b w n (lowestRank b)) (pop-facts b w n) h)
+        pop-unfit h = sym (told.pop-unfit b w n (shape-test b w n s) (whole-test b w n k) z (lowOf b w n) refl (off (lowOf b w n .good) (PopFit b w n (lowestRank b)) (pop-facts b w n) h))
 
         pub pop-out : PopFit b w n (lowestRank b) → popped b w n ≡ outcome (Out (given w (lowOf b w n))) (takenBits b (lowOf b w n)) (takenWords w n (lowOf b w n))
-        unfolding popFound
-        pop-out h = pop-found ∙ simp (pop-test b w n h)
+        pop-out h = sym (told.pop-out b w n (shape-test b w n s) (whole-test b w n k) z (lowOf b w n) refl (word w (tagAt (lowOf b w n .head))) _ _ (pop-test b w n h) refl refl refl)
 
     pop-damaged : PopDamage b w n → popped b w n ≡ refused Damaged b w
     pop-damaged (inl h) = pop-torn h
@@ -203,36 +189,26 @@ module _ (b w : List ℕ) (n : ℕ) (e : Element) where
   r = e .rank .0
 
   push-bad : (Shaped b w n → ⊥) → pushed b w n e ≡ refused BadShape b w
-  unfolding pushed
-  push-bad h = simp (off (shapely b w n) (Shaped b w n) (shape-facts b w n) h)
+  push-bad h = sym (told.push-bad b w n e (off (shapely b w n) (Shaped b w n) (shape-facts b w n) h))
 
   module _ (s : Shaped b w n) where
     pub push-high : ranks ≤ r → pushed b w n e ≡ refused BadRank b w
-    unfolding pushed
-    push-high h = simp (shape-test b w n s, le-ltb r ranks h)
+    push-high h = sym (told.push-high b w n e (shape-test b w n s) h)
 
     module _ (l : r < ranks) where
       push-torn : (Whole b w n → ⊥) → pushed b w n e ≡ refused Damaged b w
-      unfolding pushed
-      push-torn h = simp (shape-test b w n s, lt-ltb r ranks l, off (wholly b w n) (Whole b w n) (whole-facts b w n) h)
+      push-torn h = sym (told.push-torn b w n e (shape-test b w n s) l (off (wholly b w n) (Whole b w n) (whole-facts b w n) h))
 
       module _ (k : Whole b w n) where
         pub push-full : word w (heldAt n) ≡ n → pushed b w n e ≡ refused Full b w
-        unfolding pushed
-        push-full h = simp (shape-test b w n s, lt-ltb r ranks l, whole-test b w n k, eq-eqb (word w (heldAt n)) n h)
+        push-full h = sym (told.push-full b w n e (shape-test b w n s) l (whole-test b w n k) h)
 
         module _ (z : word w (heldAt n) ≡ n → ⊥) where
-          push-found : pushed b w n e ≡ pushFound b w n e (bucketOf b w n r)
-          unfolding pushed
-          push-found = simp (shape-test b w n s, lt-ltb r ranks l, whole-test b w n k, ne-eqb (word w (heldAt n)) n z)
-
           push-unfit : (PushFit b w n r → ⊥) → pushed b w n e ≡ refused Damaged b w
-          unfolding pushFound
-          push-unfit h = push-found ∙ simp (off (bucketOf b w n r .good) (PushFit b w n r) (push-facts b w n r) h)
+          push-unfit h = sym (told.push-unfit b w n e (shape-test b w n s) l (whole-test b w n k) z (bucketOf b w n r) refl (off (bucketOf b w n r .good) (PushFit b w n r) (push-facts b w n r) h))
 
           pub push-done : PushFit b w n r → pushed b w n e ≡ outcome Done (joinedBits b e (bucketOf b w n r)) (joinedWords w n e (bucketOf b w n r))
-          unfolding pushFound
-          push-done h = push-found ∙ simp (push-test b w n r h)
+          push-done h = sym (told.push-done b w n e (shape-test b w n s) l (whole-test b w n k) z (bucketOf b w n r) refl _ _ (push-test b w n r h) refl refl)
 
       push-damaged : PushDamage b w n r → pushed b w n e ≡ refused Damaged b w
       push-damaged (inl h) = push-torn h
@@ -318,55 +294,34 @@ module _ (b w : List ℕ) (n : ℕ) (e : Element) where
   to = roomOf (takenBits b (lowOf b w n)) (takenWords w n (lowOf b w n)) n (e .rank .0)
 
   replace-bad : (Shaped b w n → ⊥) → replaced b w n e ≡ refused BadShape b w
-  unfolding replaced
-  replace-bad h = simp (off (shapely b w n) (Shaped b w n) (shape-facts b w n) h)
+  replace-bad h = sym (told.replace-bad b w n e (off (shapely b w n) (Shaped b w n) (shape-facts b w n) h))
 
   module _ (s : Shaped b w n) where
     pub replace-high : ranks ≤ i → replaced b w n e ≡ refused BadRank b w
-    unfolding replaced
-    replace-high h = simp (shape-test b w n s, le-ltb i ranks h)
+    replace-high h = sym (told.replace-high b w n e (shape-test b w n s) h)
 
     module _ (l : i < ranks) where
       replace-torn : (Whole b w n → ⊥) → replaced b w n e ≡ refused Damaged b w
-      unfolding replaced
-      replace-torn h = simp (shape-test b w n s, lt-ltb i ranks l, off (wholly b w n) (Whole b w n) (whole-facts b w n) h)
+      replace-torn h = sym (told.replace-torn b w n e (shape-test b w n s) l (off (wholly b w n) (Whole b w n) (whole-facts b w n) h))
 
       module _ (k : Whole b w n) where
         pub replace-none : word w (heldAt n) ≡ 0 → replaced b w n e ≡ outcome (Out e) b w
-        unfolding replaced
-        replace-none h = simp (shape-test b w n s, lt-ltb i ranks l, whole-test b w n k, eq-eqb (word w (heldAt n)) 0 h)
+        replace-none h = sym (told.replace-none b w n e (shape-test b w n s) l (whole-test b w n k) h)
 
         module _ (z : word w (heldAt n) ≡ 0 → ⊥) where
-          replace-found : replaced b w n e ≡ replaceFound b w n e low
-          unfolding replaced
-          replace-found = simp (shape-test b w n s, lt-ltb i ranks l, whole-test b w n k, ne-eqb (word w (heldAt n)) 0 z)
-
           replace-unfit : (PopFit b w n (lowestRank b) → ⊥) → replaced b w n e ≡ refused Damaged b w
-          unfolding replaceFound
-          replace-unfit h = replace-found ∙ simp (off (low .good) (PopFit b w n (lowestRank b)) (pop-facts b w n) h)
+          replace-unfit h = sym (told.replace-unfit b w n e (shape-test b w n s) l (whole-test b w n k) z low refl (off (lowOf b w n .good) (PopFit b w n (lowestRank b)) (pop-facts b w n) h))
 
           module _ (f : PopFit b w n (lowestRank b)) where
             pub replace-back : i < lowestRank b → replaced b w n e ≡ outcome (Out e) b w
-            unfolding replaceFound
-            replace-back h =
-                let g = pop-test b w n f in
-                replace-found ∙ simp (g, low-rank b w n g, lt-ltb i (lowestRank b) h)
+            replace-back h = sym (told.replace-back b w n e (shape-test b w n s) l (whole-test b w n k) z low refl (pop-test b w n f) (rw (low-rank b w n (pop-test b w n f)) h))
 
             module _ (h : lowestRank b ≤ i) where
-              replace-in : replaced b w n e ≡ replaceJoined b w n e low to
-              unfolding replaceFound
-              replace-in =
-                  let g = pop-test b w n f in
-                  let q : ltb i (low .rank) ≡ false = ap (ltb i) (low-rank b w n g) ∙ le-ltb i (lowestRank b) h in
-                  replace-found ∙ simp (g, q)
-
               replace-room : to .good ≡ false → replaced b w n e ≡ refused Damaged b w
-              unfolding replaceJoined
-              replace-room g = replace-in ∙ simp g
+              replace-room g = sym (told.replace-shut b w n e (shape-test b w n s) l (whole-test b w n k) z low refl (pop-test b w n f) (rw (low-rank b w n (pop-test b w n f)) h) to refl g)
 
               pub replace-out : to .good ≡ true → replaced b w n e ≡ outcome (Out (given w low)) (joinedBits (takenBits b low) e to) (joinedWords (takenWords w n low) n e to)
-              unfolding replaceJoined
-              replace-out g = replace-in ∙ simp g
+              replace-out g = sym (told.replace-out b w n e (shape-test b w n s) l (whole-test b w n k) z low refl (pop-test b w n f) (rw (low-rank b w n (pop-test b w n f)) h) to refl (word w (tagAt (low .head))) _ _ _ _ g refl refl refl refl refl)
 
       replace-damaged : ReplaceDamage b w n i → replaced b w n e ≡ refused Damaged b w
       replace-damaged x = go (wholly b w n) refl

@@ -5,6 +5,7 @@ pub mod Taken
 pub mod Joined
 pub mod Tells
 pub mod Tower
+pub mod Returns
 pub mod Exactly
 pub mod Chain
 pub mod Store

@@ -5,7 +5,7 @@ use borrow.Author.Tests.{not-true, not-false}
 use Rattle.bucket_model.specs.Calls.{shapely}
 use Rattle.bucket_model.specs.Causes.{Shaped}
 use Rattle.bucket_model.proofs.Facts.{shape-facts}
-use Rattle.bucket.proofs.Returns.{clear-bad, clear-done}
+use Rattle.bucket_model.proofs.Returns.{clear-bad, clear-done}
 use borrow.Author.Needs.{needs}
 use Rattle.bucket.proofs.clear.Statement.{statement}
 use Rattle.bucket.proofs.clear.Tie as tie

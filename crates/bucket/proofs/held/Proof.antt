@@ -5,7 +5,7 @@ use borrow.Author.Tests.{not-true, not-false}
 use Rattle.bucket_model.specs.Calls.{shapely, wholly}
 use Rattle.bucket_model.specs.Causes.{Shaped, Whole}
 use Rattle.bucket_model.proofs.Facts.{shape-facts, whole-facts}
-use Rattle.bucket.proofs.Returns.{held-bad, held-torn, held-told}
+use Rattle.bucket_model.proofs.Returns.{held-bad, held-torn, held-told}
 use borrow.Author.Needs.{needs}
 use Rattle.bucket.proofs.held.Statement.{statement}
 use Rattle.bucket.proofs.held.Tie as tie

@@ -8,7 +8,7 @@ use Rattle.bucket_model.specs.Causes.{Shaped, Whole}
 use Rattle.bucket_model.proofs.Facts.{shape-facts, whole-facts}
 use Rattle.bucket_reads.specs.Ready.{asLow, Takable}
 use Rattle.bucket.proofs.Ready.{top>, takable}
-use Rattle.bucket.proofs.Returns.{pop-bad, pop-torn, pop-none, pop-unfit, pop-out}
+use Rattle.bucket_model.proofs.Returns.{pop-bad, pop-torn, pop-none, pop-unfit, pop-out}
 use borrow.Author.Needs.{needs}
 use Rattle.bucket.proofs.pop.Statement.{statement}
 use Rattle.bucket.proofs.pop.Tie as tie

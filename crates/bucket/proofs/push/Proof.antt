@@ -10,7 +10,7 @@ use Rattle.bucket_model.specs.Calls.{shapely, wholly}
 use Rattle.bucket_model.specs.Causes.{Shaped, Whole}
 use Rattle.bucket_model.proofs.Facts.{shape-facts, whole-facts}
 use Rattle.bucket.proofs.Ready.{joinable}
-use Rattle.bucket.proofs.Returns.{push-bad, push-high, push-torn, push-full, push-unfit, push-done}
+use Rattle.bucket_model.proofs.Returns.{push-bad, push-high, push-torn, push-full, push-unfit, push-done}
 use borrow.Author.Needs.{needs}
 use Rattle.bucket.proofs.push.Statement.{statement}
 use Rattle.bucket.proofs.push.Tie as tie

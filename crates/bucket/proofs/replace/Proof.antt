@@ -11,7 +11,7 @@ use Rattle.bucket_model.specs.Causes.{Shaped, Whole}
 use Rattle.bucket_model.proofs.Facts.{shape-facts, whole-facts}
 use Rattle.bucket_reads.specs.Ready.{asLow, Takable}
 use Rattle.bucket.proofs.Ready.{top>, takable, joinable-after}
-use Rattle.bucket.proofs.Returns.{replace-bad, replace-high, replace-torn, replace-none, replace-unfit, replace-back, replace-shut, replace-out}
+use Rattle.bucket_model.proofs.Returns.{replace-bad, replace-high, replace-torn, replace-none, replace-unfit, replace-back, replace-shut, replace-out}
 use borrow.Author.Needs.{needs}
 use Rattle.bucket.proofs.replace.Statement.{statement}
 use Rattle.bucket.proofs.replace.Tie as tie
