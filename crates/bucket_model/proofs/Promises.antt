@@ -18,7 +18,7 @@ use Rattle.strip.specs.declared.Request.the-variants.{Nothing, Push, Pop, Repla
 use Rattle.bucket_model.specs.Layout.{ranks, storeWords, word, headAt, tailAt, freeAt}
 use Rattle.bucket_model.specs.Calls.{Outcome, refused, Low, lowOf, bucketOf, takenBits, takenWords, cleared, heldCount, popped, pushed, replaced}
 use Rattle.bucket_model.specs.Causes.{Shaped, ClearCause, PushCause, PopCause, ReplaceCause, HeldCause, Exactly, ExactlyCount, Untouched}
-use Rattle.bucket_model.specs.Plain.{Call, ask, held, answered, Step, step, Store, store, asked, called, says, after, start, Reached, insert, plain, plainReplace, plainSays, plainAfter, elements, inOrder, stored, arrivals, departures, tagsAt, times, copies, saidNumber}
+use Rattle.bucket_model.specs.Plain.{Call, ask, held, answered, Step, step, Store, store, asked, called, says, after, start, Reached, FirstOut, Reused, insert, plain, plainReplace, plainSays, plainAfter, elements, inOrder, stored, arrivals, departures, tagsAt, times, copies, saidNumber}
 use Rattle.bucket_model.proofs.Facts.{low-is, pop-way, pop-test}
 use Rattle.bucket_model.proofs.Taken.{free-after}
 use Rattle.bucket_model.proofs.Joined.{joined-tail}
@@ -219,11 +219,7 @@ reached-holds : (n : ℕ) (s : Store) → Reached n s → (l : List Element) × 
 reached-holds n s r =
     (plainAfter n (r .calls) [], subst (λ (s : Store). Holds s n (plainAfter n (r .calls) [])) (sym (r .is)) (after-holds n (r .calls) (start (r .bits) (r .words) n) [] (start-holds (r .bits) (r .words) n (r .shaped))))
 
--- what a pop gives is the first of all that is held, and nothing held has a lower rank
-pub record FirstOut (n : ℕ) (s : Store) (x : Element) : Type 0 where
-  pub first : stored (s .words) n ≡ x ∷ stored (asked n Pop s .words) n
-  pub lowest : All (λ y. x .rank .0 ≤ y .rank .0) (stored (s .words) n)
-
+-- what a pop gives
 pub least : (n : ℕ) (s : Store) (x : Element) → Reached n s → asked n Pop s .answer ≡ Out x → FirstOut n s x
 least n s x r e = go (reached-holds n s r .0) (reached-holds n s r .1)
   where
@@ -244,12 +240,6 @@ least-replace n s e x r a = go (reached-holds n s r .0) (reached-holds n s r .1)
     go l h = rw (stored-is s n l h) (replace-least n s e x l h a)
 
 -- ---- "The freed node .. becomes first in the free chain, so freed room is used at once"
-
--- after a pop that gives x, the free link names the node that held x; a push of any rank that there is is taken then, even where the pool was full, and that node is the tail of its bucket
-pub record Reused (n : ℕ) (s t : Store) (x e : Element) : Type 0 where
-  pub free : word (t .words) (freeAt n) ≡ word (s .words) (headAt (x .rank .0))
-  pub taken : asked n (Push e) t .answer ≡ Done
-  pub node : word (asked n (Push e) t .words) (tailAt (e .rank .0)) ≡ word (s .words) (headAt (x .rank .0))
 
 module _ (n : ℕ) (s : Store) (l : List Element) (h : Holds s n l) (r t : ℕ) (ts : List ℕ) (p : Popped (s .bits) (s .words) n (h .m) (h .queue) r t ts) (e : Element) (k : e .rank .0 < ranks) where
   abbrev b1 : List ℕ

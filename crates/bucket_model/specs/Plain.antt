@@ -2,9 +2,10 @@
 use mathlib.Core.Bool.{cond}
 use mathlib.Core.List.{List, [], _∷_, _++_}
 use mathlib.Core.Path.{_≡_}
-use Prim.Native.Nat.{ℕ, zero, suc, _+_}
+use Prim.Native.Nat.{ℕ, zero, suc, _+_, _≤_}
 use lib.Dec.{ltb, eqb}
 use lib.ListN.{length, replicate}
+use Rattle.laws.specs.Lists.{All}
 use Rattle.strip.specs.Answers.{element, numberOf, countNumber}
 use Rattle.strip.specs.declared.Element.{Element}
 use Rattle.strip.specs.declared.Refusal.the-variants.{BadRank, Full, Empty}
@@ -14,7 +15,7 @@ use Rattle.strip.specs.declared.Count.{Count}
 use Rattle.strip.specs.declared.Count.the-variants.{Held}
 use Rattle.strip.specs.declared.Request.{Request}
 use Rattle.strip.specs.declared.Request.the-variants.{Nothing, Push, Pop, Replace}
-use Rattle.bucket_model.specs.Layout.{ranks, storeWords, word, headAt, tagAt, nextAt}
+use Rattle.bucket_model.specs.Layout.{ranks, storeWords, word, headAt, tailAt, tagAt, nextAt, freeAt}
 use Rattle.bucket_model.specs.Storeys.{bitWords}
 use Rattle.bucket_model.specs.Calls.{Outcome, outcome, cleared, pushed, popped, replaced, heldCount}
 use Rattle.bucket_model.specs.Causes.{Shaped}
@@ -195,6 +196,19 @@ times t (x ∷ xs) = cond (eqb x t) 1 0 + times t xs
 -- how often a pair of rank and tag stands in a list
 abbrev pub copies : Element → List Element → ℕ
 copies e l = times (e .tag .0) (tagsAt (e .rank .0) l)
+
+-- ---- what a pop gives, and what becomes of its room
+
+-- what a pop gives is the first of all that is held, and nothing held has a lower rank
+pub record FirstOut (n : ℕ) (s : Store) (x : Element) : Type 0 where
+  pub first : stored (s .words) n ≡ x ∷ stored (asked n Pop s .words) n
+  pub lowest : All (λ y. x .rank .0 ≤ y .rank .0) (stored (s .words) n)
+
+-- "The freed node .. becomes first in the free chain, so freed room is used at once": after a pop that gives x, the free link names the node that held x; a push of any rank that there is is taken then, even where the pool was full, and that node is the tail of its bucket
+pub record Reused (n : ℕ) (s t : Store) (x e : Element) : Type 0 where
+  pub free : word (t .words) (freeAt n) ≡ word (s .words) (headAt (x .rank .0))
+  pub taken : asked n (Push e) t .answer ≡ Done
+  pub node : word (asked n (Push e) t .words) (tailAt (e .rank .0)) ≡ word (s .words) (headAt (x .rank .0))
 
 -- ---- a run to read off
 
