@@ -2,3 +2,5 @@ pub mod Lists
 pub mod Tests
 pub mod Sums
 pub mod Fails
+pub mod Snoc
+pub mod Updates

@@ -1,0 +1,315 @@
+-- Storeys above one another, to any depth: each tells which words of the one below are not 0. Lowest first. Assumes nothing.
+use mathlib.Core.Path.{_≡_, refl, sym, ap, subst, _∙_}
+use mathlib.Core.List.{List, [], _∷_}
+use mathlib.Core.Bool.{Bool, true, false, cond, not}
+use Prim.Native.Nat.{ℕ, zero, suc, _+_, _-_, _*_, _/_, _%_, _^_, _≤_, _<_}
+use native.Mathlib.Decide.{ℕ-discrete}
+use native.Mathlib.Nat.{pow-suc}
+use native.Mathlib.Omega.{arith}
+use borrow.Author.Tests.{eqb-true, eqb-false}
+use lib.Pow.{pow-pos}
+use lib.Count.{trailingZeros}
+use lib.ListN.{length, set, length-set}
+use Rattle.laws.specs.Tests.{cond-path}
+use Rattle.laws.specs.Updates.{Upd, same-upd}
+use Rattle.bitmap.specs.Bits.{bitAt, set-le}
+use Rattle.bucket_model.specs.Layout.{ranks, depth, word}
+use Rattle.bucket_model.specs.Storeys.{Storey, wordsOf, storeysOf, storeys, wordOf, put, goesUp, edit, find, marked, unmarked, lowestRank}
+use Rattle.bucket_model.specs.Causes.{Iff, Opens, lowestBit, Agrees}
+use Rattle.bucket_model.proofs.Writes.{other}
+use Rattle.bucket_model.proofs.Tells.{nz, nz-one, nz-zero, Tells, storey-ext, storey-off, storey-more, storey-less, storey-down, storey-none, Down, up, up-word}
+
+-- word a is none of these storeys'
+abbrev pub Outside : ℕ → List Storey → Type 0
+Outside a [] = Unit {0}
+Outside a (p ∷ ps) = ((i : ℕ) → i < p .words → p .base + i ≡ a → ⊥) × Outside a ps
+
+-- no word of p is one of the others', and the storey above has a bit for each word of p
+abbrev pub Above : Storey → List Storey → Type 0
+Above p [] = Unit {0}
+Above p (u ∷ us) = p .words ≡ 64 * u .words
+
+abbrev pub Shape : List Storey → Type 0
+Shape [] = Unit {0}
+Shape (p ∷ ps) = ((i : ℕ) → i < p .words → Outside (p .base + i) ps) × Above p ps × Shape ps
+
+abbrev pub Tower : List ℕ → List Storey → (ℕ → ℕ) → Type 0
+Tower b [] f = Unit {0}
+Tower b (p ∷ ps) f = Tells b (p .base) (p .words) f × Tower b ps (up b (p .base))
+
+-- how many bits the lowest storey has
+abbrev pub Bits : List Storey → ℕ → Type 0
+Bits [] j = Unit {0}
+Bits (p ∷ ps) j = j < 64 * p .words
+
+tower-ext : (b : List ℕ) (ps : List Storey) (f f′ : ℕ → ℕ) → ((j : ℕ) → Bits ps j → f′ j ≡ f j) → Tower b ps f → Tower b ps f′
+tower-ext b [] f f′ h z = tt
+tower-ext b (p ∷ ps) f f′ h z = (storey-ext b (p .base) (p .words) f f′ h (z .0), z .1)
+
+-- a bit's word is a bit of the storey above
+deeper : (p : Storey) (qs : List Storey) → Above p qs → (j : ℕ) → j < 64 * p .words → Bits qs (j / 64)
+deeper p [] a j h = tt
+deeper p (u ∷ us) a j h = omega arith
+
+-- the words of p as they were
+lift : (p : Storey) (qs : List Storey) (b b′ : List ℕ) → Above p qs → ((i : ℕ) → i < p .words → word b′ (p .base + i) ≡ word b (p .base + i))
+    → Tower b′ qs (up b (p .base)) → Tower b′ qs (up b′ (p .base))
+lift p [] b b′ a h t = tt
+lift p (u ∷ us) b b′ a h t = (storey-ext b′ (u .base) (u .words) (up b (p .base)) (up b′ (p .base)) (λ j l. ap nz (h j (omega arith))) (t .0), t .1)
+
+storey-same : (b b′ : List ℕ) (base m : ℕ) (f : ℕ → ℕ) → length b′ ≡ length b → ((i : ℕ) → i < m → word b′ (base + i) ≡ word b (base + i)) → Tells b base m f → Tells b′ base m f
+storey-same b b′ base m f e h z =
+    record { long = omega (arith, z .long); fits = λ i l. rw (h i l) (z .fits i l); bit = λ j l. ap (λ (w : ℕ). bitAt w (j % 64)) (h (j / 64) (omega arith)) ∙ z .bit j l }
+
+-- a word outside written
+tower-off : (b : List ℕ) (ps : List Storey) (f : ℕ → ℕ) (a v : ℕ) → Shape ps → Outside a ps → Tower b ps f → Tower (set b a v) ps f
+tower-off b [] f a v s o z = tt
+tower-off b (p ∷ ps) f a v s o z = (
+  storey-off b (p .base) (p .words) f a v (o .0) (z .0),
+  lift p ps b (set b a v) (s .1) (λ i l. other b a v (p .base + i) (o .0 i l)) (tower-off b ps (up b (p .base)) a v (s .2) (o .1) (z .1)),
+)
+
+-- ---- one bit more or less, and in the storeys above as far as a word was, or becomes, 0
+
+abbrev pub bitFor : Bool → ℕ
+bitFor true = 1
+bitFor false = 0
+
+edit-length : (on : Bool) (b : List ℕ) (ps : List Storey) (j : ℕ) → length (edit on b ps j) ≡ length b
+edit-length on b [] j = refl
+edit-length on b (p ∷ ps) j = cond-path length (goesUp on w v) (edit on b1 ps (j / 64)) b1 (length b) (edit-length on b1 ps (j / 64) ∙ length-set b _ _) (length-set b _ _)
+  where
+    w : ℕ
+    w = word b (p .base + j / 64)
+
+    v : ℕ
+    v = put on (word b (p .base + j / 64)) (j % 64)
+
+    b1 : List ℕ
+    b1 = set b (p .base + j / 64) (put on (word b (p .base + j / 64)) (j % 64))
+
+-- an edit leaves the words outside alone
+pub edit-off : (on : Bool) (b : List ℕ) (ps : List Storey) (j a : ℕ) → Bits ps j → Shape ps → Outside a ps → word (edit on b ps j) a ≡ word b a
+edit-off on b [] j a h s o = refl
+edit-off on b (p ∷ ps) j a h s o = go (goesUp on w v) (edit-off on b1 ps (j / 64) a (deeper p ps (s .1) j h) (s .2) (o .1))
+  where
+    w : ℕ
+    w = word b (p .base + j / 64)
+
+    v : ℕ
+    v = put on (word b (p .base + j / 64)) (j % 64)
+
+    b1 : List ℕ
+    b1 = set b (p .base + j / 64) (put on (word b (p .base + j / 64)) (j % 64))
+
+    here : word b1 a ≡ word b a
+    here = other b (p .base + j / 64) _ a (λ e. o .0 (j / 64) (omega arith) (sym e))
+
+    go : (t : Bool) → word (edit on b1 ps (j / 64)) a ≡ word b1 a → word (cond t (edit on b1 ps (j / 64)) b1) a ≡ word b a
+    go true e = e ∙ here
+    go false e = here
+
+storey-edit : (on : Bool) (b : List ℕ) (base m : ℕ) (f f′ : ℕ → ℕ) (j : ℕ) → j < 64 * m → f j ≡ bitFor (not on) → Upd f f′ j (bitFor on)
+    → Tells b base m f → Tells (set b (base + j / 64) (put on (word b (base + j / 64)) (j % 64))) base m f′
+storey-edit true b base m f f′ j h e u z = storey-more b base m f f′ j h e u z
+storey-edit false b base m f f′ j h e u z = storey-less b base m f f′ j h e u z
+
+up-edit : (on : Bool) (b : List ℕ) (base m : ℕ) (f : ℕ → ℕ) (z : Tells b base m f) (j : ℕ) (h : j < 64 * m)
+    → Upd (up b base) (up (set b (base + j / 64) (put on (word b (base + j / 64)) (j % 64))) base) (j / 64) (nz (put on (word b (base + j / 64)) (j % 64)))
+up-edit on b base m f z j h = up-word b base m f z j h (put on (word b (base + j / 64)) (j % 64))
+
+-- what the storey above sees of a word w with bit k before and after
+record Seen (on : Bool) (w v : ℕ) : Type 0 where
+  goes : goesUp on w v ≡ true → (nz w ≡ bitFor (not on)) × (nz v ≡ bitFor on)
+  stays : goesUp on w v ≡ false → nz w ≡ nz v
+
+seen : (on : Bool) (w k : ℕ) → bitAt w k ≡ bitFor (not on) → Seen on w (put on w k)
+seen true w k e =
+    record {
+      goes = λ g. (ap nz (eqb-true w 0 g), nz-one (w + 2 ^ k) (omega (arith, pow-pos k)));
+      stays = λ g. let n = eqb-false w 0 g in nz-one w (omega arith) ∙ sym (nz-one (w + 2 ^ k) (omega (arith, pow-pos k)));
+    }
+seen false w k e =
+    let p : 0 < w = omega (arith, set-le w k e, pow-pos k) in
+    record {
+      goes = λ g. (nz-one w p, ap nz (eqb-true (w - 2 ^ k) 0 g));
+      stays = λ g. let n = eqb-false (w - 2 ^ k) 0 g in nz-one w p ∙ sym (nz-one (w - 2 ^ k) (omega arith));
+    }
+
+-- the storeys' promise, once for any depth and for both
+pub edits : (on : Bool) (b : List ℕ) (ps : List Storey) (f f′ : ℕ → ℕ) (j : ℕ) → Bits ps j → Shape ps → f j ≡ bitFor (not on) → Upd f f′ j (bitFor on)
+    → Tower b ps f → Tower (edit on b ps j) ps f′
+edits on b [] f f′ j h s e u z = tt
+edits on b (p ∷ ps) f f′ j h s e u z = go (goesUp on w v) refl (λ q. edits on b1 ps (up b (p .base)) (up b1 (p .base)) (j / 64) (deeper p ps (s .1) j h) (s .2) (q .0) (subst (Upd (up b (p .base)) (up b1 (p .base)) (j / 64)) (q .1) n1) top1)
+  where
+    w : ℕ
+    w = word b (p .base + j / 64)
+
+    v : ℕ
+    v = put on (word b (p .base + j / 64)) (j % 64)
+
+    b1 : List ℕ
+    b1 = set b (p .base + j / 64) (put on (word b (p .base + j / 64)) (j % 64))
+
+    low1 : Tells b1 (p .base) (p .words) f′
+    low1 = storey-edit on b (p .base) (p .words) f f′ j h e u (z .0)
+
+    top1 : Tower b1 ps (up b (p .base))
+    top1 = tower-off b ps (up b (p .base)) (p .base + j / 64) _ (s .2) (s .0 (j / 64) (omega arith)) (z .1)
+
+    n1 : Upd (up b (p .base)) (up b1 (p .base)) (j / 64) (nz v)
+    n1 = up-edit on b (p .base) (p .words) f (z .0) j h
+
+    sees : Seen on w v
+    sees = seen on w (j % 64) (z .0 .bit j h ∙ e)
+
+    kept : (i : ℕ) → i < p .words → word (edit on b1 ps (j / 64)) (p .base + i) ≡ word b1 (p .base + i)
+    kept i l = edit-off on b1 ps (j / 64) (p .base + i) (deeper p ps (s .1) j h) (s .2) (s .0 i l)
+
+    go : (t : Bool) → goesUp on w v ≡ t → ((nz w ≡ bitFor (not on)) × (nz v ≡ bitFor on) → Tower (edit on b1 ps (j / 64)) ps (up b1 (p .base)))
+        → Tells (cond t (edit on b1 ps (j / 64)) b1) (p .base) (p .words) f′ × Tower (cond t (edit on b1 ps (j / 64)) b1) ps (up (cond t (edit on b1 ps (j / 64)) b1) (p .base))
+    go true g ih =
+        (storey-same b1 (edit on b1 ps (j / 64)) (p .base) (p .words) f′ (edit-length on b1 ps (j / 64)) kept low1, lift p ps b1 (edit on b1 ps (j / 64)) (s .1) kept (ih (sees .goes g)))
+    go false g ih =
+        (low1, tower-ext b1 ps (up b (p .base)) (up b1 (p .base)) (λ i l. same-upd (up b (p .base)) (up b1 (p .base)) (j / 64) (nz v) n1 (sees .stays g) i) top1)
+
+-- ---- the lowest set bit, from the top down
+
+-- the top storey is one word, and it is not 0
+abbrev pub Some : List ℕ → Storey → List Storey → Type 0
+Some b p [] = (p .words ≡ 1) × (0 < word b (p .base + 0))
+Some b p (u ∷ us) = Some b u us
+
+pub record First (f : ℕ → ℕ) (m j : ℕ) : Type 0 where
+  pub within : j < 64 * m
+  pub here : f j ≡ 1
+  pub below : (i : ℕ) → i < j → f i ≡ 0
+
+one-nz : (w : ℕ) → nz w ≡ 1 → 0 < w
+one-nz zero e = absurd (omega arith)
+one-nz (suc w) e = omega arith
+
+pub finds : (b : List ℕ) (p : Storey) (ps : List Storey) (f : ℕ → ℕ) → Shape (p ∷ ps) → Some b p ps → Tower b (p ∷ ps) f → First f (p .words) (find b (p ∷ ps))
+finds b p [] f s n z =
+    let d = storey-down b (p .base) (p .words) f 0 (omega (arith, n .0)) (n .1) (z .0) in
+    record { within = omega (arith, d .within, n .0); here = d .here; below = λ i l. ap f (omega arith) ∙ d .below i (omega arith) }
+finds b p (u ∷ us) f s n z = join (finds b u us (up b (p .base)) (s .2) n (z .1))
+  where
+    k : ℕ
+    k = find b (u ∷ us)
+
+    join : First (up b (p .base)) (u .words) (find b (u ∷ us)) → First f (p .words) (find b (p ∷ u ∷ us))
+    join a =
+        let k< : k < p .words = omega (arith, a .within, s .1) in
+        let d = storey-down b (p .base) (p .words) f k k< (one-nz (word b (p .base + k)) (a .here)) (z .0) in
+        record { within = omega (arith, d .within); here = d .here; below = λ i l. elim (ℕ-discrete (i / 64) k) [ yes e ↦ near d i l e | no e ↦ far a d i l e ] }
+      where
+        near : Down f k (trailingZeros 64 (word b (p .base + k))) → (i : ℕ) → i < find b (p ∷ u ∷ us) → i / 64 ≡ k → f i ≡ 0
+        near d i l e = ap f (omega arith) ∙ d .below (i % 64) (omega arith)
+
+        far : First (up b (p .base)) (u .words) (find b (u ∷ us)) → Down f k (trailingZeros 64 (word b (p .base + k))) → (i : ℕ) → i < find b (p ∷ u ∷ us) → (i / 64 ≡ k → ⊥) → f i ≡ 0
+        far a d i l e =
+            let c : i / 64 < k = omega (arith, d .within) in
+            let q = storey-none b (p .base) (p .words) f (i / 64) (omega (arith, a .within, s .1)) (nz-zero (word b (p .base + i / 64)) (a .below (i / 64) c)) (z .0) (i % 64) (omega arith) in
+            ap f (omega arith) ∙ q
+
+-- on the way down no word is 0
+pub open-way : (b : List ℕ) (p : Storey) (ps : List Storey) (f : ℕ → ℕ) → Shape (p ∷ ps) → Some b p ps → Tower b (p ∷ ps) f → Opens b (p ∷ ps)
+open-way b p [] f s n z = (tt, λ e. omega (arith, n .1))
+open-way b p (u ∷ us) f s n z =
+    let a = finds b u us (up b (p .base)) (s .2) n (z .1) in
+    (open-way b u us (up b (p .base)) (s .2) n (z .1), λ e. omega (arith, one-nz (word b (p .base + find b (u ∷ us))) (a .here)))
+
+-- ---- on the way up every bit agrees with the word below it
+
+nz-iff : (w : ℕ) → Iff (w ≡ 0) (nz w ≡ 0)
+nz-iff zero = record { to = λ e. refl; from = λ e. refl }
+nz-iff (suc w) = record { to = λ e. absurd (omega arith); from = λ e. absurd (omega arith) }
+
+pub agrees : (b : List ℕ) (ps : List Storey) (f : ℕ → ℕ) (j : ℕ) → Shape ps → Bits ps j → Tower b ps f → Agrees b ps j
+agrees b [] f j s h z = tt
+agrees b (p ∷ []) f j s h z = tt
+agrees b (p ∷ u ∷ us) f j s h z =
+    let k = deeper p (u ∷ us) (s .1) j h in
+    (subst (λ (x : ℕ). Iff (wordOf b p j ≡ 0) (x ≡ 0)) (sym (z .1 .0 .bit (j / 64) k)) (nz-iff (wordOf b p j)), agrees b (u ∷ us) (up b (p .base)) (j / 64) (s .2) k (z .1))
+
+-- ---- the storeys of every depth
+
+-- the storey below d others
+abbrev storey : ℕ → Storey
+storey d = record { base = wordsOf d; words = 64 ^ d }
+
+pub past-all : (d a : ℕ) → wordsOf d ≤ a → Outside a (storeysOf d)
+past-all zero a h = tt
+past-all (suc d) a h = ((λ i l e. omega arith), past-all d a (omega arith))
+
+above : (d : ℕ) → Above (storey d) (storeysOf d)
+above zero = tt
+above (suc d) = omega (arith, pow-suc 64 d)
+
+pub shape-of : (d : ℕ) → Shape (storeysOf d)
+shape-of zero = tt
+shape-of (suc d) = ((λ i l. past-all d (wordsOf d + i) (omega arith)), above d, shape-of d)
+
+-- the top storey is word 0
+pub some-of : (b : List ℕ) (d : ℕ) → 0 < word b 0 → Some b (storey d) (storeysOf d)
+some-of b zero h = (refl, h)
+some-of b (suc d) h = some-of b d h
+
+-- where word 0 is 0, nothing is set
+pub none-of : (b : List ℕ) (d : ℕ) (f : ℕ → ℕ) → Tower b (storeysOf (suc d)) f → word b 0 ≡ 0 → (j : ℕ) → j < 64 * 64 ^ d → f j ≡ 0
+none-of b zero f z e j h = ap f (omega arith) ∙ storey-none b 0 1 f 0 (omega arith) e (z .0) j (omega arith)
+none-of b (suc d) f z e j h =
+    let k : j / 64 < 64 ^ suc d = omega arith in
+    let a = none-of b d (up b (wordsOf (suc d))) (z .1) e (j / 64) (omega (arith, pow-suc 64 d)) in
+    let c = storey-none b (wordsOf (suc d)) (64 ^ suc d) f (j / 64) k (nz-zero (word b (wordsOf (suc d) + j / 64)) a) (z .0) (j % 64) (omega arith) in
+    ap f (omega arith) ∙ c
+
+-- ---- the queue's ranks
+
+-- how many storeys stand above the lowest
+abbrev higher : ℕ
+higher = depth - 1
+
+-- how many words the lowest storey has
+abbrev pub lowWords : ℕ
+lowWords = 64 ^ higher
+
+abbrev pub Ranks : List ℕ → (ℕ → ℕ) → Type 0
+Ranks b f = Tower b storeys f
+
+pub ranks-ext : (b : List ℕ) (f f′ : ℕ → ℕ) → ((j : ℕ) → j < ranks → f′ j ≡ f j) → Ranks b f → Ranks b f′
+ranks-ext b f f′ h z = tower-ext b storeys f f′ h z
+
+pub ranks-none : (b : List ℕ) (f : ℕ → ℕ) → Ranks b f → word b 0 ≡ 0 → (j : ℕ) → j < ranks → f j ≡ 0
+ranks-none b f z e j h = none-of b higher f z e j h
+
+pub ranks-first : (b : List ℕ) (f : ℕ → ℕ) → Ranks b f → 0 < word b 0 → First f lowWords (lowestRank b)
+unfolding lowestRank
+ranks-first b f z h = finds b (storey higher) (storeysOf higher) f (shape-of depth) (some-of b higher h) z
+
+pub ranks-open : (b : List ℕ) (f : ℕ → ℕ) → Ranks b f → 0 < word b 0 → Opens b storeys
+ranks-open b f z h = open-way b (storey higher) (storeysOf higher) f (shape-of depth) (some-of b higher h) z
+
+pub ranks-agree : (b : List ℕ) (f : ℕ → ℕ) (r : ℕ) → r < ranks → Ranks b f → Agrees b storeys r
+ranks-agree b f r h z = agrees b storeys f r (shape-of depth) h z
+
+pub ranks-bit : (b : List ℕ) (f : ℕ → ℕ) (r : ℕ) → r < ranks → Ranks b f → lowestBit b storeys r ≡ f r
+ranks-bit b f r h z = z .0 .bit r h
+
+module _ (b : List ℕ) (f f′ : ℕ → ℕ) (z : Ranks b f) (r : ℕ) (h : r < ranks) where
+  pub marks : f r ≡ 0 → Upd f f′ r 1 → Ranks (marked b r) f′
+  unfolding marked
+  marks e u = edits true b storeys f f′ r h (shape-of depth) e u z
+
+  pub unmarks : f r ≡ 1 → Upd f f′ r 0 → Ranks (unmarked b r) f′
+  unfolding unmarked
+  unmarks e u = edits false b storeys f f′ r h (shape-of depth) e u z
+
+pub marked-length : (b : List ℕ) (r : ℕ) → length (marked b r) ≡ length b
+unfolding marked
+marked-length b r = edit-length true b storeys r
+
+pub unmarked-length : (b : List ℕ) (r : ℕ) → length (unmarked b r) ≡ length b
+unfolding unmarked
+unmarked-length b r = edit-length false b storeys r

@@ -1,0 +1,19 @@
+-- Case 8 of the paper as a list of requests and the answers that it wants. These are definitions.
+use mathlib.Core.List.{List, [], _∷_}
+use Rattle.strip.specs.Answers.{element}
+use Rattle.strip.specs.declared.Refusal.the-variants.{BadRank, Full, Empty}
+use Rattle.strip.specs.declared.Answer.{Answer}
+use Rattle.strip.specs.declared.Answer.the-variants.{Done, Out, Refused}
+use Rattle.strip.specs.declared.Request.{Request}
+use Rattle.strip.specs.declared.Request.the-variants.{Push, Pop}
+
+-- "Bucket, N = 3: push 7/1, 7/2, 4095/3; push 0/4 refused 5; 4096/4 refused 4; pops 7/1, 7/2, 4095/3, then 6"
+abbrev pub case8 : List Request
+case8 =
+    Push (element 7 1) ∷ Push (element 7 2) ∷ Push (element 4095 3) ∷ Push (element 0 4) ∷ Push (element 4096 4)
+    ∷ Pop ∷ Pop ∷ Pop ∷ Pop ∷ []
+
+abbrev pub case8Answers : List Answer
+case8Answers =
+    Done ∷ Done ∷ Done ∷ Refused Full ∷ Refused BadRank
+    ∷ Out (element 7 1) ∷ Out (element 7 2) ∷ Out (element 4095 3) ∷ Refused Empty ∷ []
