@@ -92,6 +92,40 @@ fn shapes() {
     shaped(&mut store, 2, 18446744073709551615);
 }
 
+fn bucket_push(bits: &mut [u64], words: &mut [u32], rank: u32, tag: u32) {
+    say_answer(b"push ", bucket::push(bits, words, 3, Rank(rank), Tag(tag)));
+}
+
+fn bucket_pop(bits: &mut [u64], words: &mut [u32]) {
+    say_answer(b"pop ", bucket::pop(bits, words, 3));
+}
+
+fn bucket_pushes(bits: &mut [u64], words: &mut [u32]) {
+    bucket_push(bits, words, 7, 1);
+    bucket_push(bits, words, 7, 2);
+    bucket_push(bits, words, 4095, 3);
+    bucket_push(bits, words, 0, 4);
+    bucket_push(bits, words, 4096, 4);
+}
+
+fn bucket_pops(bits: &mut [u64], words: &mut [u32]) {
+    bucket_pop(bits, words);
+    bucket_pop(bits, words);
+    bucket_pop(bits, words);
+    bucket_pop(bits, words);
+}
+
+fn buckets() {
+    let mut bits = [9u64; 65];
+    let mut words = [9u32; 8200];
+    io::write_all(1, b"case 8\n");
+    say_answer(b"clear ", bucket::clear(&mut bits, &mut words, 3));
+    bucket_pushes(&mut bits, &mut words);
+    bucket_pops(&mut bits, &mut words);
+    io::write_all(1, b"case 9, N = 0\n");
+    say_answer(b"clear ", bucket::clear(&mut bits, &mut words, 0));
+}
+
 fn main() {
     let mut store = [9u32; 20];
     io::write_all(1, b"cases 1 and 2\n");
@@ -106,4 +140,5 @@ fn main() {
     io::write_all(1, b"case 7\n");
     filled(&mut store);
     shapes();
+    buckets();
 }
