@@ -1,0 +1,4 @@
+pub mod Cycle
+pub mod Records
+pub mod Settle
+pub mod Calls
