@@ -1,2 +1,4 @@
 pub mod Clock
 pub mod Undamaged
+pub mod Turn
+pub mod Step

@@ -2,3 +2,4 @@ pub mod Cycle
 pub mod Records
 pub mod Settle
 pub mod Calls
+pub mod Promise
