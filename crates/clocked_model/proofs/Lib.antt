@@ -2,3 +2,5 @@ pub mod Clock
 pub mod Undamaged
 pub mod Turn
 pub mod Step
+pub mod Same
+pub mod Demand

@@ -222,7 +222,7 @@ module _ (m k : ℕ) (s : State) (ws vs : List ℕ) (i : InStep m k s ws vs) whe
     unfolding turned
     words-then = words-cycle m some (suc k) p 0 1 ws fits steps-fine .0
 
-    works-then : worksOf k (o .state .records) 0 ≡ cycleWorks m (suc k) idle p ls .1
+    pub works-then : worksOf k (o .state .records) 0 ≡ cycleWorks m (suc k) idle p ls .1
     unfolding turned cycleWorks levelsOf
     works-then = works-after m k _ 0 (s .records) (under m k ws 0 1) (plain-rest m w _ _) (omega (arith, i .records))
 

@@ -123,7 +123,7 @@ module _ (m levels : ℕ) where
   drains budget s ws = cond (shapeOk m levels (length ws)) (drainFrom budget 0 s ws) (drainOutcome (Refused BadShape) 0 false ws s)
 
   -- ---- clear writes zeros and hands back a fresh state; the call held is that of the tree, `counted`
-  unfoldable pub restarted : List ℕ → CycleOutcome
+  abbrev pub restarted : List ℕ → CycleOutcome
   restarted ws = cycleOutcome (cleared m levels ws .answer) (cleared m levels ws .words) fresh
 
   -- ---- lists of cycles
