@@ -1,0 +1,41 @@
+-- What the steps and recursions of a cycle ask of the words and records. Assumes nothing: these are definitions.
+use Prim.Native.Nat.{_*_, _+_, _<_, _≤_, suc, ℕ}
+use mathlib.Core.Bool.{true}
+use mathlib.Core.List.{List}
+use mathlib.Core.Path.{_≡_}
+use lib.ListN.{length}
+use Rattle.clocked_model.specs.Calls.{recordCount}
+use Rattle.clocked_model.specs.Cycle.{cycleOk}
+use Rattle.clocked_model.specs.Records.{worksOf}
+use Rattle.tree_model.specs.Calls.{slotLimit}
+use Rattle.tree_model.specs.Damage.{fine, room}
+use Rattle.tree_model.specs.Levels.{top}
+use Rattle.tree_model.specs.Words.{levelOf, levelsOf, size, under, width}
+use Rattle.tree_model.specs.declared.Work.{Work}
+
+-- k levels, the first of c nodes at slot b, lie within the words and within the limit
+pub record Lies (m k b c : ℕ) (ws : List ℕ) : Type 0 where
+  pub order : 0 < m
+  pub few : m ≤ 8
+  pub words : width * (b + size m k c) ≤ length ws
+  pub small : b + size m k c ≤ slotLimit
+
+-- .. and the work of the first of them meets no damage
+pub record Steps (m k b c : ℕ) (w : Work) (ws : List ℕ) : Type 0 where
+  pub lies : Lies m (suc k) b c ws
+  pub undamaged : fine m k w (levelOf m ws b c) (top k (under m k ws b c)) ≡ true
+
+-- .. and so does that of all the records from record i
+pub record Turns (m k b c i : ℕ) (rs : List Work) (ws : List ℕ) : Type 0 where
+  pub lies : Lies m k b c ws
+  pub records : i + k ≤ recordCount
+  pub undamaged : cycleOk m k (worksOf k rs i) (levelsOf m k ws b c) ≡ true
+
+-- node n of the first of those levels, with k levels below it: products met once
+pub record Fits (m k b c n : ℕ) (ws : List ℕ) : Type 0 where
+  pub row : n * m + m ≤ c * m
+  pub words : width * (b + c * m) ≤ length ws
+  pub small : b + c * m ≤ slotLimit
+  pub wide : n * m * m ≤ slotLimit * 8
+  pub limit : room m (suc k) ≤ slotLimit
+  pub children : 1 ≤ k → width * (b + c * m + n * m * m + m * m) ≤ length ws

@@ -1,0 +1,107 @@
+// The multi-way tree worked by clock cycles, over lent words and a state that goes by value. A level is named by the number of its first
+// slot and how many nodes it has.
+ghost use mathlib.Core.Path.{_≡_};
+ghost use Prim.Native.Nat.{suc, _+_, _≤_};
+ghost use Rattle.tree_model.specs.Levels.{idle, work, top};
+ghost use Rattle.tree_model.specs.Words.{levelOf, levelsOf, under, stepWords, restWords};
+ghost use Rattle.tree_model.specs.Damage.{fine};
+ghost use Rattle.tree_model.specs.Node.{isNothing};
+ghost use Rattle.clocked_model.specs.Cycle.{cycleOk, cycleWords};
+ghost use Rattle.clocked_model.specs.Records.{landed, worksOf, recordsAfter};
+ghost use Rattle.clocked_model.specs.Calls.{recordCount};
+ghost use Rattle.clocked.specs.Beat.{Lies, Steps, Turns};
+use node::move_of;
+use node::step_ok;
+use node::write_slot;
+use tree_model::Op;
+use tree_model::Work;
+
+// ---- records
+
+fn is_nothing(op: Op) -> bool
+    ensures { λ r. ⌜ r ≡ isNothing op ⌝ }
+{
+    match op {
+        Op::Nothing => true,
+        Op::Put(_) => false,
+        Op::Take => false,
+        Op::Swap(_) => false,
+    }
+}
+
+fn no_work() -> Work
+    ensures { λ r. ⌜ r ≡ idle ⌝ }
+{
+    Work {
+        op: Op::Nothing,
+        node: 0,
+    }
+}
+
+// Work at a node; with nothing to do the node is 0.
+fn work_at(op: Op, node: usize) -> Work
+    ensures { λ r. ⌜ r ≡ work op node ⌝ }
+{
+    if is_nothing(op) {
+        return no_work();
+    }
+    Work { op, node }
+}
+
+// What a record becomes where the level above leaves `carry` for it. A record of nothing stands, whatever its number.
+fn land(carry: Work, own: Work) -> Work
+    ensures { λ r. ⌜ r ≡ landed carry own ⌝ }
+{
+    let loads = carry.op;
+    if !is_nothing(loads) {
+        return carry;
+    }
+    let does = own.op;
+    if is_nothing(does) {
+        return own;
+    }
+    no_work()
+}
+
+// ---- one level
+
+// Whether the step of a level's work meets no damage, with `below` levels below.
+fn work_ok(s: &[u32], order: usize, below: usize, base: usize, width: usize, w: Work) -> bool
+    requires { ⌜ Lies order (suc below) base width (now s) ⌝ }
+    ensures { λ r. ⌜ r ≡ fine order below w (levelOf order (now (s .entry)) base width) (top below (under order below (now (s .entry)) base width)) ⌝ }
+{
+    let op = w.op;
+    if is_nothing(op) {
+        return true;
+    }
+    let node = w.node;
+    if width <= node {
+        return false;
+    }
+    let first = node * order;
+    step_ok(
+        s,
+        base + first,
+        base + width * order + first * order,
+        order,
+        below,
+        op,
+    )
+}
+
+// A level does its one step, and what it leaves for the next level's record is handed back.
+fn work_step(s: &mut [u32], order: usize, below: usize, base: usize, width: usize, w: Work) -> Work
+    requires { ⌜ Steps order below base width w (now s) ⌝ }
+    ensures { λ r. ⌜ (r ≡ restWords order below w base width (now (s .entry))) × (now (s .exit) ≡ stepWords order below w base width (now (s .entry))) ⌝ }
+{
+    let op = w.op;
+    if is_nothing(op) {
+        return no_work();
+    }
+    let first = w.node * order;
+    let at = base + first;
+    let v = move_of(s, at, base + width * order + first * order, order, op);
+    write_slot(s, at + v.place, v.slot);
+    let rest = v.rest;
+    work_at(rest, first + v.place)
+}
