@@ -1,2 +1,3 @@
 pub mod Beat
 pub mod Level
+pub mod Round

@@ -105,3 +105,70 @@ fn work_step(s: &mut [u32], order: usize, below: usize, base: usize, width: usiz
     let rest = v.rest;
     work_at(rest, first + v.place)
 }
+
+// ---- the levels from 2, each with its record
+
+// Whether no record's step meets damage, from record `at` on, for so many levels.
+fn records_ok(
+    s: &[u32],
+    order: usize,
+    left: usize,
+    base: usize,
+    width: usize,
+    at: usize,
+    records: [Work; 10],
+) -> bool
+    requires { ⌜ Lies order left base width (now s) × (at + left ≤ recordCount) ⌝ }
+    ensures { λ r. ⌜ r ≡ cycleOk order left (worksOf left records at) (levelsOf order left (now (s .entry)) base width) ⌝ }
+{
+    if left == 0 {
+        return true;
+    }
+    let own = records[at];
+    if !work_ok(s, order, left - 1, base, width, own) {
+        return false;
+    }
+    records_ok(
+        s,
+        order,
+        left - 1,
+        base + width * order,
+        width * order,
+        at + 1,
+        records,
+    )
+}
+
+// Each level does its record's step, from the top down: a level is written after the one above has read it. `carry` is what the level
+// above leaves for record `at`.
+fn turn_records(
+    s: &mut [u32],
+    order: usize,
+    left: usize,
+    base: usize,
+    width: usize,
+    at: usize,
+    carry: Work,
+    records: [Work; 10],
+) -> [Work; 10]
+    requires { ⌜ Turns order left base width at records (now s) ⌝ }
+    ensures { λ r. ⌜ (r ≡ recordsAfter order left carry at records (levelsOf order left (now (s .entry)) base width)) × (now (s .exit) ≡ cycleWords order left (worksOf left records at) base width (now (s .entry))) ⌝ }
+{
+    if left == 0 {
+        return records;
+    }
+    let own = records[at];
+    let mut next = records;
+    next[at] = land(carry, own);
+    let rest = work_step(s, order, left - 1, base, width, own);
+    turn_records(
+        s,
+        order,
+        left - 1,
+        base + width * order,
+        width * order,
+        at + 1,
+        rest,
+        next,
+    )
+}
