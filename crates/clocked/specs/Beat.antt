@@ -1,5 +1,5 @@
 -- What the steps and recursions of a cycle ask of the words and records. Assumes nothing: these are definitions.
-use Prim.Native.Nat.{_*_, _+_, _<_, _≤_, suc, ℕ}
+use Prim.Native.Nat.{_*_, _+_, _<_, _≤_, pred, suc, ℕ}
 use mathlib.Core.Bool.{true}
 use mathlib.Core.List.{List}
 use mathlib.Core.Path.{_≡_}
@@ -39,3 +39,10 @@ pub record Fits (m k b c n : ℕ) (ws : List ℕ) : Type 0 where
   pub wide : n * m * m ≤ slotLimit * 8
   pub limit : room m (suc k) ≤ slotLimit
   pub children : 1 ≤ k → width * (b + c * m + n * m * m + m * m) ≤ length ws
+
+-- a shape that passes: all levels lie within the words, and there is a record for each from 2
+pub record Rooted (m levels : ℕ) (ws : List ℕ) : Type 0 where
+  pub lies : Lies m levels 0 1 ws
+  pub some : 1 ≤ levels
+  pub capacity : room m levels ≤ slotLimit
+  pub records : pred levels ≤ recordCount

@@ -8,11 +8,20 @@ ghost use Rattle.tree_model.specs.Damage.{fine};
 ghost use Rattle.tree_model.specs.Node.{isNothing};
 ghost use Rattle.clocked_model.specs.Cycle.{cycleOk, cycleWords};
 ghost use Rattle.clocked_model.specs.Records.{landed, worksOf, recordsAfter};
-ghost use Rattle.clocked_model.specs.Calls.{recordCount};
-ghost use Rattle.clocked.specs.Beat.{Lies, Steps, Turns};
+ghost use Rattle.tree_model.specs.Calls.{ruling, verdict};
+ghost use Rattle.clocked_model.specs.Calls.{recordCount, asks, popsOrReplaces, isRefused, heard};
+ghost use Rattle.clocked.specs.Beat.{Lies, Steps, Turns, Rooted};
+use node::capacity;
+use node::lower;
+use node::lowest_element;
 use node::move_of;
 use node::step_ok;
+use node::sum_counts;
 use node::write_slot;
+use strip::Answer;
+use strip::Element;
+use strip::Refusal;
+use strip::Request;
 use tree_model::Op;
 use tree_model::Work;
 
@@ -171,4 +180,106 @@ fn turn_records(
         rest,
         next,
     )
+}
+
+// ---- the request
+
+// What a request comes to: its answer, and the operation at the root.
+pub struct Heard {
+    pub answer: Answer,
+    pub op: Op,
+}
+
+fn asks_something(request: Request) -> bool
+    ensures { λ r. ⌜ r ≡ asks request ⌝ }
+{
+    match request {
+        Request::Idle => false,
+        Request::Push(_) => true,
+        Request::Pop => true,
+        Request::Replace(_) => true,
+    }
+}
+
+fn pops_or_replaces(request: Request) -> bool
+    ensures { λ r. ⌜ r ≡ popsOrReplaces request ⌝ }
+{
+    match request {
+        Request::Idle => false,
+        Request::Push(_) => false,
+        Request::Pop => true,
+        Request::Replace(_) => true,
+    }
+}
+
+fn is_refused(answer: Answer) -> bool
+    ensures { λ r. ⌜ r ≡ isRefused answer ⌝ }
+{
+    match answer {
+        Answer::Done => false,
+        Answer::Out(_) => false,
+        Answer::Refused(_) => true,
+    }
+}
+
+fn says(answer: Answer, op: Op) -> Heard
+    ensures { λ r. ⌜ (r .answer ≡ answer) × (r .op ≡ op) ⌝ }
+{
+    Heard { answer, op }
+}
+
+fn refuses(refusal: Refusal) -> Heard
+    ensures { λ r. ⌜ (r .answer ≡ Answer.Refused refusal) × (r .op ≡ Op.Nothing) ⌝ }
+{
+    says(Answer::Refused(refusal), Op::Nothing)
+}
+
+fn hear_push(s: &[u32], order: usize, levels: usize, x: Element) -> Heard
+    requires { ⌜ Rooted order levels (now s) ⌝ }
+    ensures { λ r. ⌜ ruling (r .answer) (r .op) ≡ verdict order levels (Request.Push x) (now (s .entry)) ⌝ }
+{
+    if sum_counts(s, 0, order) < capacity(order, levels) {
+        return says(Answer::Done, Op::Put(x));
+    }
+    refuses(Refusal::Full)
+}
+
+fn hear_pop(s: &[u32], order: usize, levels: usize) -> Heard
+    requires { ⌜ Rooted order levels (now s) ⌝ }
+    ensures { λ r. ⌜ ruling (r .answer) (r .op) ≡ verdict order levels Request.Pop (now (s .entry)) ⌝ }
+{
+    if sum_counts(s, 0, order) == 0 {
+        return refuses(Refusal::Empty);
+    }
+    says(Answer::Out(lowest_element(s, 0, order)), Op::Take)
+}
+
+fn hear_replace(s: &[u32], order: usize, levels: usize, x: Element) -> Heard
+    requires { ⌜ Rooted order levels (now s) ⌝ }
+    ensures { λ r. ⌜ ruling (r .answer) (r .op) ≡ verdict order levels (Request.Replace x) (now (s .entry)) ⌝ }
+{
+    if sum_counts(s, 0, order) == 0 {
+        return says(Answer::Out(x), Op::Nothing);
+    }
+    let least = lowest_element(s, 0, order);
+    if lower(x, least) {
+        return says(Answer::Out(x), Op::Nothing);
+    }
+    says(Answer::Out(least), Op::Swap(x))
+}
+
+// What the request comes to with this mark. An idle cycle reads no root, and a pop or replace with the mark on is too soon.
+fn hear(s: &[u32], order: usize, levels: usize, mark: bool, request: Request) -> Heard
+    requires { ⌜ Rooted order levels (now s) ⌝ }
+    ensures { λ r. ⌜ ruling (r .answer) (r .op) ≡ heard mark request (verdict order levels request (now (s .entry))) ⌝ }
+{
+    if mark & pops_or_replaces(request) {
+        return refuses(Refusal::TooSoon);
+    }
+    match request {
+        Request::Idle => says(Answer::Done, Op::Nothing),
+        Request::Push(x) => hear_push(s, order, levels, x),
+        Request::Pop => hear_pop(s, order, levels),
+        Request::Replace(x) => hear_replace(s, order, levels, x),
+    }
 }

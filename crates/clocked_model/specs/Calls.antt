@@ -12,7 +12,7 @@ use Rattle.strip.specs.declared.Answer.the-variants.{Done, Out, Refused}
 use Rattle.strip.specs.declared.Refusal.the-variants.{BadShape, Damaged, TooSoon}
 use Rattle.strip.specs.declared.Request.{Request}
 use Rattle.strip.specs.declared.Request.the-variants.{Idle, Pop, Push, Replace}
-use Rattle.tree_model.specs.Calls.{cleared, rootOk, Ruling, ruling, shapeOk, verdict}
+use Rattle.tree_model.specs.Calls.{cleared, rootOk, ruling, Ruling, shapeOk, verdict}
 use Rattle.tree_model.specs.Levels.{idle, work}
 use Rattle.tree_model.specs.Words.{levelsOf, restWords, under}
 use Rattle.tree_model.specs.declared.Op.{Op}
@@ -109,13 +109,14 @@ module _ (m levels : ℕ) where
   abbrev pub pending : State → Bool
   pending s = not (quiet (pred levels) (worksOf (pred levels) (s .records) 0))
 
-  -- "runs idle cycles until nothing is pending or the budget is spent"; "stops at 2 and reports the cycles already run, work left"
+  -- "runs idle cycles until nothing is pending or the budget is spent"; "stops at 2 and reports the cycles already run, work left". A
+  -- refused cycle has left everything
   unfoldable pub drainFrom : ℕ → ℕ → State → List ℕ → DrainOutcome
   drainFrom zero n s ws = drainOutcome Done n (pending s) ws s
   drainFrom (suc b) n s ws =
       let o = ticked Idle s ws in
       cond (pending s)
-      (cond (isRefused (o .answer)) (drainOutcome (o .answer) n true ws s) (drainFrom b (suc n) (o .state) (o .words)))
+      (cond (isRefused (o .answer)) (drainOutcome (o .answer) n true (o .words) (o .state)) (drainFrom b (suc n) (o .state) (o .words)))
       (drainOutcome Done n false ws s)
 
   -- "at 1 it reports 0 and no work left"

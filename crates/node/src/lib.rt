@@ -69,7 +69,7 @@ pub fn least_count(s: &[u32], at: usize, order: usize) -> usize
     best
 }
 
-fn lower(a: Element, b: Element) -> bool
+pub fn lower(a: Element, b: Element) -> bool
     ensures { λ r. ⌜ r ≡ ltb (key a) (key b) ⌝ }
 {
     let p = a.rank;
