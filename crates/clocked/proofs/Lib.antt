@@ -2,3 +2,4 @@ pub mod Beat
 pub mod Level
 pub mod Round
 pub mod Request
+pub mod Whole

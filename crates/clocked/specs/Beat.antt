@@ -1,16 +1,17 @@
 -- What the steps and recursions of a cycle ask of the words and records. Assumes nothing: these are definitions.
 use Prim.Native.Nat.{_*_, _+_, _<_, _≤_, pred, suc, ℕ}
-use mathlib.Core.Bool.{true}
+use mathlib.Core.Bool.{Bool, true}
 use mathlib.Core.List.{List}
 use mathlib.Core.Path.{_≡_}
 use lib.ListN.{length}
 use Rattle.clocked_model.specs.Calls.{recordCount}
-use Rattle.clocked_model.specs.Cycle.{cycleOk}
-use Rattle.clocked_model.specs.Records.{worksOf}
+use Rattle.clocked_model.specs.Cycle.{cycleOk, cycleWords, Works}
+use Rattle.clocked_model.specs.Records.{recordsAfter, worksOf}
 use Rattle.tree_model.specs.Calls.{slotLimit}
 use Rattle.tree_model.specs.Damage.{fine, room}
-use Rattle.tree_model.specs.Levels.{top}
-use Rattle.tree_model.specs.Words.{levelOf, levelsOf, size, under, width}
+use Rattle.tree_model.specs.Levels.{top, work}
+use Rattle.tree_model.specs.Words.{levelOf, levelsOf, restWords, size, under, width}
+use Rattle.tree_model.specs.declared.Op.{Op}
 use Rattle.tree_model.specs.declared.Work.{Work}
 
 -- k levels, the first of c nodes at slot b, lie within the words and within the limit
@@ -46,3 +47,16 @@ pub record Rooted (m levels : ℕ) (ws : List ℕ) : Type 0 where
   pub some : 1 ≤ levels
   pub capacity : room m levels ≤ slotLimit
   pub records : pred levels ≤ recordCount
+
+-- a cycle in which the operation o is done at the root, by its records: the test, the records and the words that it leaves
+abbrev pub allWork : (levels : ℕ) → Op → List Work → Works (suc (pred levels))
+allWork levels o rs = (work o 0, worksOf (pred levels) rs 0)
+
+abbrev pub allOk : ℕ → ℕ → Op → List Work → List ℕ → Bool
+allOk m levels o rs ws = cycleOk m (suc (pred levels)) (allWork levels o rs) (levelsOf m (suc (pred levels)) ws 0 1)
+
+abbrev pub recordsTurned : ℕ → ℕ → Op → List Work → List ℕ → List Work
+recordsTurned m levels o rs ws = recordsAfter m (pred levels) (restWords m (pred levels) (work o 0) 0 1 ws) 0 rs (under m (pred levels) ws 0 1)
+
+abbrev pub wordsTurned : ℕ → ℕ → Op → List Work → List ℕ → List ℕ
+wordsTurned m levels o rs ws = cycleWords m (suc (pred levels)) (allWork levels o rs) 0 1 ws

@@ -1,6 +1,7 @@
 // The multi-way tree worked by clock cycles, over lent words and a state that goes by value. A level is named by the number of its first
 // slot and how many nodes it has.
 ghost use mathlib.Core.Path.{_≡_};
+ghost use mathlib.Core.Bool.{true};
 ghost use Prim.Native.Nat.{suc, _+_, _≤_};
 ghost use Rattle.tree_model.specs.Levels.{idle, work, top};
 ghost use Rattle.tree_model.specs.Words.{levelOf, levelsOf, under, stepWords, restWords};
@@ -9,12 +10,13 @@ ghost use Rattle.tree_model.specs.Node.{isNothing};
 ghost use Rattle.clocked_model.specs.Cycle.{cycleOk, cycleWords};
 ghost use Rattle.clocked_model.specs.Records.{landed, worksOf, recordsAfter};
 ghost use Rattle.tree_model.specs.Calls.{ruling, verdict};
-ghost use Rattle.clocked_model.specs.Calls.{recordCount, asks, popsOrReplaces, isRefused, heard};
-ghost use Rattle.clocked.specs.Beat.{Lies, Steps, Turns, Rooted};
+ghost use Rattle.clocked_model.specs.Calls.{recordCount, asks, popsOrReplaces, isRefused, heard, askedOk};
+ghost use Rattle.clocked.specs.Beat.{Lies, Steps, Turns, Rooted, allOk, recordsTurned, wordsTurned};
 use node::capacity;
 use node::lower;
 use node::lowest_element;
 use node::move_of;
+use node::node_ok;
 use node::step_ok;
 use node::sum_counts;
 use node::write_slot;
@@ -282,4 +284,37 @@ fn hear(s: &[u32], order: usize, levels: usize, mark: bool, request: Request) ->
         Request::Pop => hear_pop(s, order, levels),
         Request::Replace(x) => hear_replace(s, order, levels, x),
     }
+}
+
+// ---- a cycle
+
+// Whether the root passes the test for damage where an operation is asked for.
+fn asked_ok(s: &[u32], order: usize, levels: usize, request: Request) -> bool
+    requires { ⌜ Rooted order levels (now s) ⌝ }
+    ensures { λ r. ⌜ r ≡ askedOk order levels request (now (s .entry)) ⌝ }
+{
+    if !asks_something(request) {
+        return true;
+    }
+    node_ok(s, 0, order, capacity(order, levels - 1))
+}
+
+// Whether no level's step meets damage: the operation's at the root, and each record's.
+fn steps_ok(s: &[u32], order: usize, levels: usize, op: Op, records: [Work; 10]) -> bool
+    requires { ⌜ Rooted order levels (now s) ⌝ }
+    ensures { λ r. ⌜ r ≡ allOk order levels op records (now (s .entry)) ⌝ }
+{
+    if !work_ok(s, order, levels - 1, 0, 1, work_at(op, 0)) {
+        return false;
+    }
+    records_ok(s, order, levels - 1, order, order, 0, records)
+}
+
+// Every level does its one step, the root the operation's.
+fn turn(s: &mut [u32], order: usize, levels: usize, op: Op, records: [Work; 10]) -> [Work; 10]
+    requires { ⌜ Rooted order levels (now s) × (allOk order levels op records (now s) ≡ true) ⌝ }
+    ensures { λ r. ⌜ (r ≡ recordsTurned order levels op records (now (s .entry))) × (now (s .exit) ≡ wordsTurned order levels op records (now (s .entry))) ⌝ }
+{
+    let rest = work_step(s, order, levels - 1, 0, 1, work_at(op, 0));
+    turn_records(s, order, levels - 1, order, order, 0, rest, records)
 }
