@@ -3,3 +3,4 @@ pub mod Level
 pub mod Round
 pub mod Request
 pub mod Whole
+pub mod Public

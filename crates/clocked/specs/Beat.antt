@@ -7,6 +7,10 @@ use lib.ListN.{length}
 use Rattle.clocked_model.specs.Calls.{recordCount}
 use Rattle.clocked_model.specs.Cycle.{cycleOk, cycleWords, Works}
 use Rattle.clocked_model.specs.Records.{recordsAfter, worksOf}
+use Rattle.clocked_model.specs.declared.State.{State}
+use Rattle.strip.specs.declared.Element.{Element}
+use Rattle.strip.specs.declared.Rank.{Rank}
+use Rattle.strip.specs.declared.Tag.{Tag}
 use Rattle.tree_model.specs.Calls.{slotLimit}
 use Rattle.tree_model.specs.Damage.{fine, room}
 use Rattle.tree_model.specs.Levels.{top, work}
@@ -60,3 +64,9 @@ recordsTurned m levels o rs ws = recordsAfter m (pred levels) (restWords m (pred
 
 abbrev pub wordsTurned : ℕ → ℕ → Op → List Work → List ℕ → List ℕ
 wordsTurned m levels o rs ws = cycleWords m (suc (pred levels)) (allWork levels o rs) 0 1 ws
+
+abbrev pub stateOf : List Work → Bool → State
+stateOf rs mark = record { records = rs; mark = mark }
+
+abbrev pub pair : Rank → Tag → Element
+pair r t = record { rank = r; tag = t }

@@ -10,20 +10,25 @@ ghost use Rattle.tree_model.specs.Node.{isNothing};
 ghost use Rattle.clocked_model.specs.Cycle.{cycleOk, cycleWords};
 ghost use Rattle.clocked_model.specs.Records.{landed, worksOf, recordsAfter};
 ghost use Rattle.tree_model.specs.Calls.{ruling, verdict};
-ghost use Rattle.clocked_model.specs.Calls.{recordCount, asks, popsOrReplaces, isRefused, heard, askedOk};
-ghost use Rattle.clocked.specs.Beat.{Lies, Steps, Turns, Rooted, allOk, recordsTurned, wordsTurned};
+ghost use Rattle.clocked_model.specs.Calls.{recordCount, asks, popsOrReplaces, isRefused, heard, marks, askedOk, cycleOutcome, ticked};
+ghost use Rattle.clocked.specs.Beat.{Lies, Steps, Turns, Rooted, allOk, recordsTurned, wordsTurned, stateOf, pair};
+use clocked_model::Cycled;
+use clocked_model::State;
 use node::capacity;
 use node::lower;
 use node::lowest_element;
 use node::move_of;
 use node::node_ok;
+use node::shape_ok;
 use node::step_ok;
 use node::sum_counts;
 use node::write_slot;
 use strip::Answer;
 use strip::Element;
+use strip::Rank;
 use strip::Refusal;
 use strip::Request;
+use strip::Tag;
 use tree_model::Op;
 use tree_model::Work;
 
@@ -317,4 +322,82 @@ fn turn(s: &mut [u32], order: usize, levels: usize, op: Op, records: [Work; 10])
 {
     let rest = work_step(s, order, levels - 1, 0, 1, work_at(op, 0));
     turn_records(s, order, levels - 1, order, order, 0, rest, records)
+}
+
+fn left_as(refusal: Refusal, state: State) -> Cycled
+    ensures { λ r. ⌜ (r .answer ≡ Answer.Refused refusal) × (r .state ≡ state) ⌝ }
+{
+    Cycled {
+        answer: Answer::Refused(refusal),
+        state,
+    }
+}
+
+fn marked(request: Request, answer: Answer, records: [Work; 10]) -> Cycled
+    ensures { λ r. ⌜ (r .answer ≡ answer) × (r .state ≡ stateOf records (marks request answer)) ⌝ }
+{
+    let mark = asks_something(request) & !is_refused(answer);
+    let state = State { records, mark };
+    Cycled { answer, state }
+}
+
+// One cycle with this request. All that any level reads is tested before the first write.
+pub fn cycle(
+    store: &mut [u32],
+    order: usize,
+    levels: usize,
+    state: State,
+    request: Request,
+) -> Cycled
+    ensures { λ r. ⌜ cycleOutcome (r .answer) (now (store .exit)) (r .state) ≡ ticked order levels request state (now (store .entry)) ⌝ }
+{
+    if !shape_ok(order, levels, store.len()) {
+        return left_as(Refusal::BadShape, state);
+    }
+    if !asked_ok(store, order, levels, request) {
+        return left_as(Refusal::Damaged, state);
+    }
+    let g = hear(store, order, levels, state.mark, request);
+    let op = g.op;
+    let records = state.records;
+    if !steps_ok(store, order, levels, op, records) {
+        return left_as(Refusal::Damaged, state);
+    }
+    let next = turn(store, order, levels, op, records);
+    let answer = g.answer;
+    marked(request, answer, next)
+}
+
+pub fn push(
+    store: &mut [u32],
+    order: usize,
+    levels: usize,
+    state: State,
+    rank: Rank,
+    tag: Tag,
+) -> Cycled
+    ensures { λ r. ⌜ cycleOutcome (r .answer) (now (store .exit)) (r .state) ≡ ticked order levels (Request.Push (pair rank tag)) state (now (store .entry)) ⌝ }
+{
+    let x = Element { rank, tag };
+    cycle(store, order, levels, state, Request::Push(x))
+}
+
+pub fn pop(store: &mut [u32], order: usize, levels: usize, state: State) -> Cycled
+    ensures { λ r. ⌜ cycleOutcome (r .answer) (now (store .exit)) (r .state) ≡ ticked order levels Request.Pop state (now (store .entry)) ⌝ }
+{
+    cycle(store, order, levels, state, Request::Pop)
+}
+
+pub fn replace(
+    store: &mut [u32],
+    order: usize,
+    levels: usize,
+    state: State,
+    rank: Rank,
+    tag: Tag,
+) -> Cycled
+    ensures { λ r. ⌜ cycleOutcome (r .answer) (now (store .exit)) (r .state) ≡ ticked order levels (Request.Replace (pair rank tag)) state (now (store .entry)) ⌝ }
+{
+    let x = Element { rank, tag };
+    cycle(store, order, levels, state, Request::Replace(x))
 }
