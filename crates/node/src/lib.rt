@@ -4,7 +4,7 @@ ghost use mathlib.Core.Bool.{_&&_};
 ghost use Prim.Native.Nat.{_+_, _*_, _<_, _≤_};
 ghost use lib.ListN.{length};
 ghost use lib.Dec.{ltb};
-ghost use Rattle.strip.specs.Answers.{blank, key};
+ghost use Rattle.strip.specs.Answers.{key};
 ghost use Rattle.tree_model.specs.Node.{slotAt, leastCount, lowest, low, sumCounts, move, putMove, takeMove, swapMove};
 ghost use Rattle.tree_model.specs.Words.{width, slotOf, write, nodeOf, nodeMove};
 ghost use Rattle.tree_model.specs.Damage.{slotOk, nodeOk, hasRoom, hasSome, stepOk};
@@ -13,6 +13,7 @@ ghost use Rattle.node.specs.Scan.{beats, NodeIn, StepIn, Doable, childOf
 use strip::Element;
 use strip::Rank;
 use strip::Tag;
+use strip::no_element;
 use tree_model::Move;
 use tree_model::Op;
 use tree_model::Slot;
@@ -27,9 +28,11 @@ pub fn slot_at(s: &[u32], i: usize) -> Slot
     ensures { λ r. ⌜ r ≡ slotOf (now (s .entry)) i ⌝ }
 {
     let at = 3 * i;
+    let r = s[at];
+    let t = s[at + 1];
     let element = Element {
-        rank: Rank(s[at]),
-        tag: Tag(s[at + 1]),
+        rank: Rank(r),
+        tag: Tag(t),
     };
     Slot {
         element,
@@ -69,6 +72,7 @@ pub fn least_count(s: &[u32], at: usize, order: usize) -> usize
     best
 }
 
+// Whether a's rank is strictly lower than b's.
 pub fn lower(a: Element, b: Element) -> bool
     ensures { λ r. ⌜ r ≡ ltb (key a) (key b) ⌝ }
 {
@@ -108,15 +112,6 @@ pub fn lowest_slot(s: &[u32], at: usize, order: usize) -> usize
         j += 1;
     }
     best
-}
-
-pub fn no_element() -> Element
-    ensures { λ r. ⌜ r ≡ blank ⌝ }
-{
-    Element {
-        rank: Rank(0),
-        tag: Tag(0),
-    }
 }
 
 // What a take gives at a node.

@@ -1,4 +1,6 @@
 // What every queue of the card takes in and answers.
+ghost use mathlib.Core.Path.{_≡_};
+ghost use Rattle.strip.specs.Answers.{blank, refusalNumber, numberOf, elementOf, countNumber, countOf};
 
 // When a strip must leave. A lower rank leaves first.
 pub struct Rank(pub u32);
@@ -41,4 +43,69 @@ pub enum Request {
     Push(Element),
     Pop,
     Replace(Element),
+}
+
+// ---- 01's numbers
+
+pub fn refusal_number(r: Refusal) -> u32
+    ensures { λ n. ⌜ n ≡ refusalNumber r ⌝ }
+{
+    match r {
+        Refusal::BadShape => 1,
+        Refusal::Damaged => 2,
+        Refusal::TooSoon => 3,
+        Refusal::BadRank => 4,
+        Refusal::Full => 5,
+        Refusal::Empty => 6,
+    }
+}
+
+// The refusal's number, and 0 where nothing is refused.
+pub fn number(a: Answer) -> u32
+    ensures { λ n. ⌜ n ≡ numberOf a ⌝ }
+{
+    match a {
+        Answer::Done => 0,
+        Answer::Out(_) => 0,
+        Answer::Refused(r) => refusal_number(r),
+    }
+}
+
+// The element that an answer gives: rank 0, tag 0 where it gives none.
+pub fn given(a: Answer) -> Element
+    ensures { λ e. ⌜ e ≡ elementOf a ⌝ }
+{
+    match a {
+        Answer::Out(e) => e,
+        Answer::Done => no_element(),
+        Answer::Refused(_) => no_element(),
+    }
+}
+
+pub fn no_element() -> Element
+    ensures { λ r. ⌜ r ≡ blank ⌝ }
+{
+    Element {
+        rank: Rank(0),
+        tag: Tag(0),
+    }
+}
+
+pub fn count_number(c: Count) -> u32
+    ensures { λ n. ⌜ n ≡ countNumber c ⌝ }
+{
+    match c {
+        Count::Held(_) => 0,
+        Count::Unknown(r) => refusal_number(r),
+    }
+}
+
+// How many are held; a refused held answers 0.
+pub fn counted(c: Count) -> u32
+    ensures { λ n. ⌜ n ≡ countOf c ⌝ }
+{
+    match c {
+        Count::Held(n) => n,
+        Count::Unknown(_) => 0,
+    }
 }

@@ -391,7 +391,7 @@ exactly-clear m levels ws = go (shapeOk m levels (length ws)) refl
     go true e = (λ z s. no-refusal-done BadShape z, λ f. absurd (f (shape-is m levels (length ws) e)), λ s. refl)
     go false e = (λ z s. true≢false (sym (is-shape m levels (length ws) s) ∙ e), λ f. refl, λ s. absurd (true≢false (sym (is-shape m levels (length ws) s) ∙ e)))
 
-same-unknown : {a b : Refusal} → _≡_ {A = Count} (Unknown a) (Unknown b) → a ≡ b
+pub same-unknown : {a b : Refusal} → _≡_ {A = Count} (Unknown a) (Unknown b) → a ≡ b
 same-unknown {a} {b} e = cc
 
 held-only : (m levels : ℕ) (ws : List ℕ) (n : Refusal) → counted m levels ws ≡ Unknown n → HeldCause m levels ws n

@@ -89,12 +89,12 @@ rest-inside (Swap x) nd b h = go (leb (slotAt nd (lowest nd) .count) 1) refl (no
     go false e false = inside nd (lowest nd) (omega (arith, leb-false (slotAt nd (lowest nd) .count) 1 e))
 
 -- ---- a step depends on what is below the node's places alone
-takeBy-ext : (t : Bool) (nd : List Slot) (b b′ : ℕ → Element) → b (lowest nd) ≡ b′ (lowest nd) → takeBy t nd b ≡ takeBy t nd b′
+pub takeBy-ext : (t : Bool) (nd : List Slot) (b b′ : ℕ → Element) → b (lowest nd) ≡ b′ (lowest nd) → takeBy t nd b ≡ takeBy t nd b′
 unfolding takeBy
 takeBy-ext true nd b b′ p = refl
 takeBy-ext false nd b b′ p = ap (λ (e : Element). takeBy false nd (λ j. e)) p
 
-swapBy-ext : (t : Bool) (x : Element) (nd : List Slot) (b b′ : ℕ → Element) → b (lowest nd) ≡ b′ (lowest nd) → swapBy t x nd b ≡ swapBy t x nd b′
+pub swapBy-ext : (t : Bool) (x : Element) (nd : List Slot) (b b′ : ℕ → Element) → b (lowest nd) ≡ b′ (lowest nd) → swapBy t x nd b ≡ swapBy t x nd b′
 unfolding swapBy
 swapBy-ext true x nd b b′ p = refl
 swapBy-ext false x nd b b′ p = ap (λ (e : Element). swapBy false x nd (λ j. e)) p

@@ -8,3 +8,4 @@ pub mod Words
 pub mod Serve
 pub mod Exactly
 pub mod Promises
+pub mod Place

@@ -144,7 +144,7 @@ module _ (m : ℕ) where
   level-other ws b c i s h = tab-ext c _ _ (λ n hn. node-other ws (b + n * m) i s (λ j hj. h n j hn hj))
 
   -- a slot before these levels is written
-  levels-before : (k : ℕ) (ws : List ℕ) (b c i : ℕ) (s : Slot) → i < b → levelsOf m k (write ws i s) b c ≡ levelsOf m k ws b c
+  pub levels-before : (k : ℕ) (ws : List ℕ) (b c i : ℕ) (s : Slot) → i < b → levelsOf m k (write ws i s) b c ≡ levelsOf m k ws b c
   unfolding levelsOf
   levels-before zero ws b c i s h = refl
   levels-before (suc k) ws b c i s h =

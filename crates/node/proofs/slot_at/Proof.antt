@@ -9,29 +9,29 @@ use Rattle.node.proofs.slot_at.Lts as lts
 mul-at : tie.Need-mul-at
 mul-at c = search needs
 
-mul-t5 : tie.Need-mul-t5
-mul-t5 c = search needs
+mul-r : tie.Need-mul-r
+mul-r c = search needs
 
-shared-slice-read-t7 : tie.Need-shared-slice-read-t7
-shared-slice-read-t7 c = search needs
+shared-slice-read-r : tie.Need-shared-slice-read-r
+shared-slice-read-r c = search needs
 
-add-t9 : tie.Need-add-t9
-add-t9 c = search needs
+add-t : tie.Need-add-t
+add-t c = search needs
+
+mul-t : tie.Need-mul-t
+mul-t c = search needs
+
+shared-slice-read-t : tie.Need-shared-slice-read-t
+shared-slice-read-t c = search needs
+
+add-t7 : tie.Need-add-t7
+add-t7 c = search needs
 
 mul-t10 : tie.Need-mul-t10
 mul-t10 c = search needs
 
-shared-slice-read-t12 : tie.Need-shared-slice-read-t12
-shared-slice-read-t12 c = search needs
-
-add-t5 : tie.Need-add-t5
-add-t5 c = search needs
-
-mul-t9 : tie.Need-mul-t9
-mul-t9 c = search needs
-
-shared-slice-read-t7-2 : tie.Need-shared-slice-read-t7-2
-shared-slice-read-t7-2 c = search needs
+shared-slice-read-t9 : tie.Need-shared-slice-read-t9
+shared-slice-read-t9 c = search needs
 
 returns : tie.Need-returns
 unfolding slotOf
@@ -42,12 +42,12 @@ slot-at-spec =
     tie.close
     (tie.spec
     mul-at
-    mul-t5
-    shared-slice-read-t7
-    add-t9
+    mul-r
+    shared-slice-read-r
+    add-t
+    mul-t
+    shared-slice-read-t
+    add-t7
     mul-t10
-    shared-slice-read-t12
-    add-t5
-    mul-t9
-    shared-slice-read-t7-2
+    shared-slice-read-t9
     returns)

@@ -1,0 +1,14 @@
+-- `strip::no_element` meets its contract. Assumes nothing.
+use borrow.Author.Needs.{needs}
+use Rattle.strip.specs.Answers.{blank}
+use Rattle.strip.proofs.no_element.Statement.{statement}
+use Rattle.strip.proofs.no_element.Tie as tie
+use Rattle.strip.proofs.no_element.Reads as reads
+use Rattle.strip.proofs.no_element.Lts as lts
+
+returns : tie.Need-returns
+unfolding blank
+returns c = search needs
+
+pub no-element-spec : {M : Type 1} → statement M
+no-element-spec = tie.close (tie.spec returns)

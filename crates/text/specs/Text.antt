@@ -1,0 +1,31 @@
+-- Text as lists of bytes: numbers in decimal, and a text laid into a buffer. Assumes nothing: these are definitions.
+-- the bytes of a text laid over a buffer from a place on
+use Prim.Native.Nat.{_%_, _*_, _+_, _-_, _/_, suc, zero, ℕ}
+use mathlib.Core.Bool.{cond}
+use mathlib.Core.List.{[], _++_, _∷_, List}
+use lib.Dec.{ltb}
+use lib.ListN.{set}
+
+unfoldable pub overlay : List ℕ → ℕ → List ℕ → List ℕ
+overlay s i [] = s
+overlay s i (x ∷ xs) = overlay (set s i x) (suc i) xs
+
+-- a number's last k digits in decimal, without leading zeros; 48 is the byte of the digit 0
+unfoldable pub decimalBy : ℕ → ℕ → List ℕ
+decimalBy zero n = []
+decimalBy (suc k) n = cond (ltb n 10) ((48 + n) ∷ []) (decimalBy k (n / 10) ++ ((48 + n % 10) ∷ []))
+
+-- the longest number of 64 bits has 20 digits
+abbrev pub longest : ℕ
+longest = 20
+
+unfoldable pub decimal : ℕ → List ℕ
+decimal n = decimalBy longest n
+
+-- the number that digits say
+unfoldable pub valueFrom : ℕ → List ℕ → ℕ
+valueFrom a [] = a
+valueFrom a (d ∷ ds) = valueFrom (10 * a + (d - 48)) ds
+
+abbrev pub value : List ℕ → ℕ
+value ds = valueFrom 0 ds
