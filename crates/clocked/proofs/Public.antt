@@ -5,10 +5,10 @@ use mathlib.Core.Bool.{_&&_, Bool, false, not, true}
 use mathlib.Core.List.{List}
 use mathlib.Core.Logic.{⊎-elim}
 use mathlib.Core.Path.{_∙_, _≡_, ap, ap₂, refl, sym}
-use lib.ListN.{length}
+use lib.ListN.{length, replicate}
 use borrow.Author.Tests.{not-false, not-true}
 use Rattle.clocked_model.proofs.Demand.{few-levels}
-use Rattle.clocked_model.specs.Calls.{askedOk, asks, cycleOutcome, heard, hearing, isRefused, marks, stepsOk, ticked, turned}
+use Rattle.clocked_model.specs.Calls.{askedOk, asks, cycleOutcome, fresh, heard, hearing, isRefused, marks, recordCount, restarted, stepsOk, ticked, turned}
 use Rattle.clocked_model.specs.declared.State.{State}
 use Rattle.clocked.specs.Beat.{allOk, recordsTurned, Rooted, stateOf, wordsTurned}
 use Rattle.strip.specs.declared.Answer.{Answer}
@@ -17,7 +17,8 @@ use Rattle.strip.specs.declared.Refusal.the-variants.{BadShape, Damaged}
 use Rattle.strip.specs.declared.Request.{Request}
 use Rattle.tree_model.proofs.Exactly.{order-pos, shape-is}
 use Rattle.tree_model.proofs.Words.{size-room}
-use Rattle.tree_model.specs.Calls.{ruling, Ruling, shapeOk, verdict}
+use Rattle.tree_model.specs.Calls.{cleared, Outcome, outcome, Ruling, ruling, shapeOk, verdict}
+use Rattle.tree_model.specs.Levels.{idle}
 use Rattle.tree_model.specs.Promise.{Shape}
 use Rattle.tree_model.specs.declared.Op.{Op}
 use Rattle.tree_model.specs.declared.Work.{Work}
@@ -46,6 +47,14 @@ module _ (m levels : ℕ) (ws : List ℕ) (t : Bool) (shaped : t ≡ shapeOk m l
         capacity = sh .capacity;
         records = few-levels m levels (length ws) sh;
       }
+
+-- ---- clear
+pub fresh-is : (w : Work) → w ≡ idle → stateOf (replicate recordCount w) false ≡ fresh
+unfolding fresh
+fresh-is w e = ap (λ (w : Work). stateOf (replicate recordCount w) false) e
+
+pub clear-is : (m levels : ℕ) (ws after : List ℕ) (a : Answer) (s : State) → outcome a after ≡ cleared m levels ws → s ≡ fresh → cycleOutcome a after s ≡ restarted m levels ws
+clear-is m levels ws after a s e p = ap₂ (λ (o : Outcome) (s : State). cycleOutcome (o .answer) (o .words) s) e p
 
 -- ---- a cycle
 pub mark-of : (rs : List Work) (r : Request) (a : Answer) (x y : Bool) → x ≡ asks r → y ≡ isRefused a → stateOf rs (x && not y) ≡ stateOf rs (marks r a)

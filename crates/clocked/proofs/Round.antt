@@ -8,11 +8,11 @@ use mathlib.Core.Path.{_∙_, _≡_, ap, ap₂, refl, subst, sym}
 use lib.ListN.{getD, length, set}
 use borrow.Author.Tests.{not-false, not-true}
 use Rattle.clocked_model.proofs.Turn.{works-set}
-use Rattle.clocked_model.specs.Cycle.{cycleOk, cycleWords, Works}
+use Rattle.clocked_model.specs.Cycle.{cycleOk, cycleWords, quiet, Works}
 use Rattle.clocked_model.specs.Records.{landed, recordAt, recordsAfter, worksOf}
 use Rattle.clocked.specs.Beat.{Lies, Steps, Turns}
 use Rattle.laws.specs.Tests.{and-left, and-right}
-use Rattle.tree_model.proofs.Nothing.{work-none}
+use Rattle.tree_model.proofs.Nothing.{op-work, work-none}
 use Rattle.tree_model.proofs.Promises.{undamaged}
 use Rattle.tree_model.proofs.Words.{step-length, step-words}
 use Rattle.tree_model.specs.Calls.{slotLimit}
@@ -137,3 +137,22 @@ module _ (m left b c i : ℕ) (rs : List Work) (ws : List ℕ) (e : left ≡ 0) 
   pub turned-none : (q : Work) → (rs ≡ recordsAfter m left q i rs (levelsOf m left ws b c)) × (ws ≡ cycleWords m left (worksOf left rs i) b c ws)
   unfolding recordsAfter cycleWords
   turned-none q = (ap (λ (n : ℕ). recordsAfter m n q i rs (levelsOf m n ws b c)) (sym e), ap (λ (n : ℕ). cycleWords m n (worksOf n rs i) b c ws) (sym e))
+
+-- ---- is nothing pending?
+module _ (left i : ℕ) (rs : List Work) where
+  pub quiet-none : left ≡ 0 → true ≡ quiet left (worksOf left rs i)
+  unfolding quiet
+  quiet-none e = ap (λ (n : ℕ). quiet n (worksOf n rs i)) (sym e)
+
+  module _ (k : ℕ) (e : left ≡ suc k) (t : Bool) (read : t ≡ isNothing (getD rs i idle .op)) where
+    quiet-split : quiet left (worksOf left rs i) ≡ (t && quiet k (worksOf k rs (i + 1)))
+    unfolding quiet worksOf recordAt
+    quiet-split =
+        ap (λ (n : ℕ). quiet n (worksOf n rs i)) e
+        ∙ ap₂ (λ (a : Bool) (j : ℕ). a && quiet k (worksOf k rs j)) (ap isNothing (op-work (getD rs i idle .op) (getD rs i idle .node)) ∙ sym read) (sym (add-one i))
+
+    pub quiet-not : not t ≡ true → false ≡ quiet left (worksOf left rs i)
+    quiet-not f = sym (quiet-split ∙ ap (λ (a : Bool). a && quiet k (worksOf k rs (i + 1))) (not-true t f))
+
+    pub quiet-next : (r : Bool) → not t ≡ false → r ≡ quiet k (worksOf k rs (i + 1)) → r ≡ quiet left (worksOf left rs i)
+    quiet-next r f p = p ∙ sym (quiet-split ∙ ap (λ (a : Bool). a && quiet k (worksOf k rs (i + 1))) (not-false t f))

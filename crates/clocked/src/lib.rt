@@ -7,10 +7,10 @@ ghost use Rattle.tree_model.specs.Levels.{idle, work, top};
 ghost use Rattle.tree_model.specs.Words.{levelOf, levelsOf, under, stepWords, restWords};
 ghost use Rattle.tree_model.specs.Damage.{fine};
 ghost use Rattle.tree_model.specs.Node.{isNothing};
-ghost use Rattle.clocked_model.specs.Cycle.{cycleOk, cycleWords};
+ghost use Rattle.clocked_model.specs.Cycle.{cycleOk, cycleWords, quiet};
 ghost use Rattle.clocked_model.specs.Records.{landed, worksOf, recordsAfter};
-ghost use Rattle.tree_model.specs.Calls.{ruling, verdict};
-ghost use Rattle.clocked_model.specs.Calls.{recordCount, asks, popsOrReplaces, isRefused, heard, marks, askedOk, cycleOutcome, ticked};
+ghost use Rattle.tree_model.specs.Calls.{ruling, verdict, counted};
+ghost use Rattle.clocked_model.specs.Calls.{recordCount, asks, popsOrReplaces, isRefused, heard, marks, askedOk, cycleOutcome, ticked, fresh, restarted};
 ghost use Rattle.clocked.specs.Beat.{Lies, Steps, Turns, Rooted, allOk, recordsTurned, wordsTurned, stateOf, pair};
 use clocked_model::Cycled;
 use clocked_model::State;
@@ -24,6 +24,7 @@ use node::step_ok;
 use node::sum_counts;
 use node::write_slot;
 use strip::Answer;
+use strip::Count;
 use strip::Element;
 use strip::Rank;
 use strip::Refusal;
@@ -400,4 +401,50 @@ pub fn replace(
 {
     let x = Element { rank, tag };
     cycle(store, order, levels, state, Request::Replace(x))
+}
+
+// ---- clear and held
+
+fn fresh_state() -> State
+    ensures { λ r. ⌜ r ≡ fresh ⌝ }
+{
+    let records = [no_work(); 10];
+    State {
+        records,
+        mark: false,
+    }
+}
+
+// Zeros in the store, and a state with nothing pending and the mark off.
+pub fn clear(store: &mut [u32], order: usize, levels: usize) -> Cycled
+    ensures { λ r. ⌜ cycleOutcome (r .answer) (now (store .exit)) (r .state) ≡ restarted order levels (now (store .entry)) ⌝ }
+{
+    let answer = tree::clear(store, order, levels);
+    let state = fresh_state();
+    Cycled { answer, state }
+}
+
+// How many are held, by the root alone: no record is read.
+pub fn held(store: &[u32], order: usize, levels: usize) -> Count
+    ensures { λ r. ⌜ r ≡ counted order levels (now (store .entry)) ⌝ }
+{
+    tree::held(store, order, levels)
+}
+
+// ---- drain
+
+// Whether nothing is pending, from record `at` on, for so many levels.
+fn is_quiet(left: usize, at: usize, records: [Work; 10]) -> bool
+    requires { ⌜ at + left ≤ recordCount ⌝ }
+    ensures { λ r. ⌜ r ≡ quiet left (worksOf left records at) ⌝ }
+{
+    if left == 0 {
+        return true;
+    }
+    let own = records[at];
+    let does = own.op;
+    if !is_nothing(does) {
+        return false;
+    }
+    is_quiet(left - 1, at + 1, records)
 }
