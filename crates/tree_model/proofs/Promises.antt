@@ -225,7 +225,7 @@ module _ (m k : ℕ) (ws : List ℕ) (sh : Shape m (suc k) (length ws)) where
       ap (λ (v : List ℕ). levelsOf m (suc k) v 0 1) start-is
       ∙ wiped-levels m (suc k) (room m (suc k)) ws 0 1 (omega (arith, size-room m (suc k) 1))
 
-  start-kept : Kept m k (start m (suc k) ws)
+  pub start-kept : Kept m k (start m (suc k) ws)
   start-kept =
       record {
         shape = subst (λ (v : List ℕ). Shape m (suc k) (length v)) (sym start-is) (subst (λ (n : ℕ). Shape m (suc k) n) (sym (wipe-length (room m (suc k)) ws (omega (arith, sh .slice)))) sh);

@@ -1,0 +1,109 @@
+-- What the code of a cycle has read makes the record, the test and the step that the definitions say. Assumes nothing.
+use Prim.Native.Nat.{_*_, _+_, _<_, _≤_, suc, ℕ}
+use mathlib.Core.Bool.{_&&_, Bool, false, not, true, true≢false}
+use mathlib.Core.List.{[], List}
+use mathlib.Core.Path.{_∙_, _≡_, ap, refl, subst, sym}
+use lib.Dec.{ltb}
+use lib.ListN.{getD, length}
+use borrow.Author.Tests.{le-ltb, lt-ltb, ltb-true, not-false, not-true}
+use Rattle.clocked_model.specs.Records.{landed}
+use Rattle.clocked.proofs.Level.{doable-here, level-node-in, move-here, place-here, step-in, test-here}
+use Rattle.clocked.specs.Beat.{Fits, Lies, Steps}
+use Rattle.laws.specs.Tests.{and-left, and-right}
+use Rattle.node.specs.Scan.{childOf, Doable, NodeIn}
+use Rattle.tree_model.proofs.Nothing.{is-none, work-none}
+use Rattle.tree_model.proofs.Words.{level-length}
+use Rattle.tree_model.specs.Damage.{fine, stepOk}
+use Rattle.tree_model.specs.Levels.{idle, Level, levelMove, Levels, stepWork, top, work}
+use Rattle.tree_model.specs.Node.{isNothing}
+use Rattle.tree_model.specs.Words.{levelOf, nodeMove, nodeOf, restWords, stepWords, under, write}
+use Rattle.tree_model.specs.declared.Move.{Move}
+use Rattle.tree_model.specs.declared.Op.{Op}
+use Rattle.tree_model.specs.declared.Op.the-variants.{Nothing, Put, Swap, Take}
+use Rattle.tree_model.specs.declared.Work.{Work}
+
+-- ---- records
+pub work-nothing : (o : Op) (n : ℕ) (r : Work) (t : Bool) → t ≡ isNothing o → t ≡ true → r ≡ idle → r ≡ work o n
+unfolding work
+work-nothing o n r t read e p = p ∙ ap (λ (o : Op). work o n) (sym (is-none o (sym read ∙ e)))
+
+pub work-some : (o : Op) (n : ℕ) (t : Bool) → t ≡ isNothing o → t ≡ false → record { op = o; node = n } ≡ work o n
+unfolding work isNothing
+work-some Nothing n t read e = absurd (true≢false (sym read ∙ e))
+work-some (Put x) n t read e = refl
+work-some Take n t read e = refl
+work-some (Swap x) n t read e = refl
+
+module _ (q w : Work) (a : Bool) (read : a ≡ isNothing (q .op)) where
+  pub land-loads : not a ≡ true → q ≡ landed q w
+  unfolding landed
+  land-loads e = rw (← read, not-true a e)
+
+  module _ (b : Bool) (read₁ : b ≡ isNothing (w .op)) (e : not a ≡ false) where
+    pub land-stands : b ≡ true → w ≡ landed q w
+    unfolding landed
+    land-stands f = rw (← read, not-false a e, ← read₁, f)
+
+    pub land-done : (r : Work) → b ≡ false → r ≡ idle → r ≡ landed q w
+    unfolding landed
+    land-done r f p = rw (← read, not-false a e, ← read₁, f) p
+
+-- ---- one level
+module _ (m k b c : ℕ) (ws : List ℕ) (w : Work) (t : Bool) (read : t ≡ isNothing (w .op)) where
+  abbrev l : Level
+  l = levelOf m ws b c
+
+  abbrev u : Levels k
+  u = under m k ws b c
+
+  pub test-nothing : t ≡ true → true ≡ fine m k w l (top k u)
+  unfolding fine
+  test-nothing e = rw (← read, e)
+
+  pub test-lacks : t ≡ false → c ≤ w .node → false ≡ fine m k w l (top k u)
+  unfolding fine
+  test-lacks e h = rw (← read, e, level-length m ws b c, le-ltb (w .node) c h)
+
+  pub test-step : (r : Bool) → Lies m (suc k) b c ws → t ≡ false → w .node < c
+      → r ≡ stepOk m k (w .op) (nodeOf m ws (b + w .node * m)) (childOf m (b + c * m + w .node * m * m) ws) → r ≡ fine m k w l (top k u)
+  unfolding fine
+  test-step r lies e h p = rw (← read, e, level-length m ws b c, lt-ltb (w .node) c h) (p ∙ sym (test-here m k b c (w .node) ws lies (w .op) h))
+
+  -- with nothing to do nothing is written and nothing left
+  pub step-nothing : (r : Work) → t ≡ true → r ≡ idle → (r ≡ restWords m k w b c ws) × (ws ≡ stepWords m k w b c ws)
+  unfolding stepWords
+  step-nothing r e p = (p ∙ sym (work-none m w l (top k u) (is-none (w .op) (sym read ∙ e))), rw (← read, e))
+
+  module _ (ok : Steps m k b c w ws) (e : t ≡ false) where
+    parts : (ltb (w .node) (length l) && stepOk m k (w .op) (getD l (w .node) []) (λ j. getD (top k u) (w .node * m + j) [])) ≡ true
+    unfolding fine
+    parts = rw (← read, e) at (ok .undamaged)
+
+    pub node-here : w .node < c
+    node-here = subst (λ (a : ℕ). w .node < a) (level-length m ws b c) (ltb-true (w .node) (length l) (and-left (ltb (w .node) (length l)) _ parts))
+
+    pub step-passes : stepOk m k (w .op) (nodeOf m ws (b + w .node * m)) (childOf m (b + c * m + w .node * m * m) ws) ≡ true
+    step-passes = sym (test-here m k b c (w .node) ws (ok .lies) (w .op) node-here) ∙ and-right (ltb (w .node) (length l)) _ parts
+
+    pub step-fits : Fits m k b c (w .node) ws
+    step-fits = level-node-in m k b c (w .node) ws (ok .lies) node-here
+
+    -- the step's node, and what it asks
+    pub step-asks : NodeIn m (b + w .node * m) ws × Doable m (w .op) (b + w .node * m) (b + c * m + w .node * m * m) ws
+    step-asks = (step-in m k b c (w .node) ws (ok .lies) (w .op) node-here .node, doable-here m k b c (w .node) ws (w .op) (ok .lies) node-here step-passes)
+
+    module _ (v : Move) (step : v ≡ nodeMove m (w .op) (b + w .node * m) (b + c * m + w .node * m * m) ws) where
+      pub place-in : v .place < m
+      place-in = subst (λ (v : Move). v .place < m) (sym step) (place-here m k b c (w .node) ws (ok .lies) (w .op) node-here step-passes (sym read ∙ e))
+
+      level-step : v ≡ levelMove m (w .op) (w .node) l (top k u)
+      level-step = step ∙ sym (move-here m k b c (w .node) ws (ok .lies) (w .op) node-here step-passes)
+
+      -- the step's slot is written, and the rest is handed on
+      pub step-done : (r : Work) (after : List ℕ) → after ≡ write ws (b + w .node * m + v .place) (v .slot) → r ≡ work (v .rest) (w .node * m + v .place)
+          → (r ≡ restWords m k w b c ws) × (after ≡ stepWords m k w b c ws)
+      unfolding stepWords stepWork
+      step-done r after p q = (
+        q ∙ ap (λ (v : Move). work (v .rest) (w .node * m + v .place)) level-step,
+        rw (← read, e) (p ∙ ap (λ (v : Move). write ws (b + w .node * m + v .place) (v .slot)) level-step),
+      )

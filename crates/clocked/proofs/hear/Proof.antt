@@ -1,0 +1,78 @@
+-- `clocked::hear` meets its contract. Assumes nothing.
+use borrow.Author.Needs.{needs}
+use Rattle.clocked.proofs.Request.{heard-as, heard-idle, heard-soon}
+use Rattle.clocked.proofs.hear.Statement.{statement}
+use Rattle.clocked.proofs.hear.Tie as tie
+use Rattle.clocked.proofs.hear.Reads as reads
+use Rattle.clocked.proofs.hear.Lts as lts
+use Rattle.clocked.proofs.hear_pop.Reads as hear-pop-reads
+use Rattle.clocked.proofs.hear_push.Reads as hear-push-reads
+use Rattle.clocked.proofs.hear_replace.Reads as hear-replace-reads
+use Rattle.clocked.proofs.pops_or_replaces.Reads as pops-or-replaces-reads
+use Rattle.clocked.proofs.refuses.Reads as refuses-reads
+use Rattle.clocked.proofs.says.Reads as says-reads
+
+pops-or-replaces-requires : tie.Need-pops-or-replaces-requires
+pops-or-replaces-requires c κs = search needs
+
+refuses-requires : tie.Need-refuses-requires
+refuses-requires c κs = search needs
+
+returns : tie.Need-returns
+returns c = heard-soon _ _ _ _ _ _ (c .before .before .pops-or-replaces .ensures) _ _ (c .before .if1 .taken) (c .refuses .ensures)
+
+enum-told : tie.Need-enum-told
+enum-told c = search needs
+
+says-requires : tie.Need-says-requires
+says-requires c κs = search needs
+
+enum-known-request : tie.Need-enum-known-request
+enum-known-request c = search needs
+
+hear-push-requires : tie.Need-hear-push-requires
+hear-push-requires c κs = search needs
+
+enum-told-2 : tie.Need-enum-told-2
+enum-told-2 c = search needs
+
+hear-pop-requires : tie.Need-hear-pop-requires
+hear-pop-requires c κs = search needs
+
+enum-known-request-2 : tie.Need-enum-known-request-2
+enum-known-request-2 c = search needs
+
+hear-replace-requires : tie.Need-hear-replace-requires
+hear-replace-requires c κs = search needs
+
+returns-2 : tie.Need-returns-2
+returns-2 c = heard-idle _ _ _ _ _ _ (c .before .before .before .before .pops-or-replaces .ensures) (c .before .before .before .if1 .left) _ _ (c .before .enum-told .given .1) (c .says .ensures)
+
+returns-3 : tie.Need-returns-3
+returns-3 c = heard-as _ _ _ _ _ _ (c .before .before .before .before .before .pops-or-replaces .ensures) (c .before .before .before .before .if1 .left) _ _ _ (c .before .before .request .given .1) (c .hear-push .ensures)
+
+returns-4 : tie.Need-returns-4
+returns-4 c = heard-as _ _ _ _ _ _ (c .before .before .before .before .pops-or-replaces .ensures) (c .before .before .before .if1 .left) _ _ _ (c .before .enum-told2 .given .1) (c .hear-pop .ensures)
+
+returns-5 : tie.Need-returns-5
+returns-5 c = heard-as _ _ _ _ _ _ (c .before .before .before .before .before .pops-or-replaces .ensures) (c .before .before .before .before .if1 .left) _ _ _ (c .before .before .request2 .given .1) (c .hear-replace .ensures)
+
+pub hear-spec : {M : Type 1} → statement M
+hear-spec =
+    tie.close
+    (tie.spec
+    pops-or-replaces-requires
+    refuses-requires
+    returns
+    enum-told
+    says-requires
+    enum-known-request
+    hear-push-requires
+    enum-told-2
+    hear-pop-requires
+    enum-known-request-2
+    hear-replace-requires
+    returns-2
+    returns-3
+    returns-4
+    returns-5)

@@ -1,0 +1,195 @@
+-- Demand 3: over any list of cycles from a cleared machine the answers are those of the one-at-a-time tree with the rule of the mark, at
+-- most levels - 1 idle cycles leave nothing pending, and then the words are that tree's. Assumes nothing.
+use Prim.Native.Nat.{_+_, _-_, _≤_, pred, suc, zero, ℕ}
+use native.Mathlib.Nat.{mul-le-mul, not-suc-le-zero, suc-add}
+use native.Mathlib.Omega.{arith}
+use mathlib.Core.Bool.{Bool, false, not, true}
+use mathlib.Core.List.{[], _∷_, List}
+use mathlib.Core.Logic.{⊎-elim}
+use mathlib.Core.Path.{_∙_, _≡_, ap, ap₂, refl, subst, sym}
+use lib.Dec.{leb}
+use lib.ListN.{getD, length, length-replicate, replicate}
+use borrow.Author.Tests.{leb-false, leb-true, not-false}
+use Rattle.clocked_model.proofs.Clock.{at-rest, lead-quiet, leads}
+use Rattle.clocked_model.proofs.Same.{same-words}
+use Rattle.clocked_model.proofs.Step.{beside-is, in-step, InStep, quiet-clear, quiet-ready, quiet-spaced, step-answer, step-mark, ticks, works-then}
+use Rattle.clocked_model.specs.Calls.{CycleOutcome, fresh, heard, pending, popsOrReplaces, recordCount, restarted, runAnswers, runs, ticked}
+use Rattle.clocked_model.specs.Cycle.{cycleWorks, quiet}
+use Rattle.clocked_model.specs.Promise.{beside, besideAnswers, besideWords, idles}
+use Rattle.clocked_model.specs.Records.{recordAt, worksOf}
+use Rattle.clocked_model.specs.Settle.{Lead}
+use Rattle.clocked_model.specs.declared.State.{State}
+use Rattle.laws.specs.Tests.{and-true}
+use Rattle.strip.specs.declared.Answer.{Answer}
+use Rattle.strip.specs.declared.Request.{Request}
+use Rattle.strip.specs.declared.Request.the-variants.{Idle}
+use Rattle.tree_model.proofs.Exactly.{words-none}
+use Rattle.tree_model.proofs.Hang.{past}
+use Rattle.tree_model.proofs.Nothing.{op-work, work-none}
+use Rattle.tree_model.proofs.Promises.{Kept, start, start-kept}
+use Rattle.tree_model.specs.Calls.{Outcome, rootOf, rule}
+use Rattle.tree_model.specs.Damage.{room}
+use Rattle.tree_model.specs.Levels.{idle, Levels, top, work}
+use Rattle.tree_model.specs.Node.{isNothing}
+use Rattle.tree_model.specs.Promise.{Shape}
+use Rattle.tree_model.specs.Words.{levelOf, levelsOf, under}
+use Rattle.tree_model.specs.declared.Op.the-variants.{Nothing}
+use Rattle.tree_model.specs.declared.Slot.{Slot}
+use Rattle.tree_model.specs.declared.Work.{Work}
+
+-- ---- a shape has at most as many levels from 2 as there are records
+more-room : (m d n : ℕ) → 2 ≤ m → room 2 d ≤ room m (d + n)
+unfolding room
+more-room m zero n h = omega arith
+more-room m (suc d) n h = let i : suc (room 2 d) ≤ suc (room m (d + n)) = omega (arith, more-room m d n h) in rw suc-add (mul-le-mul h i)
+
+-- order 2 with 12 levels has more slots than the limit, and no order has fewer
+room-twelve : room 2 12 ≡ 8190
+unfolding room
+room-twelve = refl
+
+pub few-levels : (m levels len : ℕ) → Shape m levels len → pred levels ≤ recordCount
+few-levels m levels len sh = go (leb levels 11) refl
+  where
+    two : 2 ≤ m
+    two = ⊎-elim (λ e. omega arith) (λ d. ⊎-elim (λ e. omega arith) (λ e. omega arith) d) (sh .order)
+
+    pred-le : (n : ℕ) → n ≤ 11 → pred n ≤ recordCount
+    pred-le zero h = omega arith
+    pred-le (suc n) h = omega arith
+
+    go : (b : Bool) → leb levels 11 ≡ b → pred levels ≤ recordCount
+    go true e = pred-le levels (leb-true levels 11 e)
+    go false e =
+        let at : 12 + (levels - 12) ≡ levels = omega (arith, leb-false levels 11 e) in
+        absurd (omega (arith, subst (λ (n : ℕ). room 2 12 ≤ room m n) at (more-room m 12 (levels - 12) two), room-twelve, sh .capacity))
+
+-- ---- the cleared machine
+getD-same : {A : Type 0} (n i : ℕ) (a : A) → getD (replicate n a) i a ≡ a
+getD-same zero i a = refl
+getD-same (suc n) zero a = refl
+getD-same (suc n) (suc i) a = getD-same n i a
+
+fresh-quiet : (k n i : ℕ) → quiet k (worksOf k (replicate n idle) i) ≡ true
+unfolding quiet worksOf recordAt isNothing work
+fresh-quiet zero n i = refl
+fresh-quiet (suc k) n i = and-true (isNothing (work (getD (replicate n idle) i idle .op) (getD (replicate n idle) i idle .node) .op)) _ (nothing-there (getD (replicate n idle) i idle) (getD-same n i idle)) (fresh-quiet k n (suc i))
+  where
+    nothing-there : (w : Work) → w ≡ idle → isNothing (work (w .op) (w .node) .op) ≡ true
+    nothing-there w e = ap (λ (w : Work). isNothing (work (w .op) (w .node) .op)) e
+
+pub start-in-step : (m k : ℕ) (ws : List ℕ) → Shape m (suc k) (length ws) → InStep m k fresh (start m (suc k) ws) (start m (suc k) ws)
+unfolding fresh levelsOf
+start-in-step m k ws sh =
+    let q = fresh-quiet k recordCount 0 in
+    record {
+      kept = start-kept m k ws sh;
+      records = omega (arith, few-levels m (suc k) (length ws) sh, length-replicate recordCount idle);
+      same-length = refl;
+      past = λ a h. refl;
+      gaps = quiet-spaced k _ q;
+      off = λ e. quiet-clear k _ q;
+      ready = quiet-ready m k _ _ q;
+      final = ap (λ (l : Levels k). (levelOf m (start m (suc k) ws) 0 1, l)) (at-rest m k _ _ q);
+    }
+
+-- ---- lists of cycles
+module _ (m k : ℕ) where
+  pub run-answers : (rs : List Request) (s : State) (ws vs : List ℕ) → InStep m k s ws vs → runAnswers m (suc k) rs s ws ≡ besideAnswers m (suc k) rs (s .mark) vs
+  unfolding runAnswers besideAnswers
+  run-answers [] s ws vs i = refl
+  run-answers (r ∷ rs) s ws vs i =
+      let o = ticked m (suc k) r s ws in
+      let b = beside m (suc k) (s .mark) r vs in
+      ap₂ (λ (a : Answer) (t : List Answer). a ∷ t) (step-answer m k s ws vs i r)
+      (run-answers rs (o .state) (o .words) (b .words) (in-step m k s ws vs i r) ∙ ap (λ (t : Bool). besideAnswers m (suc k) rs t (b .words)) (step-mark m k s ws vs i r))
+
+  pub run-in-step : (rs : List Request) (s : State) (ws vs : List ℕ) → InStep m k s ws vs
+      → InStep m k (runs m (suc k) rs s ws .state) (runs m (suc k) rs s ws .words) (besideWords m (suc k) rs (s .mark) vs)
+  unfolding runs besideWords
+  run-in-step [] s ws vs i = i
+  run-in-step (r ∷ rs) s ws vs i =
+      let o = ticked m (suc k) r s ws in
+      let b = beside m (suc k) (s .mark) r vs in
+      subst (λ (t : Bool). InStep m k (runs m (suc k) rs (o .state) (o .words) .state) (runs m (suc k) rs (o .state) (o .words) .words) (besideWords m (suc k) rs t (b .words)))
+      (step-mark m k s ws vs i r) (run-in-step rs (o .state) (o .words) (b .words) (in-step m k s ws vs i r))
+
+  -- ---- idle cycles
+  idle-none : (mark : Bool) (c : ℕ) (nd : List Slot) → heard mark Idle (rule c Idle nd) .op ≡ Nothing
+  unfolding heard rule popsOrReplaces
+  idle-none true c nd = refl
+  idle-none false c nd = refl
+
+  -- the tree beside stands
+  idle-stands : (mark : Bool) (vs : List ℕ) → Kept m k vs → beside m (suc k) mark Idle vs .words ≡ vs
+  idle-stands mark vs kept =
+      ap (λ (o : Outcome). o .words) (beside-is m k vs kept mark Idle)
+      ∙ words-none m (suc k) _ 0 1 vs (op-work _ 0 ∙ idle-none mark (room m (suc k)) (rootOf m vs))
+
+  idle-in-step : (s : State) (ws vs : List ℕ) → InStep m k s ws vs → InStep m k (ticked m (suc k) Idle s ws .state) (ticked m (suc k) Idle s ws .words) vs
+  idle-in-step s ws vs i =
+      subst (λ (v : List ℕ). InStep m k (ticked m (suc k) Idle s ws .state) (ticked m (suc k) Idle s ws .words) v) (idle-stands (s .mark) vs (i .kept)) (in-step m k s ws vs i Idle)
+
+  pub idles-in-step : (n : ℕ) (s : State) (ws vs : List ℕ) → InStep m k s ws vs → InStep m k (idles m (suc k) n s ws .state) (idles m (suc k) n s ws .words) vs
+  unfolding runs
+  idles-in-step zero s ws vs i = i
+  idles-in-step (suc n) s ws vs i = idles-in-step n _ _ vs (idle-in-step s ws vs i)
+
+  -- one more level has no work after each
+  idle-lead : (j : ℕ) (s : State) (ws vs : List ℕ) → InStep m k s ws vs → Lead j k (worksOf k (s .records) 0) → Lead (suc j) k (worksOf k (ticked m (suc k) Idle s ws .state .records) 0)
+  unfolding cycleWorks levelsOf
+  idle-lead j s ws vs i h =
+      subst (λ (o : CycleOutcome). Lead (suc j) k (worksOf k (o .state .records) 0)) (sym (ticks m k s ws vs i Idle))
+      (subst (Lead (suc j) k) (sym (works-then m k s ws vs i Idle))
+      (leads m j k _ (worksOf k (s .records) 0) (under m k ws 0 1)
+      (ap (λ (v : Work). v .op) (work-none m _ (levelOf m ws 0 1) (top k (under m k ws 0 1)) (op-work _ 0 ∙ idle-none (s .mark) (room m (suc k)) (rootOf m ws)))) h))
+
+  idles-quiet : (n j : ℕ) (s : State) (ws vs : List ℕ) → InStep m k s ws vs → k ≤ j + n → Lead j k (worksOf k (s .records) 0)
+      → quiet k (worksOf k (idles m (suc k) n s ws .state .records) 0) ≡ true
+  unfolding runs
+  idles-quiet zero j s ws vs i l h = lead-quiet j k (worksOf k (s .records) 0) (omega arith) h
+  idles-quiet (suc n) j s ws vs i l h = idles-quiet n (suc j) _ _ vs (idle-in-step s ws vs i) (omega arith) (idle-lead j s ws vs i h)
+
+  pub idles-done : (s : State) (ws vs : List ℕ) → InStep m k s ws vs → pending m (suc k) (idles m (suc k) k s ws .state) ≡ false
+  idles-done s ws vs i = ap not (idles-quiet k 0 s ws vs i (omega arith) tt)
+
+  -- with nothing pending the words are the other tree's
+  pub settled-words : (s : State) (ws vs : List ℕ) → InStep m k s ws vs → pending m (suc k) s ≡ false → ws ≡ vs
+  unfolding levelsOf
+  settled-words s ws vs i e =
+      same-words m (suc k) ws vs (i .same-length)
+      (ap (λ (l : Levels k). (levelOf m ws 0 1, l)) (sym (at-rest m k (worksOf k (s .records) 0) (under m k ws 0 1) (not-false (quiet k (worksOf k (s .records) 0)) e))) ∙ i .final) (i .past)
+
+-- THE DEMAND. Any order and number of levels that pass the shape, any words to start with, any list of cycles from the cleared machine
+abbrev pub ran : ℕ → ℕ → List Request → List ℕ → CycleOutcome
+ran m levels rs ws = runs m levels rs (restarted m levels ws .state) (restarted m levels ws .words)
+
+fresh-mark : fresh .mark ≡ false
+unfolding fresh
+fresh-mark = refl
+
+module _ (m : ℕ) (ws : List ℕ) (rs : List Request) where
+  -- ANSWERS: too soon exactly where the mark says, and every other answer is that of the call on the one-at-a-time tree
+  pub demand-answers : (levels : ℕ) → Shape m levels (length ws)
+      → runAnswers m levels rs (restarted m levels ws .state) (restarted m levels ws .words) ≡ besideAnswers m levels rs false (start m levels ws)
+  demand-answers zero sh = absurd (not-suc-le-zero (sh .some))
+  demand-answers (suc k) sh =
+      run-answers m k rs fresh (start m (suc k) ws) (start m (suc k) ws) (start-in-step m k ws sh)
+      ∙ ap (λ (t : Bool). besideAnswers m (suc k) rs t (start m (suc k) ws)) fresh-mark
+
+  -- after any cycle the machine is in step with that tree
+  pub ran-in-step : (k : ℕ) → Shape m (suc k) (length ws) → InStep m k (ran m (suc k) rs ws .state) (ran m (suc k) rs ws .words) (besideWords m (suc k) rs false (start m (suc k) ws))
+  ran-in-step k sh =
+      subst (λ (t : Bool). InStep m k (ran m (suc k) rs ws .state) (ran m (suc k) rs ws .words) (besideWords m (suc k) rs t (start m (suc k) ws))) fresh-mark
+      (run-in-step m k rs fresh (start m (suc k) ws) (start m (suc k) ws) (start-in-step m k ws sh))
+
+  -- IDLES: after any cycle, levels - 1 idle cycles leave nothing pending
+  pub demand-idles : (levels : ℕ) → Shape m levels (length ws) → pending m levels (idles m levels (pred levels) (ran m levels rs ws .state) (ran m levels rs ws .words) .state) ≡ false
+  demand-idles zero sh = absurd (not-suc-le-zero (sh .some))
+  demand-idles (suc k) sh = idles-done m k _ _ _ (ran-in-step k sh)
+
+  -- STORE: as soon as nothing is pending, the words are those of that tree, each of them
+  pub demand-store : (levels : ℕ) → Shape m levels (length ws) → (n : ℕ) → pending m levels (idles m levels n (ran m levels rs ws .state) (ran m levels rs ws .words) .state) ≡ false
+      → idles m levels n (ran m levels rs ws .state) (ran m levels rs ws .words) .words ≡ besideWords m levels rs false (start m levels ws)
+  demand-store zero sh n e = absurd (not-suc-le-zero (sh .some))
+  demand-store (suc k) sh n e = settled-words m k _ _ _ (idles-in-step m k n _ _ _ (ran-in-step k sh)) e

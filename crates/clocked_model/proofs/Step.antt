@@ -1,0 +1,311 @@
+-- One cycle keeps the clocked tree in step with the one-at-a-time tree beside it: the same answer, no damage, and all that is pending,
+-- done to its end, gives that tree's store. Assumes nothing.
+use Prim.Native.Nat.{_*_, _+_, _<_, _≤_, suc, zero, ℕ}
+use native.Mathlib.Omega.{arith}
+use mathlib.Core.Bool.{_&&_, _||_, Bool, cond, false, false≢true, not, true, true≢false}
+use mathlib.Core.List.{[], List}
+use mathlib.Core.Path.{_∙_, _≡_, ap, ap₂, refl, subst, sym}
+use lib.Dec.{eqb, ltb}
+use lib.ListN.{getD, length}
+use Rattle.clocked_model.proofs.Clock.{clears, settled, spaced}
+use Rattle.clocked_model.proofs.Turn.{after-length, cycle-length, plain-rest, words-cycle, works-after}
+use Rattle.clocked_model.proofs.Undamaged.{cycle-fine, cycle-ready}
+use Rattle.clocked_model.specs.Calls.{askedOk, asks, CycleOutcome, cycleWork, heard, hearing, isRefused, marks, popsOrReplaces, stepsOk, ticked, turned}
+use Rattle.clocked_model.specs.Cycle.{cycleLevels, cycleWorks, quiet, Works}
+use Rattle.clocked_model.specs.Promise.{beside}
+use Rattle.clocked_model.specs.Records.{worksOf}
+use Rattle.clocked_model.specs.Settle.{Clear, finally, Gap, Ready, settle, Spaced}
+use Rattle.clocked_model.specs.declared.State.{State}
+use Rattle.laws.specs.Tests.{and-left, and-right, or-right}
+use Rattle.strip.specs.Answers.{key}
+use Rattle.strip.specs.declared.Answer.the-variants.{Done, Out, Refused}
+use Rattle.strip.specs.declared.Refusal.the-variants.{Empty, Full, TooSoon}
+use Rattle.strip.specs.declared.Request.{Request}
+use Rattle.strip.specs.declared.Request.the-variants.{Idle, Pop, Push, Replace}
+use Rattle.tree_model.proofs.Exactly.{is-shape, order-pos, words-none}
+use Rattle.tree_model.proofs.Nothing.{apply-none, is-none, op-work}
+use Rattle.tree_model.proofs.Path.{path-none}
+use Rattle.tree_model.proofs.Promises.{called-kept, Kept, kept-called, root-node, sound-root, sound-way}
+use Rattle.tree_model.proofs.Words.{apply-length, size-room, words-apply}
+use Rattle.tree_model.specs.Calls.{called, Outcome, outcome, rootOf, rule, ruling, Ruling, shapeOk, verdict, wayOk}
+use Rattle.tree_model.specs.Damage.{nodeOk, pathOk, room}
+use Rattle.tree_model.specs.Levels.{apply, idle, Levels, work}
+use Rattle.tree_model.specs.Node.{isNothing, low, sumCounts}
+use Rattle.tree_model.specs.Promise.{Shape}
+use Rattle.tree_model.specs.Words.{applyWords, levelOf, levelsOf, size, under, width}
+use Rattle.tree_model.specs.declared.Op.{Op}
+use Rattle.tree_model.specs.declared.Op.the-variants.{Nothing, Put, Swap, Take}
+use Rattle.tree_model.specs.declared.Slot.{Slot}
+use Rattle.tree_model.specs.declared.Work.{Work}
+
+-- ---- no pending work
+pub quiet-clear : (k : ℕ) (p : Works k) → quiet k p ≡ true → Clear k p
+unfolding quiet
+quiet-clear zero p e = tt
+quiet-clear (suc k) p e = is-none (p .0 .op) (and-left (isNothing (p .0 .op)) (quiet k (p .1)) e)
+
+quiet-more : (k : ℕ) (p : Works (suc k)) → quiet (suc k) p ≡ true → quiet k (p .1) ≡ true
+unfolding quiet
+quiet-more k p e = and-right (isNothing (p .0 .op)) (quiet k (p .1)) e
+
+pub quiet-spaced : (k : ℕ) (p : Works k) → quiet k p ≡ true → Spaced k p
+quiet-spaced zero p e = tt
+quiet-spaced (suc k) p e = (subst (λ (o : Op). Gap o (Clear k (p .1))) (sym (quiet-clear (suc k) p e)) tt, quiet-spaced k (p .1) (quiet-more k p e))
+
+pub quiet-ready : (m k : ℕ) (p : Works k) (ls : Levels k) → quiet k p ≡ true → Ready m k p ls
+quiet-ready m zero p ls e = tt
+quiet-ready m (suc k) p ls e = (path-none m (suc k) (p .0) _ (quiet-clear (suc k) p e), quiet-ready m k (p .1) (ls .1) (quiet-more k p e))
+
+-- ---- rulings
+gap-cond : (t : Bool) (a b : Ruling) (G : Type 0) → Gap (a .op) G → Gap (b .op) G → Gap (cond t a b .op) G
+gap-cond true a b G p q = p
+gap-cond false a b G p q = q
+
+-- a ruling's work reads the level below only for a pop or a replace
+rule-gap : (c : ℕ) (r : Request) (nd : List Slot) (G : Type 0) → (popsOrReplaces r ≡ true → G) → Gap (rule c r nd .op) G
+unfolding rule popsOrReplaces
+rule-gap c Idle nd G h = tt
+rule-gap c (Push x) nd G h = gap-cond (ltb (sumCounts nd) c) (ruling Done (Put x)) (ruling (Refused Full) Nothing) G tt tt
+rule-gap c Pop nd G h = gap-cond (eqb (sumCounts nd) 0) (ruling (Refused Empty) Nothing) (ruling (Out (low nd)) Take) G tt (h refl)
+rule-gap c (Replace x) nd G h =
+    gap-cond (eqb (sumCounts nd) 0 || ltb (key x) (key (low nd))) (ruling (Out x) Nothing) (ruling (Out (low nd)) (Swap x)) G tt (h refl)
+
+-- .. and such a request is too soon with the mark on
+heard-gap : (mark : Bool) (r : Request) (g : Ruling) (G : Type 0) → (mark ≡ false → G) → ((popsOrReplaces r ≡ true → G) → Gap (g .op) G) → Gap (heard mark r g .op) G
+unfolding heard
+heard-gap mark r g G off h = go mark (popsOrReplaces r) off h
+  where
+    go : (b t : Bool) → (b ≡ false → G) → ((t ≡ true → G) → Gap (g .op) G) → Gap (cond (b && t) (ruling (Refused TooSoon) Nothing) g .op) G
+    go true true off h = tt
+    go true false off h = h (λ e. absurd (false≢true e))
+    go false true off h = h (λ e. off refl)
+    go false false off h = h (λ e. off refl)
+
+-- a request that leaves the mark off has no work
+unmarked : (c : ℕ) (r : Request) (nd : List Slot) → marks r (rule c r nd .answer) ≡ false → rule c r nd .op ≡ Nothing
+unfolding rule marks isRefused asks
+unmarked c Idle nd e = refl
+unmarked c (Push x) nd e = go (ltb (sumCounts nd) c) e
+  where
+    go : (t : Bool) → not (isRefused (cond t (ruling Done (Put x)) (ruling (Refused Full) Nothing) .answer)) ≡ false → cond t (ruling Done (Put x)) (ruling (Refused Full) Nothing) .op ≡ Nothing
+    go true e = absurd (true≢false e)
+    go false e = refl
+unmarked c Pop nd e = go (eqb (sumCounts nd) 0) e
+  where
+    go : (t : Bool) → not (isRefused (cond t (ruling (Refused Empty) Nothing) (ruling (Out (low nd)) Take) .answer)) ≡ false
+        → cond t (ruling (Refused Empty) Nothing) (ruling (Out (low nd)) Take) .op ≡ Nothing
+    go true e = refl
+    go false e = absurd (true≢false e)
+unmarked c (Replace x) nd e = go (eqb (sumCounts nd) 0 || ltb (key x) (key (low nd))) e
+  where
+    go : (t : Bool) → not (isRefused (cond t (ruling (Out x) Nothing) (ruling (Out (low nd)) (Swap x)) .answer)) ≡ false
+        → cond t (ruling (Out x) Nothing) (ruling (Out (low nd)) (Swap x)) .op ≡ Nothing
+    go true e = refl
+    go false e = absurd (true≢false e)
+
+heard-unmarked : (mark : Bool) (r : Request) (g : Ruling) → (marks r (g .answer) ≡ false → g .op ≡ Nothing) → marks r (heard mark r g .answer) ≡ false → heard mark r g .op ≡ Nothing
+unfolding heard
+heard-unmarked mark r g h e = go (mark && popsOrReplaces r) e
+  where
+    go : (t : Bool) → marks r (cond t (ruling (Refused TooSoon) Nothing) g .answer) ≡ false → cond t (ruling (Refused TooSoon) Nothing) g .op ≡ Nothing
+    go true e = refl
+    go false e = h e
+
+-- ---- the two trees in step: the clocked one with the state s and the words ws, the other with the words vs
+pub record InStep (m k : ℕ) (s : State) (ws vs : List ℕ) : Type 0 where
+  pub kept : Kept m k vs
+  pub records : k ≤ length (s .records)
+  pub same-length : length ws ≡ length vs
+  pub past : (a : ℕ) → width * room m (suc k) ≤ a → getD ws a 0 ≡ getD vs a 0
+  pub gaps : Spaced k (worksOf k (s .records) 0)
+  pub off : s .mark ≡ false → Clear k (worksOf k (s .records) 0)
+  pub ready : Ready m k (worksOf k (s .records) 0) (under m k ws 0 1)
+  pub final : finally m k (worksOf k (s .records) 0) (levelOf m ws 0 1, under m k ws 0 1) ≡ levelsOf m (suc k) vs 0 1
+
+-- what the one-at-a-time tree does beside, on a kept store, by the ruling
+module _ (m k : ℕ) (vs : List ℕ) (kept : Kept m k vs) (mark : Bool) (r : Request) where
+  abbrev h : Ruling
+  h = heard mark r (verdict m (suc k) r vs)
+
+  pub beside-is : beside m (suc k) mark r vs ≡ outcome (h .answer) (applyWords m (suc k) (work (h .op) 0) 0 1 vs)
+  unfolding beside heard
+  beside-is = go (mark && popsOrReplaces r)
+    where
+      go : (t : Bool) → cond t (outcome (Refused TooSoon) vs) (called m (suc k) r vs)
+          ≡ outcome (cond t (ruling (Refused TooSoon) Nothing) (verdict m (suc k) r vs) .answer)
+          (applyWords m (suc k) (work (cond t (ruling (Refused TooSoon) Nothing) (verdict m (suc k) r vs) .op) 0) 0 1 vs)
+      go true = ap (outcome (Refused TooSoon)) (sym (words-none m (suc k) (work Nothing 0) 0 1 vs (op-work Nothing 0)))
+      go false = kept-called m k vs kept r
+
+  heard-way : wayOk m (suc k) (h .op) vs ≡ true
+  unfolding heard
+  heard-way = go (mark && popsOrReplaces r)
+    where
+      go : (t : Bool) → wayOk m (suc k) (cond t (ruling (Refused TooSoon) Nothing) (verdict m (suc k) r vs) .op) vs ≡ true
+      go true = path-none m (suc k) (work Nothing 0) _ (op-work Nothing 0)
+      go false = sound-way m k vs kept r
+
+  pub beside-kept : Kept m k (beside m (suc k) mark r vs .words)
+  unfolding beside
+  beside-kept = go (mark && popsOrReplaces r)
+    where
+      go : (t : Bool) → Kept m k (cond t (outcome (Refused TooSoon) vs) (called m (suc k) r vs) .words)
+      go true = kept
+      go false = called-kept m k r vs kept
+
+module _ (m k : ℕ) (s : State) (ws vs : List ℕ) (i : InStep m k s ws vs) where
+  some : 0 < m
+  some = order-pos (i .kept .shape)
+
+  -- the root is settled at all times
+  same-root : rootOf m ws ≡ rootOf m vs
+  unfolding levelsOf
+  same-root = sym (root-node m ws) ∙ ap (λ (l : Levels (suc k)). getD (l .0) 0 []) (i .final) ∙ root-node m vs
+
+  pub same-shape : shapeOk m (suc k) (length ws) ≡ true
+  same-shape = is-shape m (suc k) (length ws) (subst (λ (n : ℕ). Shape m (suc k) n) (sym (i .same-length)) (i .kept .shape))
+
+  pub same-hearing : (r : Request) → hearing m (suc k) r s ws ≡ heard (s .mark) r (verdict m (suc k) r vs)
+  same-hearing r = ap (λ (nd : List Slot). heard (s .mark) r (rule (room m (suc k)) r nd)) same-root
+
+  module _ (r : Request) where
+    abbrev g : Ruling
+    g = hearing m (suc k) r s ws
+
+    abbrev w : Work
+    w = work (g .op) 0
+
+    abbrev p : Works (suc k)
+    p = cycleWork m (suc k) (g .op) s
+
+    abbrev ls : Levels (suc k)
+    ls = levelsOf m (suc k) ws 0 1
+
+    abbrev vls : Levels (suc k)
+    vls = levelsOf m (suc k) vs 0 1
+
+    gap : Gap (w .op) (Clear k (worksOf k (s .records) 0))
+    gap = rw op-work (heard-gap (s .mark) r (verdict m (suc k) r ws) _ (i .off) (rule-gap _ r _ _))
+
+    spaced-whole : Spaced (suc k) p
+    spaced-whole = (gap, i .gaps)
+
+    way : pathOk m (suc k) w vls ≡ true
+    way = subst (λ (h : Ruling). wayOk m (suc k) (h .op) vs ≡ true) (sym (same-hearing r)) (heard-way m k vs (i .kept) (s .mark) r)
+
+    ready-whole : Ready m (suc k) p ls
+    unfolding levelsOf
+    ready-whole = (ap (pathOk m (suc k) w) (i .final) ∙ way, i .ready)
+
+    -- no damage
+    steps-fine : stepsOk m (suc k) (g .op) s ws ≡ true
+    steps-fine = cycle-fine m (suc k) p ls spaced-whole ready-whole
+
+    root-fine : askedOk m (suc k) r ws ≡ true
+    root-fine = or-right (not (asks r)) _ (ap (nodeOk (room m k)) same-root ∙ sound-root m k vs (i .kept))
+
+    pub ticks : ticked m (suc k) r s ws ≡ turned m (suc k) r g s ws
+    unfolding ticked
+    ticks = rw (same-shape, root-fine, steps-fine)
+
+    -- ---- what it leaves
+    abbrev o : CycleOutcome
+    o = turned m (suc k) r g s ws
+
+    abbrev vs₁ : List ℕ
+    vs₁ = beside m (suc k) (s .mark) r vs .words
+
+    fits : width * (0 + size m (suc k) 1) ≤ length ws
+    fits = omega (arith, i .kept .shape .slice, i .same-length, size-room m (suc k) 1)
+
+    words-then : levelsOf m (suc k) (o .words) 0 1 ≡ cycleLevels m (suc k) p ls
+    unfolding turned
+    words-then = words-cycle m some (suc k) p 0 1 ws fits steps-fine .0
+
+    pub works-then : worksOf k (o .state .records) 0 ≡ cycleWorks m (suc k) idle p ls .1
+    unfolding turned cycleWorks levelsOf
+    works-then = works-after m k _ 0 (s .records) (under m k ws 0 1) (plain-rest m w _ _) (omega (arith, i .records))
+
+    beside-then : beside m (suc k) (s .mark) r vs ≡ outcome (g .answer) (applyWords m (suc k) w 0 1 vs)
+    beside-then =
+        beside-is m k vs (i .kept) (s .mark) r
+        ∙ ap (λ (h : Ruling). outcome (h .answer) (applyWords m (suc k) (work (h .op) 0) 0 1 vs)) (sym (same-hearing r))
+
+    fits-beside : width * (0 + size m (suc k) 1) ≤ length vs
+    fits-beside = omega (arith, fits, i .same-length)
+
+    beside-levels : levelsOf m (suc k) vs₁ 0 1 ≡ apply m (suc k) w vls
+    beside-levels =
+        ap (λ (b : Outcome). levelsOf m (suc k) (b .words) 0 1) beside-then ∙ words-apply m some (suc k) w 0 1 vs fits-beside way .0
+
+    -- the pending work done to its end: what the request makes of what it came to before
+    final-then : finally m k (cycleWorks m (suc k) idle p ls .1) (cycleLevels m (suc k) p ls) ≡ apply m (suc k) w vls
+    unfolding settle cycleWorks cycleLevels levelsOf
+    final-then =
+        sym (apply-none m (suc k) idle _ refl) ∙ settled m (suc k) idle p ls spaced-whole ∙ apply-none m (suc k) idle _ refl ∙ ap (apply m (suc k) w) (i .final)
+
+    ready-then : Ready m k (cycleWorks m (suc k) idle p ls .1) (cycleLevels m (suc k) p ls .1)
+    unfolding cycleWorks cycleLevels
+    ready-then = cycle-ready m (suc k) idle p ls spaced-whole ready-whole (path-none m (suc k) idle _ refl) .1
+
+    spaced-then : Spaced k (cycleWorks m (suc k) idle p ls .1)
+    unfolding cycleWorks
+    spaced-then = spaced m (suc k) idle p ls tt spaced-whole .1
+
+    mark-is : o .state .mark ≡ marks r (g .answer)
+    unfolding turned
+    mark-is = refl
+
+    clear-then : o .state .mark ≡ false → Clear k (cycleWorks m (suc k) idle p ls .1)
+    unfolding cycleWorks levelsOf
+    clear-then e =
+        clears m k w (worksOf k (s .records) 0) (levelOf m ws 0 1) (under m k ws 0 1)
+        (op-work (g .op) 0 ∙ heard-unmarked (s .mark) r (verdict m (suc k) r ws) (unmarked _ r _) (sym mark-is ∙ e))
+
+    length-then : length (o .words) ≡ length ws
+    unfolding turned
+    length-then = cycle-length m (suc k) p 0 1 ws
+
+    past-then : (a : ℕ) → width * room m (suc k) ≤ a → getD (o .words) a 0 ≡ getD ws a 0
+    unfolding turned
+    past-then a h = words-cycle m some (suc k) p 0 1 ws fits steps-fine .1 a (omega (arith, size-room m (suc k) 1))
+
+    past-beside : (a : ℕ) → width * room m (suc k) ≤ a → getD vs₁ a 0 ≡ getD vs a 0
+    past-beside a h =
+        ap (λ (b : Outcome). getD (b .words) a 0) beside-then ∙ words-apply m some (suc k) w 0 1 vs fits-beside way .1 a (omega (arith, size-room m (suc k) 1))
+
+    length-beside : length vs₁ ≡ length vs
+    length-beside = ap (λ (b : Outcome). length (b .words)) beside-then ∙ apply-length m (suc k) w 0 1 vs
+
+    records-then : length (o .state .records) ≡ length (s .records)
+    unfolding turned
+    records-then = after-length m k _ 0 (s .records) (under m k ws 0 1)
+
+    levels-then : _≡_ {A = Levels (suc k)} (levelOf m (o .words) 0 1, under m k (o .words) 0 1) (cycleLevels m (suc k) p ls)
+    unfolding levelsOf
+    levels-then = words-then
+
+    turned-in-step : InStep m k (o .state) (o .words) vs₁
+    turned-in-step =
+        record {
+          kept = beside-kept m k vs (i .kept) (s .mark) r;
+          records = omega (arith, records-then, i .records);
+          same-length = length-then ∙ i .same-length ∙ sym length-beside;
+          past = λ a h. past-then a h ∙ i .past a h ∙ sym (past-beside a h);
+          gaps = subst (Spaced k) (sym works-then) spaced-then;
+          off = λ e. subst (Clear k) (sym works-then) (clear-then e);
+          ready = subst (λ (q : Works k). Ready m k q (under m k (o .words) 0 1)) (sym works-then)
+              (subst (λ (l : Levels (suc k)). Ready m k (cycleWorks m (suc k) idle p ls .1) (l .1)) (sym levels-then) ready-then);
+          final = ap₂ (finally m k) works-then levels-then ∙ final-then ∙ sym beside-levels;
+        }
+
+    -- THE STEP: the two answer the same, and stay in step
+    pub step-answer : ticked m (suc k) r s ws .answer ≡ beside m (suc k) (s .mark) r vs .answer
+    unfolding turned
+    step-answer = ap (λ (c : CycleOutcome). c .answer) ticks ∙ sym (ap (λ (b : Outcome). b .answer) beside-then)
+
+    pub step-mark : ticked m (suc k) r s ws .state .mark ≡ marks r (beside m (suc k) (s .mark) r vs .answer)
+    step-mark = ap (λ (c : CycleOutcome). c .state .mark) ticks ∙ mark-is ∙ ap (λ (b : Outcome). marks r (b .answer)) (sym beside-then)
+
+    pub in-step : InStep m k (ticked m (suc k) r s ws .state) (ticked m (suc k) r s ws .words) (beside m (suc k) (s .mark) r vs .words)
+    in-step = subst (λ (c : CycleOutcome). InStep m k (c .state) (c .words) vs₁) (sym ticks) turned-in-step

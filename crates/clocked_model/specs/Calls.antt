@@ -1,0 +1,138 @@
+-- The calls of the clocked tree, each a total function of order, levels, words and state to what it answers and leaves.
+-- Assumes nothing: these are definitions.
+use Prim.Native.Nat.{pred, suc, zero, ℕ}
+use mathlib.Core.Bool.{_&&_, _||_, Bool, cond, false, not, true}
+use mathlib.Core.List.{[], _∷_, List}
+use lib.ListN.{length, replicate}
+use Rattle.clocked_model.specs.Cycle.{cycleOk, cycleWords, quiet, Works}
+use Rattle.clocked_model.specs.Records.{recordsAfter, worksOf}
+use Rattle.clocked_model.specs.declared.State.{State}
+use Rattle.strip.specs.declared.Answer.{Answer}
+use Rattle.strip.specs.declared.Answer.the-variants.{Done, Out, Refused}
+use Rattle.strip.specs.declared.Refusal.the-variants.{BadShape, Damaged, TooSoon}
+use Rattle.strip.specs.declared.Request.{Request}
+use Rattle.strip.specs.declared.Request.the-variants.{Idle, Pop, Push, Replace}
+use Rattle.tree_model.specs.Calls.{cleared, rootOk, ruling, Ruling, shapeOk, verdict}
+use Rattle.tree_model.specs.Levels.{idle, work}
+use Rattle.tree_model.specs.Words.{levelsOf, restWords, under}
+use Rattle.tree_model.specs.declared.Op.{Op}
+use Rattle.tree_model.specs.declared.Op.the-variants.{Nothing}
+
+-- ---- the request
+-- is an operation asked for?
+unfoldable pub asks : Request → Bool
+asks Idle = false
+asks (Push x) = true
+asks Pop = true
+asks (Replace x) = true
+
+unfoldable pub popsOrReplaces : Request → Bool
+popsOrReplaces Idle = false
+popsOrReplaces (Push x) = false
+popsOrReplaces Pop = true
+popsOrReplaces (Replace x) = true
+
+-- "too soon: clocked pop or replace with the mark on"; any other request comes to what it would at rest
+unfoldable pub heard : Bool → Request → Ruling → Ruling
+heard mark r g = cond (mark && popsOrReplaces r) (ruling (Refused TooSoon) Nothing) g
+
+unfoldable pub isRefused : Answer → Bool
+isRefused Done = false
+isRefused (Out e) = false
+isRefused (Refused n) = true
+
+-- the mark: "was the last cycle's operation answered without refusal?"
+unfoldable pub marks : Request → Answer → Bool
+marks r a = asks r && not (isRefused a)
+
+-- ---- what the calls answer and leave
+pub record CycleOutcome : Type 0 where
+  pub answer : Answer
+  pub words : List ℕ
+  pub state : State
+
+abbrev pub cycleOutcome : Answer → List ℕ → State → CycleOutcome
+cycleOutcome a ws s = record { answer = a; words = ws; state = s }
+
+pub record DrainOutcome : Type 0 where
+  pub answer : Answer
+  pub cycles : ℕ
+  pub left : Bool
+  pub words : List ℕ
+  pub state : State
+
+abbrev pub drainOutcome : Answer → ℕ → Bool → List ℕ → State → DrainOutcome
+drainOutcome a n left ws s = record { answer = a; cycles = n; left = left; words = ws; state = s }
+
+-- one record for each level from 2, as many as the shape with the most levels needs
+abbrev pub recordCount : ℕ
+recordCount = 10
+
+-- "A cleared machine has none pending and the mark off"
+unfoldable pub fresh : State
+fresh = record { records = replicate recordCount idle; mark = false }
+
+module _ (m levels : ℕ) where
+  -- ---- a cycle
+  abbrev pub hearing : Request → State → List ℕ → Ruling
+  hearing r s ws = heard (s .mark) r (verdict m levels r ws)
+
+  -- "Level 1 does the requested operation's root step; a level with pending work does that node's step"
+  abbrev pub cycleWork : Op → State → Works (suc (pred levels))
+  cycleWork o s = (work o 0, worksOf (pred levels) (s .records) 0)
+
+  -- the root passes test 2 where an operation is asked for; an idle cycle does not read it
+  abbrev pub askedOk : Request → List ℕ → Bool
+  askedOk r ws = not (asks r) || rootOk m levels ws
+
+  -- .. and so does all that this cycle's steps read
+  abbrev pub stepsOk : Op → State → List ℕ → Bool
+  stepsOk o s ws = cycleOk m (suc (pred levels)) (cycleWork o s) (levelsOf m (suc (pred levels)) ws 0 1)
+
+  -- the words and the state that a cycle leaves
+  unfoldable pub turned : Request → Ruling → State → List ℕ → CycleOutcome
+  turned r g s ws =
+      cycleOutcome (g .answer) (cycleWords m (suc (pred levels)) (cycleWork (g .op) s) 0 1 ws) (record {
+        records = recordsAfter m (pred levels) (restWords m (pred levels) (work (g .op) 0) 0 1 ws) 0 (s .records) (under m (pred levels) ws 0 1);
+        mark = marks r (g .answer);
+      })
+
+  -- "Order for the tree: 1, 2, 3, then 5 or 6". After 3, 5 and 6 the "cycle runs as idle": such a ruling has no work
+  unfoldable pub ticked : Request → State → List ℕ → CycleOutcome
+  ticked r s ws =
+      cond (shapeOk m levels (length ws))
+      (cond (askedOk r ws && stepsOk (hearing r s ws .op) s ws) (turned r (hearing r s ws) s ws) (cycleOutcome (Refused Damaged) ws s))
+      (cycleOutcome (Refused BadShape) ws s)
+
+  -- ---- drain
+  -- is work pending? "records past the last level" are not counted
+  abbrev pub pending : State → Bool
+  pending s = not (quiet (pred levels) (worksOf (pred levels) (s .records) 0))
+
+  -- "runs idle cycles until nothing is pending or the budget is spent"; "stops at 2 and reports the cycles already run, work left". A
+  -- refused cycle has left everything
+  unfoldable pub drainFrom : ℕ → ℕ → State → List ℕ → DrainOutcome
+  drainFrom zero n s ws = drainOutcome Done n (pending s) ws s
+  drainFrom (suc b) n s ws =
+      let o = ticked Idle s ws in
+      cond (pending s)
+      (cond (isRefused (o .answer)) (drainOutcome (o .answer) n true (o .words) (o .state)) (drainFrom b (suc n) (o .state) (o .words)))
+      (drainOutcome Done n false ws s)
+
+  -- "at 1 it reports 0 and no work left"
+  unfoldable pub drains : ℕ → State → List ℕ → DrainOutcome
+  drains budget s ws = cond (shapeOk m levels (length ws)) (drainFrom budget 0 s ws) (drainOutcome (Refused BadShape) 0 false ws s)
+
+  -- ---- clear writes zeros and hands back a fresh state; the call held is that of the tree, `counted`
+  abbrev pub restarted : List ℕ → CycleOutcome
+  restarted ws = cycleOutcome (cleared m levels ws .answer) (cleared m levels ws .words) fresh
+
+  -- ---- lists of cycles
+  -- one after the other, each handed the words and the state that the one before left
+  unfoldable pub runs : List Request → State → List ℕ → CycleOutcome
+  runs [] s ws = cycleOutcome Done ws s
+  runs (r ∷ rs) s ws = runs rs (ticked r s ws .state) (ticked r s ws .words)
+
+  unfoldable pub runAnswers : List Request → State → List ℕ → List Answer
+  runAnswers [] s ws = []
+  runAnswers (r ∷ rs) s ws = ticked r s ws .answer ∷ runAnswers rs (ticked r s ws .state) (ticked r s ws .words)

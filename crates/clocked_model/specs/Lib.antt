@@ -1,0 +1,5 @@
+pub mod Cycle
+pub mod Records
+pub mod Settle
+pub mod Calls
+pub mod Promise

@@ -1,0 +1,27 @@
+// The types of the clocked tree that go by value. Its rules are in specs/, the theorems in proofs/.
+use strip::Answer;
+use tree_model::Work;
+
+// How many pending records a state has: one for each level from 2. Order 2 has the most levels, 11.
+pub const RECORDS: usize = 10;
+
+// What stands beside the store between two cycles: the pending records, that of level 2 first, and whether the last cycle's operation was
+// answered without refusal.
+pub struct State {
+    pub records: [Work; 10],
+    pub mark: bool,
+}
+
+// What a cycle answers, and the state that it leaves.
+pub struct Cycled {
+    pub answer: Answer,
+    pub state: State,
+}
+
+// What a drain reports: done or a refusal, the number of cycles run, whether work is left, and the state that it leaves.
+pub struct Drained {
+    pub answer: Answer,
+    pub cycles: usize,
+    pub left: bool,
+    pub state: State,
+}
