@@ -148,11 +148,11 @@ fn run<C: Card>(library: C, seed: u64, times: u64, verbose: bool) -> Score {
     part(&mut score, &mut h, seed, "edges of shapes and lengths, every call", 400, hostile::edges);
     for i in 0..4 {
         let name = format!("hostile tree calls, part {}", i + 1);
-        part(&mut score, &mut h, seed, &name, 410 + i, |h, rng| hostile::tree(h, rng, 50_000 * times));
+        part(&mut score, &mut h, seed, &name, 410 + i, |h, rng| hostile::tree(h, rng, 60_000 * times));
         let name = format!("hostile bucket calls, part {}", i + 1);
-        part(&mut score, &mut h, seed, &name, 420 + i, |h, rng| hostile::bucket(h, rng, 50_000 * times));
+        part(&mut score, &mut h, seed, &name, 420 + i, |h, rng| hostile::bucket(h, rng, 60_000 * times));
         let name = format!("hostile clocked calls, part {}", i + 1);
-        part(&mut score, &mut h, seed, &name, 430 + i, |h, rng| hostile::clocked(h, rng, 100_000 * times));
+        part(&mut score, &mut h, seed, &name, 430 + i, |h, rng| hostile::clocked(h, rng, 150_000 * times));
     }
 
     if score.failed == 0 {

@@ -5,7 +5,7 @@ use crate::harness::Harness;
 use crate::histories::{shapes, shapes_up_to};
 use crate::rng::Rng;
 use crate::side::{Call, Card, Op, Side};
-use models::tree::Shape;
+use models::tree::{Node, Shape};
 use models::{boundary, bucket};
 
 const ORDERS: [u32; 15] = [0, 1, 3, 5, 6, 7, 9, 16, 32, 64, 0x8000_0000, 0x8000_0002, u32::MAX, u32::MAX - 1, 12];
@@ -17,7 +17,25 @@ fn small(rng: &mut Rng) -> (u32, u32) {
     if rng.once_in(200) {
         return rng.pick(&shapes_up_to(600));
     }
-    rng.pick(&[(2, 1), (2, 2), (2, 2), (2, 3), (2, 3), (2, 3), (2, 4), (2, 5), (4, 1), (4, 2), (4, 2), (4, 3), (8, 1), (8, 2)])
+    rng.pick(&[
+        (2, 1),
+        (2, 2),
+        (2, 2),
+        (2, 3),
+        (2, 3),
+        (2, 3),
+        (2, 4),
+        (2, 4),
+        (2, 5),
+        (4, 1),
+        (4, 2),
+        (4, 2),
+        (4, 3),
+        (4, 3),
+        (8, 1),
+        (8, 2),
+        (8, 2),
+    ])
 }
 
 fn rank(rng: &mut Rng) -> u32 {
@@ -85,13 +103,63 @@ fn garbage_tree(rng: &mut Rng, order: u32, levels: u32) -> Vec<u32> {
     store
 }
 
-/// Spoils one word, or one slot or node where a single word shows nothing.
-fn spoil_tree(rng: &mut Rng, order: u32, levels: u32, store: &mut [u32]) {
+/// The nodes that the next operations are going to read: from this node down, by the lowest ranks
+/// or by the smallest counts.
+fn chain(shape: Shape, store: &[u32], mut level: u64, mut node: u64, by_rank: bool, into: &mut Vec<(u64, u64)>) {
+    while level <= shape.levels && node < shape.nodes(level) {
+        into.push((level, node));
+        let slot = match Node::read(shape, store, level, node) {
+            Err(_) => return,
+            Ok(n) if by_rank => match n.lowest() {
+                Some(j) if n.slots()[j].count > 1 => j,
+                _ => return,
+            },
+            Ok(n) if n.first_empty().is_none() => n.smallest_count(),
+            _ => return,
+        };
+        node = node * shape.order + slot as u64;
+        level += 1;
+    }
+}
+
+/// The nodes that an operation or a pending record reaches.
+fn reached(order: u32, levels: u32, store: &[u32], records: &[u32]) -> Vec<(u64, u64)> {
     let shape = Shape::new(order, levels).unwrap();
-    // a level first, so that the few slots near the root are met as often as the many below
-    let level = 1 + rng.below(shape.levels.min(4));
-    let node = rng.below(shape.nodes(level));
-    let slot = rng.below(shape.order);
+    let mut nodes = Vec::new();
+    chain(shape, store, 1, 0, true, &mut nodes);
+    chain(shape, store, 1, 0, false, &mut nodes);
+    for (i, r) in records.chunks(4).enumerate() {
+        if r[0] != 0 && r[0] <= 3 {
+            // twice, since a record's node is met only while the record stands
+            let level = i as u64 + 2;
+            chain(shape, store, level, r[1] as u64, r[0] != 1, &mut nodes);
+            chain(shape, store, level, r[1] as u64, r[0] != 1, &mut nodes);
+        }
+    }
+    nodes
+}
+
+/// Spoils one word, or one slot or node where a single word shows nothing.
+fn spoil_tree(rng: &mut Rng, order: u32, levels: u32, store: &mut [u32], reached: &[(u64, u64)]) {
+    let shape = Shape::new(order, levels).unwrap();
+    let (level, node) = if rng.once_in(4) {
+        // a level first, so that the few nodes near the root are met as often as the many below
+        let level = 1 + rng.below(shape.levels.min(4));
+        (level, rng.below(shape.nodes(level)))
+    } else {
+        rng.pick(reached)
+    };
+    let mut slot = rng.below(shape.order);
+    if rng.once_in(3) {
+        if let Some(empty) = (0..shape.order).find(|&j| store[shape.word(level, node, j) + 2] == 0) {
+            slot = empty;
+            if rng.once_in(2) {
+                let w = shape.word(level, node, slot);
+                store[w + rng.below(2) as usize] = 1 + rng.below(9) as u32;
+                return;
+            }
+        }
+    }
     let w = shape.word(level, node, slot);
     let limit = 1 + shape.room_below(level) as u32;
     match rng.below(16) {
@@ -148,11 +216,12 @@ fn spoil_tree(rng: &mut Rng, order: u32, levels: u32, store: &mut [u32]) {
     }
 }
 
-fn spoilt_tree(rng: &mut Rng, order: u32, levels: u32, base: &[u32]) -> Vec<u32> {
+fn spoilt_tree(rng: &mut Rng, order: u32, levels: u32, base: &[u32], records: &[u32]) -> Vec<u32> {
     let mut store = base.to_vec();
+    let reached = reached(order, levels, base, records);
     let times = rng.pick(&[0, 1, 1, 1, 1, 1, 1, 2, 2, 3]);
     for _ in 0..times {
-        spoil_tree(rng, order, levels, &mut store);
+        spoil_tree(rng, order, levels, &mut store, &reached);
     }
     store
 }
@@ -186,7 +255,7 @@ pub fn tree<C: Card>(h: &mut Harness<C>, rng: &mut Rng, calls: u64) {
         let garbage = rng.once_in(4);
         let base = if garbage { garbage_tree(rng, order, levels) } else { sound_tree(rng, order, levels) };
         for _ in 0..24 {
-            let store = spoilt_tree(rng, order, levels, &base);
+            let store = spoilt_tree(rng, order, levels, &base, &[]);
             let longer = rng.below(3) as usize;
             lay(&mut side, rng, &store, longer);
             h.set(&side);
@@ -242,14 +311,26 @@ fn node_number(rng: &mut Rng, shape: Shape, level: u64) -> u32 {
     }
 }
 
-fn spoil_records(rng: &mut Rng, order: u32, levels: u32, records: &mut [u32]) {
+fn spoil_records(rng: &mut Rng, order: u32, levels: u32, store: &[u32], records: &mut [u32]) {
     if levels < 2 {
         return;
     }
     let shape = Shape::new(order, levels).unwrap();
     let level = 2 + rng.below(shape.levels - 1);
     let at = 4 * (level as usize - 2);
-    match rng.below(9) {
+    match rng.below(13) {
+        9..=12 => {
+            // work that could well be pending here: on a node that the store's own chains reach
+            let by_rank = !rng.once_in(3);
+            let mut nodes = Vec::new();
+            chain(shape, store, 1, 0, by_rank, &mut nodes);
+            let (level, node) = rng.pick(&nodes);
+            if level >= 2 {
+                let kind = if by_rank { 2 + rng.below(2) as u32 } else { 1 };
+                let at = 4 * (level as usize - 2);
+                records[at..at + 4].copy_from_slice(&[kind, node as u32, rank(rng), rank(rng)]);
+            }
+        }
         0 => records[at] = rng.below(4) as u32,
         1 => records[at + 1] = node_number(rng, shape, level),
         2 => records[at + 2] = rank(rng),
@@ -276,14 +357,16 @@ pub fn clocked<C: Card>(h: &mut Harness<C>, rng: &mut Rng, calls: u64) {
             _ => sound_machine(rng, order, levels),
         };
         for _ in 0..24 {
-            let store = if rng.once_in(3) { base.clone() } else { spoilt_tree(rng, order, levels, &base) };
+            let mut spoilt = records.clone();
+            for _ in 0..rng.pick(&[0, 0, 0, 1, 1, 1, 2, 3, 6]) {
+                spoil_records(rng, order, levels, &base, &mut spoilt);
+            }
+            let store =
+                if rng.once_in(3) { base.clone() } else { spoilt_tree(rng, order, levels, &base, &spoilt) };
             let longer = rng.below(3) as usize;
             lay(&mut side, rng, &store, longer);
             side.records.clear();
-            side.records.extend_from_slice(&records);
-            for _ in 0..rng.pick(&[0, 0, 1, 1, 1, 2, 3, 6]) {
-                spoil_records(rng, order, levels, &mut side.records[..records.len()]);
-            }
+            side.records.extend_from_slice(&spoilt);
             // behind the records of this shape stand others, which no call may look at
             let further = rng.pick(&[0, 0, 1, 4, 9]);
             for _ in 0..further + crate::side::GUARD {
