@@ -622,8 +622,8 @@ pub fn edges<C: Card>(h: &mut Harness<C>, rng: &mut Rng) {
             };
             let taken = good.contains(&(o, l));
             let records = if taken { 4 * (l as usize - 1) } else { 40 };
-            let lengths: &[usize] = if taken { &[need - 1, need, need + 1, 0] } else { &[need, 0] };
-            for &words in lengths {
+            let lengths = if taken { vec![need - 1, need, need + 1, 0] } else { vec![need, 0] };
+            for words in lengths {
                 for op in [Op::TreeClear, Op::TreePush, Op::TreePop, Op::TreeReplace, Op::TreeHeld, Op::ClockedHeld] {
                     let k = Call::tree(op, o, l, words).with(rng.word(), rng.word());
                     let number = match h.call(&k) {

@@ -528,14 +528,10 @@ impl Side {
 
     /// Every word as in the other.
     pub fn copy_from(&mut self, other: &Side) {
-        self.words.clear();
-        self.words.extend_from_slice(&other.words);
-        self.bits.clear();
-        self.bits.extend_from_slice(&other.bits);
-        self.records.clear();
-        self.records.extend_from_slice(&other.records);
-        self.mark.clear();
-        self.mark.extend_from_slice(&other.mark);
+        copy(&mut self.words, &other.words);
+        copy(&mut self.bits, &other.bits);
+        copy(&mut self.records, &other.records);
+        copy(&mut self.mark, &other.mark);
     }
 
     pub fn apply<C: Card>(&mut self, c: &mut C, k: &Call) -> u32 {
@@ -563,6 +559,14 @@ impl Side {
             Op::ClockedDrain => c.clocked_drain(words, k.order, k.levels, records, mark, k.budget, out),
             Op::ClockedHeld => c.clocked_held(words, k.order, k.levels, out),
         }
+    }
+}
+
+/// Copies in small pieces: an emulator is slow with the one long move that a large copy becomes.
+fn copy<T: Copy + Default>(to: &mut Vec<T>, from: &[T]) {
+    to.resize(from.len(), T::default());
+    for (to, from) in to.chunks_mut(128).zip(from.chunks(128)) {
+        to.copy_from_slice(from);
     }
 }
 
