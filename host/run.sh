@@ -41,7 +41,7 @@ part() {
     name=$1
     shift
     say "$name"
-    "$@" >"$out/part.log" 2>&1
+    timeout 1800 "$@" >"$out/part.log" 2>&1
     status=$?
     cat "$out/part.log"
     line=$(tail -n 1 "$out/part.log")
