@@ -20,18 +20,18 @@ struct Tree<'c, C: Card> {
 }
 
 impl<'c, C: Card> Tree<'c, C> {
-    fn cleared(card: &'c mut C, order: u32, levels: u32, slots: usize) -> Tree<'c, C> {
+    fn cleared(card: &'c mut C, order: u32, levels: u32, slots: usize) -> Result<Tree<'c, C>, String> {
         let mut store = vec![7; 3 * slots];
-        assert_eq!(card.tree_clear(&mut store, order, levels), 0);
-        Tree { card, order, levels, store }
+        same("clear", card.tree_clear(&mut store, order, levels), 0)?;
+        Ok(Tree { card, order, levels, store })
     }
     /// Store A: cleared, then push 5/50, 3/30, 8/80, 1/10.
-    fn a(card: &'c mut C) -> Tree<'c, C> {
-        let mut t = Tree::cleared(card, 2, 2, 6);
+    fn a(card: &'c mut C) -> Result<Tree<'c, C>, String> {
+        let mut t = Tree::cleared(card, 2, 2, 6)?;
         for (rank, tag) in [(5, 50), (3, 30), (8, 80), (1, 10)] {
-            assert_eq!(t.push(rank, tag), 0);
+            same("push", t.push(rank, tag), 0)?;
         }
-        t
+        Ok(t)
     }
     fn push(&mut self, rank: u32, tag: u32) -> u32 {
         self.card.tree_push(&mut self.store, self.order, self.levels, rank, tag)
@@ -61,7 +61,7 @@ struct Machine<'c, C: Card> {
 }
 
 impl<'c, C: Card> Machine<'c, C> {
-    fn cleared(card: &'c mut C, order: u32, levels: u32, slots: usize) -> Machine<'c, C> {
+    fn cleared(card: &'c mut C, order: u32, levels: u32, slots: usize) -> Result<Machine<'c, C>, String> {
         let mut m = Machine {
             card,
             order,
@@ -71,8 +71,8 @@ impl<'c, C: Card> Machine<'c, C> {
             mark: [7],
         };
         let number = m.card.clocked_clear(&mut m.store, order, levels, &mut m.records, &mut m.mark);
-        assert_eq!(number, 0);
-        m
+        same("clear", number, 0)?;
+        Ok(m)
     }
     fn cycle(&mut self, request: u32, rank: u32, tag: u32) -> (u32, u32, u32) {
         let mut out = [9; 2];
@@ -114,24 +114,24 @@ impl<'c, C: Card> Machine<'c, C> {
 }
 
 fn case_1<C: Card>(c: &mut C) -> Done {
-    same("A", Tree::a(c).store, A.to_vec())
+    same("A", Tree::a(c)?.store, A.to_vec())
 }
 
 fn case_2<C: Card>(c: &mut C) -> Done {
-    let mut t = Tree::a(c);
+    let mut t = Tree::a(c)?;
     let got: Vec<_> = (0..5).map(|_| t.pop()).collect();
     same("pops", got, vec![(0, 1, 10), (0, 3, 30), (0, 5, 50), (0, 8, 80), (6, 0, 0)])?;
     same("store", t.store, vec![0; 18])
 }
 
 fn case_3<C: Card>(c: &mut C) -> Done {
-    let mut t = Tree::a(c);
+    let mut t = Tree::a(c)?;
     same("replace 0/7", t.replace(0, 7), (0, 0, 7))?;
     same("store", t.store, A.to_vec())
 }
 
 fn case_4<C: Card>(c: &mut C) -> Done {
-    let mut t = Tree::a(c);
+    let mut t = Tree::a(c)?;
     same("replace 1/7", t.replace(1, 7), (0, 1, 10))?;
     let mut after = A.to_vec();
     after[3..6].copy_from_slice(&[1, 7, 2]);
@@ -139,7 +139,7 @@ fn case_4<C: Card>(c: &mut C) -> Done {
 }
 
 fn case_5<C: Card>(c: &mut C) -> Done {
-    let mut t = Tree::a(c);
+    let mut t = Tree::a(c)?;
     same("replace 4/7", t.replace(4, 7), (0, 1, 10))?;
     let mut after = A.to_vec();
     after[3..6].copy_from_slice(&[3, 30, 2]);
@@ -148,7 +148,7 @@ fn case_5<C: Card>(c: &mut C) -> Done {
 }
 
 fn case_6<C: Card>(c: &mut C) -> Done {
-    let mut m = Machine::cleared(c, 2, 2, 6);
+    let mut m = Machine::cleared(c, 2, 2, 6)?;
     for (rank, tag) in [(5, 50), (3, 30), (8, 80), (1, 10)] {
         same("push", m.push(rank, tag), (0, 0, 0))?;
     }
@@ -164,7 +164,7 @@ fn case_6<C: Card>(c: &mut C) -> Done {
 }
 
 fn case_7<C: Card>(c: &mut C) -> Done {
-    let mut t = Tree::cleared(c, 2, 2, 6);
+    let mut t = Tree::cleared(c, 2, 2, 6)?;
     let got: Vec<u32> = (0..7).map(|i| t.push(9 - i, i)).collect();
     same("pushes", got, vec![0, 0, 0, 0, 0, 0, 5])
 }
@@ -206,17 +206,17 @@ fn case_9<C: Card>(c: &mut C) -> Done {
 }
 
 fn case_10<C: Card>(c: &mut C) -> Done {
-    let mut m = Machine::cleared(c, 2, 2, 6);
+    let mut m = Machine::cleared(c, 2, 2, 6)?;
     same("push", m.push(5, 50), (0, 0, 0))?;
     same("idle", m.idle(), (0, 0, 0))?;
     same("pop", m.pop(), (0, 5, 50))?;
-    let mut m = Machine::cleared(c, 2, 3, 14);
+    let mut m = Machine::cleared(c, 2, 3, 14)?;
     same("push", m.push(5, 50), (0, 0, 0))?;
     same("idle", m.idle(), (0, 0, 0))?;
     same("pop", m.pop(), (0, 5, 50))?;
     same("push", m.push(6, 60), (0, 0, 0))?;
     same("push", m.push(7, 70), (0, 0, 0))?;
-    let mut m = Machine::cleared(c, 2, 2, 6);
+    let mut m = Machine::cleared(c, 2, 2, 6)?;
     same("pop", m.pop(), (6, 0, 0))?;
     same("pop", m.pop(), (6, 0, 0))?;
     same("push", m.push(5, 50), (0, 0, 0))?;
@@ -226,7 +226,7 @@ fn case_10<C: Card>(c: &mut C) -> Done {
 
 /// Push 1, 9, 2 into order 2: the 2 is still on its way and node 0 is empty.
 fn on_its_way<C: Card>(c: &mut C) -> Done {
-    let mut m = Machine::cleared(c, 2, 2, 6);
+    let mut m = Machine::cleared(c, 2, 2, 6)?;
     for rank in [1, 9, 2] {
         same("push", m.push(rank, 10 * rank), (0, 0, 0))?;
     }
@@ -253,7 +253,7 @@ fn in_turn<C: Card>(c: &mut C) -> Done {
 
 /// Equal ranks are not exchanged in a put, and the leftmost smallest count is chosen.
 fn ties<C: Card>(c: &mut C) -> Done {
-    let mut t = Tree::cleared(c, 2, 2, 6);
+    let mut t = Tree::cleared(c, 2, 2, 6)?;
     for tag in 1..=4 {
         same("push", t.push(5, tag), 0)?;
     }
@@ -264,7 +264,7 @@ fn ties<C: Card>(c: &mut C) -> Done {
 
 /// The worked trace, by cycles.
 fn worked<C: Card>(c: &mut C) -> Done {
-    let mut m = Machine::cleared(c, 2, 2, 6);
+    let mut m = Machine::cleared(c, 2, 2, 6)?;
     same("push", m.push(5, 50), (0, 0, 0))?;
     same("pop", m.pop(), (3, 0, 0))?;
     same("pop", m.pop(), (0, 5, 50))?;
