@@ -1,7 +1,9 @@
 //! Holds the three descriptions of the library's functions to each other: the C header, the Rust
 //! declarations, and the exported functions of the library's own source.
 //!
-//!     header_check CARD_H RAW_RS LIB_RT
+//!     header_check CARD_H RAW_RS SOURCE...
+//!
+//! The sources are the library's files; what they export is taken together.
 //!
 //! Each function's parameters must have the same names, types and order in all three, a slice
 //! being a pointer and then a length in the first two. The last line is `N passed, M failed`.
@@ -115,7 +117,8 @@ fn of_source(text: &str) -> Result<Functions, String> {
         let after = &rest[at + key.len()..];
         let (name, after) = after.split_once('(').ok_or("no parenthesis after a name")?;
         let (parameters, after) = to_the_end(after).ok_or("no closing parenthesis")?;
-        let name = name.trim().to_string();
+        // lifetimes are no part of what C sees
+        let name = name.split('<').next().unwrap_or("").trim().to_string();
         if !before.ends_with("#[no_mangle] pub") {
             return Err(format!("{name} is not marked #[no_mangle] pub"));
         }
@@ -129,7 +132,9 @@ fn of_source(text: &str) -> Result<Functions, String> {
         let mut list = Vec::new();
         for p in split(parameters) {
             let (n, t) = name_and_type(&p)?;
-            list.push(format!("{n}: {t}"));
+            let words: Vec<&str> = t.trim_start_matches('&').split(' ').filter(|w| !w.starts_with('\'')).collect();
+            let reference = if t.starts_with('&') { "&" } else { "" };
+            list.push(format!("{n}: {reference}{}", words.join(" ")));
         }
         if found.insert(name.clone(), Function { parameters: list, answer }).is_some() {
             return Err(format!("{name} stands there twice"));
@@ -226,12 +231,13 @@ fn read(path: &str) -> String {
 
 fn main() {
     let args: Vec<String> = std::env::args().skip(1).collect();
-    if args.len() != 3 {
-        println!("FAIL  header_check CARD_H RAW_RS LIB_RT");
+    if args.len() < 3 {
+        println!("FAIL  header_check CARD_H RAW_RS SOURCE...");
         println!("0 passed, 1 failed");
         std::process::exit(1);
     }
-    let parsed = [of_header(&read(&args[0])), of_rust(&read(&args[1])), of_source(&read(&args[2]))];
+    let sources: Vec<String> = args[2..].iter().map(|path| read(path)).collect();
+    let parsed = [of_header(&read(&args[0])), of_rust(&read(&args[1])), of_source(&sources.join("\n"))];
     let mut tables = Vec::new();
     for (table, path) in parsed.into_iter().zip(&args) {
         match table {

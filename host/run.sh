@@ -146,7 +146,7 @@ must "example in C" $CC -std=c99 -Wall -Wextra -Werror -pedantic -O2 -Ihost host
 # ---- the parts
 if [ -n "${CARD_SOURCE:-}" ]; then say "the library's source is taken from CARD_SOURCE: $CARD_SOURCE"; fi
 part "header, Rust declarations and exported functions" \
-    "$out/header_check" host/card.h host/card/raw.rs "${CARD_SOURCE:-crates/card/src/lib.rt}"
+    "$out/header_check" host/card.h host/card/raw.rs ${CARD_SOURCE:-crates/card/src/*.rt}
 check "the example in C" host/examples/pops.txt $RUNNER "$out/pops_c"
 check "the example in Rust" host/examples/pops.txt $RUNNER "$out/pops_rust"
 part "library against models" $RUNNER "$out/compare" $seed
