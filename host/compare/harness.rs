@@ -255,17 +255,35 @@ impl Before {
         b
     }
 
+    /// The words that the call was made on, where they can be shown.
     fn text(&self, side: &Side, k: &Call) -> String {
+        let (words, records) = (&side.words[..k.words], &side.records[..k.records]);
+        if k.op.is_bucket() {
+            let named = |i: usize| match i {
+                0..=4095 => format!("head {i}"),
+                4096..=8191 => format!("tail {}", i - 4096),
+                _ => format!("word {i}"),
+            };
+            let set = (0..k.words).filter(|&i| words[i] != 0).take(60);
+            let words: Vec<String> = set.map(|i| format!("{} = {}", named(i), words[i])).collect();
+            let set = (0..k.bits).filter(|&i| side.bits[i] != 0).take(20);
+            let bits: Vec<String> = set.map(|i| format!("{i} = {:#x}", side.bits[i])).collect();
+            return format!(
+                "the model's words after, that are not 0: {}; bits {}",
+                words.join(", "),
+                bits.join(", ")
+            );
+        }
         match &self.shown {
             None => String::from("(the store is too large to be shown)"),
-            Some((words, records, mark)) => {
-                let mut s = format!("store before {words:?}");
+            Some((words_before, records_before, mark)) => {
+                let mut s = format!("store before {:?}", &words_before[..k.words]);
                 if k.op.is_machine() {
-                    s += &format!(" records {records:?} mark {mark}");
+                    s += &format!(" records {:?} mark {mark}", &records_before[..k.records]);
                 }
-                s += &format!("\n      the model's store after {:?}", side.words);
+                s += &format!("\n      the model's store after {words:?}");
                 if k.op.is_machine() {
-                    s += &format!(" records {:?} mark {}", side.records, side.mark[0]);
+                    s += &format!(" records {records:?} mark {}", side.mark[0]);
                 }
                 s
             }
