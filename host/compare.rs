@@ -146,6 +146,7 @@ fn run<C: Card>(library: C, seed: u64, times: u64, verbose: bool) -> Score {
     }
 
     part(&mut score, &mut h, seed, "edges of shapes and lengths, every call", 400, hostile::edges);
+    part(&mut score, &mut h, seed, "every store of a few words, every call", 401, hostile::small_stores);
     for i in 0..4 {
         let name = format!("hostile tree calls, part {}", i + 1);
         part(&mut score, &mut h, seed, &name, 410 + i, |h, rng| hostile::tree(h, rng, 60_000 * times));

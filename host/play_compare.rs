@@ -64,7 +64,8 @@ fn good(rng: &mut Rng, order: u8, levels: u8, records: u64) -> Vec<u8> {
     let mut weights = (70, 10, 10);
     for _ in 0..records {
         if rng.once_in(40) {
-            weights = rng.pick(&[(90, 3, 3), (50, 20, 10), (5, 45, 10), (3, 60, 3), (10, 5, 45), (2, 48, 0), (95, 0, 0)]);
+            weights =
+                rng.pick(&[(90, 3, 3), (50, 20, 10), (5, 45, 10), (3, 60, 3), (10, 5, 45), (2, 48, 0), (95, 0, 0)]);
         }
         let (push, pop, replace) = weights;
         let (rank, tag) = (rng.below(ranks) as u32, rng.word());

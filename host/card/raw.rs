@@ -34,13 +34,7 @@ extern "C" {
         out_len: usize,
     ) -> u32;
 
-    pub fn card_bucket_clear(
-        bits: *mut u64,
-        bits_len: usize,
-        words: *mut u32,
-        words_len: usize,
-        nodes: u32,
-    ) -> u32;
+    pub fn card_bucket_clear(bits: *mut u64, bits_len: usize, words: *mut u32, words_len: usize, nodes: u32) -> u32;
     pub fn card_bucket_push(
         bits: *mut u64,
         bits_len: usize,

@@ -19,12 +19,9 @@ fn numbers(op: Op) -> &'static [u32] {
         Op::CyclePop => &[0, 1, 2, 3, 6],
         Op::CycleReplace => &[0, 1, 2, 3],
         Op::CycleOther => &[1],
-        Op::TreeReplace
-        | Op::TreeHeld
-        | Op::BucketHeld
-        | Op::CycleIdle
-        | Op::ClockedDrain
-        | Op::ClockedHeld => &[0, 1, 2],
+        Op::TreeReplace | Op::TreeHeld | Op::BucketHeld | Op::CycleIdle | Op::ClockedDrain | Op::ClockedHeld => {
+            &[0, 1, 2]
+        }
     }
 }
 

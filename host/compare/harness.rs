@@ -268,11 +268,7 @@ impl Before {
             let words: Vec<String> = set.map(|i| format!("{} = {}", named(i), words[i])).collect();
             let set = (0..k.bits).filter(|&i| side.bits[i] != 0).take(20);
             let bits: Vec<String> = set.map(|i| format!("{i} = {:#x}", side.bits[i])).collect();
-            return format!(
-                "the model's words after, that are not 0: {}; bits {}",
-                words.join(", "),
-                bits.join(", ")
-            );
+            return format!("the model's words after, that are not 0: {}; bits {}", words.join(", "), bits.join(", "));
         }
         match &self.shown {
             None => String::from("(the store is too large to be shown)"),

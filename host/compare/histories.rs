@@ -171,8 +171,7 @@ pub fn tree<C: Card>(h: &mut Harness<C>, rng: &mut Rng, order: u32, levels: u32,
             Some(number) => number,
             None => return,
         };
-        if let Err(what) =
-            held_to_list(&mut list, Op::TreePop, element(0, 0), capacity, number, h.answer(), h.b.out[0])
+        if let Err(what) = held_to_list(&mut list, Op::TreePop, element(0, 0), capacity, number, h.answer(), h.b.out[0])
         {
             return h.fail(format!("order {order}, levels {levels}, emptying: {what}"));
         }
@@ -292,7 +291,9 @@ pub fn clocked<C: Card>(h: &mut Harness<C>, rng: &mut Rng, order: u32, levels: u
                 mark = false;
             }
             if left == 0 && h.b.words[..need] != alone[..] {
-                return h.fail(format!("order {order}, levels {levels}, call {n}: drained, yet not the store of one at a time"));
+                return h.fail(format!(
+                    "order {order}, levels {levels}, call {n}: drained, yet not the store of one at a time"
+                ));
             }
             continue;
         }

@@ -9,8 +9,7 @@ use models::tree::{Node, Shape};
 use models::{boundary, bucket};
 
 const ORDERS: [u32; 15] = [0, 1, 3, 5, 6, 7, 9, 16, 32, 64, 0x8000_0000, 0x8000_0002, u32::MAX, u32::MAX - 1, 12];
-const LEVELS: [u32; 12] =
-    [0, 12, 13, 16, 31, 32, 33, 63, 0x4000_0000, 0x8000_0000, 0x8000_0001, u32::MAX];
+const LEVELS: [u32; 12] = [0, 12, 13, 16, 31, 32, 33, 63, 0x4000_0000, 0x8000_0000, 0x8000_0001, u32::MAX];
 
 /// A small shape that is taken, more often the smallest ones.
 fn small(rng: &mut Rng) -> (u32, u32) {
@@ -361,8 +360,7 @@ pub fn clocked<C: Card>(h: &mut Harness<C>, rng: &mut Rng, calls: u64) {
             for _ in 0..rng.pick(&[0, 0, 0, 1, 1, 1, 2, 3, 6]) {
                 spoil_records(rng, order, levels, &base, &mut spoilt);
             }
-            let store =
-                if rng.once_in(3) { base.clone() } else { spoilt_tree(rng, order, levels, &base, &spoilt) };
+            let store = if rng.once_in(3) { base.clone() } else { spoilt_tree(rng, order, levels, &base, &spoilt) };
             let longer = rng.below(3) as usize;
             lay(&mut side, rng, &store, longer);
             side.records.clear();
@@ -672,6 +670,142 @@ pub fn edges<C: Card>(h: &mut Harness<C>, rng: &mut Rng) {
                         return h.fail(format!("{} answered {number}", k.text()));
                     }
                 }
+            }
+        }
+    }
+}
+
+/// Every store that can be put together from a few slots, links, records and marks, with every
+/// call on each.
+pub fn small_stores<C: Card>(h: &mut Harness<C>, _: &mut Rng) {
+    // order 2, one level: two slots
+    let mut slots = Vec::new();
+    for count in 0..3 {
+        for rank in 0..3 {
+            for tag in 0..2 {
+                slots.push([rank, tag, count]);
+            }
+        }
+    }
+    let mut side = Side::new(6, 0, 0);
+    for a in &slots {
+        for b in &slots {
+            side.words[..3].copy_from_slice(a);
+            side.words[3..6].copy_from_slice(b);
+            for mark in 0..2 {
+                side.mark[0] = mark;
+                for (op, rank) in [
+                    (Op::TreePush, 1),
+                    (Op::TreePop, 0),
+                    (Op::TreeReplace, 0),
+                    (Op::TreeReplace, 1),
+                    (Op::TreeReplace, 2),
+                    (Op::TreeHeld, 0),
+                ] {
+                    h.set(&side);
+                    if h.call(&Call::tree(op, 2, 1, 6).with(rank, 9)).is_none() {
+                        return;
+                    }
+                }
+                for (request, rank) in [(0, 0), (1, 1), (2, 0), (3, 0), (3, 1), (3, 2), (4, 0)] {
+                    h.set(&side);
+                    if h.call(&Call::cycle(request, 2, 1, 6, 0).with(rank, 9)).is_none() {
+                        return;
+                    }
+                }
+                h.set(&side);
+                if h.call(&Call::machine(Op::ClockedDrain, 2, 1, 6, 0).budget(1)).is_none() {
+                    return;
+                }
+            }
+        }
+    }
+
+    // order 2, two levels: slots of the root and of node 0 from a few; node 1 is empty or holds one
+    let root = [[0, 0, 0], [1, 5, 1], [1, 6, 2], [2, 7, 3], [2, 8, 4], [1, 0, 0]];
+    let leaf = [[0, 0, 0], [0, 1, 1], [2, 2, 1], [1, 3, 2], [0, 4, 0]];
+    let mut side = Side::new(18, 0, 4);
+    let mut records = vec![[0, 0, 0, 0], [0, 9, 9, 9]];
+    for kind in 1..4 {
+        for node in 0..3 {
+            records.push([kind, node, 1, 8]);
+        }
+    }
+    for a in &root {
+        for b in &root {
+            for c in &leaf {
+                for d in &leaf {
+                    for e in &leaf[..2] {
+                        side.words[..18].fill(0);
+                        side.words[..3].copy_from_slice(a);
+                        side.words[3..6].copy_from_slice(b);
+                        side.words[6..9].copy_from_slice(c);
+                        side.words[9..12].copy_from_slice(d);
+                        side.words[12..15].copy_from_slice(e);
+                        for (op, rank) in [
+                            (Op::TreePush, 1),
+                            (Op::TreePop, 0),
+                            (Op::TreeReplace, 1),
+                            (Op::TreeReplace, 2),
+                            (Op::TreeReplace, 3),
+                        ] {
+                            h.set(&side);
+                            if h.call(&Call::tree(op, 2, 2, 18).with(rank, 9)).is_none() {
+                                return;
+                            }
+                        }
+                        for record in &records {
+                            side.records[..4].copy_from_slice(record);
+                            for mark in 0..2 {
+                                side.mark[0] = mark;
+                                for (request, rank) in [(0, 0), (1, 1), (2, 0), (3, 2)] {
+                                    h.set(&side);
+                                    if h.call(&Call::cycle(request, 2, 2, 18, 4).with(rank, 9)).is_none() {
+                                        return;
+                                    }
+                                }
+                            }
+                            for budget in 0..2 {
+                                h.set(&side);
+                                if h.call(&Call::machine(Op::ClockedDrain, 2, 2, 18, 4).budget(budget)).is_none() {
+                                    return;
+                                }
+                            }
+                        }
+                    }
+                }
+            }
+        }
+    }
+
+    // a bucket queue of one node and one rank: every link, count and bit
+    let t = Target { nodes: 1, ranks: vec![65] };
+    let mut side = Side::new(8196, 65, 0);
+    side.words[..8196].fill(0);
+    side.bits[..65].fill(0);
+    for n in 0..3u32.pow(5) * 4 {
+        let digit = |k: u32| n / 4 / 3u32.pow(k) % 3;
+        side.words[t.head(65)] = digit(0);
+        side.words[t.tail(65)] = digit(1);
+        side.words[t.next(0)] = digit(2);
+        side.words[t.free()] = digit(3);
+        side.words[t.held()] = digit(4);
+        side.words[8192] = 77;
+        side.bits[0] = if n & 1 == 1 { 2 } else { 0 };
+        side.bits[2] = if n & 2 == 2 { 2 } else { 0 };
+        for (op, rank) in [
+            (Op::BucketPush, 65),
+            (Op::BucketPush, 66),
+            (Op::BucketPop, 0),
+            (Op::BucketReplace, 64),
+            (Op::BucketReplace, 65),
+            (Op::BucketReplace, 66),
+            (Op::BucketReplace, 4096),
+            (Op::BucketHeld, 0),
+        ] {
+            h.set(&side);
+            if h.call(&Call::bucket(op, 1, 65, 8196).with(rank, 9)).is_none() {
+                return;
             }
         }
     }
