@@ -1,0 +1,137 @@
+/*
+ * Priority queues for a network card: the C side of the library (libcard.a).
+ *
+ * Every call answers a number: 0 where it is not refused, else
+ *
+ *   1 bad shape   order, levels, nodes or a slice's length outside the rules
+ *   2 damaged     a store or a pending record does not hold together
+ *   3 too soon    a clocked pop or replace just after an answered operation
+ *   4 bad rank    a bucket rank above 4095
+ *   5 full        a push on a full queue
+ *   6 empty       a pop on an empty queue
+ *
+ * A slice is a pointer and then its length in words. The pointer must really have so many words,
+ * aligned as usual, and must not be NULL even for length 0; the slices of one call must not
+ * overlap. Everything else is tested: no store's content and no number makes a call unsafe.
+ * Longer slices are taken; what lies behind the words in use is neither read nor written.
+ *
+ * A call keeps nothing. All of a queue's state lies in the slices that the caller lends.
+ *
+ * `out` receives the answer: two words, rank and tag (pop, replace, cycle), or one word, the count
+ * (held), or two words, cycles run and whether work is left (drain). A refusal writes zeros, but
+ * a drain refused 2 writes the cycles already run, and 1. An `out` that is too short, a mark or
+ * records that are too short, a mark above 1, a record's kind above 3 and a request above 3 are
+ * refusal 1 as well, and then nothing at all is written.
+ */
+#ifndef CARD_H
+#define CARD_H
+
+#include <stddef.h>
+#include <stdint.h>
+
+#ifdef __cplusplus
+extern "C" {
+#endif
+
+#define CARD_OK 0u
+#define CARD_BAD_SHAPE 1u
+#define CARD_DAMAGED 2u
+#define CARD_TOO_SOON 3u
+#define CARD_BAD_RANK 4u
+#define CARD_FULL 5u
+#define CARD_EMPTY 6u
+
+#define CARD_IDLE 0u
+#define CARD_PUSH 1u
+#define CARD_POP 2u
+#define CARD_REPLACE 3u
+
+/*
+ * The multi-way tree, one operation at a time. Order M is 2, 4 or 8, levels L at least 1, and the
+ * capacity M + M^2 + ... + M^L at most 5460. The store has three words for each slot: rank, tag,
+ * count; it must be cleared before its first use.
+ */
+
+/* Empties the tree: 3 * capacity words of zero. Never refused 2. */
+uint32_t card_tree_clear(uint32_t *store, size_t store_len, uint32_t order, uint32_t levels);
+
+/* Takes an element in. Refused 5 where the tree is full. */
+uint32_t card_tree_push(uint32_t *store, size_t store_len, uint32_t order, uint32_t levels,
+                        uint32_t rank, uint32_t tag);
+
+/* Gives the element of lowest rank in out[0] and out[1]. Refused 6 where nothing is held. */
+uint32_t card_tree_pop(uint32_t *store, size_t store_len, uint32_t order, uint32_t levels,
+                       uint32_t *out, size_t out_len);
+
+/* Takes a new element in and gives the lowest of all, the new one included, a held one before the
+   new one on equal rank. Works on an empty and on a full tree. */
+uint32_t card_tree_replace(uint32_t *store, size_t store_len, uint32_t order, uint32_t levels,
+                           uint32_t rank, uint32_t tag, uint32_t *out, size_t out_len);
+
+/* Gives the number of held elements in out[0]. */
+uint32_t card_tree_held(const uint32_t *store, size_t store_len, uint32_t order, uint32_t levels,
+                        uint32_t *out, size_t out_len);
+
+/*
+ * The bucket queue: ranks 0 to 4095, first in first out within a rank, a pool of 1 to 4096 nodes.
+ * The store is 65 words of 64 bits (bits) and 8192 + 2 * nodes + 2 words of 32 bits (words); it
+ * must be cleared before its first use.
+ */
+
+/* Empties the queue and makes the chain of free nodes. Never refused 2. */
+uint32_t card_bucket_clear(uint64_t *bits, size_t bits_len, uint32_t *words, size_t words_len,
+                           uint32_t nodes);
+
+/* Takes an element in, behind those of its rank. Refused 4 above rank 4095, 5 where no node is
+   free. */
+uint32_t card_bucket_push(uint64_t *bits, size_t bits_len, uint32_t *words, size_t words_len,
+                          uint32_t nodes, uint32_t rank, uint32_t tag);
+
+/* Gives the first element of the lowest rank in out[0] and out[1]. Refused 6 where nothing is
+   held. */
+uint32_t card_bucket_pop(uint64_t *bits, size_t bits_len, uint32_t *words, size_t words_len,
+                         uint32_t nodes, uint32_t *out, size_t out_len);
+
+/* Takes a new element in and gives the lowest of all, the new one included, a held one before the
+   new one on equal rank. Works on an empty and on a full queue. Refused 4 above rank 4095. */
+uint32_t card_bucket_replace(uint64_t *bits, size_t bits_len, uint32_t *words, size_t words_len,
+                             uint32_t nodes, uint32_t rank, uint32_t tag, uint32_t *out,
+                             size_t out_len);
+
+/* Gives the number of held elements in out[0]. */
+uint32_t card_bucket_held(const uint64_t *bits, size_t bits_len, const uint32_t *words,
+                          size_t words_len, uint32_t nodes, uint32_t *out, size_t out_len);
+
+/*
+ * The same tree, worked by clock cycles. Beside the store there are four words of records for each
+ * level from 2 - kind (0 nothing, 1 put, 2 take, 3 swap), node, rank, tag - and one word of mark:
+ * 1 where the last cycle's operation was answered without refusal, else 0. Records and mark are
+ * handed on, each time, as the call before left them.
+ */
+
+/* Empties the tree: store and records zero, mark off. Reads neither records nor mark. */
+uint32_t card_clocked_clear(uint32_t *store, size_t store_len, uint32_t order, uint32_t levels,
+                            uint32_t *records, size_t records_len, uint32_t *mark, size_t mark_len);
+
+/* Runs one cycle with a request: 0 idle, 1 push, 2 pop, 3 replace. The operation is answered in
+   its own cycle. Refused 3, 5 or 6 it runs as an idle cycle. */
+uint32_t card_clocked_cycle(uint32_t *store, size_t store_len, uint32_t order, uint32_t levels,
+                            uint32_t *records, size_t records_len, uint32_t *mark, size_t mark_len,
+                            uint32_t request, uint32_t rank, uint32_t tag, uint32_t *out,
+                            size_t out_len);
+
+/* Runs idle cycles until nothing is pending or the budget is spent: out[0] the cycles run, out[1]
+   1 where work is left. */
+uint32_t card_clocked_drain(uint32_t *store, size_t store_len, uint32_t order, uint32_t levels,
+                            uint32_t *records, size_t records_len, uint32_t *mark, size_t mark_len,
+                            uint32_t budget, uint32_t *out, size_t out_len);
+
+/* Gives the number of held elements in out[0]. Reads the root alone, no record. */
+uint32_t card_clocked_held(const uint32_t *store, size_t store_len, uint32_t order, uint32_t levels,
+                           uint32_t *out, size_t out_len);
+
+#ifdef __cplusplus
+}
+#endif
+
+#endif
