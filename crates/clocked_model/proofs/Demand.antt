@@ -26,12 +26,12 @@ use Rattle.strip.specs.declared.Request.the-variants.{Idle}
 use Rattle.tree_model.proofs.Exactly.{words-none}
 use Rattle.tree_model.proofs.Hang.{past}
 use Rattle.tree_model.proofs.Nothing.{op-work, work-none}
-use Rattle.tree_model.proofs.Promises.{Kept, start, start-kept}
+use Rattle.tree_model.proofs.Promises.{Kept, start-kept}
 use Rattle.tree_model.specs.Calls.{Outcome, rootOf, rule}
 use Rattle.tree_model.specs.Damage.{room}
 use Rattle.tree_model.specs.Levels.{idle, Levels, top, work}
 use Rattle.tree_model.specs.Node.{isNothing}
-use Rattle.tree_model.specs.Promise.{Shape}
+use Rattle.tree_model.specs.Promise.{Shape, start}
 use Rattle.tree_model.specs.Words.{levelOf, levelsOf, under}
 use Rattle.tree_model.specs.declared.Op.the-variants.{Nothing}
 use Rattle.tree_model.specs.declared.Slot.{Slot}

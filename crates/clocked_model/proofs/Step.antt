@@ -27,7 +27,7 @@ use Rattle.tree_model.proofs.Nothing.{apply-none, is-none, op-work}
 use Rattle.tree_model.proofs.Path.{path-none}
 use Rattle.tree_model.proofs.Promises.{called-kept, Kept, kept-called, root-node, sound-root, sound-way}
 use Rattle.tree_model.proofs.Words.{apply-length, size-room, words-apply}
-use Rattle.tree_model.specs.Calls.{called, Outcome, outcome, rootOf, rule, ruling, Ruling, shapeOk, verdict, wayOk}
+use Rattle.tree_model.specs.Calls.{called, outcome, Outcome, rootOf, rule, ruling, Ruling, shapeOk, verdict, wayOk}
 use Rattle.tree_model.specs.Damage.{nodeOk, pathOk, room}
 use Rattle.tree_model.specs.Levels.{apply, idle, Levels, work}
 use Rattle.tree_model.specs.Node.{isNothing, low, sumCounts}
