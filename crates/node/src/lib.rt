@@ -300,7 +300,7 @@ pub fn move_of(s: &[u32], at: usize, first: usize, order: usize, op: Op) -> Move
 
 // ---- the shape
 
-fn order_ok(order: usize) -> bool
+pub fn order_ok(order: usize) -> bool
     ensures { λ r. ⌜ r ≡ orderOk order ⌝ }
 {
     (order == 2) | ((order == 4) | (order == 8))

@@ -5,12 +5,12 @@ use native.Mathlib.Numerals.{add-one}
 use native.Mathlib.Omega.{arith}
 use mathlib.Core.Bool.{Bool, cond, false, true}
 use mathlib.Core.List.{[], _++_, _∷_, List}
-use mathlib.Core.Path.{_∙_, _≡_, ap, refl, sym}
+use mathlib.Core.Path.{_∙_, _≡_, ap, ap₂, refl, subst, sym}
 use lib.Dec.{ltb}
 use lib.ListN.{getD, length, length-append, length-set, set, take}
 use lib.Seq.{length-take-le, take-suc}
 use borrow.Author.Tests.{le-ltb, lt-ltb}
-use Rattle.text.specs.Text.{decimalBy, overlay, value, valueFrom}
+use Rattle.text.specs.Text.{decimalBy, Laid, overlay, value, valueFrom}
 
 pub overlay-length : (s : List ℕ) (i : ℕ) (xs : List ℕ) → length (overlay s i xs) ≡ length s
 unfolding overlay
@@ -75,3 +75,17 @@ pub bytes-next : (s r b : List ℕ) (i j : ℕ) → j < length b → r ≡ overl
 bytes-next s r b i j h e =
     let l : length (take j b) ≡ j = length-take-le j b (le-of-lt h) in
     rw (add-one, take-suc b j 0 h, overlay-one, ← e, l)
+
+-- ---- texts laid one behind the other
+pub laid-same : (s : List ℕ) (i : ℕ) (t t′ r : List ℕ) (p : ℕ) → t ≡ t′ → Laid s i t r p → Laid s i t′ r p
+laid-same s i t t′ r p e l = subst (λ (t : List ℕ). Laid s i t r p) e l
+
+pub laid-none : (s : List ℕ) (i : ℕ) (t : List ℕ) → t ≡ [] → Laid s i t s i
+unfolding overlay
+laid-none s i t e = rw e (omega arith, refl)
+
+pub laid-then : (s : List ℕ) (i : ℕ) (t r : List ℕ) (p : ℕ) (t′ q : List ℕ) (o : ℕ) → Laid s i t r p → Laid r p t′ q o → Laid s i (t ++ t′) q o
+laid-then s i t r p t′ q o l k = (
+  rw length-append (omega (arith, l .0, k .0)),
+  k .1 ∙ ap₂ (λ (r : List ℕ) (p : ℕ). overlay r p t′) (l .1) (l .0) ∙ sym (overlay-append s i t t′),
+)

@@ -3,8 +3,9 @@
 use Prim.Native.Nat.{_%_, _*_, _+_, _-_, _/_, suc, zero, ℕ}
 use mathlib.Core.Bool.{cond}
 use mathlib.Core.List.{[], _++_, _∷_, List}
+use mathlib.Core.Path.{_≡_}
 use lib.Dec.{ltb}
-use lib.ListN.{set}
+use lib.ListN.{length, set}
 
 unfoldable pub overlay : List ℕ → ℕ → List ℕ → List ℕ
 overlay s i [] = s
@@ -29,3 +30,7 @@ valueFrom a (d ∷ ds) = valueFrom (10 * a + (d - 48)) ds
 
 abbrev pub value : List ℕ → ℕ
 value ds = valueFrom 0 ds
+
+-- a text laid into the buffer s from i on makes the buffer r, and p is the place past it
+abbrev pub Laid : List ℕ → ℕ → List ℕ → List ℕ → ℕ → Type 0
+Laid s i t r p = (p ≡ i + length t) × (r ≡ overlay s i t)

@@ -1,0 +1,102 @@
+-- The lengths of words and lines, the header and a record by what the code has read. Assumes nothing.
+use Prim.Native.Nat.{_<_, _≤_, ℕ}
+use native.Mathlib.Omega.{arith}
+use mathlib.Core.Bool.{_&&_, Bool, false, not, true}
+use mathlib.Core.List.{List}
+use mathlib.Core.Path.{_∙_, _≡_, ap, refl, sym}
+use lib.Dec.{leb}
+use lib.ListN.{length, length-append}
+use borrow.Author.Tests.{le-leb, leb-false, leb-true, lt-leb, ne-eqb, not-false, not-true}
+use Rattle.node.specs.Scan.{Capacity}
+use Rattle.strip.specs.declared.Answer.{Answer}
+use Rattle.strip.specs.declared.Answer.the-variants.{Done, Out, Refused}
+use Rattle.strip.specs.declared.Element.{Element}
+use Rattle.strip.specs.declared.Refusal.the-variants.{BadRank, BadShape, Damaged, Empty, Full, TooSoon}
+use Rattle.strip.specs.declared.Request.{Request}
+use Rattle.strip.specs.declared.Request.the-variants.{Idle, Pop, Push, Replace}
+use Rattle.text.proofs.Laws.{decimal-short}
+use Rattle.text.specs.Text.{decimal}
+use Rattle.trace.specs.Format.{byteAt, doneWord, entryOf, headerOf, lineOf, longestLine, longestWord, markOk, onlyBlank, outWord, refusalWord, traceLimit, traceShape, wordOf}
+use Rattle.trace.specs.declared.Header.the-variants.{Shape, Wrong}
+use Rattle.trace.specs.declared.Record.{Record}
+use Rattle.trace.specs.declared.Record.the-variants.{Bad, Good}
+use Rattle.tree_model.specs.Calls.{orderOk, slotLimit}
+use Rattle.tree_model.specs.Damage.{room}
+
+out-short : (e : Element) → length (outWord e) ≤ 45
+unfolding outWord decimal
+out-short e =
+    rw (length-append, length-append, length-append) (omega (arith, decimal-short 20 (e .rank .0), decimal-short 20 (e .tag .0)))
+
+pub word-short : (r : Request) (a : Answer) → length (wordOf r a) ≤ longestWord
+unfolding wordOf doneWord refusalWord
+word-short Idle Done = omega arith
+word-short (Push x) Done = omega arith
+word-short Pop Done = omega arith
+word-short (Replace x) Done = omega arith
+word-short r (Out e) = omega (arith, out-short e)
+word-short r (Refused BadShape) = omega arith
+word-short r (Refused Damaged) = omega arith
+word-short r (Refused TooSoon) = omega arith
+word-short r (Refused BadRank) = omega arith
+word-short r (Refused Full) = omega arith
+word-short r (Refused Empty) = omega arith
+
+pub line-short : (n : ℕ) (r : Request) (a : Answer) → length (lineOf n r a) ≤ longestLine
+unfolding lineOf decimal
+line-short n r a = rw (length-append, length-append, length-append) (omega (arith, decimal-short 20 n, word-short r a))
+
+-- ---- the header
+pub shape-off : (m levels : ℕ) (t : Bool) → t ≡ orderOk m → not t ≡ true → false ≡ traceShape m levels
+unfolding traceShape
+shape-off m levels t e p = rw (← e, not-true t p)
+
+pub shape-on : (m levels : ℕ) (t : Bool) (cap : ℕ) → t ≡ orderOk m → not t ≡ false → Capacity m levels cap → (leb 1 levels && leb cap 4094) ≡ traceShape m levels
+unfolding traceShape
+shape-on m levels t cap e p c = rw (← e, not-false t p) (ap (λ (b : Bool). leb 1 levels && b) (go (leb (room m levels) slotLimit) refl))
+  where
+    go : (b : Bool) → leb (room m levels) slotLimit ≡ b → leb cap 4094 ≡ leb (room m levels) traceLimit
+    go true q = ap (λ (n : ℕ). leb n 4094) (c .within (leb-true (room m levels) slotLimit q))
+    go false q =
+        let big : slotLimit < room m levels = leb-false (room m levels) slotLimit q in
+        lt-leb cap 4094 (omega (arith, c .above big)) ∙ sym (lt-leb (room m levels) 4094 (omega arith))
+
+module _ (bs : List ℕ) where
+  pub header-short : length bs < 7 → Wrong ≡ headerOf bs
+  unfolding headerOf
+  header-short h = rw (lt-leb 7 (length bs) h)
+
+  module _ (long : 7 ≤ length bs) (t : Bool) (mark : t ≡ markOk bs) where
+    pub header-mark : not t ≡ true → Wrong ≡ headerOf bs
+    unfolding headerOf
+    header-mark p = rw (le-leb 7 (length bs) long, ← mark, not-true t p)
+
+    pub header-shape : not t ≡ false → (u : Bool) → u ≡ traceShape (byteAt bs 5) (byteAt bs 6) → not u ≡ true → Wrong ≡ headerOf bs
+    unfolding headerOf
+    header-shape p u e q = rw (le-leb 7 (length bs) long, ← mark, not-false t p, ← e, not-true u q)
+
+    pub header-taken : not t ≡ false → (u : Bool) → u ≡ traceShape (byteAt bs 5) (byteAt bs 6) → not u ≡ false → Shape (byteAt bs 5) (byteAt bs 6) ≡ headerOf bs
+    unfolding headerOf
+    header-taken p u e q = rw (le-leb 7 (length bs) long, ← mark, not-false t p, ← e, not-false u q)
+
+-- ---- a record's code
+module _ (code : ℕ) (e : Element) where
+  pub entry-idle : (r : Record) → code ≡ 0 → r ≡ onlyBlank e Idle → r ≡ entryOf code e
+  unfolding entryOf
+  entry-idle r z p = rw z p
+
+  pub entry-push : code ≡ 1 → Good (Push e) ≡ entryOf code e
+  unfolding entryOf
+  entry-push z = rw z
+
+  pub entry-pop : (r : Record) → code ≡ 2 → r ≡ onlyBlank e Pop → r ≡ entryOf code e
+  unfolding entryOf
+  entry-pop r z p = rw z p
+
+  pub entry-replace : code ≡ 3 → Good (Replace e) ≡ entryOf code e
+  unfolding entryOf
+  entry-replace z = rw z
+
+  pub entry-other : 4 ≤ code → Bad ≡ entryOf code e
+  unfolding entryOf
+  entry-other h = rw (ne-eqb code 0 (λ z. omega arith), ne-eqb code 1 (λ z. omega arith), ne-eqb code 2 (λ z. omega arith), ne-eqb code 3 (λ z. omega arith))
