@@ -1,9 +1,11 @@
 // The trace program's work: the header's test, a record's test, the text of a line, and a run of records played into a buffer.
 ghost use mathlib.Core.Path.{_≡_};
-ghost use Prim.Native.Nat.{_+_, _<_, _≤_};
+ghost use Prim.Native.Nat.{_+_, _^_, _<_, _≤_, min};
 ghost use lib.ListN.{length};
 ghost use Rattle.text.specs.Text.{overlay};
 ghost use Rattle.trace.specs.Format.{longestLine, longestWord, recordBytes, numberAt, markOk, traceShape, headerOf, onlyBlank, entryAt, entryOf, doneWord, refusalWord, outWord, wordOf, lineOf};
+ghost use Rattle.trace.specs.Play.{cycleTurn, stoppedAt, turnOf, playedAs};
+use clocked_model::State;
 use node::capacity;
 use strip::Answer;
 use strip::Element;
@@ -176,4 +178,116 @@ fn record_at(bytes: &[u8], at: usize) -> Record
         tag: Tag(number_at(bytes, at + 5)),
     };
     record_of(bytes[at], e)
+}
+
+// ---- a run of records
+
+// What is carried from record to record: the machine's state, how many records were played, how many bytes were read and written, and
+// whether a bad record was met. From there on nothing is played.
+pub struct Played {
+    pub state: State,
+    pub number: u64,
+    pub read: usize,
+    pub written: usize,
+    pub bad: bool,
+}
+
+// One cycle, and its line.
+fn play_cycle(
+    store: &mut [u32],
+    order: usize,
+    levels: usize,
+    run: Played,
+    request: Request,
+    out: &mut [u8],
+) -> Played
+    requires { ⌜ (run .read + recordBytes < 2 ^ 64) × (run .written + longestLine ≤ length (now out)) ⌝ }
+    ensures { λ r. ⌜ (r ≡ cycleTurn order levels request run (now (store .entry)) .run) × (now (store .exit) ≡ cycleTurn order levels request run (now (store .entry)) .words) × (now (out .exit) ≡ overlay (now (out .entry)) (run .written) (cycleTurn order levels request run (now (store .entry)) .line)) ⌝ }
+{
+    let state = run.state;
+    let done = clocked::cycle(store, order, levels, state, request);
+    let answer = done.answer;
+    let number = std::num::wrapping_add_u64(run.number, 1);
+    let written = put_line(out, run.written, number, request, answer);
+    let read = run.read + 9;
+    let next = done.state;
+    Played {
+        state: next,
+        number,
+        read,
+        written,
+        bad: false,
+    }
+}
+
+fn stopped(run: Played) -> Played
+    ensures { λ r. ⌜ r ≡ stoppedAt run ⌝ }
+{
+    let state = run.state;
+    Played {
+        state,
+        number: run.number,
+        read: run.read,
+        written: run.written,
+        bad: true,
+    }
+}
+
+// The next record, unless a bad one was met before.
+fn play_record(
+    store: &mut [u32],
+    order: usize,
+    levels: usize,
+    run: Played,
+    bytes: &[u8],
+    out: &mut [u8],
+) -> Played
+    requires { ⌜ (run .read + recordBytes ≤ length (now bytes)) × (run .written + longestLine ≤ length (now out)) ⌝ }
+    ensures { λ r. ⌜ (r ≡ turnOf order levels (now (bytes .entry)) run (now (store .entry)) .run) × (now (store .exit) ≡ turnOf order levels (now (bytes .entry)) run (now (store .entry)) .words) × (now (out .exit) ≡ overlay (now (out .entry)) (run .written) (turnOf order levels (now (bytes .entry)) run (now (store .entry)) .line)) ⌝ }
+{
+    if run.bad {
+        return run;
+    }
+    let found = record_at(bytes, run.read);
+    match found {
+        Record::Bad => stopped(run),
+        Record::Good(request) => play_cycle(store, order, levels, run, request, out),
+    }
+}
+
+fn fewer(a: usize, b: usize) -> usize
+    ensures { λ r. ⌜ r ≡ min a b ⌝ }
+{
+    if a <= b {
+        return a;
+    }
+    b
+}
+
+// Plays the whole records of a buffer, as many as their lines surely fit into the other.
+pub fn play(
+    store: &mut [u32],
+    order: usize,
+    levels: usize,
+    state: State,
+    number: u64,
+    bytes: &[u8],
+    out: &mut [u8],
+) -> Played
+    ensures { λ r. ⌜ (r ≡ playedAs order levels state number (now (bytes .entry)) (length (now (out .entry))) (now (store .entry)) .run) × (now (store .exit) ≡ playedAs order levels state number (now (bytes .entry)) (length (now (out .entry))) (now (store .entry)) .words) × (now (out .exit) ≡ overlay (now (out .entry)) 0 (playedAs order levels state number (now (bytes .entry)) (length (now (out .entry))) (now (store .entry)) .text)) ⌝ }
+{
+    let records = fewer(bytes.len() / 9, out.len() / 72);
+    let mut run = Played {
+        state,
+        number,
+        read: 0,
+        written: 0,
+        bad: false,
+    };
+    let mut i = 0;
+    while i < records {
+        run = play_record(store, order, levels, run, bytes, out);
+        i += 1;
+    }
+    run
 }
