@@ -4,3 +4,4 @@ pub mod Round
 pub mod Request
 pub mod Whole
 pub mod Public
+pub mod Drains
