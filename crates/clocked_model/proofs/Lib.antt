@@ -4,3 +4,4 @@ pub mod Turn
 pub mod Step
 pub mod Same
 pub mod Demand
+pub mod Exactly
