@@ -1,29 +1,33 @@
 -- Every refusal of a cycle is given exactly for its cause, and leaves behind what the table says. Assumes nothing.
 use Prim.Native.Nat.{_≤_, pred, suc, zero, ℕ}
-use mathlib.Core.Bool.{_&&_, Bool, false, false≢true, not, true, true≢false}
+use mathlib.Core.Bool.{_&&_, Bool, cond, false, false≢true, not, true, true≢false}
 use mathlib.Core.List.{List}
-use mathlib.Core.Path.{_∙_, _≡_, ap, refl, subst, sym}
+use mathlib.Core.Logic.{_⊎_, inl, inr}
+use mathlib.Core.Path.{_∙_, _≡_, ap, ap₂, refl, subst, sym}
 use lib.ListN.{length}
-use Rattle.clocked_model.specs.Calls.{askedOk, asks, cycleOutcome, CycleOutcome, cycleWork, heard, hearing, popsOrReplaces, stepsOk, ticked, turned}
-use Rattle.clocked_model.specs.Cycle.{cycleOk, Works}
+use Rattle.clocked_model.specs.Calls.{askedOk, asks, CycleOutcome, cycleOutcome, cycleWork, heard, hearing, isRefused, marks, popsOrReplaces, stepsOk, ticked, turned}
+use Rattle.clocked_model.specs.Cycle.{cycleOk, cycleWords, Works}
 use Rattle.clocked_model.specs.Promise.{Asks, CycleCause, CycleDamage, PopsOrReplaces, WorksDamaged}
+use Rattle.clocked_model.specs.Records.{recordsAfter}
 use Rattle.clocked_model.specs.declared.State.{State}
 use Rattle.laws.specs.Fails.{Fails, fails-and, fails-or, fails-true}
-use Rattle.laws.specs.Tests.{and-left}
+use Rattle.laws.specs.Tests.{and-left, and-right, and-true}
 use Rattle.strip.specs.declared.Answer.{Answer}
-use Rattle.strip.specs.declared.Answer.the-variants.{Refused}
+use Rattle.strip.specs.declared.Answer.the-variants.{Done, Refused}
 use Rattle.strip.specs.declared.Refusal.{Refusal}
 use Rattle.strip.specs.declared.Refusal.the-variants.{BadRank, BadShape, Damaged, Empty, Full, TooSoon}
 use Rattle.strip.specs.declared.Request.{Request}
 use Rattle.strip.specs.declared.Request.the-variants.{Idle, Pop, Push, Replace}
-use Rattle.tree_model.proofs.Exactly.{accepted, empty, empty-answer, full, full-answer, is-shape, no-refusal-done, node-fails, root-limit, Ruled, ruled-as, shape-is, work-fails}
-use Rattle.tree_model.specs.Calls.{rootOf, rootOk, rule, Ruling, ruling, shapeOk, verdict}
+use Rattle.tree_model.proofs.Exactly.{accepted, empty, empty-answer, full, full-answer, is-shape, no-refusal-done, node-fails, refused-idle, root-limit, Ruled, ruled-as, shape-is, work-fails}
+use Rattle.tree_model.specs.Calls.{rootOf, rootOk, rule, ruling, Ruling, shapeOk, verdict}
 use Rattle.tree_model.specs.Damage.{fine, room}
-use Rattle.tree_model.specs.Levels.{Levels, top}
+use Rattle.tree_model.specs.Levels.{Levels, top, work}
 use Rattle.tree_model.specs.Node.{sumCounts}
 use Rattle.tree_model.specs.Promise.{IsPop, IsPush, Shape}
-use Rattle.tree_model.specs.Words.{levelsOf}
+use Rattle.tree_model.specs.Words.{levelsOf, restWords, under}
+use Rattle.tree_model.specs.declared.Op.{Op}
 use Rattle.tree_model.specs.declared.Op.the-variants.{Nothing}
+use Rattle.tree_model.specs.declared.Slot.{Slot}
 
 pub works-fails : (m k : ℕ) (p : Works k) (ls : Levels k) → Fails (cycleOk m k p ls) (WorksDamaged m k p ls)
 unfolding cycleOk
@@ -68,7 +72,7 @@ module _ (m levels : ℕ) (r : Request) (s : State) (ws : List ℕ) where
   abbrev A : Answer
   A = ticked m levels r s ws .answer
 
-  abbrev sound : Bool
+  abbrev pub sound : Bool
   sound = askedOk m levels r ws && stepsOk m levels (g .op) s ws
 
   -- ---- the cycle by its tests
@@ -203,3 +207,81 @@ refused-for m levels r s ws Empty c =
 pub exactly-cycle : (m levels : ℕ) (r : Request) (s : State) (ws : List ℕ) (n : Refusal)
     → (ticked m levels r s ws .answer ≡ Refused n → CycleCause m levels r s ws n) × (CycleCause m levels r s ws n → ticked m levels r s ws .answer ≡ Refused n)
 exactly-cycle m levels r s ws n = (only m levels r s ws n, refused-for m levels r s ws n)
+
+-- ---- LEFT BEHIND. 1 and 2: everything, mark and records too
+pub stands : (m levels : ℕ) (r : Request) (s : State) (ws : List ℕ) (n : Refusal) → (n ≡ BadShape) ⊎ (n ≡ Damaged) → ticked m levels r s ws .answer ≡ Refused n
+    → ticked m levels r s ws ≡ cycleOutcome (Refused n) ws s
+stands m levels r s ws n (inl e) p = go (shapeOk m levels (length ws)) refl
+  where
+    go : (b : Bool) → shapeOk m levels (length ws) ≡ b → ticked m levels r s ws ≡ cycleOutcome (Refused n) ws s
+    go true q = absurd (subst (CycleCause m levels r s ws) e (only m levels r s ws n p) (shape-is m levels (length ws) q))
+    go false q = ticked-bad m levels r s ws q ∙ ap (λ (n : Refusal). cycleOutcome (Refused n) ws s) (sym e)
+stands m levels r s ws n (inr e) p =
+    let c = subst (CycleCause m levels r s ws) e (only m levels r s ws n p) in
+    ticked-damaged m levels r s ws (is-shape m levels (length ws) (c .0)) (damage-fails m levels r s ws .shown (c .1)) ∙ ap (λ (n : Refusal). cycleOutcome (Refused n) ws s) (sym e)
+
+-- a refused request has no work
+heard-idle : (mark : Bool) (r : Request) (c : ℕ) (nd : List Slot) (n : Refusal) → heard mark r (rule c r nd) .answer ≡ Refused n → heard mark r (rule c r nd) .op ≡ Nothing
+unfolding heard
+heard-idle mark r c nd n e = go (mark && popsOrReplaces r) e
+  where
+    go : (t : Bool) → cond t (ruling (Refused TooSoon) Nothing) (rule c r nd) .answer ≡ Refused n → cond t (ruling (Refused TooSoon) Nothing) (rule c r nd) .op ≡ Nothing
+    go true e = refl
+    go false e = refused-idle c r nd n e
+
+-- an idle request has none either, and answers done
+pub idle-ruling : (mark : Bool) (c : ℕ) (nd : List Slot) → heard mark Idle (rule c Idle nd) ≡ ruling Done Nothing
+unfolding heard rule popsOrReplaces
+idle-ruling true c nd = refl
+idle-ruling false c nd = refl
+
+-- what a cycle leaves goes by its work and its mark
+abbrev state-by : (m levels : ℕ) → State → List ℕ → Op → Bool → State
+state-by m levels s ws o b =
+    record { records = recordsAfter m (pred levels) (restWords m (pred levels) (work o 0) 0 1 ws) 0 (s .records) (under m (pred levels) ws 0 1); mark = b }
+
+turned-as : (m levels : ℕ) (r : Request) (g : Ruling) (s : State) (ws : List ℕ) (o : Op) → g .op ≡ o → marks r (g .answer) ≡ false
+    → (turned m levels r g s ws .words ≡ turned m levels Idle (ruling Done o) s ws .words) × (turned m levels r g s ws .state ≡ turned m levels Idle (ruling Done o) s ws .state)
+unfolding turned marks asks
+turned-as m levels r g s ws o e k = (
+  ap (λ (o : Op). cycleWords m (suc (pred levels)) (cycleWork m levels o s) 0 1 ws) e,
+  ap₂ (state-by m levels s ws) e k,
+)
+
+refused-mark : (r : Request) (n : Refusal) → marks r (Refused n) ≡ false
+unfolding marks isRefused asks
+refused-mark Idle n = refl
+refused-mark (Push x) n = refl
+refused-mark Pop n = refl
+refused-mark (Replace x) n = refl
+
+-- an idle cycle reads no root
+pub root-unread : (m levels : ℕ) (ws : List ℕ) → askedOk m levels Idle ws ≡ true
+unfolding asks
+root-unread m levels ws = refl
+
+-- 3, 5 and 6: "cycle runs as idle"
+pub as-idle : (m levels : ℕ) (r : Request) (s : State) (ws : List ℕ) (n : Refusal) → (n ≡ BadShape → ⊥) → (n ≡ Damaged → ⊥) → ticked m levels r s ws .answer ≡ Refused n
+    → (ticked m levels r s ws .words ≡ ticked m levels Idle s ws .words) × (ticked m levels r s ws .state ≡ ticked m levels Idle s ws .state)
+as-idle m levels r s ws n no1 no2 p = go (shapeOk m levels (length ws)) refl (sound m levels r s ws) refl
+  where
+    go : (a : Bool) → shapeOk m levels (length ws) ≡ a → (b : Bool) → sound m levels r s ws ≡ b
+        → (ticked m levels r s ws .words ≡ ticked m levels Idle s ws .words) × (ticked m levels r s ws .state ≡ ticked m levels Idle s ws .state)
+    go false e b f = absurd (no1 (sym (same-number (sym (answer-of m levels r s ws _ (ticked-bad m levels r s ws e)) ∙ p))))
+    go true e false f = absurd (no2 (sym (same-number (sym (answer-of m levels r s ws _ (ticked-damaged m levels r s ws e f)) ∙ p))))
+    go true e true f =
+        let g = hearing m levels r s ws in
+        let i = hearing m levels Idle s ws in
+        let a : g .answer ≡ Refused n = sym (fine-answer m levels r s ws e f) ∙ p in
+        let o : g .op ≡ Nothing = heard-idle (s .mark) r (room m levels) (rootOf m ws) n a in
+        let rest : i ≡ ruling Done Nothing = idle-ruling (s .mark) (room m levels) (rootOf m ws) in
+        let steps : stepsOk m levels (g .op) s ws ≡ true = and-right (askedOk m levels r ws) (stepsOk m levels (g .op) s ws) f in
+        let idle-sound : sound m levels Idle s ws ≡ true =
+        idle-asked (stepsOk m levels (i .op) s ws) (ap (λ (o : Op). stepsOk m levels o s ws) (ap (λ (g : Ruling). g .op) rest ∙ sym o) ∙ steps) in
+        let here = ticked-fine m levels r s ws e f in
+        let there = ticked-fine m levels Idle s ws e idle-sound ∙ ap (λ (g : Ruling). turned m levels Idle g s ws) rest in
+        let same = turned-as m levels r g s ws Nothing o (ap (marks r) a ∙ refused-mark r n) in
+        (ap (λ (c : CycleOutcome). c .words) here ∙ same .0 ∙ sym (ap (λ (c : CycleOutcome). c .words) there), ap (λ (c : CycleOutcome). c .state) here ∙ same .1 ∙ sym (ap (λ (c : CycleOutcome). c .state) there))
+      where
+        idle-asked : (b : Bool) → b ≡ true → (askedOk m levels Idle ws && b) ≡ true
+        idle-asked b h = and-true (askedOk m levels Idle ws) b (root-unread m levels ws) h

@@ -5,3 +5,4 @@ pub mod Step
 pub mod Same
 pub mod Demand
 pub mod Exactly
+pub mod Drain
