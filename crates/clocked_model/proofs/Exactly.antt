@@ -104,14 +104,14 @@ module _ (m levels : ℕ) (r : Request) (s : State) (ws : List ℕ) where
   fine-answer : shapeOk m levels (length ws) ≡ true → sound ≡ true → A ≡ g .answer
   fine-answer e f = answer-of _ (ticked-fine e f) ∙ turned-answer
 
-  no-damage-sound : (CycleDamage m levels r s ws → ⊥) → sound ≡ true
+  pub no-damage-sound : (CycleDamage m levels r s ws → ⊥) → sound ≡ true
   no-damage-sound d = go sound refl
     where
       go : (b : Bool) → sound ≡ b → b ≡ true
       go true e = refl
       go false e = absurd (d (damage-fails .found e))
 
-  sound-no-damage : sound ≡ true → CycleDamage m levels r s ws → ⊥
+  pub sound-no-damage : sound ≡ true → CycleDamage m levels r s ws → ⊥
   sound-no-damage e d = true≢false (sym e ∙ damage-fails .shown d)
 
 -- ---- what a request comes to where nothing is damaged
@@ -248,7 +248,7 @@ turned-as m levels r g s ws o e k = (
   ap₂ (state-by m levels s ws) e k,
 )
 
-refused-mark : (r : Request) (n : Refusal) → marks r (Refused n) ≡ false
+pub refused-mark : (r : Request) (n : Refusal) → marks r (Refused n) ≡ false
 unfolding marks isRefused asks
 refused-mark Idle n = refl
 refused-mark (Push x) n = refl

@@ -6,3 +6,4 @@ pub mod Same
 pub mod Demand
 pub mod Exactly
 pub mod Drain
+pub mod Promises

@@ -1,14 +1,15 @@
 -- What is promised of the clocked tree is said in these words: the one-at-a-time tree beside it, idle cycles, and 01's causes of refusal.
 -- Assumes nothing: these are definitions.
-use Prim.Native.Nat.{_<_, _≤_, pred, suc, zero, ℕ}
+use Prim.Native.Nat.{_*_, _<_, _≤_, pred, suc, zero, ℕ}
 use mathlib.Core.Bool.{_&&_, Bool, cond, false, true}
 use mathlib.Core.List.{[], _∷_, List}
 use mathlib.Core.Logic.{_⊎_}
 use mathlib.Core.Path.{_≡_}
 use lib.Dec.{leb}
-use lib.ListN.{length, replicate}
-use Rattle.clocked_model.specs.Calls.{CycleOutcome, cycleWork, hearing, marks, pending, popsOrReplaces, runs}
-use Rattle.clocked_model.specs.Cycle.{Works}
+use lib.ListN.{getD, length, replicate}
+use Rattle.clocked_model.specs.Calls.{CycleOutcome, cycleWork, hearing, marks, pending, popsOrReplaces, runs, ticked}
+use Rattle.clocked_model.specs.Cycle.{cycleLevels, cycleWorks, Works}
+use Rattle.clocked_model.specs.Records.{worksOf}
 use Rattle.clocked_model.specs.declared.State.{State}
 use Rattle.strip.specs.declared.Answer.{Answer}
 use Rattle.strip.specs.declared.Answer.the-variants.{Refused}
@@ -16,12 +17,12 @@ use Rattle.strip.specs.declared.Refusal.{Refusal}
 use Rattle.strip.specs.declared.Refusal.the-variants.{BadRank, BadShape, Damaged, Empty, Full, TooSoon}
 use Rattle.strip.specs.declared.Request.{Request}
 use Rattle.strip.specs.declared.Request.the-variants.{Idle, Pop, Push, Replace}
-use Rattle.tree_model.specs.Calls.{called, Outcome, outcome, rootOf}
+use Rattle.tree_model.specs.Calls.{called, outcome, Outcome, rootOf}
 use Rattle.tree_model.specs.Damage.{room}
-use Rattle.tree_model.specs.Levels.{Levels, top}
+use Rattle.tree_model.specs.Levels.{idle, Levels, top}
 use Rattle.tree_model.specs.Node.{sumCounts}
 use Rattle.tree_model.specs.Promise.{IsPop, IsPush, NodeDamaged, Shape, WorkDamaged}
-use Rattle.tree_model.specs.Words.{levelsOf}
+use Rattle.tree_model.specs.Words.{levelsOf, width}
 
 module _ (m levels : ℕ) where
   -- ---- the one-at-a-time tree beside the clocked one
@@ -106,3 +107,16 @@ DrainCause m levels budget s ws Empty = ⊥
 -- a number capped by the budget
 abbrev pub capped : ℕ → ℕ → ℕ
 capped budget n = cond (leb n budget) n budget
+
+-- ---- one step: what a cycle with no damage does to the levels and the records, by what stood at its start
+pub record OneStep (m levels : ℕ) (r : Request) (s : State) (ws : List ℕ) : Type 0 where
+  -- each level is what its own step makes of it: one slot of one node, or none
+  pub slots : levelsOf m (suc (pred levels)) (ticked m levels r s ws .words) 0 1
+      ≡ cycleLevels m (suc (pred levels)) (cycleWork m levels (hearing m levels r s ws .op) s) (levelsOf m (suc (pred levels)) ws 0 1)
+  -- no word past the capacity changes
+  pub past : (a : ℕ) → width * room m levels ≤ a → getD (ticked m levels r s ws .words) a 0 ≡ getD ws a 0
+  -- each record holds what the level above leaves for it
+  pub works : worksOf (pred levels) (ticked m levels r s ws .state .records) 0
+      ≡ cycleWorks m (suc (pred levels)) idle (cycleWork m levels (hearing m levels r s ws .op) s) (levelsOf m (suc (pred levels)) ws 0 1) .1
+  -- "records past the last level are left alone"
+  pub spare : (j : ℕ) → pred levels ≤ j → getD (ticked m levels r s ws .state .records) j idle ≡ getD (s .records) j idle
