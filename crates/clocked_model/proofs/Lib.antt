@@ -7,3 +7,4 @@ pub mod Demand
 pub mod Exactly
 pub mod Drain
 pub mod Promises
+pub mod Cases
