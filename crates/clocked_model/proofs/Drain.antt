@@ -24,7 +24,7 @@ use Rattle.tree_model.specs.Calls.{rootOf, Ruling, shapeOk}
 use Rattle.tree_model.specs.Damage.{room}
 use Rattle.tree_model.specs.Promise.{Shape}
 
-not-less : {a b : ℕ} → (a < b → ⊥) → b ≤ a
+pub not-less : {a b : ℕ} → (a < b → ⊥) → b ≤ a
 not-less {a} {b} h = go (leb b a) refl
   where
     go : (t : Bool) → leb b a ≡ t → b ≤ a
@@ -188,6 +188,12 @@ module _ (m levels : ℕ) where
           ap (λ (d : DrainOutcome). d .left) (good-shape b s ws sh)
           ∙ ends b 0 s ws .stopped (ap (λ (d : DrainOutcome). isRefused (d .answer)) (sym (good-shape b s ws sh)) ∙ r)
 
+      -- with work left and no damage the budget is spent
+      pub drain-spent : isRefused (drains m levels b s ws .answer) ≡ false → drains m levels b s ws .left ≡ true → drains m levels b s ws .cycles ≡ b
+      drain-spent r l =
+          ap (λ (d : DrainOutcome). d .cycles) (good-shape b s ws sh) ∙ ran-so-many
+          ∙ ends b 0 s ws .spent (ap (λ (d : DrainOutcome). isRefused (d .answer)) (sym (good-shape b s ws sh)) ∙ r) (ap (λ (d : DrainOutcome). d .left) (sym (good-shape b s ws sh)) ∙ l)
+
       -- DRAIN-COUNT: where no cycle is refused and n idle cycles are those until nothing is pending, the count is n capped by the budget
       pub drain-count : isRefused (drains m levels b s ws .answer) ≡ false → (n : ℕ) → pending m levels (idles m levels n s ws .state) ≡ false
           → ((j : ℕ) → j < n → pending m levels (idles m levels j s ws .state) ≡ true) → drains m levels b s ws .cycles ≡ capped b n
@@ -202,15 +208,10 @@ module _ (m levels : ℕ) where
           least : d .left ≡ false → d .cycles < n → ⊥
           least l h = true≢false (sym (before (d .cycles) h) ∙ ap (pending m levels) (sym (drain-state .1)) ∙ sym drain-left ∙ l)
 
-          all-spent : d .left ≡ true → d .cycles ≡ b
-          all-spent l =
-              ap (λ (d : DrainOutcome). d .cycles) (good-shape b s ws sh) ∙ ran-so-many
-              ∙ ends b 0 s ws .spent (ap (λ (d : DrainOutcome). isRefused (d .answer)) (sym (good-shape b s ws sh)) ∙ r) (ap (λ (d : DrainOutcome). d .left) (sym (good-shape b s ws sh)) ∙ l)
-
           go : (t : Bool) → leb n b ≡ t → (l : Bool) → d .left ≡ l → d .cycles ≡ cond t n b
-          go true e true l = let a = all-spent l in let h : d .cycles ≤ n = not-less most in omega (arith, leb-true n b e)
+          go true e true l = let a = drain-spent r l in let h : d .cycles ≤ n = not-less most in omega (arith, leb-true n b e)
           go true e false l = let h : d .cycles ≤ n = not-less most in let k : n ≤ d .cycles = not-less (least l) in omega arith
-          go false e true l = all-spent l
+          go false e true l = drain-spent r l
           go false e false l = let k : n ≤ d .cycles = not-less (least l) in absurd (omega (arith, leb-false n b e, drain-within))
 
 -- ---- exactly: a drain is refused for the shape, or where an idle cycle within the budget meets damage

@@ -3,26 +3,27 @@
 use Prim.Native.Nat.{_*_, _+_, _≤_, pred, suc, zero, ℕ}
 use native.Mathlib.Nat.{not-suc-le-zero, zero-add}
 use native.Mathlib.Omega.{arith}
-use mathlib.Core.Bool.{_&&_, Bool, cond, false, true}
+use mathlib.Core.Bool.{_&&_, Bool, cond, false, false≢true, true, true≢false}
 use mathlib.Core.List.{[], _∷_, List}
 use mathlib.Core.Path.{_∙_, _≡_, ap, refl, subst, sym}
 use lib.ListN.{getD, length}
-use Rattle.clocked_model.proofs.Demand.{demand-answers, demand-store, few-levels, ran, ran-in-step}
+use Rattle.clocked_model.proofs.Demand.{demand-answers, demand-idles, demand-store, few-levels, idles-in-step, ran, ran-in-step}
+use Rattle.clocked_model.proofs.Drain.{drain-left, drain-needed, drain-spent, drain-state, exactly-drain, not-less}
 use Rattle.clocked_model.proofs.Exactly.{no-damage-sound, refused-mark, sound, sound-no-damage, ticked-fine}
 use Rattle.clocked_model.proofs.Step.{root-fine, step-answer, steps-fine}
 use Rattle.clocked_model.proofs.Turn.{after-past, plain-rest, words-cycle, works-after}
-use Rattle.clocked_model.specs.Calls.{askedOk, CycleOutcome, cycleOutcome, cycleWork, drainOutcome, DrainOutcome, hearing, marks, pending, popsOrReplaces, recordCount, restarted, runAnswers, stepsOk, ticked, turned}
+use Rattle.clocked_model.specs.Calls.{askedOk, cycleOutcome, CycleOutcome, cycleWork, drainOutcome, DrainOutcome, drains, hearing, isRefused, marks, pending, popsOrReplaces, recordCount, restarted, runAnswers, stepsOk, ticked, turned}
 use Rattle.clocked_model.specs.Cycle.{cycleLevels, cycleWords, cycleWorks}
-use Rattle.clocked_model.specs.Promise.{beside, besideAnswers, besideWords, callsOf, CycleDamage, idles, OneStep}
+use Rattle.clocked_model.specs.Promise.{beside, besideAnswers, besideWords, callsOf, CycleDamage, DrainCause, idles, OneStep}
 use Rattle.clocked_model.specs.Records.{worksOf}
 use Rattle.clocked_model.specs.declared.State.{State}
 use Rattle.laws.specs.Tests.{and-right, and-true}
 use Rattle.strip.specs.declared.Answer.{Answer}
-use Rattle.strip.specs.declared.Answer.the-variants.{Refused}
+use Rattle.strip.specs.declared.Answer.the-variants.{Done, Out, Refused}
 use Rattle.strip.specs.declared.Count.the-variants.{Held}
 use Rattle.strip.specs.declared.Element.{Element}
 use Rattle.strip.specs.declared.Refusal.{Refusal}
-use Rattle.strip.specs.declared.Refusal.the-variants.{TooSoon}
+use Rattle.strip.specs.declared.Refusal.the-variants.{BadRank, BadShape, Damaged, Empty, Full, TooSoon}
 use Rattle.strip.specs.declared.Request.{Request}
 use Rattle.strip.specs.declared.Request.the-variants.{Idle, Pop, Push, Replace}
 use Rattle.tree_model.proofs.Exactly.{is-shape, order-pos}
@@ -191,6 +192,75 @@ module _ (m : ℕ) (ws : List ℕ) (rs : List Request) where
   pub held-says : (levels : ℕ) → Shape m levels (length ws) → (n : ℕ) → pending m levels (idles m levels n (ran m levels rs ws .state) (ran m levels rs ws .words) .state) ≡ false
       → counted m levels (at-rest-after levels n) ≡ Held (stored (room m levels) (at-rest-after levels n) always)
   held-says levels sh n e = rw (idled levels sh n e) (tree.held-says m ws (calls levels) levels sh)
+
+-- ---- DRAINED: after any list of cycles a drain with a budget of levels - 1 or more is not refused, runs at most levels - 1 cycles, leaves
+-- no work, and leaves the words of the one-at-a-time tree beside it
+refusal-of : (a : Answer) → isRefused a ≡ true → ((k : Refusal) → a ≡ Refused k → ⊥) → ⊥
+unfolding isRefused
+refusal-of Done e f = false≢true e
+refusal-of (Out x) e f = false≢true e
+refusal-of (Refused k) e f = f k refl
+
+module _ (m : ℕ) (ws : List ℕ) (rs : List Request) (levels : ℕ) (sh : Shape m levels (length ws)) (budget : ℕ) (enough : pred levels ≤ budget) where
+  abbrev s : State
+  s = ran m levels rs ws .state
+
+  abbrev vs : List ℕ
+  vs = ran m levels rs ws .words
+
+  abbrev d : DrainOutcome
+  d = drains m levels budget s vs
+
+  shape : Shape m levels (length vs)
+  shape = shape-kept m ws rs levels sh
+
+  idle-undamaged : (n : ℕ) → CycleDamage m levels Idle (idles m levels n s vs .state) (idles m levels n s vs .words) → ⊥
+  idle-undamaged n = go levels sh
+    where
+      go : (levels : ℕ) → Shape m levels (length ws)
+          → CycleDamage m levels Idle (idles m levels n (ran m levels rs ws .state) (ran m levels rs ws .words) .state) (idles m levels n (ran m levels rs ws .state) (ran m levels rs ws .words) .words)
+          → ⊥
+      go zero sh = absurd (not-suc-le-zero (sh .some))
+      go (suc k) sh =
+          let i = idles-in-step m k n _ _ _ (ran-in-step m ws rs k sh) in
+          sound-no-damage m (suc k) Idle _ _
+          (and-true (askedOk m (suc k) Idle (idles m (suc k) n (ran m (suc k) rs ws .state) (ran m (suc k) rs ws .words) .words)) _ (root-fine m k _ _ _ i Idle) (steps-fine m k _ _ _ i Idle))
+
+  pub drained-fine : isRefused (d .answer) ≡ false
+  drained-fine = go (isRefused (d .answer)) refl
+    where
+      jam : (k : Refusal) → DrainCause m levels budget s vs k → ⊥
+      jam BadShape c = c shape
+      jam Damaged c = idle-undamaged (c .1 .cycles) (c .1 .damage)
+      jam TooSoon c = c
+      jam BadRank c = c
+      jam Full c = c
+      jam Empty c = c
+
+      go : (b : Bool) → isRefused (d .answer) ≡ b → b ≡ false
+      go false e = refl
+      go true e = absurd (refusal-of (d .answer) e (λ k p. jam k (exactly-drain m levels budget s vs k .0 p)))
+
+  pub drained-few : d .cycles ≤ pred levels
+  drained-few = not-less (λ h. true≢false (sym (drain-needed m levels budget s vs (pred levels) h) ∙ demand-idles m ws rs levels sh))
+
+  pub drained-left : d .left ≡ false
+  drained-left = go (d .left) refl
+    where
+      left-is : d .left ≡ pending m levels (idles m levels (d .cycles) s vs .state)
+      left-is = drain-left m levels budget s vs shape ∙ ap (pending m levels) (drain-state m levels budget s vs .1)
+
+      go : (b : Bool) → d .left ≡ b → b ≡ false
+      go false e = refl
+      go true e =
+          let all : d .cycles ≡ pred levels = omega (arith, drain-spent m levels budget s vs shape drained-fine e, drained-few) in
+          sym e ∙ left-is ∙ ap (λ (n : ℕ). pending m levels (idles m levels n s vs .state)) all ∙ demand-idles m ws rs levels sh
+
+  pub drained-words : d .words ≡ besideWords m levels rs false (start m levels ws)
+  drained-words =
+      drain-state m levels budget s vs .0
+      ∙ demand-store m ws rs levels sh (d .cycles)
+      (ap (pending m levels) (sym (drain-state m levels budget s vs .1)) ∙ sym (drain-left m levels budget s vs shape) ∙ drained-left)
 
 -- PINNED: what a contract says of answer, words and state allows one outcome only
 pub pinned : (o : CycleOutcome) (a b : Answer) (v w : List ℕ) (s u : State) → cycleOutcome a v s ≡ o → cycleOutcome b w u ≡ o → (a ≡ b) × (v ≡ w) × (s ≡ u)
