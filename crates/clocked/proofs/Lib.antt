@@ -1,5 +1,4 @@
 pub mod Beat
-pub mod Level
 pub mod Round
 pub mod Request
 pub mod Whole

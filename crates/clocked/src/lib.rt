@@ -12,7 +12,8 @@ ghost use Rattle.clocked_model.specs.Cycle.{cycleOk, cycleWords, quiet};
 ghost use Rattle.clocked_model.specs.Records.{landed, worksOf, recordsAfter};
 ghost use Rattle.tree_model.specs.Calls.{shapeOk, ruling, verdict, counted};
 ghost use Rattle.clocked_model.specs.Calls.{recordCount, asks, popsOrReplaces, isRefused, heard, marks, askedOk, cycleOutcome, ticked, fresh, restarted, drainOutcome, drainFrom, drains};
-ghost use Rattle.clocked.specs.Beat.{Lies, Steps, Turns, Rooted, allOk, recordsTurned, wordsTurned, stateOf, pair};
+ghost use Rattle.tree.specs.Down.{Lies};
+ghost use Rattle.clocked.specs.Beat.{Steps, Turns, Rooted, allOk, recordsTurned, wordsTurned, stateOf, pair};
 use clocked_model::Cycled;
 use clocked_model::Drained;
 use clocked_model::State;
@@ -86,7 +87,7 @@ fn land(carry: Work, own: Work) -> Work
 
 // Whether the step of a level's work meets no damage, with `below` levels below.
 fn work_ok(s: &[u32], order: usize, below: usize, base: usize, width: usize, w: Work) -> bool
-    requires { ⌜ Lies order (suc below) base width (now s) ⌝ }
+    requires { ⌜ Lies order (suc below) base width 0 (now s) ⌝ }
     ensures { λ r. ⌜ r ≡ fine order below w (levelOf order (now (s .entry)) base width) (top below (under order below (now (s .entry)) base width)) ⌝ }
 {
     let op = w.op;
@@ -137,7 +138,7 @@ fn records_ok(
     at: usize,
     records: [Work; 10],
 ) -> bool
-    requires { ⌜ Lies order left base width (now s) × (at + left ≤ recordCount) ⌝ }
+    requires { ⌜ Lies order left base width 0 (now s) × (at + left ≤ recordCount) ⌝ }
     ensures { λ r. ⌜ r ≡ cycleOk order left (worksOf left records at) (levelsOf order left (now (s .entry)) base width) ⌝ }
 {
     if left == 0 {
