@@ -1,6 +1,6 @@
 pub mod Beat
-pub mod Level
 pub mod Round
 pub mod Request
 pub mod Whole
 pub mod Public
+pub mod Drains

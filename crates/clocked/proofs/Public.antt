@@ -17,7 +17,7 @@ use Rattle.strip.specs.declared.Refusal.the-variants.{BadShape, Damaged}
 use Rattle.strip.specs.declared.Request.{Request}
 use Rattle.tree_model.proofs.Exactly.{order-pos, shape-is}
 use Rattle.tree_model.proofs.Words.{size-room}
-use Rattle.tree_model.specs.Calls.{cleared, Outcome, outcome, Ruling, ruling, shapeOk, verdict}
+use Rattle.tree_model.specs.Calls.{cleared, outcome, Outcome, Ruling, ruling, shapeOk, verdict}
 use Rattle.tree_model.specs.Levels.{idle}
 use Rattle.tree_model.specs.Promise.{Shape}
 use Rattle.tree_model.specs.declared.Op.{Op}
@@ -40,6 +40,7 @@ module _ (m levels : ℕ) (ws : List ℕ) (t : Bool) (shaped : t ≡ shapeOk m l
         lies = record {
           order = order-pos sh;
           few = order-few m levels (length ws) sh;
+          node = omega arith;
           words = omega (arith, sh .slice, size-room m levels 1);
           small = omega (arith, sh .capacity, size-room m levels 1);
         };

@@ -8,7 +8,7 @@ use mathlib.Core.Path.{_∙_, _≡_, ap, ap₂, sym}
 use lib.Dec.{eqb, ltb}
 use borrow.Author.Tests.{eq-eqb, le-ltb, lt-ltb, ne-eqb}
 use Rattle.clocked_model.specs.Calls.{heard, popsOrReplaces}
-use Rattle.clocked.specs.Beat.{Lies, Rooted}
+use Rattle.clocked.specs.Beat.{Rooted}
 use Rattle.node.specs.Scan.{Capacity, NodeIn}
 use Rattle.strip.specs.Answers.{key}
 use Rattle.strip.specs.declared.Answer.{Answer}
@@ -17,6 +17,7 @@ use Rattle.strip.specs.declared.Element.{Element}
 use Rattle.strip.specs.declared.Refusal.the-variants.{Empty, Full, TooSoon}
 use Rattle.strip.specs.declared.Request.{Request}
 use Rattle.strip.specs.declared.Request.the-variants.{Idle, Pop, Push, Replace}
+use Rattle.tree.specs.Down.{Lies}
 use Rattle.tree_model.specs.Calls.{rootOf, rule, ruling, slotLimit, verdict}
 use Rattle.tree_model.specs.Damage.{room}
 use Rattle.tree_model.specs.Node.{low, sumCounts}
@@ -37,7 +38,7 @@ module _ (m levels : ℕ) (ws : List ℕ) where
   unfolding size
   root-in r = go levels (r .lies) (r .some)
     where
-      go : (k : ℕ) → Lies m k 0 1 ws → 1 ≤ k → NodeIn m 0 ws
+      go : (k : ℕ) → Lies m k 0 1 0 ws → 1 ≤ k → NodeIn m 0 ws
       go zero lies h = absurd (not-suc-le-zero h)
       go (suc k) lies h = record { order = lies .order; words = omega (arith, lies .words) }
 

@@ -4,48 +4,25 @@ use native.Mathlib.Numerals.{add-one}
 use native.Mathlib.Omega.{arith}
 use mathlib.Core.Bool.{_&&_, Bool, false, not, true}
 use mathlib.Core.List.{List}
-use mathlib.Core.Path.{_∙_, _≡_, ap, ap₂, refl, subst, sym}
+use mathlib.Core.Path.{_∙_, _≡_, ap, ap₂, subst, sym}
 use lib.ListN.{getD, length, set}
 use borrow.Author.Tests.{not-false, not-true}
 use Rattle.clocked_model.proofs.Turn.{works-set}
 use Rattle.clocked_model.specs.Cycle.{cycleOk, cycleWords, quiet, Works}
 use Rattle.clocked_model.specs.Records.{landed, recordAt, recordsAfter, worksOf}
-use Rattle.clocked.specs.Beat.{Lies, Steps, Turns}
+use Rattle.clocked.proofs.Beat.{fine-plain, level-here, rest-plain, words-plain}
+use Rattle.clocked.specs.Beat.{Steps, Turns}
 use Rattle.laws.specs.Tests.{and-left, and-right}
-use Rattle.tree_model.proofs.Nothing.{op-work, work-none}
+use Rattle.tree.specs.Down.{Lies}
+use Rattle.tree_model.proofs.Nothing.{op-work}
 use Rattle.tree_model.proofs.Promises.{undamaged}
 use Rattle.tree_model.proofs.Words.{step-length, step-words}
 use Rattle.tree_model.specs.Calls.{slotLimit}
 use Rattle.tree_model.specs.Damage.{fine}
-use Rattle.tree_model.specs.Levels.{idle, Level, Levels, stepWork, top, work}
+use Rattle.tree_model.specs.Levels.{idle, Levels, stepWork, top, work}
 use Rattle.tree_model.specs.Node.{isNothing}
 use Rattle.tree_model.specs.Words.{levelOf, levelsOf, restWords, size, stepWords, under, width}
-use Rattle.tree_model.specs.declared.Op.{Op}
-use Rattle.tree_model.specs.declared.Op.the-variants.{Nothing, Put, Swap, Take}
 use Rattle.tree_model.specs.declared.Work.{Work}
-
--- ---- a record's numbers that its kind does not use are not read
-module _ (m k : ℕ) where
-  fine-plain : (o : Op) (n : ℕ) (l below : Level) → fine m k (work o n) l below ≡ fine m k (record { op = o; node = n }) l below
-  unfolding fine work isNothing
-  fine-plain Nothing n l below = refl
-  fine-plain (Put x) n l below = refl
-  fine-plain Take n l below = refl
-  fine-plain (Swap x) n l below = refl
-
-  rest-plain : (o : Op) (n : ℕ) (l below : Level) → stepWork m (work o n) l below ≡ stepWork m (record { op = o; node = n }) l below
-  unfolding work
-  rest-plain Nothing n l below = work-none m idle l below refl ∙ sym (work-none m (record { op = Nothing; node = n }) l below refl)
-  rest-plain (Put x) n l below = refl
-  rest-plain Take n l below = refl
-  rest-plain (Swap x) n l below = refl
-
-  words-plain : (o : Op) (n b c : ℕ) (ws : List ℕ) → stepWords m k (work o n) b c ws ≡ stepWords m k (record { op = o; node = n }) b c ws
-  unfolding stepWords work isNothing
-  words-plain Nothing n b c ws = refl
-  words-plain (Put x) n b c ws = refl
-  words-plain Take n b c ws = refl
-  words-plain (Swap x) n b c ws = refl
 
 pub one-more : (left : ℕ) → (left ≡ 0 → ⊥) → left ≡ suc (left - 1)
 one-more left h = omega arith
@@ -55,17 +32,23 @@ module _ (m k left b c i : ℕ) (rs : List Work) (ws : List ℕ) (e : left ≡ s
   abbrev own : Work
   own = getD rs i idle
 
-  pub lies-here : Lies m left b c ws → Lies m (suc k) b c ws
-  lies-here lies = subst (λ (n : ℕ). Lies m n b c ws) e lies
+  pub lies-here : Lies m left b c 0 ws → Lies m (suc k) b c 0 ws
+  lies-here lies = subst (λ (n : ℕ). Lies m n b c 0 ws) e lies
 
-  pub lies-below : Lies m left b c ws → Lies m k (b + c * m) (c * m) ws
+  pub lies-below : Lies m left b c 0 ws → Lies m k (b + c * m) (c * m) 0 ws
   unfolding size
   lies-below lies =
       let at = lies-here lies in
-      record { order = at .order; few = at .few; words = omega (arith, at .words); small = omega (arith, at .small) }
+      record {
+        order = at .order;
+        few = at .few;
+        node = omega (arith, at .order, level-here m k b c 0 ws at (at .node) .own);
+        words = omega (arith, at .words);
+        small = omega (arith, at .small);
+      }
 
   -- the next level's first slot and its nodes are small numbers
-  pub next-small : Lies m left b c ws → b + c * m ≤ slotLimit
+  pub next-small : Lies m left b c 0 ws → b + c * m ≤ slotLimit
   unfolding size
   next-small lies = omega (arith, lies-here lies .small)
 
@@ -100,7 +83,7 @@ module _ (m k left b c i : ℕ) (rs : List Work) (ws : List ℕ) (e : left ≡ s
           ∙ ap (λ (l : Levels (suc k)). l .1)
           (step-words m (ok .lies .order) k own b c ws (level-words (ok .lies)) (steps-here .undamaged))
         where
-          level-words : Lies m left b c ws → width * (b + c * m) ≤ length ws
+          level-words : Lies m left b c 0 ws → width * (b + c * m) ≤ length ws
           level-words lies = omega (arith, lies-below lies .words)
 
       works-stand : worksOf k (set rs i landing) (i + 1) ≡ worksOf k rs (i + 1)
@@ -110,7 +93,7 @@ module _ (m k left b c i : ℕ) (rs : List Work) (ws : List ℕ) (e : left ≡ s
       turns-below =
           let lies = lies-below (ok .lies) in
           record {
-            lies = record { order = lies .order; few = lies .few; words = omega (arith, lies .words, ap length wrote, step-length m k own b c ws); small = lies .small };
+            lies = record { order = lies .order; few = lies .few; node = lies .node; words = omega (arith, lies .words, ap length wrote, step-length m k own b c ws); small = lies .small };
             records = omega (arith, ok .records);
             undamaged = ap₂ (cycleOk m k) works-stand below-stands ∙ and-right (fine m k own (levelOf m ws b c) (top k (under m k ws b c))) _ both;
           }

@@ -11,10 +11,11 @@ use Rattle.clocked_model.specs.Calls.{askedOk, asks, recordCount}
 use Rattle.clocked_model.specs.Cycle.{cycleOk, cycleWords, Works}
 use Rattle.clocked_model.specs.Records.{recordsAfter, worksOf}
 use Rattle.clocked.proofs.Request.{root-in}
-use Rattle.clocked.specs.Beat.{allOk, Lies, recordsTurned, Rooted, Steps, Turns, wordsTurned}
+use Rattle.clocked.specs.Beat.{allOk, recordsTurned, Rooted, Steps, Turns, wordsTurned}
 use Rattle.laws.specs.Tests.{and-left, and-right, sub-one}
 use Rattle.node.specs.Scan.{Capacity, NodeIn}
 use Rattle.strip.specs.declared.Request.{Request}
+use Rattle.tree.specs.Down.{Lies}
 use Rattle.tree_model.proofs.Promises.{undamaged}
 use Rattle.tree_model.proofs.Words.{step-length, step-words}
 use Rattle.tree_model.specs.Calls.{slotLimit}
@@ -35,16 +36,16 @@ module _ (m levels : ℕ) (ws : List ℕ) (r : Rooted m levels ws) where
   pub few-below : levels - 1 ≤ recordCount
   few-below = omega (arith, r .records, same-below levels)
 
-  pub root-lies : Lies m (suc (levels - 1)) 0 1 ws
-  root-lies = subst (λ (n : ℕ). Lies m n 0 1 ws) (below-root levels (r .some)) (r .lies)
+  pub root-lies : Lies m (suc (levels - 1)) 0 1 0 ws
+  root-lies = subst (λ (n : ℕ). Lies m n 0 1 0 ws) (below-root levels (r .some)) (r .lies)
 
   -- level 2 begins at slot m and has m nodes
-  pub second-lies : Lies m (levels - 1) m m ws
+  pub second-lies : Lies m (levels - 1) m m 0 ws
   unfolding size
   second-lies =
       let lies = root-lies in
       let one : size m (levels - 1) (1 * m) ≡ size m (levels - 1) m = ap (size m (levels - 1)) (omega arith) in
-      record { order = lies .order; few = lies .few; words = omega (arith, lies .words, one); small = omega (arith, lies .small, one) }
+      record { order = lies .order; few = lies .few; node = lies .order; words = omega (arith, lies .words, one); small = omega (arith, lies .small, one) }
 
   pub room-below : room m (levels - 1) ≤ slotLimit
   unfolding room
@@ -108,7 +109,7 @@ module _ (m levels : ℕ) (o : Op) (rs : List Work) (ws : List ℕ) (w : Work) (
       second-turns =
           let lies = second-lies m levels ws rooted in
           record {
-            lies = record { order = lies .order; few = lies .few; words = omega (arith, lies .words, ap length wrote, step-length m (levels - 1) w 0 1 ws); small = lies .small };
+            lies = record { order = lies .order; few = lies .few; node = lies .order; words = omega (arith, lies .words, ap length wrote, step-length m (levels - 1) w 0 1 ws); small = lies .small };
             records = omega (arith, few-below m levels ws rooted);
             undamaged = ap (cycleOk m (levels - 1) (worksOf (levels - 1) rs 0)) (second-stands ∙ sym (second-level m (levels - 1) ws)) ∙ and-right rootFine restFine (sym all-split ∙ ok);
           }

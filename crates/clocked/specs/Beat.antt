@@ -1,9 +1,8 @@
 -- What the steps and recursions of a cycle ask of the words and records. Assumes nothing: these are definitions.
-use Prim.Native.Nat.{_*_, _+_, _<_, _≤_, pred, suc, ℕ}
+use Prim.Native.Nat.{_+_, _≤_, pred, suc, ℕ}
 use mathlib.Core.Bool.{Bool, true}
 use mathlib.Core.List.{List}
 use mathlib.Core.Path.{_≡_}
-use lib.ListN.{length}
 use Rattle.clocked_model.specs.Calls.{recordCount}
 use Rattle.clocked_model.specs.Cycle.{cycleOk, cycleWords, Works}
 use Rattle.clocked_model.specs.Records.{recordsAfter, worksOf}
@@ -11,43 +10,28 @@ use Rattle.clocked_model.specs.declared.State.{State}
 use Rattle.strip.specs.declared.Element.{Element}
 use Rattle.strip.specs.declared.Rank.{Rank}
 use Rattle.strip.specs.declared.Tag.{Tag}
+use Rattle.tree.specs.Down.{Lies}
 use Rattle.tree_model.specs.Calls.{slotLimit}
 use Rattle.tree_model.specs.Damage.{fine, room}
 use Rattle.tree_model.specs.Levels.{top, work}
-use Rattle.tree_model.specs.Words.{levelOf, levelsOf, restWords, size, under, width}
+use Rattle.tree_model.specs.Words.{levelOf, levelsOf, restWords, under}
 use Rattle.tree_model.specs.declared.Op.{Op}
 use Rattle.tree_model.specs.declared.Work.{Work}
 
--- k levels, the first of c nodes at slot b, lie within the words and within the limit
-pub record Lies (m k b c : ℕ) (ws : List ℕ) : Type 0 where
-  pub order : 0 < m
-  pub few : m ≤ 8
-  pub words : width * (b + size m k c) ≤ length ws
-  pub small : b + size m k c ≤ slotLimit
-
--- .. and the work of the first of them meets no damage
+-- the work of the first of so many levels that lie within the words meets no damage
 pub record Steps (m k b c : ℕ) (w : Work) (ws : List ℕ) : Type 0 where
-  pub lies : Lies m (suc k) b c ws
+  pub lies : Lies m (suc k) b c 0 ws
   pub undamaged : fine m k w (levelOf m ws b c) (top k (under m k ws b c)) ≡ true
 
 -- .. and so does that of all the records from record i
 pub record Turns (m k b c i : ℕ) (rs : List Work) (ws : List ℕ) : Type 0 where
-  pub lies : Lies m k b c ws
+  pub lies : Lies m k b c 0 ws
   pub records : i + k ≤ recordCount
   pub undamaged : cycleOk m k (worksOf k rs i) (levelsOf m k ws b c) ≡ true
 
--- node n of the first of those levels, with k levels below it: products met once
-pub record Fits (m k b c n : ℕ) (ws : List ℕ) : Type 0 where
-  pub row : n * m + m ≤ c * m
-  pub words : width * (b + c * m) ≤ length ws
-  pub small : b + c * m ≤ slotLimit
-  pub wide : n * m * m ≤ slotLimit * 8
-  pub limit : room m (suc k) ≤ slotLimit
-  pub children : 1 ≤ k → width * (b + c * m + n * m * m + m * m) ≤ length ws
-
 -- a shape that passes: all levels lie within the words, and there is a record for each from 2
 pub record Rooted (m levels : ℕ) (ws : List ℕ) : Type 0 where
-  pub lies : Lies m levels 0 1 ws
+  pub lies : Lies m levels 0 1 0 ws
   pub some : 1 ≤ levels
   pub capacity : room m levels ≤ slotLimit
   pub records : pred levels ≤ recordCount

@@ -2,17 +2,20 @@
 // slot and how many nodes it has.
 ghost use mathlib.Core.Path.{_≡_};
 ghost use mathlib.Core.Bool.{true};
-ghost use Prim.Native.Nat.{suc, _+_, _≤_};
+ghost use Prim.Native.Nat.{suc, _+_, _≤_, _<_};
+ghost use lib.ListN.{length};
 ghost use Rattle.tree_model.specs.Levels.{idle, work, top};
 ghost use Rattle.tree_model.specs.Words.{levelOf, levelsOf, under, stepWords, restWords};
 ghost use Rattle.tree_model.specs.Damage.{fine};
 ghost use Rattle.tree_model.specs.Node.{isNothing};
 ghost use Rattle.clocked_model.specs.Cycle.{cycleOk, cycleWords, quiet};
 ghost use Rattle.clocked_model.specs.Records.{landed, worksOf, recordsAfter};
-ghost use Rattle.tree_model.specs.Calls.{ruling, verdict, counted};
-ghost use Rattle.clocked_model.specs.Calls.{recordCount, asks, popsOrReplaces, isRefused, heard, marks, askedOk, cycleOutcome, ticked, fresh, restarted};
-ghost use Rattle.clocked.specs.Beat.{Lies, Steps, Turns, Rooted, allOk, recordsTurned, wordsTurned, stateOf, pair};
+ghost use Rattle.tree_model.specs.Calls.{shapeOk, ruling, verdict, counted};
+ghost use Rattle.clocked_model.specs.Calls.{recordCount, asks, popsOrReplaces, isRefused, heard, marks, askedOk, cycleOutcome, ticked, fresh, restarted, drainOutcome, drainFrom, drains};
+ghost use Rattle.tree.specs.Down.{Lies};
+ghost use Rattle.clocked.specs.Beat.{Steps, Turns, Rooted, allOk, recordsTurned, wordsTurned, stateOf, pair};
 use clocked_model::Cycled;
+use clocked_model::Drained;
 use clocked_model::State;
 use node::capacity;
 use node::lower;
@@ -84,7 +87,7 @@ fn land(carry: Work, own: Work) -> Work
 
 // Whether the step of a level's work meets no damage, with `below` levels below.
 fn work_ok(s: &[u32], order: usize, below: usize, base: usize, width: usize, w: Work) -> bool
-    requires { ⌜ Lies order (suc below) base width (now s) ⌝ }
+    requires { ⌜ Lies order (suc below) base width 0 (now s) ⌝ }
     ensures { λ r. ⌜ r ≡ fine order below w (levelOf order (now (s .entry)) base width) (top below (under order below (now (s .entry)) base width)) ⌝ }
 {
     let op = w.op;
@@ -135,7 +138,7 @@ fn records_ok(
     at: usize,
     records: [Work; 10],
 ) -> bool
-    requires { ⌜ Lies order left base width (now s) × (at + left ≤ recordCount) ⌝ }
+    requires { ⌜ Lies order left base width 0 (now s) × (at + left ≤ recordCount) ⌝ }
     ensures { λ r. ⌜ r ≡ cycleOk order left (worksOf left records at) (levelsOf order left (now (s .entry)) base width) ⌝ }
 {
     if left == 0 {
@@ -447,4 +450,54 @@ fn is_quiet(left: usize, at: usize, records: [Work; 10]) -> bool
         return false;
     }
     is_quiet(left - 1, at + 1, records)
+}
+
+fn report(answer: Answer, cycles: usize, left: bool, state: State) -> Drained
+    ensures { λ r. ⌜ (r .answer ≡ answer) × (r .cycles ≡ cycles) × (r .left ≡ left) × (r .state ≡ state) ⌝ }
+{
+    Drained {
+        answer,
+        cycles,
+        left,
+        state,
+    }
+}
+
+// Idle cycles until nothing is pending or the budget is spent, after so many already run. Each leaves one more level with nothing to do,
+// so that no more are run than there are levels from 2, whatever the budget.
+fn drain_from(
+    store: &mut [u32],
+    order: usize,
+    levels: usize,
+    budget: usize,
+    run: usize,
+    state: State,
+) -> Drained
+    requires { ⌜ (shapeOk order levels (length (now store)) ≡ true) × (run + budget < 18446744073709551616) ⌝ }
+    ensures { λ r. ⌜ drainOutcome (r .answer) (r .cycles) (r .left) (now (store .exit)) (r .state) ≡ drainFrom order levels budget run state (now (store .entry)) ⌝ }
+{
+    let records = state.records;
+    if is_quiet(levels - 1, 0, records) {
+        return report(Answer::Done, run, false, state);
+    }
+    if budget == 0 {
+        return report(Answer::Done, run, true, state);
+    }
+    let c = cycle(store, order, levels, state, Request::Idle);
+    let answer = c.answer;
+    let next = c.state;
+    if is_refused(answer) {
+        return report(answer, run, true, next);
+    }
+    drain_from(store, order, levels, budget - 1, run + 1, next)
+}
+
+// Idle cycles until nothing is pending or the budget is spent: how many were run, and whether work is left.
+pub fn drain(store: &mut [u32], order: usize, levels: usize, state: State, budget: usize) -> Drained
+    ensures { λ r. ⌜ drainOutcome (r .answer) (r .cycles) (r .left) (now (store .exit)) (r .state) ≡ drains order levels budget state (now (store .entry)) ⌝ }
+{
+    if !shape_ok(order, levels, store.len()) {
+        return report(Answer::Refused(Refusal::BadShape), 0, false, state);
+    }
+    drain_from(store, order, levels, budget, 0, state)
 }

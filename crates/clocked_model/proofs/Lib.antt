@@ -4,3 +4,7 @@ pub mod Turn
 pub mod Step
 pub mod Same
 pub mod Demand
+pub mod Exactly
+pub mod Drain
+pub mod Promises
+pub mod Cases

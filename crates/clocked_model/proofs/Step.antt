@@ -198,10 +198,10 @@ module _ (m k : ℕ) (s : State) (ws vs : List ℕ) (i : InStep m k s ws vs) whe
     ready-whole = (ap (pathOk m (suc k) w) (i .final) ∙ way, i .ready)
 
     -- no damage
-    steps-fine : stepsOk m (suc k) (g .op) s ws ≡ true
+    pub steps-fine : stepsOk m (suc k) (g .op) s ws ≡ true
     steps-fine = cycle-fine m (suc k) p ls spaced-whole ready-whole
 
-    root-fine : askedOk m (suc k) r ws ≡ true
+    pub root-fine : askedOk m (suc k) r ws ≡ true
     root-fine = or-right (not (asks r)) _ (ap (nodeOk (room m k)) same-root ∙ sound-root m k vs (i .kept))
 
     pub ticks : ticked m (suc k) r s ws ≡ turned m (suc k) r g s ws

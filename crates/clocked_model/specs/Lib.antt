@@ -3,3 +3,4 @@ pub mod Records
 pub mod Settle
 pub mod Calls
 pub mod Promise
+pub mod Cases

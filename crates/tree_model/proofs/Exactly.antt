@@ -194,12 +194,12 @@ module _ (m levels : ℕ) (r : Request) (ws : List ℕ) where
   answer-of o e = ap (λ (o : Outcome). o .answer) e
 
 -- what a request comes to at a root in order: no refusal, or 5 or 6 with its cause
-data Ruled (m levels : ℕ) (r : Request) (ws : List ℕ) (a : Answer) : Type 0 where
+pub data Ruled (m levels : ℕ) (r : Request) (ws : List ℕ) (a : Answer) : Type 0 where
   accepted : ((n : Refusal) → a ≡ Refused n → ⊥) → Ruled m levels r ws a
   full : a ≡ Refused Full → IsPush r → sumCounts (rootOf m ws) ≡ room m levels → Ruled m levels r ws a
   empty : a ≡ Refused Empty → IsPop r → sumCounts (rootOf m ws) ≡ 0 → Ruled m levels r ws a
 
-no-refusal-done : (n : Refusal) → _≡_ {A = Answer} Done (Refused n) → ⊥
+pub no-refusal-done : (n : Refusal) → _≡_ {A = Answer} Done (Refused n) → ⊥
 no-refusal-done n e = let z : _≡_ {A = ℕ} 0 1 = cc in omega arith
 
 no-refusal-out : (x : Element) (n : Refusal) → _≡_ {A = Answer} (Out x) (Refused n) → ⊥
@@ -209,7 +209,7 @@ module _ (m levels : ℕ) (ws : List ℕ) (limit : sumCounts (rootOf m ws) ≤ r
   abbrev root : List Slot
   root = rootOf m ws
 
-  ruled-as : (r : Request) → Ruled m levels r ws (verdict m levels r ws .answer)
+  pub ruled-as : (r : Request) → Ruled m levels r ws (verdict m levels r ws .answer)
   unfolding rule
   ruled-as Idle = accepted no-refusal-done
   ruled-as (Push x) = go (ltb (sumCounts root) (room m levels)) refl
@@ -292,14 +292,14 @@ module _ (m levels : ℕ) (r : Request) (ws : List ℕ) where
   fine-answer : Shape m levels (length ws) → (Damage m levels r ws → ⊥) → A ≡ verdict m levels r ws .answer
   fine-answer s d = answer-of m levels r ws _ (called-fine m levels r ws (is-shape m levels (length ws) s) (no-root-damage d) (no-way-damage d))
 
-full-answer : (m levels : ℕ) (r : Request) (ws : List ℕ) → IsPush r → sumCounts (rootOf m ws) ≡ room m levels → verdict m levels r ws .answer ≡ Refused Full
+pub full-answer : (m levels : ℕ) (r : Request) (ws : List ℕ) → IsPush r → sumCounts (rootOf m ws) ≡ room m levels → verdict m levels r ws .answer ≡ Refused Full
 unfolding rule
 full-answer m levels Idle ws p q = absurd p
 full-answer m levels (Push x) ws p q = rw (le-ltb (sumCounts (rootOf m ws)) (room m levels) (omega arith))
 full-answer m levels Pop ws p q = absurd p
 full-answer m levels (Replace x) ws p q = absurd p
 
-empty-answer : (m levels : ℕ) (r : Request) (ws : List ℕ) → IsPop r → sumCounts (rootOf m ws) ≡ 0 → verdict m levels r ws .answer ≡ Refused Empty
+pub empty-answer : (m levels : ℕ) (r : Request) (ws : List ℕ) → IsPop r → sumCounts (rootOf m ws) ≡ 0 → verdict m levels r ws .answer ≡ Refused Empty
 unfolding rule
 empty-answer m levels Idle ws p q = absurd p
 empty-answer m levels (Push x) ws p q = absurd p
@@ -341,7 +341,7 @@ words-none m (suc k) w b c ws e =
     ∙ ap (λ (o : Op). stepWords m k (record { op = o; node = w .node }) b c ws) e
 
 -- a refusal of the rule has no work
-refused-idle : (c : ℕ) (r : Request) (nd : List Slot) (n : Refusal) → rule c r nd .answer ≡ Refused n → rule c r nd .op ≡ Nothing
+pub refused-idle : (c : ℕ) (r : Request) (nd : List Slot) (n : Refusal) → rule c r nd .answer ≡ Refused n → rule c r nd .op ≡ Nothing
 unfolding rule
 refused-idle c Idle nd n e = refl
 refused-idle c (Push x) nd n e = go (ltb (sumCounts nd) c) e

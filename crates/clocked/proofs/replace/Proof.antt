@@ -1,0 +1,19 @@
+-- `clocked::replace` meets its contract. Assumes nothing.
+use borrow.Author.Needs.{needs}
+use Rattle.clocked.proofs.replace.Statement.{statement}
+use Rattle.clocked.proofs.replace.Tie as tie
+use Rattle.clocked.proofs.replace.Reads as reads
+use Rattle.clocked.proofs.replace.Lts as lts
+use Rattle.clocked.proofs.cycle.Reads as cycle-reads
+
+cycle-requires : tie.Need-cycle-requires
+cycle-requires c κs = search needs
+
+same-length : tie.Need-same-length
+same-length c = search needs
+
+returns : tie.Need-returns
+returns c = search needs
+
+pub replace-spec : {M : Type 1} → statement M
+replace-spec = tie.close (tie.spec cycle-requires same-length returns)
