@@ -27,12 +27,11 @@ use Rattle.strip.specs.declared.Refusal.the-variants.{BadRank, BadShape, Damage
 use Rattle.strip.specs.declared.Request.{Request}
 use Rattle.strip.specs.declared.Request.the-variants.{Idle, Pop, Push, Replace}
 use Rattle.tree_model.proofs.Exactly.{is-shape, order-pos}
-use Rattle.tree_model.proofs.Promises.{after, start}
 use Rattle.tree_model.proofs.Words.{size-room}
 use Rattle.tree_model.specs.Calls.{called, counted, outcome, Ruling}
 use Rattle.tree_model.specs.Damage.{room}
 use Rattle.tree_model.specs.Levels.{idle, work}
-use Rattle.tree_model.specs.Promise.{allBrought, allGiven, answers, leaves, same, Shape, stored}
+use Rattle.tree_model.specs.Promise.{after, allBrought, allGiven, answers, leaves, same, Shape, start, stored}
 use Rattle.tree_model.specs.Serve.{brought, given, Least}
 use Rattle.tree_model.specs.Tree.{always}
 use Rattle.tree_model.specs.Words.{levelsOf, size, under, width}
