@@ -7,18 +7,22 @@ use mathlib.Core.Bool.{Bool, cond, false, true}
 use mathlib.Core.List.{[], List}
 use mathlib.Core.Path.{_∙_, _≡_, ap, ap₂, refl, subst, sym}
 use lib.ListN.{length, length-append}
-use Rattle.clocked_model.specs.Calls.{CycleOutcome, cycleOutcome, ticked}
+use borrow.Author.Tests.{le-leb, lt-leb}
+use Rattle.clocked_model.specs.Calls.{cycleOutcome, CycleOutcome, DrainOutcome, drainOutcome, drains, ticked}
 use Rattle.clocked_model.specs.declared.State.{State}
+use Rattle.strip.specs.Answers.{countOf}
 use Rattle.strip.specs.declared.Answer.{Answer}
+use Rattle.strip.specs.declared.Count.{Count}
 use Rattle.strip.specs.declared.Request.{Request}
-use Rattle.text.proofs.Laws.{overlay-append}
-use Rattle.text.specs.Text.{Laid, overlay}
+use Rattle.text.proofs.Laws.{decimal-short, overlay-append}
+use Rattle.text.specs.Text.{decimal, Laid, overlay}
 use Rattle.trace.proofs.Lines.{line-short}
 use Rattle.trace.specs.Format.{entryAt, lineOf}
-use Rattle.trace.specs.Play.{begun, cycleTurn, nextNumber, playedAs, ranTo, Run, stoppedAt, Turn, turnBy, turnOf}
+use Rattle.trace.specs.Play.{badLine, begun, cycleTurn, endLine, endOf, ifRoom, nextNumber, playedAs, ranTo, Run, stoppedAt, Turn, turnBy, turnOf}
 use Rattle.trace.specs.declared.Played.{Played}
 use Rattle.trace.specs.declared.Record.{Record}
 use Rattle.trace.specs.declared.Record.the-variants.{Bad, Good}
+use Rattle.tree_model.specs.Calls.{counted}
 
 -- ---- one good record
 pub cycle-turn : (m levels : ℕ) (r : Request) (p : Played) (ws : List ℕ) (a : Answer) (vs : List ℕ) (s : State) (n w : ℕ) (before after : List ℕ)
@@ -148,7 +152,41 @@ module _ (m levels : ℕ) (bs : List ℕ) (s : State) (n : ℕ) (ws out : List �
 
   pub at-end : (i k : ℕ) (vs : List ℕ) (p : Played) (o : List ℕ) → At i vs p o → i ≡ k → k ≡ min (length bs / 9) (length out / 72)
       → (p ≡ playedAs m levels s n bs (length out) ws .run) × (vs ≡ playedAs m levels s n bs (length out) ws .words) × (o ≡ overlay out 0 (playedAs m levels s n bs (length out) ws .text))
+      × (p .written ≤ length out)
   unfolding playedAs
   at-end i k vs p o a e f =
       let z = subst (λ (j : ℕ). At j vs p o) (e ∙ f) a in
-      (z .run, z .words, z .text)
+      let w : p .written ≤ 72 * min (length bs / 9) (length out / 72) = subst (λ (q : Played). q .written ≤ 72 * min (length bs / 9) (length out / 72)) (sym (z .run)) (kept m levels bs (min (length bs / 9) (length out / 72)) s n ws .written) in
+      (z .run, z .words, z .text, omega (arith, min-le-right (length bs / 9) (length out / 72)))
+
+-- ---- the last line
+abbrev pub Wrote : List ℕ → List ℕ → List ℕ → ℕ → Type 0
+Wrote out line r p = (p ≡ length (ifRoom out line)) × (r ≡ overlay out 0 (ifRoom out line)) × (p ≤ length out)
+
+pub no-line : (out line : List ℕ) → length out < 72 → Wrote out line out 0
+unfolding overlay
+no-line out line h = rw (lt-leb 72 (length out) h) (refl, refl, omega arith)
+
+pub some-line : (out line r : List ℕ) (p : ℕ) → 72 ≤ length out → length line ≤ 72 → Laid out 0 line r p → Wrote out line r p
+some-line out line r p h short l = rw (le-leb 72 (length out) h) (l .0 ∙ zero-add (length line), l .1, omega (arith, l .0))
+
+pub bad-short : (n : ℕ) → length (badLine n) ≤ 72
+unfolding badLine decimal
+bad-short n = rw (length-append, length-append) (omega (arith, decimal-short 20 n))
+
+pub end-short : (h d : ℕ) → length (endLine h d) ≤ 72
+unfolding endLine decimal
+end-short h d = rw (length-append, length-append, length-append, length-append) (omega (arith, decimal-short 20 h, decimal-short 20 d))
+
+pub finished : (m levels : ℕ) (s : State) (ws out : List ℕ) (a : Answer) (n : ℕ) (left : Bool) (vs : List ℕ) (s′ : State) (c : Count) (h p : ℕ) (r : List ℕ)
+    → drainOutcome a n left vs s′ ≡ drains m levels levels s ws → c ≡ counted m levels vs → h ≡ countOf c → Wrote out (endLine h n) r p
+    → (p ≡ length (ifRoom out (endOf m levels s ws))) × (vs ≡ drains m levels levels s ws .words) × (r ≡ overlay out 0 (ifRoom out (endOf m levels s ws))) × (p ≤ length out)
+finished m levels s ws out a n left vs s′ c h p r e ec eh l =
+    subst (λ (o : DrainOutcome).
+    (p ≡ length (ifRoom out (endLine (countOf (counted m levels (o .words))) (o .cycles)))) × (vs ≡ o .words)
+    × (r ≡ overlay out 0 (ifRoom out (endLine (countOf (counted m levels (o .words))) (o .cycles)))) × (p ≤ length out)) e
+    (at-held (eh ∙ ap countOf ec))
+  where
+    at-held : h ≡ countOf (counted m levels vs)
+        → (p ≡ length (ifRoom out (endLine (countOf (counted m levels vs)) n))) × (vs ≡ vs) × (r ≡ overlay out 0 (ifRoom out (endLine (countOf (counted m levels vs)) n))) × (p ≤ length out)
+    at-held x = let k = subst (λ (h : ℕ). Wrote out (endLine h n) r p) x l in (k .0, refl, k .1, k .2)

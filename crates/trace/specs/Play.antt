@@ -1,15 +1,19 @@
 -- A run of records: "It runs one cycle a record and writes a line each". Assumes nothing: these are definitions.
 use Prim.Native.Nat.{_%_, _+_, _/_, _^_, min, suc, zero, ℕ}
 use mathlib.Core.Bool.{cond, false, true}
-use mathlib.Core.List.{[], _++_, List}
+use mathlib.Core.List.{[], _++_, _∷_, List}
+use lib.Dec.{leb}
 use lib.ListN.{length}
-use Rattle.clocked_model.specs.Calls.{ticked}
+use Rattle.clocked_model.specs.Calls.{drains, ticked}
 use Rattle.clocked_model.specs.declared.State.{State}
+use Rattle.strip.specs.Answers.{countOf}
 use Rattle.strip.specs.declared.Request.{Request}
+use Rattle.text.specs.Text.{decimal}
 use Rattle.trace.specs.Format.{entryAt, lineOf, longestLine, recordBytes}
 use Rattle.trace.specs.declared.Played.{Played}
 use Rattle.trace.specs.declared.Record.{Record}
 use Rattle.trace.specs.declared.Record.the-variants.{Bad, Good}
+use Rattle.tree_model.specs.Calls.{counted}
 use Rattle.tree_model.specs.Damage.{room}
 
 -- the number of the record after the one numbered n, in 64 bits
@@ -68,3 +72,22 @@ fits len room = min (len / recordBytes) (room / longestLine)
 -- the buffer played: what a run of its whole records makes of store and state, and the text
 unfoldable pub playedAs : ℕ → ℕ → State → ℕ → List ℕ → ℕ → List ℕ → Run
 playedAs m levels s n bs room ws = ranTo m levels bs (fits (length bs) room) (begun s n ws)
+
+-- ---- the last line
+-- held H drained D
+unfoldable pub endLine : ℕ → ℕ → List ℕ
+endLine h d = (104 ∷ 101 ∷ 108 ∷ 100 ∷ 32 ∷ []) ++ (decimal h ++ ((32 ∷ 100 ∷ 114 ∷ 97 ∷ 105 ∷ 110 ∷ 101 ∷ 100 ∷ 32 ∷ []) ++ (decimal d ++ (10 ∷ []))))
+
+-- bad record N
+unfoldable pub badLine : ℕ → List ℕ
+badLine n = (98 ∷ 97 ∷ 100 ∷ 32 ∷ 114 ∷ 101 ∷ 99 ∷ 111 ∷ 114 ∷ 100 ∷ 32 ∷ []) ++ (decimal n ++ (10 ∷ []))
+
+-- a line goes into a buffer that has room for any
+abbrev pub ifRoom : List ℕ → List ℕ → List ℕ
+ifRoom out line = cond (leb longestLine (length out)) line []
+
+-- "then it drains": the drain is given a cycle for each level, and what is held is asked afterwards
+abbrev pub endOf : ℕ → ℕ → State → List ℕ → List ℕ
+endOf m levels s ws =
+    let d = drains m levels levels s ws in
+    endLine (countOf (counted m levels (d .words))) (d .cycles)

@@ -4,7 +4,8 @@ ghost use Prim.Native.Nat.{_+_, _^_, _<_, _≤_, min};
 ghost use lib.ListN.{length};
 ghost use Rattle.text.specs.Text.{overlay};
 ghost use Rattle.trace.specs.Format.{longestLine, longestWord, recordBytes, numberAt, markOk, traceShape, headerOf, onlyBlank, entryAt, entryOf, doneWord, refusalWord, outWord, wordOf, lineOf};
-ghost use Rattle.trace.specs.Play.{cycleTurn, stoppedAt, turnOf, playedAs};
+ghost use Rattle.clocked_model.specs.Calls.{drains};
+ghost use Rattle.trace.specs.Play.{cycleTurn, stoppedAt, turnOf, playedAs, badLine, endLine, endOf, ifRoom};
 use clocked_model::State;
 use node::capacity;
 use strip::Answer;
@@ -274,7 +275,7 @@ pub fn play(
     bytes: &[u8],
     out: &mut [u8],
 ) -> Played
-    ensures { λ r. ⌜ (r ≡ playedAs order levels state number (now (bytes .entry)) (length (now (out .entry))) (now (store .entry)) .run) × (now (store .exit) ≡ playedAs order levels state number (now (bytes .entry)) (length (now (out .entry))) (now (store .entry)) .words) × (now (out .exit) ≡ overlay (now (out .entry)) 0 (playedAs order levels state number (now (bytes .entry)) (length (now (out .entry))) (now (store .entry)) .text)) ⌝ }
+    ensures { λ r. ⌜ (r ≡ playedAs order levels state number (now (bytes .entry)) (length (now (out .entry))) (now (store .entry)) .run) × (now (store .exit) ≡ playedAs order levels state number (now (bytes .entry)) (length (now (out .entry))) (now (store .entry)) .words) × (now (out .exit) ≡ overlay (now (out .entry)) 0 (playedAs order levels state number (now (bytes .entry)) (length (now (out .entry))) (now (store .entry)) .text)) × (r .written ≤ length (now (out .entry))) ⌝ }
 {
     let records = fewer(bytes.len() / 9, out.len() / 72);
     let mut run = Played {
@@ -290,4 +291,40 @@ pub fn play(
         i += 1;
     }
     run
+}
+
+// ---- the last line
+
+// The line of a bad record. A buffer without room for any line is left alone.
+pub fn put_bad(out: &mut [u8], number: u64) -> usize
+    ensures { λ r. ⌜ (r ≡ length (ifRoom (now (out .entry)) (badLine number))) × (now (out .exit) ≡ overlay (now (out .entry)) 0 (ifRoom (now (out .entry)) (badLine number))) × (r ≤ length (now (out .entry))) ⌝ }
+{
+    if out.len() < 72 {
+        return 0;
+    }
+    let a = put_bytes(out, 0, b"bad record ");
+    let b = put_number(out, a, number);
+    put_bytes(out, b, b"\n")
+}
+
+fn put_end(out: &mut [u8], held: u32, cycles: usize) -> usize
+    ensures { λ r. ⌜ (r ≡ length (ifRoom (now (out .entry)) (endLine held cycles))) × (now (out .exit) ≡ overlay (now (out .entry)) 0 (ifRoom (now (out .entry)) (endLine held cycles))) × (r ≤ length (now (out .entry))) ⌝ }
+{
+    if out.len() < 72 {
+        return 0;
+    }
+    let a = put_bytes(out, 0, b"held ");
+    let b = put_number(out, a, held as u64);
+    let c = put_bytes(out, b, b" drained ");
+    let d = put_number(out, c, cycles as u64);
+    put_bytes(out, d, b"\n")
+}
+
+// Drains the machine, and says how many are held and how many cycles that took.
+pub fn finish(store: &mut [u32], order: usize, levels: usize, state: State, out: &mut [u8]) -> usize
+    ensures { λ r. ⌜ (r ≡ length (ifRoom (now (out .entry)) (endOf order levels state (now (store .entry))))) × (now (store .exit) ≡ drains order levels levels state (now (store .entry)) .words) × (now (out .exit) ≡ overlay (now (out .entry)) 0 (ifRoom (now (out .entry)) (endOf order levels state (now (store .entry))))) × (r ≤ length (now (out .entry))) ⌝ }
+{
+    let d = clocked::drain(store, order, levels, state, levels);
+    let held = strip::counted(clocked::held(store, order, levels));
+    put_end(out, held, d.cycles)
 }

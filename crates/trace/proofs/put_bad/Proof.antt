@@ -1,0 +1,49 @@
+-- `trace::put_bad` meets its contract. Assumes nothing.
+use borrow.Author.Needs.{needs}
+use Rattle.text.proofs.Laws.{laid-then}
+use Rattle.trace.proofs.Run.{bad-short, no-line, some-line}
+use Rattle.trace.specs.Play.{badLine}
+use Rattle.trace.proofs.put_bad.Statement.{statement}
+use Rattle.trace.proofs.put_bad.Tie as tie
+use Rattle.trace.proofs.put_bad.Reads as reads
+use Rattle.trace.proofs.put_bad.Lts as lts
+use Rattle.text.proofs.put_bytes.Reads as put-bytes-reads
+use Rattle.text.proofs.put_number.Reads as put-number-reads
+
+returns : tie.Need-returns
+returns c = no-line _ _ (c .if1 .taken)
+
+slice-aggregate-put-bytes : tie.Need-slice-aggregate-put-bytes
+slice-aggregate-put-bytes c = search needs
+
+put-bytes-requires : tie.Need-put-bytes-requires
+put-bytes-requires c κs = search needs
+
+put-number-requires : tie.Need-put-number-requires
+put-number-requires c κs = search needs
+
+slice-aggregate-put-bytes-2 : tie.Need-slice-aggregate-put-bytes-2
+slice-aggregate-put-bytes-2 c = search needs
+
+put-bytes-requires-2 : tie.Need-put-bytes-requires-2
+put-bytes-requires-2 c κs = search needs
+
+same-length : tie.Need-same-length
+same-length c = search needs
+
+returns-2 : tie.Need-returns-2
+unfolding badLine
+returns-2 c = some-line _ _ _ _ (c .before .before .before .before .before .before .before .before .before .before .before .before .before .before .if1 .left) (bad-short _) (laid-then _ _ _ _ _ _ _ _ (c .before .before .before .before .before .before .before .before .before .before .before .put-bytes .ensures) (laid-then _ _ _ _ _ _ _ _ (c .before .before .before .before .before .before .before .put-number .ensures .0, c .before .before .before .before .before .before .before .put-number .ensures .2) (c .before .before .put-bytes2 .ensures)))
+
+pub put-bad-spec : {M : Type 1} → statement M
+put-bad-spec =
+    tie.close
+    (tie.spec
+    returns
+    slice-aggregate-put-bytes
+    put-bytes-requires
+    put-number-requires
+    slice-aggregate-put-bytes-2
+    put-bytes-requires-2
+    same-length
+    returns-2)
