@@ -12,8 +12,8 @@ use lib.ListN.{getD, length, length-replicate, replicate}
 use borrow.Author.Tests.{leb-false, leb-true, not-false}
 use Rattle.clocked_model.proofs.Clock.{at-rest, lead-quiet, leads}
 use Rattle.clocked_model.proofs.Same.{same-words}
-use Rattle.clocked_model.proofs.Step.{beside-is, in-step, InStep, quiet-clear, quiet-ready, quiet-spaced, step-answer, step-mark, ticks, works-then}
-use Rattle.clocked_model.specs.Calls.{CycleOutcome, fresh, heard, pending, popsOrReplaces, recordCount, restarted, runAnswers, runs, ticked}
+use Rattle.clocked_model.proofs.Step.{beside-is, idle-ruling, in-step, InStep, quiet-clear, quiet-ready, quiet-spaced, step-answer, step-mark, ticks, works-then}
+use Rattle.clocked_model.specs.Calls.{CycleOutcome, fresh, pending, recordCount, restarted, runAnswers, runs, ticked}
 use Rattle.clocked_model.specs.Cycle.{cycleWorks, quiet}
 use Rattle.clocked_model.specs.Promise.{beside, besideAnswers, besideWords, idles}
 use Rattle.clocked_model.specs.Records.{recordAt, worksOf}
@@ -27,14 +27,12 @@ use Rattle.tree_model.proofs.Exactly.{words-none}
 use Rattle.tree_model.proofs.Hang.{past}
 use Rattle.tree_model.proofs.Nothing.{op-work, work-none}
 use Rattle.tree_model.proofs.Promises.{Kept, start, start-kept}
-use Rattle.tree_model.specs.Calls.{Outcome, rootOf, rule}
+use Rattle.tree_model.specs.Calls.{Outcome, rootOf, Ruling}
 use Rattle.tree_model.specs.Damage.{room}
 use Rattle.tree_model.specs.Levels.{idle, Levels, top, work}
 use Rattle.tree_model.specs.Node.{isNothing}
 use Rattle.tree_model.specs.Promise.{Shape}
 use Rattle.tree_model.specs.Words.{levelOf, levelsOf, under}
-use Rattle.tree_model.specs.declared.Op.the-variants.{Nothing}
-use Rattle.tree_model.specs.declared.Slot.{Slot}
 use Rattle.tree_model.specs.declared.Work.{Work}
 
 -- ---- a shape has at most as many levels from 2 as there are records
@@ -115,16 +113,11 @@ module _ (m k : ℕ) where
       (step-mark m k s ws vs i r) (run-in-step rs (o .state) (o .words) (b .words) (in-step m k s ws vs i r))
 
   -- ---- idle cycles
-  idle-none : (mark : Bool) (c : ℕ) (nd : List Slot) → heard mark Idle (rule c Idle nd) .op ≡ Nothing
-  unfolding heard rule popsOrReplaces
-  idle-none true c nd = refl
-  idle-none false c nd = refl
-
   -- the tree beside stands
   idle-stands : (mark : Bool) (vs : List ℕ) → Kept m k vs → beside m (suc k) mark Idle vs .words ≡ vs
   idle-stands mark vs kept =
       ap (λ (o : Outcome). o .words) (beside-is m k vs kept mark Idle)
-      ∙ words-none m (suc k) _ 0 1 vs (op-work _ 0 ∙ idle-none mark (room m (suc k)) (rootOf m vs))
+      ∙ words-none m (suc k) _ 0 1 vs (op-work _ 0 ∙ ap (λ (g : Ruling). g .op) (idle-ruling mark (room m (suc k)) (rootOf m vs)))
 
   idle-in-step : (s : State) (ws vs : List ℕ) → InStep m k s ws vs → InStep m k (ticked m (suc k) Idle s ws .state) (ticked m (suc k) Idle s ws .words) vs
   idle-in-step s ws vs i =
@@ -142,7 +135,7 @@ module _ (m k : ℕ) where
       subst (λ (o : CycleOutcome). Lead (suc j) k (worksOf k (o .state .records) 0)) (sym (ticks m k s ws vs i Idle))
       (subst (Lead (suc j) k) (sym (works-then m k s ws vs i Idle))
       (leads m j k _ (worksOf k (s .records) 0) (under m k ws 0 1)
-      (ap (λ (v : Work). v .op) (work-none m _ (levelOf m ws 0 1) (top k (under m k ws 0 1)) (op-work _ 0 ∙ idle-none (s .mark) (room m (suc k)) (rootOf m ws)))) h))
+      (ap (λ (v : Work). v .op) (work-none m _ (levelOf m ws 0 1) (top k (under m k ws 0 1)) (op-work _ 0 ∙ ap (λ (g : Ruling). g .op) (idle-ruling (s .mark) (room m (suc k)) (rootOf m ws))))) h))
 
   idles-quiet : (n j : ℕ) (s : State) (ws vs : List ℕ) → InStep m k s ws vs → k ≤ j + n → Lead j k (worksOf k (s .records) 0)
       → quiet k (worksOf k (idles m (suc k) n s ws .state .records) 0) ≡ true
