@@ -8,14 +8,14 @@ use mathlib.Core.Path.{_∙_, _≡_, ap, refl, subst, sym}
 use lib.Dec.{leb}
 use lib.ListN.{length}
 use borrow.Author.Tests.{leb-false, leb-true}
-use Rattle.clocked_model.proofs.Clock.{lead-quiet, leads}
+use Rattle.clocked_model.proofs.Clock.{lead-quiet}
+use Rattle.clocked_model.proofs.Demand.{lead, turned-lead}
 use Rattle.clocked_model.proofs.Exactly.{damage-fails, exactly-cycle, same-number, sound, ticked-bad, ticked-damaged, ticked-fine}
 use Rattle.clocked_model.proofs.Step.{idle-ruling}
-use Rattle.clocked_model.proofs.Turn.{after-length, cycle-length, plain-rest, works-after}
-use Rattle.clocked_model.specs.Calls.{CycleOutcome, cycleOutcome, drainFrom, drainOutcome, DrainOutcome, drains, hearing, isRefused, pending, runs, ticked, turned}
+use Rattle.clocked_model.proofs.Turn.{after-length, cycle-length}
+use Rattle.clocked_model.specs.Calls.{CycleOutcome, cycleOutcome, drainFrom, DrainOutcome, drainOutcome, drains, hearing, isRefused, pending, runs, ticked, turned}
 use Rattle.clocked_model.specs.Promise.{capped, CycleDamage, DrainCause, idles, Jams}
 use Rattle.clocked_model.specs.Records.{worksOf}
-use Rattle.clocked_model.specs.Settle.{Lead}
 use Rattle.clocked_model.specs.declared.State.{State}
 use Rattle.strip.specs.declared.Answer.the-variants.{Done, Refused}
 use Rattle.strip.specs.declared.Refusal.{Refusal}
@@ -23,14 +23,11 @@ use Rattle.strip.specs.declared.Refusal.the-variants.{BadRank, BadShape, Damage
 use Rattle.strip.specs.declared.Request.{Request}
 use Rattle.strip.specs.declared.Request.the-variants.{Idle}
 use Rattle.tree_model.proofs.Exactly.{is-shape, no-refusal-done, shape-is}
-use Rattle.tree_model.proofs.Nothing.{op-work, work-none}
 use Rattle.tree_model.specs.Calls.{rootOf, Ruling, ruling, shapeOk}
 use Rattle.tree_model.specs.Damage.{room}
-use Rattle.tree_model.specs.Levels.{top, work}
 use Rattle.tree_model.specs.Promise.{Shape}
-use Rattle.tree_model.specs.Words.{levelOf, under}
+use Rattle.tree_model.specs.Words.{under}
 use Rattle.tree_model.specs.declared.Op.the-variants.{Nothing}
-use Rattle.tree_model.specs.declared.Work.{Work}
 
 pub not-less : {a b : ℕ} → (a < b → ⊥) → b ≤ a
 not-less {a} {b} h = go (leb b a) refl
@@ -356,16 +353,6 @@ module _ (m levels : ℕ) where
 -- ---- DRAIN-FEW: whatever the state and the budget, no more cycles are run than there are levels from 2: each leaves one more level with
 -- nothing to do
 module _ (m levels : ℕ) where
-  abbrev lead : ℕ → State → Type 0
-  lead j s = Lead j (pred levels) (worksOf (pred levels) (s .records) 0)
-
-  turned-lead : (j : ℕ) (s : State) (ws : List ℕ) → pred levels ≤ length (s .records) → lead j s → lead (suc j) (turned m levels Idle (ruling Done Nothing) s ws .state)
-  unfolding turned
-  turned-lead j s ws len h =
-      subst (Lead (suc j) (pred levels)) (sym (works-after m (pred levels) _ 0 (s .records) (under m (pred levels) ws 0 1) (plain-rest m (work Nothing 0) _ _) (omega arith)))
-      (leads m j (pred levels) _ (worksOf (pred levels) (s .records) 0) (under m (pred levels) ws 0 1)
-      (ap (λ (v : Work). v .op) (work-none m (work Nothing 0) (levelOf m ws 0 1) (top (pred levels) (under m (pred levels) ws 0 1)) (op-work Nothing 0))) h)
-
   turned-records : (s : State) (ws : List ℕ) → length (turned m levels Idle (ruling Done Nothing) s ws .state .records) ≡ length (s .records)
   unfolding turned
   turned-records s ws = after-length m (pred levels) _ 0 (s .records) (under m (pred levels) ws 0 1)
@@ -382,7 +369,7 @@ module _ (m levels : ℕ) where
       go true e false f = absurd (refused Damaged (ticked-damaged m levels Idle s ws e f))
       go true e true f = ticked-fine m levels Idle s ws e f ∙ ap (λ (g : Ruling). turned m levels Idle g s ws) (idle-ruling (s .mark) (room m levels) (rootOf m ws))
 
-  few-from : (b n j c : ℕ) (s : State) (ws : List ℕ) → pred levels ≤ length (s .records) → pred levels ≤ j + c → lead j s → drainFrom m levels b n s ws .cycles ≤ n + c
+  few-from : (b n j c : ℕ) (s : State) (ws : List ℕ) → pred levels ≤ length (s .records) → pred levels ≤ j + c → lead m levels j s → drainFrom m levels b n s ws .cycles ≤ n + c
   unfolding drainFrom
   few-from zero n j c s ws len l h = omega arith
   few-from (suc b) n j c s ws len l h = go (pending m levels s) refl (isRefused (ticked m levels Idle s ws .answer)) refl c l (λ c. few-from b (suc n) (suc j) c (ticked m levels Idle s ws .state) (ticked m levels Idle s ws .words))
@@ -394,7 +381,7 @@ module _ (m levels : ℕ) where
       on = drainFrom m levels b (suc n) (ticked m levels Idle s ws .state) (ticked m levels Idle s ws .words)
 
       go : (p : Bool) → pending m levels s ≡ p → (t : Bool) → isRefused (ticked m levels Idle s ws .answer) ≡ t → (c : ℕ) → pred levels ≤ j + c
-          → ((c : ℕ) → pred levels ≤ length (ticked m levels Idle s ws .state .records) → pred levels ≤ suc j + c → lead (suc j) (ticked m levels Idle s ws .state) → on .cycles ≤ suc n + c)
+          → ((c : ℕ) → pred levels ≤ length (ticked m levels Idle s ws .state .records) → pred levels ≤ suc j + c → lead m levels (suc j) (ticked m levels Idle s ws .state) → on .cycles ≤ suc n + c)
           → cond p (cond t jam on) (drainOutcome Done n false ws s) .cycles ≤ n + c
       go false e t f c l ih = omega arith
       go true e true f c l ih = omega arith
@@ -402,7 +389,7 @@ module _ (m levels : ℕ) where
       go true e false f (suc c) l ih =
           let turns = idle-turns s ws f in
           let i = ih c (omega (arith, ap (λ (o : CycleOutcome). length (o .state .records)) turns, turned-records s ws)) (omega arith)
-          (subst (λ (o : CycleOutcome). lead (suc j) (o .state)) (sym turns) (turned-lead j s ws len h)) in
+          (subst (λ (o : CycleOutcome). lead m levels (suc j) (o .state)) (sym turns) (turned-lead m levels j s ws len h)) in
           omega arith
 
   pub drain-few : (b : ℕ) (s : State) (ws : List ℕ) → pred levels ≤ length (s .records) → drains m levels b s ws .cycles ≤ pred levels
