@@ -1,9 +1,8 @@
 -- The public calls: each test and what follows it make the outcome that the definitions say. Assumes nothing.
-use Prim.Native.Nat.{_≤_, ℕ}
+use Prim.Native.Nat.{ℕ}
 use native.Mathlib.Omega.{arith}
 use mathlib.Core.Bool.{_&&_, Bool, false, not, true}
 use mathlib.Core.List.{List}
-use mathlib.Core.Logic.{⊎-elim}
 use mathlib.Core.Path.{_∙_, _≡_, ap, ap₂, refl, sym}
 use lib.ListN.{length, replicate}
 use borrow.Author.Tests.{not-false, not-true}
@@ -15,16 +14,13 @@ use Rattle.strip.specs.declared.Answer.{Answer}
 use Rattle.strip.specs.declared.Answer.the-variants.{Refused}
 use Rattle.strip.specs.declared.Refusal.the-variants.{BadShape, Damaged}
 use Rattle.strip.specs.declared.Request.{Request}
-use Rattle.tree_model.proofs.Exactly.{order-pos, shape-is}
+use Rattle.tree.proofs.Calls.{shape-few, shape-here}
+use Rattle.tree_model.proofs.Exactly.{order-pos}
 use Rattle.tree_model.proofs.Words.{size-room}
-use Rattle.tree_model.specs.Calls.{cleared, outcome, Outcome, Ruling, ruling, shapeOk, verdict}
+use Rattle.tree_model.specs.Calls.{cleared, Outcome, outcome, Ruling, ruling, shapeOk, verdict}
 use Rattle.tree_model.specs.Levels.{idle}
-use Rattle.tree_model.specs.Promise.{Shape}
 use Rattle.tree_model.specs.declared.Op.{Op}
 use Rattle.tree_model.specs.declared.Work.{Work}
-
-order-few : (m levels len : ℕ) → Shape m levels len → m ≤ 8
-order-few m levels len sh = ⊎-elim (λ e. omega arith) (λ d. ⊎-elim (λ e. omega arith) (λ e. omega arith) d) (sh .order)
 
 module _ (m levels : ℕ) (ws : List ℕ) (t : Bool) (shaped : t ≡ shapeOk m levels (length ws)) where
   pub shape-no : not t ≡ true → shapeOk m levels (length ws) ≡ false
@@ -35,11 +31,11 @@ module _ (m levels : ℕ) (ws : List ℕ) (t : Bool) (shaped : t ≡ shapeOk m l
 
   pub rooted : not t ≡ false → Rooted m levels ws
   rooted e =
-      let sh = shape-is m levels (length ws) (shape-yes e) in
+      let sh = shape-here m levels ws t shaped e in
       record {
         lies = record {
           order = order-pos sh;
-          few = order-few m levels (length ws) sh;
+          few = shape-few m levels ws t shaped e .1;
           node = omega arith;
           words = omega (arith, sh .slice, size-room m levels 1);
           small = omega (arith, sh .capacity, size-room m levels 1);

@@ -7,9 +7,6 @@ use Rattle.clocked_model.specs.Calls.{recordCount}
 use Rattle.clocked_model.specs.Cycle.{cycleOk, cycleWords, Works}
 use Rattle.clocked_model.specs.Records.{recordsAfter, worksOf}
 use Rattle.clocked_model.specs.declared.State.{State}
-use Rattle.strip.specs.declared.Element.{Element}
-use Rattle.strip.specs.declared.Rank.{Rank}
-use Rattle.strip.specs.declared.Tag.{Tag}
 use Rattle.tree.specs.Down.{Lies}
 use Rattle.tree_model.specs.Calls.{slotLimit}
 use Rattle.tree_model.specs.Damage.{fine, room}
@@ -51,6 +48,3 @@ wordsTurned m levels o rs ws = cycleWords m (suc (pred levels)) (allWork levels 
 
 abbrev pub stateOf : List Work → Bool → State
 stateOf rs mark = record { records = rs; mark = mark }
-
-abbrev pub pair : Rank → Tag → Element
-pair r t = record { rank = r; tag = t }

@@ -12,29 +12,30 @@ use lib.ListN.{getD, length, length-replicate, replicate}
 use borrow.Author.Tests.{leb-false, leb-true, not-false}
 use Rattle.clocked_model.proofs.Clock.{at-rest, lead-quiet, leads}
 use Rattle.clocked_model.proofs.Same.{same-words}
-use Rattle.clocked_model.proofs.Step.{beside-is, in-step, InStep, quiet-clear, quiet-ready, quiet-spaced, step-answer, step-mark, ticks, works-then}
-use Rattle.clocked_model.specs.Calls.{CycleOutcome, fresh, heard, pending, popsOrReplaces, recordCount, restarted, runAnswers, runs, ticked}
-use Rattle.clocked_model.specs.Cycle.{cycleWorks, quiet}
+use Rattle.clocked_model.proofs.Step.{beside-is, idle-ruling, in-step, InStep, quiet-clear, quiet-ready, quiet-spaced, step-answer, step-mark, ticks}
+use Rattle.clocked_model.proofs.Turn.{plain-rest, works-after}
+use Rattle.clocked_model.specs.Calls.{CycleOutcome, fresh, pending, recordCount, restarted, runAnswers, runs, ticked, turned}
+use Rattle.clocked_model.specs.Cycle.{quiet}
 use Rattle.clocked_model.specs.Promise.{beside, besideAnswers, besideWords, idles}
 use Rattle.clocked_model.specs.Records.{recordAt, worksOf}
 use Rattle.clocked_model.specs.Settle.{Lead}
 use Rattle.clocked_model.specs.declared.State.{State}
 use Rattle.laws.specs.Tests.{and-true}
 use Rattle.strip.specs.declared.Answer.{Answer}
+use Rattle.strip.specs.declared.Answer.the-variants.{Done}
 use Rattle.strip.specs.declared.Request.{Request}
 use Rattle.strip.specs.declared.Request.the-variants.{Idle}
 use Rattle.tree_model.proofs.Exactly.{words-none}
 use Rattle.tree_model.proofs.Hang.{past}
 use Rattle.tree_model.proofs.Nothing.{op-work, work-none}
 use Rattle.tree_model.proofs.Promises.{Kept, start-kept}
-use Rattle.tree_model.specs.Calls.{Outcome, rootOf, rule}
+use Rattle.tree_model.specs.Calls.{Outcome, rootOf, Ruling, ruling}
 use Rattle.tree_model.specs.Damage.{room}
 use Rattle.tree_model.specs.Levels.{idle, Levels, top, work}
 use Rattle.tree_model.specs.Node.{isNothing}
 use Rattle.tree_model.specs.Promise.{Shape, start}
 use Rattle.tree_model.specs.Words.{levelOf, levelsOf, under}
 use Rattle.tree_model.specs.declared.Op.the-variants.{Nothing}
-use Rattle.tree_model.specs.declared.Slot.{Slot}
 use Rattle.tree_model.specs.declared.Work.{Work}
 
 -- ---- a shape has at most as many levels from 2 as there are records
@@ -93,6 +94,18 @@ start-in-step m k ws sh =
       final = ap (λ (l : Levels k). (levelOf m (start m (suc k) ws) 0 1, l)) (at-rest m k _ _ q);
     }
 
+-- ---- an idle cycle leaves one more level with nothing to do
+module _ (m levels : ℕ) where
+  abbrev pub lead : ℕ → State → Type 0
+  lead j s = Lead j (pred levels) (worksOf (pred levels) (s .records) 0)
+
+  pub turned-lead : (j : ℕ) (s : State) (ws : List ℕ) → pred levels ≤ length (s .records) → lead j s → lead (suc j) (turned m levels Idle (ruling Done Nothing) s ws .state)
+  unfolding turned
+  turned-lead j s ws len h =
+      subst (Lead (suc j) (pred levels)) (sym (works-after m (pred levels) _ 0 (s .records) (under m (pred levels) ws 0 1) (plain-rest m (work Nothing 0) _ _) (omega arith)))
+      (leads m j (pred levels) _ (worksOf (pred levels) (s .records) 0) (under m (pred levels) ws 0 1)
+      (ap (λ (v : Work). v .op) (work-none m (work Nothing 0) (levelOf m ws 0 1) (top (pred levels) (under m (pred levels) ws 0 1)) (op-work Nothing 0))) h)
+
 -- ---- lists of cycles
 module _ (m k : ℕ) where
   pub run-answers : (rs : List Request) (s : State) (ws vs : List ℕ) → InStep m k s ws vs → runAnswers m (suc k) rs s ws ≡ besideAnswers m (suc k) rs (s .mark) vs
@@ -115,16 +128,11 @@ module _ (m k : ℕ) where
       (step-mark m k s ws vs i r) (run-in-step rs (o .state) (o .words) (b .words) (in-step m k s ws vs i r))
 
   -- ---- idle cycles
-  idle-none : (mark : Bool) (c : ℕ) (nd : List Slot) → heard mark Idle (rule c Idle nd) .op ≡ Nothing
-  unfolding heard rule popsOrReplaces
-  idle-none true c nd = refl
-  idle-none false c nd = refl
-
   -- the tree beside stands
   idle-stands : (mark : Bool) (vs : List ℕ) → Kept m k vs → beside m (suc k) mark Idle vs .words ≡ vs
   idle-stands mark vs kept =
       ap (λ (o : Outcome). o .words) (beside-is m k vs kept mark Idle)
-      ∙ words-none m (suc k) _ 0 1 vs (op-work _ 0 ∙ idle-none mark (room m (suc k)) (rootOf m vs))
+      ∙ words-none m (suc k) _ 0 1 vs (op-work _ 0 ∙ ap (λ (g : Ruling). g .op) (idle-ruling mark (room m (suc k)) (rootOf m vs)))
 
   idle-in-step : (s : State) (ws vs : List ℕ) → InStep m k s ws vs → InStep m k (ticked m (suc k) Idle s ws .state) (ticked m (suc k) Idle s ws .words) vs
   idle-in-step s ws vs i =
@@ -136,13 +144,10 @@ module _ (m k : ℕ) where
   idles-in-step (suc n) s ws vs i = idles-in-step n _ _ vs (idle-in-step s ws vs i)
 
   -- one more level has no work after each
-  idle-lead : (j : ℕ) (s : State) (ws vs : List ℕ) → InStep m k s ws vs → Lead j k (worksOf k (s .records) 0) → Lead (suc j) k (worksOf k (ticked m (suc k) Idle s ws .state .records) 0)
-  unfolding cycleWorks levelsOf
+  idle-lead : (j : ℕ) (s : State) (ws vs : List ℕ) → InStep m k s ws vs → lead m (suc k) j s → lead m (suc k) (suc j) (ticked m (suc k) Idle s ws .state)
   idle-lead j s ws vs i h =
-      subst (λ (o : CycleOutcome). Lead (suc j) k (worksOf k (o .state .records) 0)) (sym (ticks m k s ws vs i Idle))
-      (subst (Lead (suc j) k) (sym (works-then m k s ws vs i Idle))
-      (leads m j k _ (worksOf k (s .records) 0) (under m k ws 0 1)
-      (ap (λ (v : Work). v .op) (work-none m _ (levelOf m ws 0 1) (top k (under m k ws 0 1)) (op-work _ 0 ∙ idle-none (s .mark) (room m (suc k)) (rootOf m ws)))) h))
+      subst (λ (o : CycleOutcome). lead m (suc k) (suc j) (o .state))
+      (sym (ticks m k s ws vs i Idle ∙ ap (λ (g : Ruling). turned m (suc k) Idle g s ws) (idle-ruling (s .mark) (room m (suc k)) (rootOf m ws)))) (turned-lead m (suc k) j s ws (i .records) h)
 
   idles-quiet : (n j : ℕ) (s : State) (ws vs : List ℕ) → InStep m k s ws vs → k ≤ j + n → Lead j k (worksOf k (s .records) 0)
       → quiet k (worksOf k (idles m (suc k) n s ws .state .records) 0) ≡ true

@@ -2,27 +2,32 @@
 use Prim.Native.Nat.{_+_, _<_, _≤_, pred, suc, zero, ℕ}
 use native.Mathlib.Nat.{not-suc-le-zero}
 use native.Mathlib.Omega.{arith}
-use mathlib.Core.Bool.{Bool, cond, false, false≢true, true, true≢false}
+use mathlib.Core.Bool.{Bool, cond, false, false≢true, not, true, true≢false}
 use mathlib.Core.List.{List}
 use mathlib.Core.Path.{_∙_, _≡_, ap, refl, subst, sym}
 use lib.Dec.{leb}
 use lib.ListN.{length}
 use borrow.Author.Tests.{leb-false, leb-true}
-use Rattle.clocked_model.proofs.Exactly.{damage-fails, exactly-cycle, idle-ruling, sound, ticked-bad, ticked-damaged, ticked-fine}
-use Rattle.clocked_model.proofs.Turn.{cycle-length}
-use Rattle.clocked_model.specs.Calls.{CycleOutcome, drainFrom, drainOutcome, DrainOutcome, drains, hearing, isRefused, pending, runs, ticked, turned}
+use Rattle.clocked_model.proofs.Clock.{lead-quiet}
+use Rattle.clocked_model.proofs.Demand.{lead, turned-lead}
+use Rattle.clocked_model.proofs.Exactly.{damage-fails, exactly-cycle, same-number, sound, ticked-bad, ticked-damaged, ticked-fine}
+use Rattle.clocked_model.proofs.Step.{idle-ruling}
+use Rattle.clocked_model.proofs.Turn.{after-length, cycle-length}
+use Rattle.clocked_model.specs.Calls.{CycleOutcome, cycleOutcome, drainFrom, DrainOutcome, drainOutcome, drains, hearing, isRefused, pending, runs, ticked, turned}
 use Rattle.clocked_model.specs.Promise.{capped, CycleDamage, DrainCause, idles, Jams}
+use Rattle.clocked_model.specs.Records.{worksOf}
 use Rattle.clocked_model.specs.declared.State.{State}
-use Rattle.strip.specs.declared.Answer.{Answer}
 use Rattle.strip.specs.declared.Answer.the-variants.{Done, Refused}
 use Rattle.strip.specs.declared.Refusal.{Refusal}
 use Rattle.strip.specs.declared.Refusal.the-variants.{BadRank, BadShape, Damaged, Empty, Full, TooSoon}
 use Rattle.strip.specs.declared.Request.{Request}
 use Rattle.strip.specs.declared.Request.the-variants.{Idle}
-use Rattle.tree_model.proofs.Exactly.{is-shape, shape-is}
-use Rattle.tree_model.specs.Calls.{rootOf, Ruling, shapeOk}
+use Rattle.tree_model.proofs.Exactly.{is-shape, no-refusal-done, shape-is}
+use Rattle.tree_model.specs.Calls.{rootOf, Ruling, ruling, shapeOk}
 use Rattle.tree_model.specs.Damage.{room}
 use Rattle.tree_model.specs.Promise.{Shape}
+use Rattle.tree_model.specs.Words.{under}
+use Rattle.tree_model.specs.declared.Op.the-variants.{Nothing}
 
 pub not-less : {a b : ℕ} → (a < b → ⊥) → b ≤ a
 not-less {a} {b} h = go (leb b a) refl
@@ -219,12 +224,6 @@ is-refused : (n : Refusal) → isRefused (Refused n) ≡ true
 unfolding isRefused
 is-refused n = refl
 
-done-not : (n : Refusal) → _≡_ {A = Answer} Done (Refused n) → ⊥
-done-not n e = let z : _≡_ {A = ℕ} 0 1 = cc in omega arith
-
-refused-same : {a b : Refusal} → _≡_ {A = Answer} (Refused a) (Refused b) → a ≡ b
-refused-same {a} {b} e = cc
-
 -- an idle cycle is refused for no other cause
 idle-damaged : (m levels : ℕ) (s : State) (ws : List ℕ) → Shape m levels (length ws) → isRefused (ticked m levels Idle s ws .answer) ≡ true
     → (ticked m levels Idle s ws .answer ≡ Refused Damaged) × CycleDamage m levels Idle s ws
@@ -274,7 +273,7 @@ module _ (m levels : ℕ) where
   -- each way: by the budget
   drain-only : (b n : ℕ) (s : State) (ws : List ℕ) → Shape m levels (length ws) → (k : Refusal) → drainFrom m levels b n s ws .answer ≡ Refused k → (k ≡ Damaged) × Jams m levels b s ws
   unfolding drainFrom
-  drain-only zero n s ws sh k p = absurd (done-not k p)
+  drain-only zero n s ws sh k p = absurd (no-refusal-done k p)
   drain-only (suc b) n s ws sh k p =
       go (pending m levels s) refl (isRefused (ticked m levels Idle s ws .answer)) refl p (drain-only b (suc n) (ticked m levels Idle s ws .state) (ticked m levels Idle s ws .words) (next-shape s ws sh) k)
     where
@@ -286,8 +285,8 @@ module _ (m levels : ℕ) where
 
       go : (a : Bool) → pending m levels s ≡ a → (t : Bool) → isRefused (ticked m levels Idle s ws .answer) ≡ t → cond a (cond t jam on) (drainOutcome Done n false ws s) .answer ≡ Refused k
           → (on .answer ≡ Refused k → (k ≡ Damaged) × Jams m levels b (ticked m levels Idle s ws .state) (ticked m levels Idle s ws .words)) → (k ≡ Damaged) × Jams m levels (suc b) s ws
-      go false e t f p ih = absurd (done-not k p)
-      go true e true f p ih = (refused-same (sym p ∙ idle-damaged m levels s ws sh f .0), jam-here b s ws sh e f)
+      go false e t f p ih = absurd (no-refusal-done k p)
+      go true e true f p ih = (same-number (sym p ∙ idle-damaged m levels s ws sh f .0), jam-here b s ws sh e f)
       go true e false f p ih = let i = ih p in (i .0, jam-later b s ws e (i .1))
 
   drain-if : (b n : ℕ) (s : State) (ws : List ℕ) → Shape m levels (length ws) → Jams m levels b s ws → drainFrom m levels b n s ws .answer ≡ Refused Damaged
@@ -319,7 +318,7 @@ module _ (m levels : ℕ) where
   exactly-drain-only b s ws k p = go (shapeOk m levels (length ws)) refl p
     where
       go : (t : Bool) → shapeOk m levels (length ws) ≡ t → cond t (drainFrom m levels b 0 s ws) (drainOutcome (Refused BadShape) 0 false ws s) .answer ≡ Refused k → DrainCause m levels b s ws k
-      go false e p = subst (DrainCause m levels b s ws) (refused-same p) (λ sh. true≢false (sym (is-shape m levels (length ws) sh) ∙ e))
+      go false e p = subst (DrainCause m levels b s ws) (same-number p) (λ sh. true≢false (sym (is-shape m levels (length ws) sh) ∙ e))
       go true e p =
           let sh = shape-is m levels (length ws) e in
           let d = drain-only b 0 s ws sh k p in
@@ -350,3 +349,48 @@ module _ (m levels : ℕ) where
       go : (t : Bool) → shapeOk m levels (length ws) ≡ t → cond t (drainFrom m levels b 0 s ws) (drainOutcome (Refused BadShape) 0 false ws s) ≡ drainOutcome (Refused BadShape) 0 false ws s
       go true e = absurd (bad (shape-is m levels (length ws) e))
       go false e = refl
+
+-- ---- DRAIN-FEW: whatever the state and the budget, no more cycles are run than there are levels from 2: each leaves one more level with
+-- nothing to do
+module _ (m levels : ℕ) where
+  turned-records : (s : State) (ws : List ℕ) → length (turned m levels Idle (ruling Done Nothing) s ws .state .records) ≡ length (s .records)
+  unfolding turned
+  turned-records s ws = after-length m (pred levels) _ 0 (s .records) (under m (pred levels) ws 0 1)
+
+  -- an idle cycle that is not refused
+  idle-turns : (s : State) (ws : List ℕ) → isRefused (ticked m levels Idle s ws .answer) ≡ false → ticked m levels Idle s ws ≡ turned m levels Idle (ruling Done Nothing) s ws
+  idle-turns s ws p = go (shapeOk m levels (length ws)) refl (sound m levels Idle s ws) refl
+    where
+      refused : (n : Refusal) → ticked m levels Idle s ws ≡ cycleOutcome (Refused n) ws s → ⊥
+      refused n e = true≢false (sym (ap (λ (c : CycleOutcome). isRefused (c .answer)) e ∙ is-refused n) ∙ p)
+
+      go : (a : Bool) → shapeOk m levels (length ws) ≡ a → (b : Bool) → sound m levels Idle s ws ≡ b → ticked m levels Idle s ws ≡ turned m levels Idle (ruling Done Nothing) s ws
+      go false e b f = absurd (refused BadShape (ticked-bad m levels Idle s ws e))
+      go true e false f = absurd (refused Damaged (ticked-damaged m levels Idle s ws e f))
+      go true e true f = ticked-fine m levels Idle s ws e f ∙ ap (λ (g : Ruling). turned m levels Idle g s ws) (idle-ruling (s .mark) (room m levels) (rootOf m ws))
+
+  few-from : (b n j c : ℕ) (s : State) (ws : List ℕ) → pred levels ≤ length (s .records) → pred levels ≤ j + c → lead m levels j s → drainFrom m levels b n s ws .cycles ≤ n + c
+  unfolding drainFrom
+  few-from zero n j c s ws len l h = omega arith
+  few-from (suc b) n j c s ws len l h = go (pending m levels s) refl (isRefused (ticked m levels Idle s ws .answer)) refl c l (λ c. few-from b (suc n) (suc j) c (ticked m levels Idle s ws .state) (ticked m levels Idle s ws .words))
+    where
+      jam : DrainOutcome
+      jam = drainOutcome (ticked m levels Idle s ws .answer) n true (ticked m levels Idle s ws .words) (ticked m levels Idle s ws .state)
+
+      on : DrainOutcome
+      on = drainFrom m levels b (suc n) (ticked m levels Idle s ws .state) (ticked m levels Idle s ws .words)
+
+      go : (p : Bool) → pending m levels s ≡ p → (t : Bool) → isRefused (ticked m levels Idle s ws .answer) ≡ t → (c : ℕ) → pred levels ≤ j + c
+          → ((c : ℕ) → pred levels ≤ length (ticked m levels Idle s ws .state .records) → pred levels ≤ suc j + c → lead m levels (suc j) (ticked m levels Idle s ws .state) → on .cycles ≤ suc n + c)
+          → cond p (cond t jam on) (drainOutcome Done n false ws s) .cycles ≤ n + c
+      go false e t f c l ih = omega arith
+      go true e true f c l ih = omega arith
+      go true e false f zero l ih = absurd (true≢false (sym e ∙ ap not (lead-quiet j (pred levels) (worksOf (pred levels) (s .records) 0) (omega arith) h)))
+      go true e false f (suc c) l ih =
+          let turns = idle-turns s ws f in
+          let i = ih c (omega (arith, ap (λ (o : CycleOutcome). length (o .state .records)) turns, turned-records s ws)) (omega arith)
+          (subst (λ (o : CycleOutcome). lead m levels (suc j) (o .state)) (sym turns) (turned-lead m levels j s ws len h)) in
+          omega arith
+
+  pub drain-few : (b : ℕ) (s : State) (ws : List ℕ) → pred levels ≤ length (s .records) → drains m levels b s ws .cycles ≤ pred levels
+  drain-few b s ws len = by-shape m levels b s ws (λ d. d .cycles ≤ pred levels) (omega arith) (omega (arith, few-from b 0 0 (pred levels) s ws len (omega arith) tt))

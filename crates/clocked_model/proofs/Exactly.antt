@@ -5,6 +5,7 @@ use mathlib.Core.List.{List}
 use mathlib.Core.Logic.{_⊎_, inl, inr}
 use mathlib.Core.Path.{_∙_, _≡_, ap, ap₂, refl, subst, sym}
 use lib.ListN.{length}
+use Rattle.clocked_model.proofs.Step.{idle-ruling}
 use Rattle.clocked_model.specs.Calls.{askedOk, asks, CycleOutcome, cycleOutcome, cycleWork, heard, hearing, isRefused, marks, popsOrReplaces, stepsOk, ticked, turned}
 use Rattle.clocked_model.specs.Cycle.{cycleOk, cycleWords, Works}
 use Rattle.clocked_model.specs.Promise.{Asks, CycleCause, CycleDamage, PopsOrReplaces, WorksDamaged}
@@ -19,7 +20,7 @@ use Rattle.strip.specs.declared.Refusal.the-variants.{BadRank, BadShape, Damage
 use Rattle.strip.specs.declared.Request.{Request}
 use Rattle.strip.specs.declared.Request.the-variants.{Idle, Pop, Push, Replace}
 use Rattle.tree_model.proofs.Exactly.{accepted, empty, empty-answer, full, full-answer, is-shape, no-refusal-done, node-fails, refused-idle, root-limit, Ruled, ruled-as, shape-is, work-fails}
-use Rattle.tree_model.specs.Calls.{rootOf, rootOk, rule, ruling, Ruling, shapeOk, verdict}
+use Rattle.tree_model.specs.Calls.{rootOf, rootOk, rule, Ruling, ruling, shapeOk, verdict}
 use Rattle.tree_model.specs.Damage.{fine, room}
 use Rattle.tree_model.specs.Levels.{Levels, top, work}
 use Rattle.tree_model.specs.Node.{sumCounts}
@@ -62,7 +63,7 @@ push-not (Push x) d = refl
 push-not Pop d = absurd d
 push-not (Replace x) d = absurd d
 
-same-number : {a b : Refusal} → _≡_ {A = Answer} (Refused a) (Refused b) → a ≡ b
+pub same-number : {a b : Refusal} → _≡_ {A = Answer} (Refused a) (Refused b) → a ≡ b
 same-number {a} {b} e = cc
 
 module _ (m levels : ℕ) (r : Request) (s : State) (ws : List ℕ) where
@@ -228,12 +229,6 @@ heard-idle mark r c nd n e = go (mark && popsOrReplaces r) e
     go : (t : Bool) → cond t (ruling (Refused TooSoon) Nothing) (rule c r nd) .answer ≡ Refused n → cond t (ruling (Refused TooSoon) Nothing) (rule c r nd) .op ≡ Nothing
     go true e = refl
     go false e = refused-idle c r nd n e
-
--- an idle request has none either, and answers done
-pub idle-ruling : (mark : Bool) (c : ℕ) (nd : List Slot) → heard mark Idle (rule c Idle nd) ≡ ruling Done Nothing
-unfolding heard rule popsOrReplaces
-idle-ruling true c nd = refl
-idle-ruling false c nd = refl
 
 -- what a cycle leaves goes by its work and its mark
 abbrev state-by : (m levels : ℕ) → State → List ℕ → Op → Bool → State

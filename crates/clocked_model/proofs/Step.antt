@@ -27,7 +27,7 @@ use Rattle.tree_model.proofs.Nothing.{apply-none, is-none, op-work}
 use Rattle.tree_model.proofs.Path.{path-none}
 use Rattle.tree_model.proofs.Promises.{called-kept, Kept, kept-called, root-node, sound-root, sound-way}
 use Rattle.tree_model.proofs.Words.{apply-length, size-room, words-apply}
-use Rattle.tree_model.specs.Calls.{called, outcome, Outcome, rootOf, rule, ruling, Ruling, shapeOk, verdict, wayOk}
+use Rattle.tree_model.specs.Calls.{called, Outcome, outcome, rootOf, rule, Ruling, ruling, shapeOk, verdict, wayOk}
 use Rattle.tree_model.specs.Damage.{nodeOk, pathOk, room}
 use Rattle.tree_model.specs.Levels.{apply, idle, Levels, work}
 use Rattle.tree_model.specs.Node.{isNothing, low, sumCounts}
@@ -110,6 +110,12 @@ heard-unmarked mark r g h e = go (mark && popsOrReplaces r) e
     go : (t : Bool) → marks r (cond t (ruling (Refused TooSoon) Nothing) g .answer) ≡ false → cond t (ruling (Refused TooSoon) Nothing) g .op ≡ Nothing
     go true e = refl
     go false e = h e
+
+-- an idle request is answered done, and has no work
+pub idle-ruling : (mark : Bool) (c : ℕ) (nd : List Slot) → heard mark Idle (rule c Idle nd) ≡ ruling Done Nothing
+unfolding heard rule popsOrReplaces
+idle-ruling true c nd = refl
+idle-ruling false c nd = refl
 
 -- ---- the two trees in step: the clocked one with the state s and the words ws, the other with the words vs
 pub record InStep (m k : ℕ) (s : State) (ws vs : List ℕ) : Type 0 where

@@ -14,15 +14,15 @@ Works zero = Unit {0}
 Works (suc k) = Work × Works k
 
 module _ (m : ℕ) where
-  -- "In a cycle every level reads what stood at the cycle's start and writes only its own level"
-  unfoldable pub cycleLevels : (k : ℕ) → Works k → Levels k → Levels k
-  cycleLevels zero p ls = ls
-  cycleLevels (suc k) p ls = (stepLevel m (p .0) (ls .0) (top k (ls .1)), cycleLevels k (p .1) (ls .1))
-
   -- "A step that goes on below does not do it: it loads the next level's record, for the next cycle". The first level is loaded with q
   unfoldable pub cycleWorks : (k : ℕ) → Work → Works k → Levels k → Works k
   cycleWorks zero q p ls = p
   cycleWorks (suc k) q p ls = (q, cycleWorks k (stepWork m (p .0) (ls .0) (top k (ls .1))) (p .1) (ls .1))
+
+  -- "In a cycle every level reads what stood at the cycle's start and writes only its own level"
+  unfoldable pub cycleLevels : (k : ℕ) → Works k → Levels k → Levels k
+  cycleLevels zero p ls = ls
+  cycleLevels (suc k) p ls = (stepLevel m (p .0) (ls .0) (top k (ls .1)), cycleLevels k (p .1) (ls .1))
 
   -- no level's step meets damage: "pending work reads likewise", and no "pending record names a node its level lacks"
   unfoldable pub cycleOk : (k : ℕ) → Works k → Levels k → Bool
