@@ -2,6 +2,7 @@
 use mathlib.Core.Path.{refl}
 use Rattle.bucket_model.proofs.Case8.{case8-holds}
 use Rattle.cases.specs.Table.{Right, table}
+use Rattle.clocked_model.proofs.Cases.{case-6}
 use Rattle.laws.specs.Lists.{All}
 use Rattle.strip.specs.Answers.{blank, key}
 use Rattle.tree_model.specs.Calls.{called, carriedOut, cleared, orderOk, rule, shapeOk}
@@ -13,4 +14,4 @@ use Rattle.tree_model.specs.Words.{applyWords, levelOf, levelsOf, nodeOf, size,
 
 pub cases : All Right table
 unfolding table blank key vacant isEmpty slotAt seek every firstEmpty leastCount lowest low sumCounts keep pass putBy putMove takeBy takeMove swapBy swapMove opMove isNothing top work levelMove stepWork slotOf write wipe tabulate nodeOf size levelOf levelsOf stepWords applyWords room isBlank slotOk nodeOk hasRoom hasSome readOk lifts stepOk fine pathOk orderOk shapeOk rule carriedOut called cleared leaves answers
-cases = ((refl, refl), ((refl, refl), ((refl, refl), ((refl, refl), ((refl, refl), ((refl, refl), (case8-holds, tt)))))))
+cases = ((refl, refl), ((refl, refl), ((refl, refl), ((refl, refl), ((refl, refl), (case-6, ((refl, refl), (case8-holds, tt))))))))

@@ -5,6 +5,7 @@ use mathlib.Core.Path.{_≡_}
 use lib.ListN.{length, replicate}
 use Rattle.bucket_model.specs.Case8.{case8, case8Answers}
 use Rattle.bucket_model.specs.Plain.{bucketAnswers}
+use Rattle.clocked_model.specs.Cases.{caseSix, caseSixSays}
 use Rattle.strip.specs.Answers.{element}
 use Rattle.strip.specs.declared.Answer.{Answer}
 use Rattle.strip.specs.declared.Answer.the-variants.{Done, Out, Refused}
@@ -16,6 +17,7 @@ use Rattle.tree_model.specs.Promise.{after, answers, start}
 -- a row: what is asked of a cleared queue, what it answers, and the words it leaves. A slice to begin with is garbage, and longer than needed
 pub data Row : Type 0 where
   tree : (order levels : ℕ) (requests : List Request) (said : List Answer) (left : List ℕ) → Row
+  clocked : (words said : List (List ℕ)) → Row
   bucket : (nodes : ℕ) (requests : List Request) (said : List Answer) → Row
 
 abbrev pub garbage : ℕ → List ℕ
@@ -25,6 +27,7 @@ garbage n = replicate n 9
 abbrev pub Right : Row → Type 0
 Right (tree m l rs said left) =
     (answers m l rs (start m l (garbage (length left))) ≡ said) × (after m l rs (garbage (length left)) ≡ left)
+Right (clocked words said) = words ≡ said
 Right (bucket n rs said) = bucketAnswers n rs ≡ said
 
 -- "Tree cases have order 2, levels 2, capacity 6. Store A is cleared, then push 5/50, 3/30, 8/80, 1/10"
@@ -49,6 +52,8 @@ table =
     ∷ row (A ++ (Replace (element 1 7) ∷ [])) (done 4 ++ (Out (element 1 10) ∷ [])) (5 ∷ 50 ∷ 2 ∷ 1 ∷ 7 ∷ 2 ∷ 8 ∷ 80 ∷ 1 ∷ 0 ∷ 0 ∷ 0 ∷ 3 ∷ 30 ∷ 1 ∷ 0 ∷ 0 ∷ 0 ∷ [])
     -- 5. A, replace 4/7: answers 1/10, slot 1 (3,30,2), node 1 begins (4,7,1)
     ∷ row (A ++ (Replace (element 4 7) ∷ [])) (done 4 ++ (Out (element 1 10) ∷ [])) (5 ∷ 50 ∷ 2 ∷ 3 ∷ 30 ∷ 2 ∷ 8 ∷ 80 ∷ 1 ∷ 0 ∷ 0 ∷ 0 ∷ 4 ∷ 7 ∷ 1 ∷ 0 ∷ 0 ∷ 0 ∷ [])
+    -- 6. A clocked, drained, pop: after that cycle slot 1 is (3,30,1) and node 1 still begins (3,30,1); one idle cycle later node 1 is empty
+    ∷ clocked caseSix caseSixSays
     -- 7. cleared, six pushes accepted, the seventh refused 5
     ∷ row (replicate 7 (Push (element 1 1))) (done 6 ++ (Refused Full ∷ [])) (1 ∷ 1 ∷ 3 ∷ 1 ∷ 1 ∷ 3 ∷ 1 ∷ 1 ∷ 1 ∷ 1 ∷ 1 ∷ 1 ∷ 1 ∷ 1 ∷ 1 ∷ 1 ∷ 1 ∷ 1 ∷ [])
     -- 8. bucket, N = 3: push 7/1, 7/2, 4095/3; push 0/4 refused 5; 4096/4 refused 4; pops 7/1, 7/2, 4095/3, then 6

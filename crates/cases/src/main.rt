@@ -1,6 +1,9 @@
 // 01's worked cases, run: what each call answers, as number, rank and tag, and the words it leaves.
+use clocked_model::State;
 use strip::Answer;
+use strip::Element;
 use strip::Rank;
+use strip::Request;
 use strip::Tag;
 
 // Writes a number and a space.
@@ -126,6 +129,76 @@ fn buckets() {
     say_answer(b"clear ", bucket::clear(&mut bits, &mut words, 0));
 }
 
+fn asked(rank: u32, tag: u32) -> Request {
+    Request::Push(Element {
+        rank: Rank(rank),
+        tag: Tag(tag),
+    })
+}
+
+fn tick(store: &mut [u32], state: State, request: Request) -> State {
+    let c = clocked::cycle(store, 2, 2, state, request);
+    let answer = c.answer;
+    say_answer(b"cycle ", answer);
+    c.state
+}
+
+fn restart(store: &mut [u32]) -> State {
+    let c = clocked::clear(store, 2, 2);
+    let answer = c.answer;
+    say_answer(b"clear ", answer);
+    c.state
+}
+
+fn drained(store: &mut [u32], state: State) -> State {
+    let d = clocked::drain(store, 2, 2, state, 2);
+    io::write_all(1, b"drain ");
+    let answer = d.answer;
+    say(strip::number(answer));
+    say((d.cycles % 4294967296) as u32);
+    io::write_all(1, b"\n");
+    d.state
+}
+
+fn case_six(store: &mut [u32]) {
+    io::write_all(1, b"case 6\n");
+    let s0 = restart(store);
+    let s1 = tick(store, s0, asked(5, 50));
+    let s2 = tick(store, s1, asked(3, 30));
+    let s3 = tick(store, s2, asked(8, 80));
+    let s4 = tick(store, s3, asked(1, 10));
+    let s5 = drained(store, s4);
+    let s6 = tick(store, s5, Request::Pop);
+    say_words(store);
+    tick(store, s6, Request::Idle);
+    say_words(store);
+}
+
+fn case_ten(store: &mut [u32]) {
+    io::write_all(1, b"case 10\n");
+    let s0 = restart(store);
+    let s1 = tick(store, s0, asked(5, 50));
+    let s2 = tick(store, s1, Request::Idle);
+    let s3 = tick(store, s2, Request::Pop);
+    let s4 = tick(store, s3, asked(1, 10));
+    let s5 = tick(store, s4, asked(2, 20));
+    let s6 = tick(store, s5, Request::Pop);
+    tick(store, s6, Request::Pop);
+}
+
+// Push 1, 9, 2: the 2 is still on its way and node 0 is empty, so that a pop just after is too soon.
+fn on_its_way(store: &mut [u32]) {
+    io::write_all(1, b"a pop just after a push\n");
+    let s0 = restart(store);
+    let s1 = tick(store, s0, asked(1, 1));
+    let s2 = tick(store, s1, asked(9, 9));
+    let s3 = tick(store, s2, asked(2, 2));
+    say_words(store);
+    let s4 = tick(store, s3, Request::Pop);
+    say_words(store);
+    tick(store, s4, Request::Pop);
+}
+
 fn main() {
     let mut store = [9u32; 20];
     io::write_all(1, b"cases 1 and 2\n");
@@ -139,6 +212,9 @@ fn main() {
     replaced(&mut store, 4);
     io::write_all(1, b"case 7\n");
     filled(&mut store);
+    case_six(&mut store);
+    case_ten(&mut store);
+    on_its_way(&mut store);
     shapes();
     buckets();
 }
