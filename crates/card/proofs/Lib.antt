@@ -1,0 +1,3 @@
+-- What the proofs of the calls share.
+pub mod Calls
+pub mod Clocked

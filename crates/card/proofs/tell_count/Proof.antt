@@ -1,0 +1,27 @@
+-- `card::tell_count` meets its contract. Assumes nothing.
+use borrow.Author.Needs.{needs}
+use Rattle.card.proofs.tell_count.Statement.{statement}
+use Rattle.card.proofs.tell_count.Tie as tie
+use Rattle.card.proofs.tell_count.Reads as reads
+use Rattle.card.proofs.tell_count.Lts as lts
+use Rattle.strip.proofs.count_number.Reads as count-number-reads
+use Rattle.strip.proofs.counted.Reads as counted-reads
+
+counted-requires : tie.Need-counted-requires
+counted-requires c κs = search needs
+
+slice-write-out : tie.Need-slice-write-out
+slice-write-out c = search needs
+
+count-number-requires : tie.Need-count-number-requires
+count-number-requires c κs = search needs
+
+same-length : tie.Need-same-length
+same-length c = search needs
+
+returns : tie.Need-returns
+returns c = (c .count-number .ensures, rw (c .before .counted .ensures))
+
+pub tell-count-spec : {M : Type 1} → statement M
+tell-count-spec =
+    tie.close (tie.spec counted-requires slice-write-out count-number-requires same-length returns)

@@ -1,0 +1,4 @@
+pub mod Out
+pub mod Tree
+pub mod Bucket
+pub mod Clocked

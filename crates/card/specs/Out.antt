@@ -1,0 +1,30 @@
+-- What `out` receives. Assumes nothing: these are definitions.
+use Prim.Native.Nat.{ℕ}
+use mathlib.Core.Bool.{cond}
+use mathlib.Core.List.{List}
+use lib.Dec.{leb}
+use lib.ListN.{length, set}
+use Rattle.strip.specs.Answers.{countNumber, countOf, rankOf, refusalNumber, tagOf}
+use Rattle.strip.specs.declared.Answer.{Answer}
+use Rattle.strip.specs.declared.Count.{Count}
+use Rattle.strip.specs.declared.Refusal.the-variants.{BadShape}
+
+-- an answer's rank and tag in the first two words; the others stand
+abbrev pub answerOut : Answer → List ℕ → List ℕ
+answerOut a out = set (set out 0 (rankOf a)) 1 (tagOf a)
+
+-- the number of a call that the boundary itself refuses: nothing is changed
+abbrev pub badShape : ℕ
+badShape = refusalNumber BadShape
+
+-- ---- held, of any queue: the number returned, and `out` afterwards
+pub record Counted : Type 0 where
+  pub number : ℕ
+  pub out : List ℕ
+
+abbrev pub tally : ℕ → List ℕ → Counted
+tally n out = record { number = n; out = out }
+
+-- a count in the first word; an `out` with none is refused
+unfoldable pub countTold : Count → List ℕ → Counted
+countTold c out = cond (leb 1 (length out)) (tally (countNumber c) (set out 0 (countOf c))) (tally badShape out)

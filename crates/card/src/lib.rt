@@ -1,0 +1,332 @@
+// The static library for C and Rust: the three queues over numbers and slices. Each function returns 01's number, 0 where nothing is
+// refused, and writes what it answers to `out`. An `out` that is too short is refusal 1, and nothing changes.
+ghost use mathlib.Core.Path.{_≡_};
+ghost use Prim.Native.Nat.{_≤_};
+ghost use lib.ListN.{length, set};
+ghost use Rattle.strip.specs.Answers.{numberOf, countNumber, countOf};
+ghost use Rattle.card.specs.Out.{answerOut, tally};
+ghost use Rattle.card.specs.Tree.{treeStored, treeTold, treeClear, treePush, treePop, treeReplace, treeHeld};
+ghost use Rattle.card.specs.Bucket.{pooled, drawn, bucketClear, bucketPush, bucketPop, bucketReplace, bucketHeld};
+ghost use Rattle.card.specs.Clocked.{restart, beat, requestOf, ran, taken, drainOut, clockedClear, clockedCycle, clockedDrain, clockedHeld};
+use card_records::bit;
+use card_records::hand_back;
+use card_records::is_readable;
+use card_records::is_roomy;
+use card_records::read_state;
+use node::shape_ok;
+use strip::Answer;
+use strip::Count;
+use strip::Element;
+use strip::Rank;
+use strip::Refusal;
+use strip::Request;
+use strip::Tag;
+use strip::count_number;
+use strip::counted;
+use strip::given;
+use strip::number;
+
+// ---- what `out` receives
+
+// Writes an answer's rank and tag, 0 and 0 on a refusal, and returns its number.
+fn tell(out: &mut [u32], answer: Answer) -> u32
+    requires { ⌜ 2 ≤ length (now out) ⌝ }
+    ensures { λ r. ⌜ (r ≡ numberOf answer) × (now (out .exit) ≡ answerOut answer (now (out .entry))) ⌝ }
+{
+    let e = given(answer);
+    let rank = e.rank.0;
+    let tag = e.tag.0;
+    out[0] = rank;
+    out[1] = tag;
+    number(answer)
+}
+
+// Writes a count, 0 on a refusal, and returns its number.
+fn tell_count(out: &mut [u32], count: Count) -> u32
+    requires { ⌜ 1 ≤ length (now out) ⌝ }
+    ensures { λ r. ⌜ (r ≡ countNumber count) × (now (out .exit) ≡ set (now (out .entry)) 0 (countOf count)) ⌝ }
+{
+    out[0] = counted(count);
+    count_number(count)
+}
+
+// ---- the multi-way tree, one operation at a time
+
+#[no_mangle]
+pub extern "C" fn card_tree_clear(store: &mut [u32], order: u32, levels: u32) -> u32
+    ensures { λ r. ⌜ treeStored r (now (store .exit)) ≡ treeClear order levels (now (store .entry)) ⌝ }
+{
+    number(tree::clear(store, order as usize, levels as usize))
+}
+
+#[no_mangle]
+pub extern "C" fn card_tree_push(
+    store: &mut [u32],
+    order: u32,
+    levels: u32,
+    rank: u32,
+    tag: u32,
+) -> u32
+    ensures { λ r. ⌜ treeStored r (now (store .exit)) ≡ treePush order levels (now (store .entry)) rank tag ⌝ }
+{
+    number(tree::push(store, order as usize, levels as usize, Rank(rank), Tag(tag)))
+}
+
+#[no_mangle]
+pub extern "C" fn card_tree_pop(store: &mut [u32], order: u32, levels: u32, out: &mut [u32]) -> u32
+    ensures { λ r. ⌜ treeTold r (now (store .exit)) (now (out .exit)) ≡ treePop order levels (now (store .entry)) (now (out .entry)) ⌝ }
+{
+    if out.len() < 2 {
+        return 1;
+    }
+    let answer = tree::pop(store, order as usize, levels as usize);
+    tell(out, answer)
+}
+
+#[no_mangle]
+pub extern "C" fn card_tree_replace(
+    store: &mut [u32],
+    order: u32,
+    levels: u32,
+    rank: u32,
+    tag: u32,
+    out: &mut [u32],
+) -> u32
+    ensures { λ r. ⌜ treeTold r (now (store .exit)) (now (out .exit)) ≡ treeReplace order levels (now (store .entry)) rank tag (now (out .entry)) ⌝ }
+{
+    if out.len() < 2 {
+        return 1;
+    }
+    let answer = tree::replace(store, order as usize, levels as usize, Rank(rank), Tag(tag));
+    tell(out, answer)
+}
+
+#[no_mangle]
+pub extern "C" fn card_tree_held(store: &[u32], order: u32, levels: u32, out: &mut [u32]) -> u32
+    ensures { λ r. ⌜ tally r (now (out .exit)) ≡ treeHeld order levels (now (store .entry)) (now (out .entry)) ⌝ }
+{
+    if out.len() < 1 {
+        return 1;
+    }
+    let count = tree::held(store, order as usize, levels as usize);
+    tell_count(out, count)
+}
+
+// ---- the bucket queue
+
+#[no_mangle]
+pub extern "C" fn card_bucket_clear(bits: &mut [u64], words: &mut [u32], nodes: u32) -> u32
+    ensures { λ r. ⌜ pooled r (now (bits .exit)) (now (words .exit)) ≡ bucketClear (now (bits .entry)) (now (words .entry)) nodes ⌝ }
+{
+    number(bucket::clear(bits, words, nodes))
+}
+
+#[no_mangle]
+pub extern "C" fn card_bucket_push(
+    bits: &mut [u64],
+    words: &mut [u32],
+    nodes: u32,
+    rank: u32,
+    tag: u32,
+) -> u32
+    ensures { λ r. ⌜ pooled r (now (bits .exit)) (now (words .exit)) ≡ bucketPush (now (bits .entry)) (now (words .entry)) nodes rank tag ⌝ }
+{
+    number(bucket::push(bits, words, nodes, Rank(rank), Tag(tag)))
+}
+
+#[no_mangle]
+pub extern "C" fn card_bucket_pop(
+    bits: &mut [u64],
+    words: &mut [u32],
+    nodes: u32,
+    out: &mut [u32],
+) -> u32
+    ensures { λ r. ⌜ drawn r (now (bits .exit)) (now (words .exit)) (now (out .exit)) ≡ bucketPop (now (bits .entry)) (now (words .entry)) nodes (now (out .entry)) ⌝ }
+{
+    if out.len() < 2 {
+        return 1;
+    }
+    let answer = bucket::pop(bits, words, nodes);
+    tell(out, answer)
+}
+
+#[no_mangle]
+pub extern "C" fn card_bucket_replace(
+    bits: &mut [u64],
+    words: &mut [u32],
+    nodes: u32,
+    rank: u32,
+    tag: u32,
+    out: &mut [u32],
+) -> u32
+    ensures { λ r. ⌜ drawn r (now (bits .exit)) (now (words .exit)) (now (out .exit)) ≡ bucketReplace (now (bits .entry)) (now (words .entry)) nodes rank tag (now (out .entry)) ⌝ }
+{
+    if out.len() < 2 {
+        return 1;
+    }
+    let answer = bucket::replace(bits, words, nodes, Rank(rank), Tag(tag));
+    tell(out, answer)
+}
+
+#[no_mangle]
+pub extern "C" fn card_bucket_held(bits: &[u64], words: &[u32], nodes: u32, out: &mut [u32]) -> u32
+    ensures { λ r. ⌜ tally r (now (out .exit)) ≡ bucketHeld (now (bits .entry)) (now (words .entry)) nodes (now (out .entry)) ⌝ }
+{
+    if out.len() < 1 {
+        return 1;
+    }
+    let count = bucket::held(bits, words, nodes);
+    tell_count(out, count)
+}
+
+// ---- the clocked tree
+
+// Whether the boundary takes a call: two words of `out`, a request, and records and mark that can be read.
+fn is_taken(
+    order: usize,
+    levels: usize,
+    records: &[u32],
+    mark: &[u32],
+    request: u32,
+    room: usize,
+) -> bool
+    ensures { λ r. ⌜ r ≡ taken order levels (now (records .entry)) (now (mark .entry)) request room ⌝ }
+{
+    let readable = is_readable(order, levels, records, mark);
+    (2 <= room) & (request <= 3) & readable
+}
+
+fn request_of(request: u32, rank: u32, tag: u32) -> Request
+    ensures { λ r. ⌜ r ≡ requestOf request rank tag ⌝ }
+{
+    let x = Element {
+        rank: Rank(rank),
+        tag: Tag(tag),
+    };
+    if request == 1 {
+        return Request::Push(x);
+    }
+    if request == 2 {
+        return Request::Pop;
+    }
+    if request == 3 {
+        return Request::Replace(x);
+    }
+    Request::Idle
+}
+
+// Whether a cycle with an answer of this number ran.
+fn has_run(answer: Answer) -> bool
+    ensures { λ r. ⌜ r ≡ ran (numberOf answer) ⌝ }
+{
+    let n = number(answer);
+    (n != 1) & (n != 2)
+}
+
+// Writes the cycles run and whether work is left, and returns the answer's number.
+fn tell_drain(out: &mut [u32], cycles: u32, left: bool, answer: Answer) -> u32
+    requires { ⌜ 2 ≤ length (now out) ⌝ }
+    ensures { λ r. ⌜ (r ≡ numberOf answer) × (now (out .exit) ≡ drainOut cycles left (now (out .entry))) ⌝ }
+{
+    out[0] = cycles;
+    out[1] = bit(left);
+    number(answer)
+}
+
+#[no_mangle]
+pub extern "C" fn card_clocked_clear(
+    store: &mut [u32],
+    order: u32,
+    levels: u32,
+    records: &mut [u32],
+    mark: &mut [u32],
+) -> u32
+    ensures { λ r. ⌜ restart r (now (store .exit)) (now (records .exit)) (now (mark .exit)) ≡ clockedClear order levels (now (store .entry)) (now (records .entry)) (now (mark .entry)) ⌝ }
+{
+    let m = order as usize;
+    let l = levels as usize;
+    if !is_roomy(m, l, records, mark) {
+        return 1;
+    }
+    if !shape_ok(m, l, store.len()) {
+        return 1;
+    }
+    let done = clocked::clear(store, m, l);
+    let answer = done.answer;
+    let next = done.state;
+    let back = has_run(answer);
+    hand_back(records, mark, l - 1, next, back);
+    number(answer)
+}
+
+#[no_mangle]
+pub extern "C" fn card_clocked_cycle(
+    store: &mut [u32],
+    order: u32,
+    levels: u32,
+    records: &mut [u32],
+    mark: &mut [u32],
+    request: u32,
+    rank: u32,
+    tag: u32,
+    out: &mut [u32],
+) -> u32
+    ensures { λ r. ⌜ beat r (now (store .exit)) (now (records .exit)) (now (mark .exit)) (now (out .exit)) ≡ clockedCycle order levels (now (store .entry)) (now (records .entry)) (now (mark .entry)) request rank tag (now (out .entry)) ⌝ }
+{
+    let m = order as usize;
+    let l = levels as usize;
+    if !is_taken(m, l, records, mark, request, out.len()) {
+        return 1;
+    }
+    if !shape_ok(m, l, store.len()) {
+        return tell(out, Answer::Refused(Refusal::BadShape));
+    }
+    let state = read_state(records, mark, l - 1);
+    let asked = request_of(request, rank, tag);
+    let done = clocked::cycle(store, m, l, state, asked);
+    let answer = done.answer;
+    let next = done.state;
+    let back = has_run(answer);
+    hand_back(records, mark, l - 1, next, back);
+    tell(out, answer)
+}
+
+#[no_mangle]
+pub extern "C" fn card_clocked_drain(
+    store: &mut [u32],
+    order: u32,
+    levels: u32,
+    records: &mut [u32],
+    mark: &mut [u32],
+    budget: u32,
+    out: &mut [u32],
+) -> u32
+    ensures { λ r. ⌜ beat r (now (store .exit)) (now (records .exit)) (now (mark .exit)) (now (out .exit)) ≡ clockedDrain order levels (now (store .entry)) (now (records .entry)) (now (mark .entry)) budget (now (out .entry)) ⌝ }
+{
+    let m = order as usize;
+    let l = levels as usize;
+    if !is_taken(m, l, records, mark, 0, out.len()) {
+        return 1;
+    }
+    if !shape_ok(m, l, store.len()) {
+        return tell_drain(out, 0, false, Answer::Refused(Refusal::BadShape));
+    }
+    let state = read_state(records, mark, l - 1);
+    let done = clocked::drain(store, m, l, state, budget as usize);
+    let answer = done.answer;
+    let next = done.state;
+    let cycles = done.cycles;
+    hand_back(records, mark, l - 1, next, 0 < cycles);
+    tell_drain(out, cycles as u32, done.left, answer)
+}
+
+#[no_mangle]
+pub extern "C" fn card_clocked_held(store: &[u32], order: u32, levels: u32, out: &mut [u32]) -> u32
+    ensures { λ r. ⌜ tally r (now (out .exit)) ≡ clockedHeld order levels (now (store .entry)) (now (out .entry)) ⌝ }
+{
+    if out.len() < 1 {
+        return 1;
+    }
+    let count = clocked::held(store, order as usize, levels as usize);
+    tell_count(out, count)
+}

@@ -1,0 +1,221 @@
+// The pending records and the mark of the clocked tree as words, and back.
+ghost use mathlib.Core.Path.{_≡_};
+ghost use mathlib.Core.Bool.{cond};
+ghost use Prim.Native.Nat.{_+_, _*_, _≤_};
+ghost use lib.ListN.{length};
+ghost use Rattle.tree_model.specs.Levels.{idle};
+ghost use Rattle.clocked_model.specs.Calls.{recordCount};
+ghost use Rattle.card_records.specs.Records.{recordWords, workOf, workRead, worksRead, stateRead, kindOf, carried, nodeWord, workWritten, worksWritten, markWritten, kindsOk, roomy, readable, Lent};
+use clocked_model::State;
+use node::shape_ok;
+use strip::Element;
+use strip::Rank;
+use strip::Tag;
+use strip::no_element;
+use tree_model::Op;
+use tree_model::Work;
+
+// ---- reading
+
+fn no_work() -> Work
+    ensures { λ r. ⌜ r ≡ idle ⌝ }
+{
+    Work {
+        op: Op::Nothing,
+        node: 0,
+    }
+}
+
+fn work_of(kind: u32, node: usize, rank: u32, tag: u32) -> Work
+    ensures { λ r. ⌜ r ≡ workOf kind node rank tag ⌝ }
+{
+    let x = Element {
+        rank: Rank(rank),
+        tag: Tag(tag),
+    };
+    if kind == 1 {
+        return Work {
+            op: Op::Put(x),
+            node,
+        };
+    }
+    if kind == 2 {
+        return Work { op: Op::Take, node };
+    }
+    if kind == 3 {
+        return Work {
+            op: Op::Swap(x),
+            node,
+        };
+    }
+    no_work()
+}
+
+fn wide(x: u32) -> usize
+    ensures { λ r. ⌜ r ≡ x ⌝ }
+{
+    x as usize
+}
+
+fn read_work(records: &[u32], i: usize) -> Work
+    requires { ⌜ recordWords * i + 4 ≤ length (now records) ⌝ }
+    ensures { λ r. ⌜ r ≡ workRead (now (records .entry)) i ⌝ }
+{
+    let at = 4 * i;
+    work_of(
+        records[at],
+        wide(records[at + 1]),
+        records[at + 2],
+        records[at + 3],
+    )
+}
+
+// The first so many records; past them nothing is pending.
+fn read_works(records: &[u32], count: usize) -> [Work; 10]
+    requires { ⌜ (count ≤ recordCount) × (recordWords * count ≤ length (now records)) ⌝ }
+    ensures { λ r. ⌜ r ≡ worksRead count (now (records .entry)) ⌝ }
+{
+    let mut works = [no_work(); 10];
+    let mut i = 0;
+    while i < count {
+        works[i] = read_work(records, i);
+        i += 1;
+    }
+    works
+}
+
+pub fn read_state(records: &[u32], mark: &[u32], count: usize) -> State
+    requires { ⌜ Lent count (now records) (now mark) ⌝ }
+    ensures { λ r. ⌜ r ≡ stateRead count (now (records .entry)) (now (mark .entry)) ⌝ }
+{
+    let records = read_works(records, count);
+    State {
+        records,
+        mark: mark[0] == 1,
+    }
+}
+
+// ---- writing
+
+fn kind_of(op: Op) -> u32
+    ensures { λ r. ⌜ r ≡ kindOf op ⌝ }
+{
+    match op {
+        Op::Nothing => 0,
+        Op::Put(_) => 1,
+        Op::Take => 2,
+        Op::Swap(_) => 3,
+    }
+}
+
+fn carries(op: Op) -> Element
+    ensures { λ r. ⌜ r ≡ carried op ⌝ }
+{
+    match op {
+        Op::Nothing => no_element(),
+        Op::Put(x) => x,
+        Op::Take => no_element(),
+        Op::Swap(x) => x,
+    }
+}
+
+fn node_word(op: Op, node: usize) -> u32
+    ensures { λ r. ⌜ r ≡ nodeWord op node ⌝ }
+{
+    match op {
+        Op::Nothing => 0,
+        Op::Put(_) => (node % 4294967296) as u32,
+        Op::Take => (node % 4294967296) as u32,
+        Op::Swap(_) => (node % 4294967296) as u32,
+    }
+}
+
+fn write_work(records: &mut [u32], i: usize, w: Work)
+    requires { ⌜ recordWords * i + 4 ≤ length (now records) ⌝ }
+    ensures { λ _. ⌜ now (records .exit) ≡ workWritten (now (records .entry)) i w ⌝ }
+{
+    let at = 4 * i;
+    let op = w.op;
+    let x = carries(op);
+    let rank = x.rank.0;
+    let tag = x.tag.0;
+    records[at] = kind_of(op);
+    records[at + 1] = node_word(op, w.node);
+    records[at + 2] = rank;
+    records[at + 3] = tag;
+}
+
+fn write_works(records: &mut [u32], count: usize, works: [Work; 10])
+    requires { ⌜ (count ≤ recordCount) × (recordWords * count ≤ length (now records)) ⌝ }
+    ensures { λ _. ⌜ now (records .exit) ≡ worksWritten count works (now (records .entry)) ⌝ }
+{
+    let mut i = 0;
+    while i < count {
+        let w = works[i];
+        write_work(records, i, w);
+        i += 1;
+    }
+}
+
+pub fn bit(on: bool) -> u32
+    ensures { λ r. ⌜ r ≡ cond on 1 0 ⌝ }
+{
+    if on { 1 } else { 0 }
+}
+
+// Writes the records and the mark back where a cycle ran; where none did they stand.
+pub fn hand_back(records: &mut [u32], mark: &mut [u32], count: usize, state: State, ran: bool)
+    requires { ⌜ Lent count (now records) (now mark) ⌝ }
+    ensures { λ _. ⌜ (now (records .exit) ≡ cond ran (worksWritten count (state .records) (now (records .entry))) (now (records .entry))) × (now (mark .exit) ≡ cond ran (markWritten state (now (mark .entry))) (now (mark .entry))) ⌝ }
+{
+    if !ran {
+        return;
+    }
+    let works = state.records;
+    write_works(records, count, works);
+    mark[0] = bit(state.mark);
+}
+
+// ---- what is handed in
+
+fn kinds_ok(records: &[u32], count: usize) -> bool
+    requires { ⌜ (count ≤ recordCount) × (recordWords * count ≤ length (now records)) ⌝ }
+    ensures { λ r. ⌜ r ≡ kindsOk count (now (records .entry)) ⌝ }
+{
+    let mut ok = true;
+    let mut i = 0;
+    while i < count {
+        ok = ok & (records[4 * i] <= 3);
+        i += 1;
+    }
+    ok
+}
+
+// Whether the mark has a word, and the records four for each level from 2. How many levels there are is known where order and levels are good.
+pub fn is_roomy(order: usize, levels: usize, records: &[u32], mark: &[u32]) -> bool
+    ensures { λ r. ⌜ r ≡ roomy order levels (now (records .entry)) (now (mark .entry)) ⌝ }
+{
+    if mark.len() < 1 {
+        return false;
+    }
+    if !shape_ok(order, levels, 16380) {
+        return true;
+    }
+    4 * (levels - 1) <= records.len()
+}
+
+// .. and whether they hold a mark and kinds.
+pub fn is_readable(order: usize, levels: usize, records: &[u32], mark: &[u32]) -> bool
+    ensures { λ r. ⌜ r ≡ readable order levels (now (records .entry)) (now (mark .entry)) ⌝ }
+{
+    if !is_roomy(order, levels, records, mark) {
+        return false;
+    }
+    if mark[0] > 1 {
+        return false;
+    }
+    if !shape_ok(order, levels, 16380) {
+        return true;
+    }
+    kinds_ok(records, levels - 1)
+}
