@@ -147,6 +147,10 @@ must "example in C" $CC -std=c99 -Wall -Wextra -Werror -pedantic -O2 -Ihost host
 if [ -n "${CARD_SOURCE:-}" ]; then say "the library's source is taken from CARD_SOURCE: $CARD_SOURCE"; fi
 part "header, Rust declarations and exported functions" \
     "$out/header_check" host/card.h host/card/raw.rs ${CARD_SOURCE:-crates/card/src/*.rt}
+# the page's examples are the ones that are compiled and run here
+block() { sed -n "/^\`\`\`$1\$/,/^\`\`\`\$/p" README.md | sed '1d;$d'; }
+check "the page's example in C" host/examples/pops.c block c
+check "the page's example in Rust" host/examples/pops.rs block rust
 check "the example in C" host/examples/pops.txt $RUNNER "$out/pops_c"
 check "the example in Rust" host/examples/pops.txt $RUNNER "$out/pops_rust"
 part "library against models" $RUNNER "$out/compare" $seed
