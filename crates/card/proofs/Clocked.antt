@@ -1,22 +1,24 @@
 -- The clocked tree's calls: what is tested, what is refused, and what is handed back. Assumes nothing.
-use Prim.Native.Nat.{_-_, _≤_, ℕ}
+use Prim.Native.Nat.{_-_, _<_, _≤_, pred, ℕ}
 use native.Mathlib.Omega.{arith}
 use mathlib.Core.Bool.{_&&_, Bool, cond, false, not, true}
 use mathlib.Core.List.{List}
-use mathlib.Core.Path.{_∙_, _≡_, ap, ap₂, sym}
+use mathlib.Core.Path.{_∙_, _≡_, ap, ap₂, subst, sym}
 use lib.Dec.{leb, ltb}
-use lib.ListN.{length}
+use lib.ListN.{getD, length}
 use borrow.Author.Tests.{eq-eqb, leb-true, ne-eqb, not-false, not-true}
 use Rattle.tree_model.specs.Calls.{cleared, shapeOk}
+use Rattle.card_records.proofs.Nodes.{drained-fits, Fits, fresh-fit, read-fits, ticked-fits}
 use Rattle.card_records.proofs.Records.{lent, readable-roomy, shape-few}
-use Rattle.card_records.specs.Records.{Lent, markWritten, readable, roomy, worksWritten}
+use Rattle.clocked_model.specs.Records.{worksOf}
+use Rattle.card_records.specs.Records.{Fit, Lent, wordLimit, markWritten, readable, roomy, worksWritten}
 use Rattle.card.specs.Clocked.{beat, clockedClear, clockedCycle, clockedDrain, cycleOf, drainOf, drainOut, markBack, ran, recordsBack, requestOf, restart, restartOf, stateIn, taken}
 use Rattle.card.specs.Out.{answerOut}
 use Rattle.clocked_model.proofs.Drain.{drain-within}
 use Rattle.clocked_model.proofs.Exactly.{ticked-bad}
-use Rattle.clocked_model.specs.Calls.{cycleOutcome, CycleOutcome, drainOutcome, DrainOutcome, drains, restarted, ticked}
+use Rattle.clocked_model.specs.Calls.{cycleOutcome, CycleOutcome, drainOutcome, DrainOutcome, drains, recordCount, restarted, ticked}
 use Rattle.clocked_model.specs.declared.State.{State}
-use Rattle.laws.specs.Tests.{and-left, and-right}
+use Rattle.laws.specs.Tests.{and-left, and-right, sub-one}
 use Rattle.strip.specs.Answers.{element, numberOf}
 use Rattle.strip.specs.declared.Answer.{Answer}
 use Rattle.strip.specs.declared.Answer.the-variants.{Refused}
@@ -152,3 +154,32 @@ pub drain-few : (m levels : ℕ) (ws : List ℕ) (budget : ℕ) (state : State) 
 drain-few m levels ws budget state a cycles left after s o =
     let e : cycles ≡ drains m levels budget state ws .cycles = ap (λ (o : DrainOutcome). o .cycles) o in
     omega (arith, drain-within m levels budget state ws)
+
+-- ---- the nodes that are handed back fit their words
+fit-levels : (levels : ℕ) (s : State) → Fits levels s → Fit (levels - 1) (worksOf (levels - 1) (s .records) 0)
+fit-levels levels s f = subst (λ (k : ℕ). Fit k (worksOf k (s .records) 0)) (sym (sub-one levels)) (f .nodes)
+
+few-pred : (levels : ℕ) (rs mark : List ℕ) → Lent (levels - 1) rs mark → pred levels ≤ recordCount
+few-pred levels rs mark l = subst (λ (k : ℕ). k ≤ recordCount) (sub-one levels) (l .few)
+
+pub cycle-fits : (m levels : ℕ) (ws rs mark : List ℕ) (asked : Request) (state : State) (a : Answer) (after : List ℕ) (s : State)
+    → ((i : ℕ) → getD rs i 0 < wordLimit) → Lent (levels - 1) rs mark → state ≡ stateIn levels rs mark → cycleOutcome a after s ≡ ticked m levels asked state ws
+    → Fit (levels - 1) (worksOf (levels - 1) (s .records) 0)
+cycle-fits m levels ws rs mark asked state a after s words l e o =
+    fit-levels levels s
+    (subst (λ (o : CycleOutcome). Fits levels (o .state)) (sym o)
+    (ticked-fits m levels asked state ws (subst (Fits levels) (sym e) (read-fits levels (levels - 1) rs mark words (few-pred levels rs mark l)))))
+
+pub drain-fits : (m levels : ℕ) (ws rs mark : List ℕ) (budget : ℕ) (state : State) (a : Answer) (n : ℕ) (left : Bool) (after : List ℕ) (s : State)
+    → ((i : ℕ) → getD rs i 0 < wordLimit) → Lent (levels - 1) rs mark → state ≡ stateIn levels rs mark → drainOutcome a n left after s ≡ drains m levels budget state ws
+    → Fit (levels - 1) (worksOf (levels - 1) (s .records) 0)
+drain-fits m levels ws rs mark budget state a n left after s words l e o =
+    fit-levels levels s
+    (subst (λ (o : DrainOutcome). Fits levels (o .state)) (sym o)
+    (drained-fits m levels budget state ws (subst (Fits levels) (sym e) (read-fits levels (levels - 1) rs mark words (few-pred levels rs mark l)))))
+
+pub fresh-fits : (m levels : ℕ) (ws rs mark : List ℕ) (a : Answer) (after : List ℕ) (s : State)
+    → Lent (levels - 1) rs mark → cycleOutcome a after s ≡ restarted m levels ws → Fit (levels - 1) (worksOf (levels - 1) (s .records) 0)
+fresh-fits m levels ws rs mark a after s l o =
+    fit-levels levels s
+    (subst (λ (o : CycleOutcome). Fits levels (o .state)) (sym o) (fresh-fit levels (few-pred levels rs mark l)))

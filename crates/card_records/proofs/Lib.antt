@@ -1,3 +1,4 @@
 -- What the proofs of the functions share.
 pub mod Records
 pub mod Nodes
+pub mod Handed

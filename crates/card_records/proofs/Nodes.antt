@@ -1,25 +1,27 @@
--- A record's node always fits its word: what is written is the node itself, and no remainder. Assumes nothing.
+-- A record's node always fits its word. Assumes nothing.
 use Prim.Native.Nat.{_*_, _+_, _<_, _≤_, pred, suc, zero, ℕ}
-use native.Mathlib.Nat.{add-suc, add-zero, mul-le-mul-right, not-suc-le-zero, suc-add, suc-mul, suc-pred-eq-of-pos}
+use native.Mathlib.Nat.{eq-or-lt-of-le, mul-le-mul-right, suc-mul, suc-pred-eq-of-pos}
 use native.Mathlib.Omega.{arith}
 use mathlib.Core.Bool.{_&&_, _||_, Bool, cond, false, true}
 use mathlib.Core.List.{[], _∷_, List}
+use mathlib.Core.Logic.{⊎-elim}
 use mathlib.Core.Path.{_∙_, _≡_, ap, refl, subst, sym}
 use lib.Dec.{eqb, ltb}
 use lib.ListN.{getD, length, length-replicate, length-set, replicate}
 use borrow.Author.Tests.{ltb-true}
-use Rattle.card_records.specs.Records.{nodeWord, recordWords, stateRead, workOf, workRead, worksRead}
+use Rattle.card_records.specs.Records.{Fit, nodeWord, recordWords, stateRead, wordLimit, workOf, workRead, worksRead}
 use Rattle.clocked_model.proofs.Demand.{few-levels}
 use Rattle.clocked_model.proofs.Drain.{drain-state}
 use Rattle.clocked_model.proofs.Exactly.{sound, ticked-bad, ticked-damaged, ticked-fine}
 use Rattle.clocked_model.proofs.Turn.{after-length, plain-rest, works-after}
-use Rattle.clocked_model.specs.Calls.{askedOk, CycleOutcome, cycleWork, drains, hearing, recordCount, runs, stepsOk, ticked, turned}
+use Rattle.clocked_model.specs.Calls.{askedOk, CycleOutcome, cycleWork, drains, fresh, hearing, recordCount, runs, stepsOk, ticked, turned}
 use Rattle.clocked_model.specs.Cycle.{cycleOk, cycleWorks, Works}
 use Rattle.clocked_model.specs.Records.{recordAt, worksOf}
 use Rattle.clocked_model.specs.declared.State.{State}
 use Rattle.laws.specs.Lists.{All, all-at, all-replicate, all-set}
 use Rattle.laws.specs.Tests.{and-left, and-right}
 use Rattle.strip.specs.Answers.{element}
+use Rattle.strip.specs.declared.Element.{Element}
 use Rattle.strip.specs.declared.Request.{Request}
 use Rattle.strip.specs.declared.Request.the-variants.{Idle}
 use Rattle.tree_model.proofs.Exactly.{order-pos, shape-is}
@@ -36,21 +38,12 @@ use Rattle.tree_model.specs.declared.Op.the-variants.{Nothing, Put, Swap, Take}
 use Rattle.tree_model.specs.declared.Slot.{Slot}
 use Rattle.tree_model.specs.declared.Work.{Work}
 
-abbrev limit : ℕ
-limit = 4294967296
-
--- the nodes of k levels' work fit a word
-abbrev pub Fit : (k : ℕ) → Works k → Type 0
-Fit zero p = Unit {0}
-Fit (suc k) p = (p .0 .node < limit) × Fit k (p .1)
-
--- .. and then the word is the node
-pub node-kept : (o : Op) (n : ℕ) → work o n .node < limit → nodeWord o n ≡ work o n .node
+pub node-kept : (o : Op) (n : ℕ) → nodeWord o n ≡ work o n .node
 unfolding work
-node-kept Nothing n h = refl
-node-kept (Put x) n h = omega arith
-node-kept Take n h = omega arith
-node-kept (Swap x) n h = omega arith
+node-kept Nothing n = refl
+node-kept (Put x) n = refl
+node-kept Take n = refl
+node-kept (Swap x) n = refl
 
 work-le : (o : Op) (n : ℕ) → work o n .node ≤ n
 unfolding work
@@ -88,7 +81,7 @@ module _ (m : ℕ) (pos : 0 < m) (k : ℕ) (w : Work) (ws : List ℕ) (b c : ℕ
       go false p h = rest-some p h
 
 module _ (m : ℕ) (pos : 0 < m) where
-  cycle-fit : (k : ℕ) (q : Work) (p : Works k) (ws : List ℕ) (b c : ℕ) → q .node < limit → size m k c ≤ slotLimit
+  cycle-fit : (k : ℕ) (q : Work) (p : Works k) (ws : List ℕ) (b c : ℕ) → q .node < wordLimit → size m k c ≤ slotLimit
       → cycleOk m k p (levelsOf m k ws b c) ≡ true → Fit k (cycleWorks m k q p (levelsOf m k ws b c))
   unfolding cycleWorks cycleOk levelsOf size
   cycle-fit zero q p ws b c h s e = tt
@@ -152,33 +145,55 @@ read-low kind node rank tag = go (eqb kind 1) (eqb kind 2) (eqb kind 3)
     go false false true = omega arith
     go false false false = omega arith
 
-module _ (rs : List ℕ) (words : (i : ℕ) → getD rs i 0 < limit) where
-  works-low : (k : ℕ) → All (λ (w : Work). w .node < limit) (worksRead k rs)
+module _ (rs : List ℕ) (words : (i : ℕ) → getD rs i 0 < wordLimit) where
+  works-low : (k : ℕ) → All (λ (w : Work). w .node < wordLimit) (worksRead k rs)
   unfolding worksRead workRead
-  works-low zero = all-replicate (λ (w : Work). w .node < limit) recordCount idle (omega arith)
+  works-low zero = all-replicate (λ (w : Work). w .node < wordLimit) recordCount idle (omega arith)
   works-low (suc k) =
-      all-set (λ (w : Work). w .node < limit) (worksRead k rs) k (workRead rs k) (works-low k)
+      all-set (λ (w : Work). w .node < wordLimit) (worksRead k rs) k (workRead rs k) (works-low k)
       (omega (arith, read-low (getD rs (recordWords * k) 0) (getD rs (recordWords * k + 1) 0) (getD rs (recordWords * k + 2) 0) (getD rs (recordWords * k + 3) 0), words (recordWords * k + 1)))
 
-works-few : (k : ℕ) (rs : List ℕ) → length (worksRead k rs) ≡ recordCount
+pub works-few : (k : ℕ) (rs : List ℕ) → length (worksRead k rs) ≡ recordCount
 unfolding worksRead
 works-few zero rs = length-replicate recordCount idle
 works-few (suc k) rs = length-set (worksRead k rs) k (workRead rs k) ∙ works-few k rs
 
-all-fit : (k : ℕ) (vs : List Work) (i : ℕ) → All (λ (w : Work). w .node < limit) vs → i + k ≤ length vs → Fit k (worksOf k vs i)
+all-fit : (k : ℕ) (vs : List Work) (i : ℕ) → All (λ (w : Work). w .node < wordLimit) vs → i + k ≤ length vs → Fit k (worksOf k vs i)
 unfolding worksOf recordAt
 all-fit zero vs i a h = tt
 all-fit (suc k) vs i a h =
-    let own : getD vs i idle .node < limit = all-at (λ (w : Work). w .node < limit) vs i idle a (omega arith) in
+    let own : getD vs i idle .node < wordLimit = all-at (λ (w : Work). w .node < wordLimit) vs i idle a (omega arith) in
     (omega (arith, work-le (getD vs i idle .op) (getD vs i idle .node)), all-fit k vs (suc i) a (omega arith))
 
-pub read-fits : (levels k : ℕ) (rs mark : List ℕ) → ((i : ℕ) → getD rs i 0 < limit) → pred levels ≤ recordCount → Fits levels (stateRead k rs mark)
+pub read-fits : (levels k : ℕ) (rs mark : List ℕ) → ((i : ℕ) → getD rs i 0 < wordLimit) → pred levels ≤ recordCount → Fits levels (stateRead k rs mark)
 read-fits levels k rs mark words h =
     record { few = works-few k rs; nodes = all-fit (pred levels) (worksRead k rs) 0 (works-low rs words k) (omega (arith, works-few k rs)) }
 
--- ---- so that the node of each record is written as it is
-pub written-node : (k : ℕ) (vs : List Work) (i j : ℕ) → Fit k (worksOf k vs i) → j < k → nodeWord (getD vs (i + j) idle .op) (getD vs (i + j) idle .node) ≡ recordAt vs (i + j) .node
+-- .. and so does a cleared machine
+pub fresh-fit : (levels : ℕ) → pred levels ≤ recordCount → Fits levels fresh
+unfolding fresh
+fresh-fit levels h =
+    record {
+      few = length-replicate recordCount idle;
+      nodes = all-fit (pred levels) (replicate recordCount idle) 0 (all-replicate (λ (w : Work). w .node < wordLimit) recordCount idle (omega arith)) (omega (arith, length-replicate recordCount idle));
+    }
+
+-- ---- so that the node of each record can be written
+pub fit-at : (k : ℕ) (vs : List Work) (i : ℕ) → Fit k (worksOf k vs i) → (j : ℕ) → i ≤ j → j < i + k → nodeWord (getD vs j idle .op) (getD vs j idle .node) < wordLimit
 unfolding worksOf recordAt
-written-node zero vs i j f h = absurd (not-suc-le-zero h)
-written-node (suc k) vs i zero f h = rw add-zero (node-kept (getD vs i idle .op) (getD vs i idle .node) (f .0))
-written-node (suc k) vs i (suc j) f h = rw (add-suc i j, ← suc-add i j) (written-node k vs (suc i) j (f .1) (omega arith))
+fit-at zero vs i f j a b = absurd (omega arith)
+fit-at (suc k) vs i f j a b =
+    ⊎-elim
+    (λ e. subst (λ (j : ℕ). nodeWord (getD vs j idle .op) (getD vs j idle .node) < wordLimit) e (rw node-kept (f .0)))
+    (λ l. fit-at k vs (suc i) (f .1) j l (omega arith))
+    (eq-or-lt-of-le a)
+
+module _ (n : ℕ) (o : Op) (h : nodeWord o n < wordLimit) where
+  pub put-fits : (x : Element) → o ≡ Put x → n < wordLimit
+  put-fits x e = subst (λ (o : Op). nodeWord o n < wordLimit) e h
+
+  pub take-fits : o ≡ Take → n < wordLimit
+  take-fits e = subst (λ (o : Op). nodeWord o n < wordLimit) e h
+
+  pub swap-fits : (x : Element) → o ≡ Swap x → n < wordLimit
+  swap-fits x e = subst (λ (o : Op). nodeWord o n < wordLimit) e h

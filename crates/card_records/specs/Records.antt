@@ -1,11 +1,12 @@
 -- The pending records and the mark as words: "4 words for each level from 2: kind (0 nothing, 1 put, 2 take, 3 swap), node, rank, tag".
 -- Assumes nothing: these are definitions.
-use Prim.Native.Nat.{_%_, _*_, _+_, _-_, _≤_, suc, zero, ℕ}
+use Prim.Native.Nat.{_*_, _+_, _-_, _<_, _≤_, suc, zero, ℕ}
 use mathlib.Core.Bool.{_&&_, _||_, Bool, cond, not, true}
 use mathlib.Core.List.{List}
 use lib.Dec.{eqb, leb}
 use lib.ListN.{getD, length, replicate, set}
 use Rattle.clocked_model.specs.Calls.{recordCount}
+use Rattle.clocked_model.specs.Cycle.{Works}
 use Rattle.clocked_model.specs.declared.State.{State}
 use Rattle.strip.specs.Answers.{blank, element}
 use Rattle.strip.specs.declared.Element.{Element}
@@ -58,9 +59,18 @@ carried (Swap x) = x
 -- the node as a word: 0 where nothing is to be done
 abbrev pub nodeWord : Op → ℕ → ℕ
 nodeWord Nothing n = 0
-nodeWord (Put x) n = n % 4294967296
-nodeWord Take n = n % 4294967296
-nodeWord (Swap x) n = n % 4294967296
+nodeWord (Put x) n = n
+nodeWord Take n = n
+nodeWord (Swap x) n = n
+
+-- a word of 32 bits is below this
+abbrev pub wordLimit : ℕ
+wordLimit = 4294967296
+
+-- the nodes of k levels' work fit a word
+abbrev pub Fit : (k : ℕ) → Works k → Type 0
+Fit zero p = Unit {0}
+Fit (suc k) p = (p .0 .node < wordLimit) × Fit k (p .1)
 
 -- "Numbers that a record's kind doesn't use are written 0"
 unfoldable pub workWritten : List ℕ → ℕ → Work → List ℕ

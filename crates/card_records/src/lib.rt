@@ -1,11 +1,12 @@
 // The pending records and the mark of the clocked tree as words, and back.
 ghost use mathlib.Core.Path.{_≡_};
 ghost use mathlib.Core.Bool.{cond};
-ghost use Prim.Native.Nat.{_+_, _*_, _≤_};
+ghost use Prim.Native.Nat.{_+_, _*_, _<_, _≤_};
 ghost use lib.ListN.{length};
 ghost use Rattle.tree_model.specs.Levels.{idle};
 ghost use Rattle.clocked_model.specs.Calls.{recordCount};
-ghost use Rattle.card_records.specs.Records.{recordWords, workOf, workRead, worksRead, stateRead, kindOf, carried, nodeWord, workWritten, worksWritten, markWritten, kindsOk, roomy, readable, Lent};
+ghost use Rattle.clocked_model.specs.Records.{worksOf};
+ghost use Rattle.card_records.specs.Records.{recordWords, workOf, workRead, worksRead, stateRead, kindOf, carried, nodeWord, workWritten, worksWritten, markWritten, kindsOk, roomy, readable, wordLimit, Fit, Lent};
 use clocked_model::State;
 use node::shape_ok;
 use strip::Element;
@@ -120,18 +121,19 @@ fn carries(op: Op) -> Element
 }
 
 fn node_word(op: Op, node: usize) -> u32
+    requires { ⌜ nodeWord op node < wordLimit ⌝ }
     ensures { λ r. ⌜ r ≡ nodeWord op node ⌝ }
 {
     match op {
         Op::Nothing => 0,
-        Op::Put(_) => (node % 4294967296) as u32,
-        Op::Take => (node % 4294967296) as u32,
-        Op::Swap(_) => (node % 4294967296) as u32,
+        Op::Put(_) => node as u32,
+        Op::Take => node as u32,
+        Op::Swap(_) => node as u32,
     }
 }
 
 fn write_work(records: &mut [u32], i: usize, w: Work)
-    requires { ⌜ recordWords * i + 4 ≤ length (now records) ⌝ }
+    requires { ⌜ (recordWords * i + 4 ≤ length (now records)) × (nodeWord (w .op) (w .node) < wordLimit) ⌝ }
     ensures { λ _. ⌜ now (records .exit) ≡ workWritten (now (records .entry)) i w ⌝ }
 {
     let at = 4 * i;
@@ -146,7 +148,7 @@ fn write_work(records: &mut [u32], i: usize, w: Work)
 }
 
 fn write_works(records: &mut [u32], count: usize, works: [Work; 10])
-    requires { ⌜ (count ≤ recordCount) × (recordWords * count ≤ length (now records)) ⌝ }
+    requires { ⌜ (count ≤ recordCount) × (recordWords * count ≤ length (now records)) × Fit count (worksOf count works 0) ⌝ }
     ensures { λ _. ⌜ now (records .exit) ≡ worksWritten count works (now (records .entry)) ⌝ }
 {
     let mut i = 0;
@@ -165,7 +167,7 @@ pub fn bit(on: bool) -> u32
 
 // Writes the records and the mark back where a cycle ran; where none did they stand.
 pub fn hand_back(records: &mut [u32], mark: &mut [u32], count: usize, state: State, ran: bool)
-    requires { ⌜ Lent count (now records) (now mark) ⌝ }
+    requires { ⌜ Lent count (now records) (now mark) × Fit count (worksOf count (state .records) 0) ⌝ }
     ensures { λ _. ⌜ (now (records .exit) ≡ cond ran (worksWritten count (state .records) (now (records .entry))) (now (records .entry))) × (now (mark .exit) ≡ cond ran (markWritten state (now (mark .entry))) (now (mark .entry))) ⌝ }
 {
     if !ran {

@@ -1,2 +1,3 @@
 pub mod Scan
 pub mod Steps
+pub mod Rulings

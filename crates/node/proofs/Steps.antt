@@ -8,15 +8,15 @@ use mathlib.Core.List.{List}
 use mathlib.Core.Path.{_∙_, _≡_, ap, ap₂, refl, subst, sym}
 use lib.Dec.{eqb, leb, ltb}
 use lib.ListN.{length}
-use borrow.Author.Tests.{eq-eqb, eqb-true, le-leb, le-ltb, leb-false, leb-true, lt-leb, lt-ltb, not-false, not-true}
-use Rattle.laws.specs.Lists.{All, all-both, all-map}
+use borrow.Author.Tests.{eqb-true, le-leb, le-ltb, leb-false, leb-true, lt-leb, lt-ltb, not-false, not-true}
+use Rattle.laws.specs.Lists.{All}
 use Rattle.laws.specs.Tests.{and-right, and-unit, sub-one}
 use Rattle.node.specs.Scan.{Capacity, childOf, ChildrenIn, Doable, liftOk, lowBelow, NodeIn}
 use Rattle.strip.specs.Answers.{blank, key}
 use Rattle.strip.specs.declared.Element.{Element}
-use Rattle.tree_model.proofs.Choice.{all-slotAt, every-all, least-empty, least-full, least-in, least-le, lowest-is, lowest-none, void}
-use Rattle.tree_model.proofs.Exactly.{slot-limit}
-use Rattle.tree_model.proofs.Path.{all-every}
+use Rattle.tree_model.proofs.Choice.{all-slotAt, every-all, least-empty, least-full, least-in, lowest-is, lowest-none, void}
+use Rattle.tree_model.proofs.Exactly.{room-fails, slot-limit}
+use Rattle.tree_model.proofs.Place.{least-room}
 use Rattle.tree_model.proofs.Words.{has-sum, node-length, node-slot, some-sum}
 use Rattle.tree_model.specs.Calls.{orderOk, shapeOk, slotLimit}
 use Rattle.tree_model.specs.Damage.{hasRoom, hasSome, lifts, nodeOk, readOk, room, slotOk, stepOk}
@@ -100,21 +100,13 @@ module _ (m : ℕ) (ws : List ℕ) (i : ℕ) (j : ℕ) (a : Slot) (inside : j < 
 
     -- the test: the smallest count leaves room exactly where not every count is at its limit
     room-test : (r : ℕ) → nodeOk r nd ≡ true → leb (a .count) r ≡ hasRoom r nd
-    unfolding hasRoom nodeOk
-    room-test r ok = go (leb (a .count) r) refl (every (λ s. eqb (s .count) (suc r)) nd) refl
+    room-test r ok = go (hasRoom r nd) refl
       where
-        go : (b : Bool) → leb (a .count) r ≡ b → (d : Bool) → every (λ s. eqb (s .count) (suc r)) nd ≡ d → b ≡ not d
-        go true p true q =
-            let e = all-slotAt (λ s. eqb (s .count) (suc r) ≡ true) nd (leastCount nd) (every-all (λ s. eqb (s .count) (suc r)) nd q) (least-in nd (omega (arith, node-length m ws i))) in
-            absurd (omega (arith, eqb-true (slotAt nd (leastCount nd) .count) (suc r) e, least-count-is, leb-true (a .count) r p))
-        go true p false q = refl
-        go false p true q = refl
-        go false p false q =
-            let lim : All (λ s. s .count ≤ suc r) nd = all-map (λ s. slotOk r s ≡ true) _ (λ s e. slot-limit r s e) nd (every-all (slotOk r) nd ok) in
-            let least : All (λ s. a .count ≤ s .count) nd = subst (λ (n : ℕ). All (λ s. n ≤ s .count) nd) least-count-is (least-le nd) in
-            let same : All (λ s. eqb (s .count) (suc r) ≡ true) nd =
-            all-map (λ s. (s .count ≤ suc r) × (a .count ≤ s .count)) _ (λ s h. eq-eqb (s .count) (suc r) (omega (arith, h .0, h .1, leb-false (a .count) r p))) nd (all-both _ _ nd lim least) in
-            sym q ∙ all-every _ nd same
+        go : (b : Bool) → hasRoom r nd ≡ b → leb (a .count) r ≡ b
+        go true e = le-leb (a .count) r (subst (λ (n : ℕ). n ≤ r) least-count-is (least-room r nd (omega (arith, node-length m ws i)) ok e))
+        go false e =
+            let full : All (λ s. s .count ≡ suc r) nd = room-fails r nd .found e in
+            lt-leb (a .count) r (omega (arith, all-slotAt (λ s. s .count ≡ suc r) nd (leastCount nd) full (least-in nd (omega (arith, node-length m ws i))), least-count-is))
 
     pub put-test : (r : ℕ) (t : Bool) → t ≡ nodeOk r nd → (t && leb (a .count) r) ≡ (nodeOk r nd && hasRoom r nd)
     put-test r t e = go (nodeOk r nd) refl

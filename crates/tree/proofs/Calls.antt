@@ -1,39 +1,35 @@
 -- What a call's tests have found makes its outcome. Assumes nothing.
-use Prim.Native.Nat.{_*_, _+_, _-_, _<_, _≤_, suc, zero, ℕ}
+use Prim.Native.Nat.{_*_, _-_, _<_, _≤_, suc, zero, ℕ}
 use native.Mathlib.Nat.{mul-suc, not-suc-le-zero}
 use native.Mathlib.Omega.{arith}
 use mathlib.Core.Bool.{Bool, cond, false, not, true}
 use mathlib.Core.List.{_++_, List}
 use mathlib.Core.Logic.{⊎-elim}
 use mathlib.Core.Path.{_∙_, _≡_, ap, ap₂, refl, sym}
-use lib.Dec.{ltb}
 use lib.ListN.{drop, length, replicate}
-use borrow.Author.Tests.{eq-eqb, le-ltb, lt-ltb, ne-eqb, not-false, not-true}
+use borrow.Author.Tests.{not-false, not-true}
 use Rattle.laws.specs.Tests.{sub-one}
 use Rattle.node.proofs.Steps.{room-up}
 use Rattle.node.specs.Scan.{Capacity, NodeIn}
-use Rattle.strip.specs.Answers.{key}
 use Rattle.strip.specs.declared.Answer.{Answer}
-use Rattle.strip.specs.declared.Answer.the-variants.{Done, Out, Refused}
+use Rattle.strip.specs.declared.Answer.the-variants.{Done, Refused}
 use Rattle.strip.specs.declared.Count.{Count}
 use Rattle.strip.specs.declared.Count.the-variants.{Held, Unknown}
-use Rattle.strip.specs.declared.Element.{Element}
 use Rattle.strip.specs.declared.Refusal.{Refusal}
-use Rattle.strip.specs.declared.Refusal.the-variants.{BadShape, Damaged, Empty, Full}
+use Rattle.strip.specs.declared.Refusal.the-variants.{BadShape, Damaged}
 use Rattle.strip.specs.declared.Request.{Request}
-use Rattle.strip.specs.declared.Request.the-variants.{Pop, Push, Replace}
 use Rattle.tree_model.proofs.Exactly.{called-bad, called-fine, called-root, called-way, root-limit, same-unknown, shape-is, words-none}
 use Rattle.tree_model.proofs.Nothing.{op-work}
 use Rattle.tree_model.proofs.Path.{path-none}
 use Rattle.tree_model.proofs.Words.{size-room}
-use Rattle.tree_model.specs.Calls.{called, cleared, counted, outcome, rootOf, rootOk, rule, ruling, Ruling, shapeOk, slotLimit, verdict, wayOk}
+use Rattle.tree_model.specs.Calls.{called, cleared, counted, outcome, rootOf, rootOk, ruling, Ruling, shapeOk, slotLimit, verdict, wayOk}
 use Rattle.tree_model.specs.Damage.{nodeOk, pathOk, room}
 use Rattle.tree_model.specs.Levels.{work}
-use Rattle.tree_model.specs.Node.{low, sumCounts}
+use Rattle.tree_model.specs.Node.{sumCounts}
 use Rattle.tree_model.specs.Promise.{Shape}
 use Rattle.tree_model.specs.Words.{applyWords, levelsOf, nodeOf, width, wipe}
 use Rattle.tree_model.specs.declared.Op.{Op}
-use Rattle.tree_model.specs.declared.Op.the-variants.{Nothing, Put, Swap, Take}
+use Rattle.tree_model.specs.declared.Op.the-variants.{Nothing}
 use Rattle.tree.specs.Down.{Lies, Ready}
 
 -- a level or more has a root
@@ -152,35 +148,6 @@ module _ (m levels : ℕ) (ws : List ℕ) (h : ℕ) (op : Opened m levels ws h) 
         ap (outcome a) w
         ∙ sym (called-fine m levels r ws (op .shape) (op .root) (ap (λ (g : Ruling). wayOk m levels (g .op) ws) rules ∙ sym e ∙ not-false t p)
         ∙ ap (λ (g : Ruling). outcome (g .answer) (applyWords m levels (work (g .op) 0) 0 1 ws)) rules)
-
-  -- ---- the rules, by what the code has read
-  pub push-full : (x : Element) (cap : ℕ) → Capacity m levels cap → cap < h + 1 → verdict m levels (Push x) ws ≡ ruling (Refused Full) Nothing
-  unfolding rule
-  push-full x cap c l = rw (le-ltb (sumCounts (rootOf m ws)) (room m levels) (omega (arith, op .count, c .within opened-limit)))
-
-  pub push-puts : (x : Element) (cap : ℕ) → Capacity m levels cap → h + 1 ≤ cap → verdict m levels (Push x) ws ≡ ruling Done (Put x)
-  unfolding rule
-  push-puts x cap c l = rw (lt-ltb (sumCounts (rootOf m ws)) (room m levels) (omega (arith, op .count, c .within opened-limit)))
-
-  pub pop-empty : h ≡ 0 → verdict m levels Pop ws ≡ ruling (Refused Empty) Nothing
-  unfolding rule
-  pop-empty z = rw (eq-eqb (sumCounts (rootOf m ws)) 0 (sym (op .count) ∙ z))
-
-  pub pop-takes : (e : Element) → (h ≡ 0 → ⊥) → e ≡ low (nodeOf m ws 0) → verdict m levels Pop ws ≡ ruling (Out e) Take
-  unfolding rule
-  pop-takes e ne p = rw (ne-eqb (sumCounts (rootOf m ws)) 0 (λ z. ne (op .count ∙ z)), ← p)
-
-  pub replace-empty : (x : Element) → h ≡ 0 → verdict m levels (Replace x) ws ≡ ruling (Out x) Nothing
-  unfolding rule
-  replace-empty x z = rw (eq-eqb (sumCounts (rootOf m ws)) 0 (sym (op .count) ∙ z))
-
-  pub replace-back : (x e : Element) (t : Bool) → (h ≡ 0 → ⊥) → e ≡ low (nodeOf m ws 0) → t ≡ ltb (key x) (key e) → t ≡ true → verdict m levels (Replace x) ws ≡ ruling (Out x) Nothing
-  unfolding rule
-  replace-back x e t ne p q y = rw (ne-eqb (sumCounts (rootOf m ws)) 0 (λ z. ne (op .count ∙ z)), ← p, ← q, y)
-
-  pub replace-swaps : (x e : Element) (t : Bool) → (h ≡ 0 → ⊥) → e ≡ low (nodeOf m ws 0) → t ≡ ltb (key x) (key e) → t ≡ false → verdict m levels (Replace x) ws ≡ ruling (Out e) (Swap x)
-  unfolding rule
-  replace-swaps x e t ne p q y = rw (ne-eqb (sumCounts (rootOf m ws)) 0 (λ z. ne (op .count ∙ z)), ← p, ← q, y)
 
 -- ---- clear
 pub clear-shape : (m levels : ℕ) (ws : List ℕ) (t : Bool) → t ≡ shapeOk m levels (length ws) → not t ≡ true → outcome (Refused BadShape) ws ≡ cleared m levels ws

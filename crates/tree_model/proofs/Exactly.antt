@@ -56,7 +56,7 @@ pub node-fails : (r : ℕ) (nd : List Slot) → Fails (nodeOk r nd) (NodeDamaged
 unfolding nodeOk every
 node-fails r nd = fails-every (slotOk r) (every (slotOk r)) refl (λ a l. refl) (slot-fails r) nd
 
-room-fails : (r : ℕ) (nd : List Slot) → Fails (hasRoom r nd) (All (λ s. s .count ≡ suc r) nd)
+pub room-fails : (r : ℕ) (nd : List Slot) → Fails (hasRoom r nd) (All (λ s. s .count ≡ suc r) nd)
 unfolding hasRoom every
 room-fails r nd = fails-not-every (λ s. eqb (s .count) (suc r)) (every (λ s. eqb (s .count) (suc r))) refl (λ a l. refl) (λ s. fails-not-eqb (s .count) (suc r)) nd
 

@@ -1,7 +1,7 @@
 -- `card::card_clocked_clear` meets its contract. Assumes nothing.
 use lib.ListN.{length}
 use borrow.Author.Needs.{needs}
-use Rattle.card.proofs.Clocked.{restart-bare, restart-done, restart-shape, roomy-lent, some-levels}
+use Rattle.card.proofs.Clocked.{fresh-fits, restart-bare, restart-done, restart-shape, roomy-lent, some-levels}
 use Rattle.card.proofs.card_clocked_clear.Statement.{statement}
 use Rattle.card.proofs.card_clocked_clear.Tie as tie
 use Rattle.card.proofs.card_clocked_clear.Reads as reads
@@ -47,7 +47,7 @@ sub-hand-back : tie.Need-sub-hand-back
 sub-hand-back c = some-levels (c .before .before .before .before .before .before .before .before .before .before .before .before .before .before .before .before .before .args .order) (c .before .before .before .before .before .before .before .before .before .before .before .before .before .before .before .before .before .args .levels) (length (c .before .before .before .before .before .before .before .before .before .before .before .before .before .before .before .before .before .args .store .now)) _ (c .before .before .before .before .before .before .before .before .before .shape-ok .ensures) (c .before .before .before .before .before .before .before .before .if2 .left)
 
 hand-back-requires : tie.Need-hand-back-requires
-hand-back-requires c κs = roomy-lent _ _ _ _ _ (c .before .before .before .before .before .before .before .before .before .before .before .is-roomy .ensures) (c .before .before .before .before .before .before .before .before .before .before .if1 .left) _ _ (c .before .before .before .before .before .before .before .before .before .shape-ok .ensures) (c .before .before .before .before .before .before .before .before .if2 .left)
+hand-back-requires c κs = (roomy-lent _ _ _ _ _ (c .before .before .before .before .before .before .before .before .before .before .before .is-roomy .ensures) (c .before .before .before .before .before .before .before .before .before .before .if1 .left) _ _ (c .before .before .before .before .before .before .before .before .before .shape-ok .ensures) (c .before .before .before .before .before .before .before .before .if2 .left), fresh-fits (c .before .before .before .before .before .before .before .before .before .before .before .before .before .before .before .before .before .args .order) (c .before .before .before .before .before .before .before .before .before .before .before .before .before .before .before .before .before .args .levels) (c .before .before .before .before .before .before .before .before .before .before .before .before .before .before .before .before .before .args .store .now) (c .before .before .before .before .before .before .before .before .before .before .before .before .before .before .before .before .before .args .records .now) (c .before .before .before .before .before .before .before .before .before .before .before .before .before .before .before .before .before .args .mark .now) _ _ _ (roomy-lent _ _ _ _ _ (c .before .before .before .before .before .before .before .before .before .before .before .is-roomy .ensures) (c .before .before .before .before .before .before .before .before .before .before .if1 .left) _ _ (c .before .before .before .before .before .before .before .before .before .shape-ok .ensures) (c .before .before .before .before .before .before .before .before .if2 .left)) (c .before .before .before .before .before .before .clear .ensures))
 
 number-requires : tie.Need-number-requires
 number-requires c κs = search needs

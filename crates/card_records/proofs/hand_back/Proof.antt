@@ -14,13 +14,13 @@ returns : tie.Need-returns
 returns c = (back-stands (c .before .before .before .args .ran) _ _ (c .if1 .taken), back-stands (c .before .before .before .args .ran) _ _ (c .if1 .taken))
 
 write-works-requires : tie.Need-write-works-requires
-write-works-requires c κs = (c .before .before .before .before .before .pre .few, c .before .before .before .before .before .pre .words)
+write-works-requires c κs = (c .before .before .before .before .before .pre .0 .few, c .before .before .before .before .before .pre .0 .words, c .before .before .before .before .before .pre .1)
 
 bit-requires : tie.Need-bit-requires
 bit-requires c κs = search needs
 
 slice-write-mark : tie.Need-slice-write-mark
-slice-write-mark c = c .before .before .before .before .before .before .before .before .before .pre .marked
+slice-write-mark c = c .before .before .before .before .before .before .before .before .before .pre .0 .marked
 
 same-length : tie.Need-same-length
 same-length c = search needs

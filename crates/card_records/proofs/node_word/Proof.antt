@@ -1,6 +1,8 @@
 -- `card_records::node_word` meets its contract. Assumes nothing.
+use native.Mathlib.Omega.{arith}
 use mathlib.Core.Path.{ap, sym}
 use borrow.Author.Needs.{needs}
+use Rattle.card_records.proofs.Nodes.{put-fits, swap-fits, take-fits}
 use Rattle.card_records.specs.Records.{nodeWord}
 use Rattle.tree_model.specs.declared.Op.{Op}
 use Rattle.card_records.proofs.node_word.Statement.{statement}
@@ -15,19 +17,19 @@ enum-told-2 : tie.Need-enum-told-2
 enum-told-2 c = search needs
 
 cast-result : tie.Need-cast-result
-cast-result c = search needs
+cast-result c = omega (arith, put-fits (c .before .before .args .node) _ (c .before .before .pre) _ (c .enum-told2 .given .1))
 
 enum-told-3 : tie.Need-enum-told-3
 enum-told-3 c = search needs
 
 cast-result-2 : tie.Need-cast-result-2
-cast-result-2 c = search needs
+cast-result-2 c = omega (arith, take-fits (c .before .before .args .node) _ (c .before .before .pre) (c .enum-told3 .given .1))
 
 enum-told-4 : tie.Need-enum-told-4
 enum-told-4 c = search needs
 
 cast-result-3 : tie.Need-cast-result-3
-cast-result-3 c = search needs
+cast-result-3 c = omega (arith, swap-fits (c .before .before .args .node) _ (c .before .before .pre) _ (c .enum-told4 .given .1))
 
 returns : tie.Need-returns
 returns c = search needs

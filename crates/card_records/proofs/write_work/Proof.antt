@@ -27,7 +27,7 @@ slice-write-records : tie.Need-slice-write-records
 slice-write-records c = search needs
 
 node-word-requires : tie.Need-node-word-requires
-node-word-requires c κs = search needs
+node-word-requires c κs = c .before .before .before .pre .1
 
 add-records : tie.Need-add-records
 add-records c = search needs

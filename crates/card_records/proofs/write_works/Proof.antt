@@ -4,6 +4,7 @@ use native.Mathlib.Omega.{arith}
 use mathlib.Core.Path.{_∙_, _≡_, refl}
 use lib.ListN.{length}
 use borrow.Author.Needs.{needs}
+use Rattle.card_records.proofs.Nodes.{fit-at}
 use Rattle.card_records.proofs.Records.{write-more, write-none}
 use Rattle.card_records.specs.Records.{worksWritten}
 use Rattle.card_records.proofs.write_works.Statement.{statement}
@@ -28,7 +29,7 @@ array-copy-out-w : tie.Need-array-copy-out-w Inv-loop μ-loop
 array-copy-out-w c = search needs
 
 write-work-requires : tie.Need-write-work-requires Inv-loop μ-loop
-write-work-requires c κs = omega arith
+write-work-requires c κs = (omega arith, fit-at (c .before .before .before .before .before .args .count) _ 0 (c .before .before .before .before .before .pre .2) (c .before .before .before .loop .i) (omega arith) (omega arith))
 
 add-i : tie.Need-add-i Inv-loop μ-loop
 add-i c = search needs

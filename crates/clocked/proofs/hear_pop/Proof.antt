@@ -1,6 +1,7 @@
 -- `clocked::hear_pop` meets its contract. Assumes nothing.
 use borrow.Author.Needs.{needs}
-use Rattle.clocked.proofs.Request.{pop-empty, pop-out, root-in}
+use Rattle.clocked.proofs.Request.{as-ruled, root-in}
+use Rattle.node.proofs.Rulings.{pop-empty, pop-takes}
 use Rattle.clocked.proofs.hear_pop.Statement.{statement}
 use Rattle.clocked.proofs.hear_pop.Tie as tie
 use Rattle.clocked.proofs.hear_pop.Reads as reads
@@ -17,7 +18,7 @@ refuses-requires : tie.Need-refuses-requires
 refuses-requires c κs = search needs
 
 returns : tie.Need-returns
-returns c = pop-empty _ _ _ _ (c .before .before .sum-counts .ensures) _ _ (c .before .if1 .taken) (c .refuses .ensures)
+returns c = as-ruled _ _ _ _ _ _ _ _ (pop-empty _ _ _ _ (c .before .before .sum-counts .ensures) (c .before .if1 .taken)) (c .refuses .ensures)
 
 lowest-element-requires : tie.Need-lowest-element-requires
 lowest-element-requires c κs = root-in _ _ _ (c .before .before .before .pre)
@@ -26,7 +27,7 @@ says-requires : tie.Need-says-requires
 says-requires c κs = search needs
 
 returns-2 : tie.Need-returns-2
-returns-2 c = pop-out _ _ _ _ (c .before .before .before .sum-counts .ensures) (c .before .before .if1 .left) _ (c .before .lowest-element .ensures) _ _ (c .says .ensures)
+returns-2 c = as-ruled _ _ _ _ _ _ _ _ (pop-takes _ _ _ _ (c .before .before .before .sum-counts .ensures) (c .before .before .if1 .left) _ (c .before .lowest-element .ensures)) (c .says .ensures)
 
 pub hear-pop-spec : {M : Type 1} → statement M
 hear-pop-spec =

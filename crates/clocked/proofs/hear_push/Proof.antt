@@ -1,6 +1,7 @@
 -- `clocked::hear_push` meets its contract. Assumes nothing.
 use borrow.Author.Needs.{needs}
-use Rattle.clocked.proofs.Request.{push-fits, push-full, root-in}
+use Rattle.clocked.proofs.Request.{as-ruled, root-in}
+use Rattle.node.proofs.Rulings.{push-full, push-puts}
 use Rattle.clocked.proofs.hear_push.Statement.{statement}
 use Rattle.clocked.proofs.hear_push.Tie as tie
 use Rattle.clocked.proofs.hear_push.Reads as reads
@@ -20,13 +21,13 @@ says-requires : tie.Need-says-requires
 says-requires c κs = search needs
 
 returns : tie.Need-returns
-returns c = push-fits _ _ _ _ (c .before .before .before .sum-counts .ensures) _ _ (c .before .before .capacity .ensures) (c .before .before .before .before .before .pre .capacity) _ _ (c .before .if1 .taken) (c .says .ensures)
+returns c = as-ruled _ _ _ _ _ _ _ _ (push-puts _ _ _ _ (c .before .before .before .sum-counts .ensures) _ _ (c .before .before .capacity .ensures) (c .before .before .before .before .before .pre .capacity) (c .before .if1 .taken)) (c .says .ensures)
 
 refuses-requires : tie.Need-refuses-requires
 refuses-requires c κs = search needs
 
 returns-2 : tie.Need-returns-2
-returns-2 c = push-full _ _ _ _ (c .before .before .before .sum-counts .ensures) _ _ (c .before .before .capacity .ensures) (c .before .before .before .before .before .pre .capacity) _ _ (c .before .if1 .left) (c .refuses .ensures)
+returns-2 c = as-ruled _ _ _ _ _ _ _ _ (push-full _ _ _ _ (c .before .before .before .sum-counts .ensures) _ _ (c .before .before .capacity .ensures) (c .before .before .before .before .before .pre .capacity) (c .before .if1 .left)) (c .refuses .ensures)
 
 pub hear-push-spec : {M : Type 1} → statement M
 hear-push-spec =

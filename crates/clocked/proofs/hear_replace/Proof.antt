@@ -1,6 +1,7 @@
 -- `clocked::hear_replace` meets its contract. Assumes nothing.
 use borrow.Author.Needs.{needs}
-use Rattle.clocked.proofs.Request.{replace-back, replace-empty, replace-swaps, root-in}
+use Rattle.clocked.proofs.Request.{as-ruled, root-in}
+use Rattle.node.proofs.Rulings.{replace-back, replace-empty, replace-swaps}
 use Rattle.clocked.proofs.hear_replace.Statement.{statement}
 use Rattle.clocked.proofs.hear_replace.Tie as tie
 use Rattle.clocked.proofs.hear_replace.Reads as reads
@@ -17,7 +18,7 @@ says-requires : tie.Need-says-requires
 says-requires c κs = search needs
 
 returns : tie.Need-returns
-returns c = replace-empty _ _ _ _ (c .before .before .sum-counts .ensures) _ _ _ (c .before .if1 .taken) (c .says .ensures)
+returns c = as-ruled _ _ _ _ _ _ _ _ (replace-empty _ _ _ _ (c .before .before .sum-counts .ensures) _ (c .before .if1 .taken)) (c .says .ensures)
 
 lowest-element-requires : tie.Need-lowest-element-requires
 lowest-element-requires c κs = root-in _ _ _ (c .before .before .before .pre)
@@ -29,13 +30,13 @@ says-requires-2 : tie.Need-says-requires-2
 says-requires-2 c κs = search needs
 
 returns-2 : tie.Need-returns-2
-returns-2 c = replace-back _ _ _ _ (c .before .before .before .before .before .sum-counts .ensures) (c .before .before .before .before .if1 .left) _ (c .before .before .before .lowest-element .ensures) _ _ (c .before .before .lower .ensures) _ _ (c .before .if2 .taken) (c .says2 .ensures)
+returns-2 c = as-ruled _ _ _ _ _ _ _ _ (replace-back _ _ _ _ (c .before .before .before .before .before .sum-counts .ensures) (c .before .before .before .before .if1 .left) _ (c .before .before .before .lowest-element .ensures) _ _ (c .before .before .lower .ensures) (c .before .if2 .taken)) (c .says2 .ensures)
 
 says-requires-3 : tie.Need-says-requires-3
 says-requires-3 c κs = search needs
 
 returns-3 : tie.Need-returns-3
-returns-3 c = replace-swaps _ _ _ _ (c .before .before .before .before .before .sum-counts .ensures) (c .before .before .before .before .if1 .left) _ (c .before .before .before .lowest-element .ensures) _ _ (c .before .before .lower .ensures) _ _ (c .before .if2 .left) (c .says3 .ensures)
+returns-3 c = as-ruled _ _ _ _ _ _ _ _ (replace-swaps _ _ _ _ (c .before .before .before .before .before .sum-counts .ensures) (c .before .before .before .before .if1 .left) _ (c .before .before .before .lowest-element .ensures) _ _ (c .before .before .lower .ensures) (c .before .if2 .left)) (c .says3 .ensures)
 
 pub hear-replace-spec : {M : Type 1} → statement M
 hear-replace-spec =

@@ -1,7 +1,8 @@
 -- `tree::pop` meets its contract. Assumes nothing.
 use mathlib.Core.Path.{refl}
 use borrow.Author.Needs.{needs}
-use Rattle.tree.proofs.Calls.{called-unknown, calls-damaged, calls-done, calls-ready, calls-still, opened, opened-lies, opened-root, pop-empty, pop-takes}
+use Rattle.node.proofs.Rulings.{pop-empty, pop-takes}
+use Rattle.tree.proofs.Calls.{called-unknown, calls-damaged, calls-done, calls-ready, calls-still, opened, opened-lies, opened-root}
 use Rattle.tree.proofs.pop.Statement.{statement}
 use Rattle.tree.proofs.pop.Tie as tie
 use Rattle.tree.proofs.pop.Reads as reads
@@ -24,7 +25,7 @@ same-length : tie.Need-same-length
 same-length c = search needs
 
 returns : tie.Need-returns
-returns c = calls-still _ _ _ _ (opened _ _ _ _ _ (c .before .before .before .before .held .ensures) (c .before .before .count2 .given .1)) _ _ _ (pop-empty _ _ _ _ (opened _ _ _ _ _ (c .before .before .before .before .held .ensures) (c .before .before .count2 .given .1)) (c .if1 .taken)) refl
+returns c = calls-still _ _ _ _ (opened _ _ _ _ _ (c .before .before .before .before .held .ensures) (c .before .before .count2 .given .1)) _ _ _ (pop-empty _ _ _ _ ((opened _ _ _ _ _ (c .before .before .before .before .held .ensures) (c .before .before .count2 .given .1)) .count) (c .if1 .taken)) refl
 
 lowest-element-requires : tie.Need-lowest-element-requires
 lowest-element-requires c κs = opened-root _ (c .before .before .before .before .before .before .before .before .args .levels) _ _ (opened _ _ _ _ _ (c .before .before .before .before .before .held .ensures) (c .before .before .before .count2 .given .1))
@@ -36,10 +37,10 @@ same-length-2 : tie.Need-same-length-2
 same-length-2 c = search needs
 
 returns-2 : tie.Need-returns-2
-returns-2 c = calls-damaged _ _ _ _ (opened _ _ _ _ _ (c .before .before .before .before .before .before .before .before .before .held .ensures) (c .before .before .before .before .before .before .before .count2 .given .1)) _ _ _ (pop-takes _ _ _ _ (opened _ _ _ _ _ (c .before .before .before .before .before .before .before .before .before .held .ensures) (c .before .before .before .before .before .before .before .count2 .given .1)) _ (c .before .before .before .before .before .if1 .left) (c .before .before .before .lowest-element .ensures)) _ (c .before .path-ok .ensures) (c .if2 .taken)
+returns-2 c = calls-damaged _ _ _ _ (opened _ _ _ _ _ (c .before .before .before .before .before .before .before .before .before .held .ensures) (c .before .before .before .before .before .before .before .count2 .given .1)) _ _ _ (pop-takes _ _ _ _ ((opened _ _ _ _ _ (c .before .before .before .before .before .before .before .before .before .held .ensures) (c .before .before .before .before .before .before .before .count2 .given .1)) .count) (c .before .before .before .before .before .if1 .left) _ (c .before .before .before .lowest-element .ensures)) _ (c .before .path-ok .ensures) (c .if2 .taken)
 
 take-requires : tie.Need-take-requires
-take-requires c κs = calls-ready _ _ _ _ (opened _ _ _ _ _ (c .before .before .before .before .before .before .before .before .before .before .held .ensures) (c .before .before .before .before .before .before .before .before .count2 .given .1)) _ _ _ (pop-takes _ _ _ _ (opened _ _ _ _ _ (c .before .before .before .before .before .before .before .before .before .before .held .ensures) (c .before .before .before .before .before .before .before .before .count2 .given .1)) _ (c .before .before .before .before .before .before .if1 .left) (c .before .before .before .before .lowest-element .ensures)) _ (c .before .before .path-ok .ensures) (c .before .if2 .left)
+take-requires c κs = calls-ready _ _ _ _ (opened _ _ _ _ _ (c .before .before .before .before .before .before .before .before .before .before .held .ensures) (c .before .before .before .before .before .before .before .before .count2 .given .1)) _ _ _ (pop-takes _ _ _ _ ((opened _ _ _ _ _ (c .before .before .before .before .before .before .before .before .before .before .held .ensures) (c .before .before .before .before .before .before .before .before .count2 .given .1)) .count) (c .before .before .before .before .before .before .if1 .left) _ (c .before .before .before .before .lowest-element .ensures)) _ (c .before .before .path-ok .ensures) (c .before .if2 .left)
 
 same-length-3 : tie.Need-same-length-3
 same-length-3 c = search needs
@@ -51,7 +52,7 @@ same-length-4 : tie.Need-same-length-4
 same-length-4 c = c .before .before .take .kept .0
 
 returns-4 : tie.Need-returns-4
-returns-4 c = calls-done _ _ _ _ (opened _ _ _ _ _ (c .before .before .before .before .before .before .before .before .before .before .before .before .before .held .ensures) (c .before .before .before .before .before .before .before .before .before .before .before .count2 .given .1)) _ _ _ (pop-takes _ _ _ _ (opened _ _ _ _ _ (c .before .before .before .before .before .before .before .before .before .before .before .before .before .held .ensures) (c .before .before .before .before .before .before .before .before .before .before .before .count2 .given .1)) _ (c .before .before .before .before .before .before .before .before .before .if1 .left) (c .before .before .before .before .before .before .before .lowest-element .ensures)) _ (c .before .before .before .before .before .path-ok .ensures) (c .before .before .before .before .if2 .left) _ (c .before .before .take .ensures)
+returns-4 c = calls-done _ _ _ _ (opened _ _ _ _ _ (c .before .before .before .before .before .before .before .before .before .before .before .before .before .held .ensures) (c .before .before .before .before .before .before .before .before .before .before .before .count2 .given .1)) _ _ _ (pop-takes _ _ _ _ ((opened _ _ _ _ _ (c .before .before .before .before .before .before .before .before .before .before .before .before .before .held .ensures) (c .before .before .before .before .before .before .before .before .before .before .before .count2 .given .1)) .count) (c .before .before .before .before .before .before .before .before .before .if1 .left) _ (c .before .before .before .before .before .before .before .lowest-element .ensures)) _ (c .before .before .before .before .before .path-ok .ensures) (c .before .before .before .before .if2 .left) _ (c .before .before .take .ensures)
 
 pub pop-spec : {M : Type 1} → statement M
 pop-spec =

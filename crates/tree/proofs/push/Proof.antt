@@ -1,7 +1,9 @@
 -- `tree::push` meets its contract. Assumes nothing.
+use native.Mathlib.Omega.{arith}
 use mathlib.Core.Path.{refl}
 use borrow.Author.Needs.{needs}
-use Rattle.tree.proofs.Calls.{called-unknown, calls-damaged, calls-done, calls-ready, calls-still, opened, opened-few, opened-lies, push-full, push-puts}
+use Rattle.node.proofs.Rulings.{push-full, push-puts}
+use Rattle.tree.proofs.Calls.{called-unknown, calls-damaged, calls-done, calls-ready, calls-still, opened, opened-few, opened-lies, opened-limit}
 use Rattle.tree.proofs.push.Statement.{statement}
 use Rattle.tree.proofs.push.Tie as tie
 use Rattle.tree.proofs.push.Reads as reads
@@ -33,7 +35,7 @@ same-length : tie.Need-same-length
 same-length c = search needs
 
 returns : tie.Need-returns
-returns c = calls-still _ _ _ _ (opened _ _ _ _ _ (c .before .before .before .before .before .held .ensures) (c .before .before .before .count2 .given .1)) _ _ _ (push-full _ _ _ _ (opened _ _ _ _ _ (c .before .before .before .before .before .held .ensures) (c .before .before .before .count2 .given .1)) _ _ (c .before .capacity .ensures) (c .if1 .taken)) refl
+returns c = calls-still _ _ _ _ (opened _ _ _ _ _ (c .before .before .before .before .before .held .ensures) (c .before .before .before .count2 .given .1)) _ _ _ (push-full _ _ _ _ ((opened _ _ _ _ _ (c .before .before .before .before .before .held .ensures) (c .before .before .before .count2 .given .1)) .count) _ _ (c .before .capacity .ensures) (opened-limit _ _ _ _ (opened _ _ _ _ _ (c .before .before .before .before .before .held .ensures) (c .before .before .before .count2 .given .1))) (omega (arith, c .if1 .taken))) refl
 
 path-ok-requires : tie.Need-path-ok-requires
 path-ok-requires c κs = opened-lies _ _ _ _ (opened _ _ _ _ _ (c .before .before .before .before .before .before .held .ensures) (c .before .before .before .before .count2 .given .1))
@@ -42,10 +44,10 @@ same-length-2 : tie.Need-same-length-2
 same-length-2 c = search needs
 
 returns-2 : tie.Need-returns-2
-returns-2 c = calls-damaged _ _ _ _ (opened _ _ _ _ _ (c .before .before .before .before .before .before .before .before .held .ensures) (c .before .before .before .before .before .before .count2 .given .1)) _ _ _ (push-puts _ _ _ _ (opened _ _ _ _ _ (c .before .before .before .before .before .before .before .before .held .ensures) (c .before .before .before .before .before .before .count2 .given .1)) _ _ (c .before .before .before .before .capacity .ensures) (c .before .before .before .if1 .left)) _ (c .before .path-ok .ensures) (c .if2 .taken)
+returns-2 c = calls-damaged _ _ _ _ (opened _ _ _ _ _ (c .before .before .before .before .before .before .before .before .held .ensures) (c .before .before .before .before .before .before .count2 .given .1)) _ _ _ (push-puts _ _ _ _ ((opened _ _ _ _ _ (c .before .before .before .before .before .before .before .before .held .ensures) (c .before .before .before .before .before .before .count2 .given .1)) .count) _ _ (c .before .before .before .before .capacity .ensures) (opened-limit _ _ _ _ (opened _ _ _ _ _ (c .before .before .before .before .before .before .before .before .held .ensures) (c .before .before .before .before .before .before .count2 .given .1))) (omega (arith, c .before .before .before .if1 .left))) _ (c .before .path-ok .ensures) (c .if2 .taken)
 
 put-requires : tie.Need-put-requires
-put-requires c κs = calls-ready _ _ _ _ (opened _ _ _ _ _ (c .before .before .before .before .before .before .before .before .before .held .ensures) (c .before .before .before .before .before .before .before .count2 .given .1)) _ _ _ (push-puts _ _ _ _ (opened _ _ _ _ _ (c .before .before .before .before .before .before .before .before .before .held .ensures) (c .before .before .before .before .before .before .before .count2 .given .1)) _ _ (c .before .before .before .before .before .capacity .ensures) (c .before .before .before .before .if1 .left)) _ (c .before .before .path-ok .ensures) (c .before .if2 .left)
+put-requires c κs = calls-ready _ _ _ _ (opened _ _ _ _ _ (c .before .before .before .before .before .before .before .before .before .held .ensures) (c .before .before .before .before .before .before .before .count2 .given .1)) _ _ _ (push-puts _ _ _ _ ((opened _ _ _ _ _ (c .before .before .before .before .before .before .before .before .before .held .ensures) (c .before .before .before .before .before .before .before .count2 .given .1)) .count) _ _ (c .before .before .before .before .before .capacity .ensures) (opened-limit _ _ _ _ (opened _ _ _ _ _ (c .before .before .before .before .before .before .before .before .before .held .ensures) (c .before .before .before .before .before .before .before .count2 .given .1))) (omega (arith, c .before .before .before .before .if1 .left))) _ (c .before .before .path-ok .ensures) (c .before .if2 .left)
 
 same-length-3 : tie.Need-same-length-3
 same-length-3 c = search needs
@@ -57,7 +59,7 @@ same-length-4 : tie.Need-same-length-4
 same-length-4 c = c .before .before .put .kept .0
 
 returns-4 : tie.Need-returns-4
-returns-4 c = calls-done _ _ _ _ (opened _ _ _ _ _ (c .before .before .before .before .before .before .before .before .before .before .before .before .held .ensures) (c .before .before .before .before .before .before .before .before .before .before .count2 .given .1)) _ _ _ (push-puts _ _ _ _ (opened _ _ _ _ _ (c .before .before .before .before .before .before .before .before .before .before .before .before .held .ensures) (c .before .before .before .before .before .before .before .before .before .before .count2 .given .1)) _ _ (c .before .before .before .before .before .before .before .before .capacity .ensures) (c .before .before .before .before .before .before .before .if1 .left)) _ (c .before .before .before .before .before .path-ok .ensures) (c .before .before .before .before .if2 .left) _ (c .before .before .put .ensures)
+returns-4 c = calls-done _ _ _ _ (opened _ _ _ _ _ (c .before .before .before .before .before .before .before .before .before .before .before .before .held .ensures) (c .before .before .before .before .before .before .before .before .before .before .count2 .given .1)) _ _ _ (push-puts _ _ _ _ ((opened _ _ _ _ _ (c .before .before .before .before .before .before .before .before .before .before .before .before .held .ensures) (c .before .before .before .before .before .before .before .before .before .before .count2 .given .1)) .count) _ _ (c .before .before .before .before .before .before .before .before .capacity .ensures) (opened-limit _ _ _ _ (opened _ _ _ _ _ (c .before .before .before .before .before .before .before .before .before .before .before .before .held .ensures) (c .before .before .before .before .before .before .before .before .before .before .count2 .given .1))) (omega (arith, c .before .before .before .before .before .before .before .if1 .left))) _ (c .before .before .before .before .before .path-ok .ensures) (c .before .before .before .before .if2 .left) _ (c .before .before .put .ensures)
 
 pub push-spec : {M : Type 1} → statement M
 push-spec =

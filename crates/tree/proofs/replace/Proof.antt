@@ -1,7 +1,8 @@
 -- `tree::replace` meets its contract. Assumes nothing.
 use mathlib.Core.Path.{refl}
 use borrow.Author.Needs.{needs}
-use Rattle.tree.proofs.Calls.{called-unknown, calls-damaged, calls-done, calls-ready, calls-still, opened, opened-lies, opened-root, replace-back, replace-empty, replace-swaps}
+use Rattle.node.proofs.Rulings.{replace-back, replace-empty, replace-swaps}
+use Rattle.tree.proofs.Calls.{called-unknown, calls-damaged, calls-done, calls-ready, calls-still, opened, opened-lies, opened-root}
 use Rattle.tree.proofs.replace.Statement.{statement}
 use Rattle.tree.proofs.replace.Tie as tie
 use Rattle.tree.proofs.replace.Reads as reads
@@ -25,7 +26,7 @@ same-length : tie.Need-same-length
 same-length c = search needs
 
 returns : tie.Need-returns
-returns c = calls-still _ _ _ _ (opened _ _ _ _ _ (c .before .before .before .before .held .ensures) (c .before .before .count2 .given .1)) _ _ _ (replace-empty _ _ _ _ (opened _ _ _ _ _ (c .before .before .before .before .held .ensures) (c .before .before .count2 .given .1)) _ (c .if1 .taken)) refl
+returns c = calls-still _ _ _ _ (opened _ _ _ _ _ (c .before .before .before .before .held .ensures) (c .before .before .count2 .given .1)) _ _ _ (replace-empty _ _ _ _ ((opened _ _ _ _ _ (c .before .before .before .before .held .ensures) (c .before .before .count2 .given .1)) .count) _ (c .if1 .taken)) refl
 
 lowest-element-requires : tie.Need-lowest-element-requires
 lowest-element-requires c κs = opened-root _ (c .before .before .before .before .before .before .before .before .args .levels) _ _ (opened _ _ _ _ _ (c .before .before .before .before .before .held .ensures) (c .before .before .before .count2 .given .1))
@@ -37,7 +38,7 @@ same-length-2 : tie.Need-same-length-2
 same-length-2 c = search needs
 
 returns-2 : tie.Need-returns-2
-returns-2 c = calls-still _ _ _ _ (opened _ _ _ _ _ (c .before .before .before .before .before .before .before .before .held .ensures) (c .before .before .before .before .before .before .count2 .given .1)) _ _ _ (replace-back _ _ _ _ (opened _ _ _ _ _ (c .before .before .before .before .before .before .before .before .held .ensures) (c .before .before .before .before .before .before .count2 .given .1)) _ _ _ (c .before .before .before .before .if1 .left) (c .before .before .lowest-element .ensures) (c .before .lower .ensures) (c .if2 .taken)) refl
+returns-2 c = calls-still _ _ _ _ (opened _ _ _ _ _ (c .before .before .before .before .before .before .before .before .held .ensures) (c .before .before .before .before .before .before .count2 .given .1)) _ _ _ (replace-back _ _ _ _ ((opened _ _ _ _ _ (c .before .before .before .before .before .before .before .before .held .ensures) (c .before .before .before .before .before .before .count2 .given .1)) .count) (c .before .before .before .before .if1 .left) _ (c .before .before .lowest-element .ensures) _ _ (c .before .lower .ensures) (c .if2 .taken)) refl
 
 path-ok-requires : tie.Need-path-ok-requires
 path-ok-requires c κs = opened-lies _ _ _ _ (opened _ _ _ _ _ (c .before .before .before .before .before .before .before .before .before .held .ensures) (c .before .before .before .before .before .before .before .count2 .given .1))
@@ -46,10 +47,10 @@ same-length-3 : tie.Need-same-length-3
 same-length-3 c = search needs
 
 returns-3 : tie.Need-returns-3
-returns-3 c = calls-damaged _ _ _ _ (opened _ _ _ _ _ (c .before .before .before .before .before .before .before .before .before .before .before .held .ensures) (c .before .before .before .before .before .before .before .before .before .count2 .given .1)) _ _ _ (replace-swaps _ _ _ _ (opened _ _ _ _ _ (c .before .before .before .before .before .before .before .before .before .before .before .held .ensures) (c .before .before .before .before .before .before .before .before .before .count2 .given .1)) _ _ _ (c .before .before .before .before .before .before .before .if1 .left) (c .before .before .before .before .before .lowest-element .ensures) (c .before .before .before .before .lower .ensures) (c .before .before .before .if2 .left)) _ (c .before .path-ok .ensures) (c .if3 .taken)
+returns-3 c = calls-damaged _ _ _ _ (opened _ _ _ _ _ (c .before .before .before .before .before .before .before .before .before .before .before .held .ensures) (c .before .before .before .before .before .before .before .before .before .count2 .given .1)) _ _ _ (replace-swaps _ _ _ _ ((opened _ _ _ _ _ (c .before .before .before .before .before .before .before .before .before .before .before .held .ensures) (c .before .before .before .before .before .before .before .before .before .count2 .given .1)) .count) (c .before .before .before .before .before .before .before .if1 .left) _ (c .before .before .before .before .before .lowest-element .ensures) _ _ (c .before .before .before .before .lower .ensures) (c .before .before .before .if2 .left)) _ (c .before .path-ok .ensures) (c .if3 .taken)
 
 swap-requires : tie.Need-swap-requires
-swap-requires c κs = calls-ready _ _ _ _ (opened _ _ _ _ _ (c .before .before .before .before .before .before .before .before .before .before .before .before .held .ensures) (c .before .before .before .before .before .before .before .before .before .before .count2 .given .1)) _ _ _ (replace-swaps _ _ _ _ (opened _ _ _ _ _ (c .before .before .before .before .before .before .before .before .before .before .before .before .held .ensures) (c .before .before .before .before .before .before .before .before .before .before .count2 .given .1)) _ _ _ (c .before .before .before .before .before .before .before .before .if1 .left) (c .before .before .before .before .before .before .lowest-element .ensures) (c .before .before .before .before .before .lower .ensures) (c .before .before .before .before .if2 .left)) _ (c .before .before .path-ok .ensures) (c .before .if3 .left)
+swap-requires c κs = calls-ready _ _ _ _ (opened _ _ _ _ _ (c .before .before .before .before .before .before .before .before .before .before .before .before .held .ensures) (c .before .before .before .before .before .before .before .before .before .before .count2 .given .1)) _ _ _ (replace-swaps _ _ _ _ ((opened _ _ _ _ _ (c .before .before .before .before .before .before .before .before .before .before .before .before .held .ensures) (c .before .before .before .before .before .before .before .before .before .before .count2 .given .1)) .count) (c .before .before .before .before .before .before .before .before .if1 .left) _ (c .before .before .before .before .before .before .lowest-element .ensures) _ _ (c .before .before .before .before .before .lower .ensures) (c .before .before .before .before .if2 .left)) _ (c .before .before .path-ok .ensures) (c .before .if3 .left)
 
 same-length-4 : tie.Need-same-length-4
 same-length-4 c = search needs
@@ -61,7 +62,7 @@ same-length-5 : tie.Need-same-length-5
 same-length-5 c = c .before .before .swap .kept .0
 
 returns-5 : tie.Need-returns-5
-returns-5 c = calls-done _ _ _ _ (opened _ _ _ _ _ (c .before .before .before .before .before .before .before .before .before .before .before .before .before .before .before .held .ensures) (c .before .before .before .before .before .before .before .before .before .before .before .before .before .count2 .given .1)) _ _ _ (replace-swaps _ _ _ _ (opened _ _ _ _ _ (c .before .before .before .before .before .before .before .before .before .before .before .before .before .before .before .held .ensures) (c .before .before .before .before .before .before .before .before .before .before .before .before .before .count2 .given .1)) _ _ _ (c .before .before .before .before .before .before .before .before .before .before .before .if1 .left) (c .before .before .before .before .before .before .before .before .before .lowest-element .ensures) (c .before .before .before .before .before .before .before .before .lower .ensures) (c .before .before .before .before .before .before .before .if2 .left)) _ (c .before .before .before .before .before .path-ok .ensures) (c .before .before .before .before .if3 .left) _ (c .before .before .swap .ensures)
+returns-5 c = calls-done _ _ _ _ (opened _ _ _ _ _ (c .before .before .before .before .before .before .before .before .before .before .before .before .before .before .before .held .ensures) (c .before .before .before .before .before .before .before .before .before .before .before .before .before .count2 .given .1)) _ _ _ (replace-swaps _ _ _ _ ((opened _ _ _ _ _ (c .before .before .before .before .before .before .before .before .before .before .before .before .before .before .before .held .ensures) (c .before .before .before .before .before .before .before .before .before .before .before .before .before .count2 .given .1)) .count) (c .before .before .before .before .before .before .before .before .before .before .before .if1 .left) _ (c .before .before .before .before .before .before .before .before .before .lowest-element .ensures) _ _ (c .before .before .before .before .before .before .before .before .lower .ensures) (c .before .before .before .before .before .before .before .if2 .left)) _ (c .before .before .before .before .before .path-ok .ensures) (c .before .before .before .before .if3 .left) _ (c .before .before .swap .ensures)
 
 pub replace-spec : {M : Type 1} → statement M
 replace-spec =
