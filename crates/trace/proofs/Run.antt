@@ -79,10 +79,10 @@ module _ (m levels : ℕ) (bs : List ℕ) (p : Played) (ws out : List ℕ) where
 
 -- ---- so many records
 -- what a run's place in the buffers keeps to
-record Kept (k : ℕ) (u : Run) : Type 0 where
-  read : u .run .read ≤ 9 * k
-  written : u .run .written ≤ 72 * k
-  text : u .run .written ≡ length (u .text)
+pub record Kept (k : ℕ) (u : Run) : Type 0 where
+  pub read : u .run .read ≤ 9 * k
+  pub written : u .run .written ≤ 72 * k
+  pub text : u .run .written ≡ length (u .text)
 
 line-kept : (m levels : ℕ) (bs : List ℕ) (p : Played) (ws : List ℕ)
     → (turnOf m levels bs p ws .run .read ≤ p .read + 9) × (turnOf m levels bs p ws .run .written ≡ p .written + length (turnOf m levels bs p ws .line))
@@ -98,7 +98,7 @@ line-kept m levels bs p ws = go (p .bad) (entryAt bs (p .read))
     go false Bad = (omega arith, omega arith, omega arith)
     go false (Good r) = (omega arith, refl, line-short (nextNumber (p .number)) r (ticked m levels r (p .state) ws .answer))
 
-kept : (m levels : ℕ) (bs : List ℕ) (k : ℕ) (s : State) (n : ℕ) (ws : List ℕ) → Kept k (ranTo m levels bs k (begun s n ws))
+pub kept : (m levels : ℕ) (bs : List ℕ) (k : ℕ) (s : State) (n : ℕ) (ws : List ℕ) → Kept k (ranTo m levels bs k (begun s n ws))
 unfolding ranTo
 kept m levels bs zero s n ws = record { read = omega arith; written = omega arith; text = refl }
 kept m levels bs (suc k) s n ws =
