@@ -9,3 +9,4 @@ pub mod Serve
 pub mod Exactly
 pub mod Promises
 pub mod Place
+pub mod Root
