@@ -2,11 +2,8 @@
 use strip::Answer;
 use tree_model::Work;
 
-// How many pending records a state has: one for each level from 2. Order 2 has the most levels, 11.
-pub const RECORDS: usize = 10;
-
 // What stands beside the store between two cycles: the pending records, that of level 2 first, and whether the last cycle's operation was
-// answered without refusal.
+// answered without refusal. There is a record for each level from 2, as many as order 2 needs, that has the most levels, 11.
 pub struct State {
     pub records: [Work; 10],
     pub mark: bool,

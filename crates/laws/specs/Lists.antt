@@ -29,25 +29,10 @@ module _ {A : Type 0} where
   sum-zero g [] h = refl
   sum-zero g (a ∷ l) h = omega (arith, h .0, sum-zero g l (h .1))
 
-  pub zero-sum : (g : A → ℕ) (l : List A) → sumOf g l ≡ 0 → All (λ a. g a ≡ 0) l
-  unfolding sumOf
-  zero-sum g [] h = tt
-  zero-sum g (a ∷ l) h = (omega arith, zero-sum g l (omega arith))
-
   pub sum-le : (g f : A → ℕ) (l : List A) → All (λ a. g a ≤ f a) l → sumOf g l ≤ sumOf f l
   unfolding sumOf
   sum-le g f [] h = omega arith
   sum-le g f (a ∷ l) h = omega (arith, h .0, sum-le g f l (h .1))
-
-  pub sum-eq : (g f : A → ℕ) (l : List A) → All (λ a. g a ≡ f a) l → sumOf g l ≡ sumOf f l
-  unfolding sumOf
-  sum-eq g f [] h = refl
-  sum-eq g f (a ∷ l) h = omega (arith, h .0, sum-eq g f l (h .1))
-
-  pub sum-lower : (g : A → ℕ) (c : ℕ) (l : List A) → All (λ a. c ≤ g a) l → length l * c ≤ sumOf g l
-  unfolding sumOf
-  sum-lower g c [] h = omega arith
-  sum-lower g c (a ∷ l) h = omega (arith, h .0, sum-lower g c l (h .1))
 
   pub sum-upper : (g : A → ℕ) (c : ℕ) (l : List A) → All (λ a. g a ≤ c) l → sumOf g l ≤ length l * c
   unfolding sumOf

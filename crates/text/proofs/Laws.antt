@@ -12,11 +12,6 @@ use lib.Seq.{length-take-le, take-suc}
 use borrow.Author.Tests.{le-ltb, lt-ltb}
 use Rattle.text.specs.Text.{decimalBy, Laid, overlay, value, valueFrom}
 
-pub overlay-length : (s : List ℕ) (i : ℕ) (xs : List ℕ) → length (overlay s i xs) ≡ length s
-unfolding overlay
-overlay-length s i [] = refl
-overlay-length s i (x ∷ xs) = overlay-length (set s i x) (suc i) xs ∙ length-set s i x
-
 -- a text behind another
 pub overlay-append : (s : List ℕ) (i : ℕ) (xs ys : List ℕ) → overlay s i (xs ++ ys) ≡ overlay (overlay s i xs) (i + length xs) ys
 unfolding overlay

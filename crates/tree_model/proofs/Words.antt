@@ -150,12 +150,6 @@ module _ (m : ℕ) where
   levels-before (suc k) ws b c i s h =
       ap₂ (λ (l : Level) (r : Levels k). (l, r)) (level-other ws b c i s (λ n j hn hj. omega arith)) (levels-before k ws (b + c * m) (c * m) i s (omega arith))
 
-  -- the levels of a list of words have the right shape
-  pub words-shaped : (k : ℕ) (ws : List ℕ) (b c : ℕ) → Shaped m k c (levelsOf m k ws b c)
-  unfolding levelsOf levelOf nodeOf
-  words-shaped zero ws b c = tt
-  words-shaped (suc k) ws b c = (length-tab c _, all-tab _ c _ (λ i. length-tab m _), words-shaped k ws (b + c * m) (c * m))
-
   -- levels go by their slots
   pub level-ext : (ws ws′ : List ℕ) (b c : ℕ) → ((i : ℕ) → i < b + c * m → slotOf ws i ≡ slotOf ws′ i) → levelOf m ws b c ≡ levelOf m ws′ b c
   unfolding levelOf nodeOf
