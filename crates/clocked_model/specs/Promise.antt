@@ -1,16 +1,19 @@
 -- What is promised of the clocked tree is said in these words: the one-at-a-time tree beside it, idle cycles, and 01's causes of refusal.
 -- Assumes nothing: these are definitions.
 use Prim.Native.Nat.{_*_, _<_, _≤_, pred, suc, zero, ℕ}
-use mathlib.Core.Bool.{_&&_, Bool, cond, false, true}
+use mathlib.Core.Bool.{_&&_, Bool, cond, false, not, true}
 use mathlib.Core.List.{[], _∷_, List}
 use mathlib.Core.Logic.{_⊎_}
 use mathlib.Core.Path.{_≡_}
 use lib.Dec.{leb}
 use lib.ListN.{getD, length, replicate}
-use Rattle.clocked_model.specs.Calls.{CycleOutcome, cycleWork, hearing, marks, pending, popsOrReplaces, runs, ticked}
+use Rattle.clocked_model.specs.Calls.{cycleOutcome, CycleOutcome, cycleWork, drainOutcome, DrainOutcome, fresh, hearing, marks, pending, popsOrReplaces, ticked}
 use Rattle.clocked_model.specs.Cycle.{cycleLevels, cycleWorks, Works}
 use Rattle.clocked_model.specs.Records.{worksOf}
 use Rattle.clocked_model.specs.declared.State.{State}
+use Rattle.laws.specs.Ladder.{fine, Ladder, rung, stop}
+use Rattle.promise.specs.Queue.{answers, leaves, step, Step}
+use Rattle.promise.specs.Refused.{limits}
 use Rattle.strip.specs.declared.Answer.{Answer}
 use Rattle.strip.specs.declared.Answer.the-variants.{Refused}
 use Rattle.strip.specs.declared.Refusal.{Refusal}
@@ -21,27 +24,53 @@ use Rattle.tree_model.specs.Calls.{called, outcome, Outcome, rootOf}
 use Rattle.tree_model.specs.Damage.{room}
 use Rattle.tree_model.specs.Levels.{idle, Levels, top}
 use Rattle.tree_model.specs.Node.{sumCounts}
-use Rattle.tree_model.specs.Promise.{IsPop, IsPush, NodeDamaged, Shape, WorkDamaged}
+use Rattle.tree_model.specs.Promise.{NodeDamaged, Shape, start, WorkDamaged}
 use Rattle.tree_model.specs.Words.{levelsOf, width}
 
+-- ---- the clocked tree as a queue: a list of cycles, each handed the words and the state that the one before left
+pub record Machine : Type 0 where
+  pub state : State
+  pub words : List ℕ
+
+abbrev pub machine : State → List ℕ → Machine
+machine s ws = record { state = s; words = ws }
+
 module _ (m levels : ℕ) where
-  -- ---- the one-at-a-time tree beside the clocked one
+  abbrev pub clockedQueue : Request → Machine → Step Answer Machine
+  clockedQueue r x =
+      let o = ticked m levels r (x .state) (x .words) in
+      step (o .answer) (machine (o .state) (o .words))
+
+  -- so many idle cycles
+  abbrev pub idles : ℕ → State → List ℕ → Machine
+  idles n s ws = leaves clockedQueue (replicate n Idle) (machine s ws)
+
+  -- any list of cycles from the cleared machine: what it is answered, and what is left
+  abbrev pub cleared : List ℕ → Machine
+  cleared ws = machine fresh (start m levels ws)
+
+  abbrev pub ran : List Request → List ℕ → Machine
+  ran rs ws = leaves clockedQueue rs (cleared ws)
+
+  abbrev pub cycleAnswers : List Request → List ℕ → List Answer
+  cycleAnswers rs ws = answers clockedQueue rs (cleared ws)
+
+  -- ---- the one-at-a-time tree beside it, as a queue of the mark and the words
   -- a pop or replace with the mark on is too soon and is left out; every other request is a call
   unfoldable pub beside : Bool → Request → List ℕ → Outcome
   beside mark r vs = cond (mark && popsOrReplaces r) (outcome (Refused TooSoon) vs) (called m levels r vs)
 
-  -- the answers over a list of requests, the mark going by them; and the words left
-  unfoldable pub besideAnswers : List Request → Bool → List ℕ → List Answer
-  besideAnswers [] mark vs = []
-  besideAnswers (r ∷ rs) mark vs =
-      let o = beside mark r vs in
-      o .answer ∷ besideAnswers rs (marks r (o .answer)) (o .words)
+  -- .. the mark going by the answers
+  abbrev pub besideQueue : Request → Bool × List ℕ → Step Answer (Bool × List ℕ)
+  besideQueue r b =
+      let o = beside (b .0) r (b .1) in
+      step (o .answer) (marks r (o .answer), o .words)
 
-  unfoldable pub besideWords : List Request → Bool → List ℕ → List ℕ
-  besideWords [] mark vs = vs
-  besideWords (r ∷ rs) mark vs =
-      let o = beside mark r vs in
-      besideWords rs (marks r (o .answer)) (o .words)
+  abbrev pub besideAnswers : List Request → Bool → List ℕ → List Answer
+  besideAnswers rs mark vs = answers besideQueue rs (mark, vs)
+
+  abbrev pub besideWords : List Request → Bool → List ℕ → List ℕ
+  besideWords rs mark vs = leaves besideQueue rs (mark, vs) .1
 
   -- the requests that are not too soon, in order
   unfoldable pub callsOf : List Request → Bool → List ℕ → List Request
@@ -49,10 +78,6 @@ module _ (m levels : ℕ) where
   callsOf (r ∷ rs) mark vs =
       let o = beside mark r vs in
       cond (mark && popsOrReplaces r) (callsOf rs false vs) (r ∷ callsOf rs (marks r (o .answer)) (o .words))
-
-  -- ---- so many idle cycles
-  abbrev pub idles : ℕ → State → List ℕ → CycleOutcome
-  idles n s ws = runs m levels (replicate n Idle) s ws
 
 -- ---- causes: column "Exactly when" of the table of refusals
 abbrev pub Asks : Request → Type 0
@@ -79,30 +104,50 @@ CycleDamage m levels r s ws =
     (Asks r × NodeDamaged (room m (pred levels)) (rootOf m ws))
     ⊎ WorksDamaged m (suc (pred levels)) (cycleWork m levels (hearing m levels r s ws .op) s) (levelsOf m (suc (pred levels)) ws 0 1)
 
--- each refusal's cause, an earlier cause excluded. 4 is given by another queue
-abbrev pub CycleCause : ℕ → ℕ → Request → State → List ℕ → Refusal → Type 0
-CycleCause m levels r s ws BadShape = Shape m levels (length ws) → ⊥
-CycleCause m levels r s ws Damaged = Shape m levels (length ws) × CycleDamage m levels r s ws
-CycleCause m levels r s ws TooSoon = Shape m levels (length ws) × (CycleDamage m levels r s ws → ⊥) × PopsOrReplaces r × (s .mark ≡ true)
-CycleCause m levels r s ws BadRank = ⊥
-CycleCause m levels r s ws Full = Shape m levels (length ws) × (CycleDamage m levels r s ws → ⊥) × IsPush r × (sumCounts (rootOf m ws) ≡ room m levels)
-CycleCause m levels r s ws Empty =
-    Shape m levels (length ws) × (CycleDamage m levels r s ws → ⊥) × IsPop r × (s .mark ≡ false) × (sumCounts (rootOf m ws) ≡ 0)
+-- the table, in order: "Order for the tree: 1, 2, 3, then 5 or 6". 4 is the bucket queue's
+abbrev pub cycleRefusals : ℕ → ℕ → Request → State → List ℕ → Ladder Refusal
+cycleRefusals m levels r s ws =
+    rung BadShape (Shape m levels (length ws))
+    (stop Damaged (CycleDamage m levels r s ws)
+    (stop TooSoon (PopsOrReplaces r × (s .mark ≡ true))
+    (limits r (sumCounts (rootOf m ws)) (room m levels) fine)))
 
--- .. and of a refused drain: within the budget and with work pending all along, an idle cycle meets damage
-pub record Jams (m levels budget : ℕ) (s : State) (ws : List ℕ) : Type 0 where
-  pub cycles : ℕ
+-- column "Left behind": after 1 and 2 "everything, mark and records too"; after the others the "cycle runs as idle"
+abbrev pub runsIdle : Refusal → Bool
+runsIdle BadShape = false
+runsIdle Damaged = false
+runsIdle TooSoon = true
+runsIdle BadRank = true
+runsIdle Full = true
+runsIdle Empty = true
+
+abbrev pub cycleLeft : ℕ → ℕ → State → List ℕ → Refusal → CycleOutcome
+cycleLeft m levels s ws n =
+    let x = cond {A = Machine} (runsIdle n) (idles m levels 1 s ws) (machine s ws) in
+    cycleOutcome (Refused n) (x .words) (x .state)
+
+-- a refused drain: within the budget and with work pending all along, so many idle cycles run and the next meets damage
+pub record Jams (m levels budget cycles : ℕ) (s : State) (ws : List ℕ) : Type 0 where
   pub within : cycles < budget
   pub waits : (j : ℕ) → j ≤ cycles → pending m levels (idles m levels j s ws .state) ≡ true
   pub damage : CycleDamage m levels Idle (idles m levels cycles s ws .state) (idles m levels cycles s ws .words)
 
-abbrev pub DrainCause : ℕ → ℕ → ℕ → State → List ℕ → Refusal → Type 0
-DrainCause m levels budget s ws BadShape = Shape m levels (length ws) → ⊥
-DrainCause m levels budget s ws Damaged = Shape m levels (length ws) × Jams m levels budget s ws
-DrainCause m levels budget s ws TooSoon = ⊥
-DrainCause m levels budget s ws BadRank = ⊥
-DrainCause m levels budget s ws Full = ⊥
-DrainCause m levels budget s ws Empty = ⊥
+abbrev pub drainRefusals : ℕ → ℕ → ℕ → State → List ℕ → Ladder Refusal
+drainRefusals m levels budget s ws = rung BadShape (Shape m levels (length ws)) (stop Damaged ((n : ℕ) × Jams m levels budget n s ws) fine)
+
+-- "Drain stops at 2 and reports the cycles already run, work left; at 1 it reports 0 and no work left"
+abbrev pub isBadShape : Refusal → Bool
+isBadShape BadShape = true
+isBadShape Damaged = false
+isBadShape TooSoon = false
+isBadShape BadRank = false
+isBadShape Full = false
+isBadShape Empty = false
+
+abbrev pub drainLeft : ℕ → ℕ → ℕ → State → List ℕ → Refusal → DrainOutcome
+drainLeft m levels cycles s ws n =
+    let ran = cond (isBadShape n) 0 cycles in
+    drainOutcome (Refused n) ran (not (isBadShape n)) (idles m levels ran s ws .words) (idles m levels ran s ws .state)
 
 -- a number capped by the budget
 abbrev pub capped : ℕ → ℕ → ℕ

@@ -10,13 +10,14 @@ use lib.ListN.{length, length-set, set}
 use lib.Seq.{set-out}
 use borrow.Author.Tests.{leb-false, leb-true, ltb-false, ltb-true}
 use Rattle.laws.specs.Lists.{All, all-at, all-map, all-set, sum-set}
+use Rattle.promise.specs.Served.{always, hit}
 use Rattle.strip.specs.Answers.{blank, key}
 use Rattle.strip.specs.declared.Element.{Element}
 use Rattle.tree_model.proofs.Choice.{all-slotAt, counts-lower, empty-found, least-in, least-le, lowest-is, none-empty}
 use Rattle.tree_model.proofs.Many.{length-slots, low-least, many-held, none-under, not-under, own-suc, own-zero, slot-at, sum-counts}
 use Rattle.tree_model.specs.Damage.{room}
 use Rattle.tree_model.specs.Node.{firstEmpty, keep, leastCount, low, lowest, move, opMove, pass, putBy, putMove, slotAt, swapBy, swapMove, takeBy, takeMove, vacant}
-use Rattle.tree_model.specs.Tree.{act, always, at, bare, below, Can, Fit, gain, held, hit, loss, lowOf, many, nothing, own, slots, something, Sound, Tree, treeMove}
+use Rattle.tree_model.specs.Tree.{act, at, bare, below, Can, Fit, gain, held, loss, lowOf, many, nothing, own, slots, something, Sound, Tree, treeMove}
 use Rattle.tree_model.specs.declared.Move.{Move}
 use Rattle.tree_model.specs.declared.Op.{Op}
 use Rattle.tree_model.specs.declared.Op.the-variants.{Nothing, Put, Swap, Take}

@@ -9,12 +9,13 @@ use lib.Dec.{ltb}
 use lib.ListN.{length, length-map, List·getD-map}
 use borrow.Author.Tests.{le-ltb, lt-ltb, ltb-true}
 use Rattle.laws.specs.Lists.{All, all-any, all-both, all-map, all-of-map, sum-le, sum-upper, sum-zero, sumOf}
+use Rattle.promise.specs.Served.{always, hit}
 use Rattle.strip.specs.Answers.{key}
 use Rattle.strip.specs.declared.Element.{Element}
 use Rattle.tree_model.proofs.Choice.{lowest-is}
 use Rattle.tree_model.specs.Damage.{room}
 use Rattle.tree_model.specs.Node.{low, slotAt, sumCounts, vacant}
-use Rattle.tree_model.specs.Tree.{always, at, bare, below, Fit, held, hit, lowOf, many, nothing, own, ownBy, slots, something, Sound, Tree}
+use Rattle.tree_model.specs.Tree.{at, bare, below, Fit, held, lowOf, many, nothing, own, ownBy, slots, something, Sound, Tree}
 use Rattle.tree_model.specs.declared.Slot.{Slot}
 
 pub hit-le : (b : Bool) → hit b ≤ 1

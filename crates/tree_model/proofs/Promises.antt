@@ -9,14 +9,16 @@ use mathlib.Core.Path.{_∙_, _≡_, ap, ap₂, refl, subst, sym}
 use lib.ListN.{drop, getD, getD-replicate, length, length-append, length-drop, length-replicate, List·getD-append, replicate}
 use Rattle.laws.specs.Lists.{sumOf}
 use Rattle.laws.specs.Sums.{grid, sum-index, sumTo, to-add, to-append, to-ext, to-zero}
-use Rattle.strip.specs.Answers.{blank, element, key}
+use Rattle.promise.specs.Queue.{answers, leaves, leaves-keep}
+use Rattle.promise.specs.Served.{all-sum, allBrought, allGiven, always, brought, given, Holds, Least, least-same, same}
+use Rattle.strip.specs.Answers.{blank, element}
 use Rattle.strip.specs.declared.Answer.{Answer}
-use Rattle.strip.specs.declared.Answer.the-variants.{Done, Out, Refused}
+use Rattle.strip.specs.declared.Answer.the-variants.{Refused}
 use Rattle.strip.specs.declared.Count.the-variants.{Held}
 use Rattle.strip.specs.declared.Element.{Element}
 use Rattle.strip.specs.declared.Refusal.the-variants.{BadShape, Damaged}
 use Rattle.strip.specs.declared.Request.{Request}
-use Rattle.tree_model.proofs.Exactly.{called-fine, exactly-clear, is-shape, no-damage, order-pos, shape-is}
+use Rattle.tree_model.proofs.Exactly.{called-fine, cleared-fine, is-shape, no-damage, order-pos, shape-is}
 use Rattle.tree_model.proofs.Hang.{below-less}
 use Rattle.tree_model.proofs.Path.{node-ok, root-path}
 use Rattle.tree_model.proofs.Serve.{answered, cleared-holds, cleared-store, root-slots, root-sum}
@@ -25,9 +27,9 @@ use Rattle.tree_model.specs.Calls.{called, carriedOut, counted, Outcome,
 use Rattle.tree_model.specs.Damage.{nodeOk, room}
 use Rattle.tree_model.specs.Levels.{apply, Level, Levels, work}
 use Rattle.tree_model.specs.Node.{slotAt, sumCounts, vacant}
-use Rattle.tree_model.specs.Promise.{after, allBrought, allGiven, answers, Damage, leaves, same, Shape, start, stored}
-use Rattle.tree_model.specs.Serve.{bareLevels, brought, given, holding, Least, ruled, serve, Store}
-use Rattle.tree_model.specs.Tree.{always, below, hang, many, own, Sound, Tree, treeOf}
+use Rattle.tree_model.specs.Promise.{after, Damage, Shape, start, stored, treeQueue}
+use Rattle.tree_model.specs.Serve.{bareLevels, holding, ruled, serve, Store}
+use Rattle.tree_model.specs.Tree.{hang, many, own, Sound, Tree, treeOf}
 use Rattle.tree_model.specs.Words.{applyWords, levelOf, levelsOf, nodeOf, size, slotOf, tabulate, width, wipe}
 use Rattle.tree_model.specs.declared.Slot.{Slot}
 
@@ -194,22 +196,14 @@ module _ (m k : ℕ) where
         store = subst (λ (l : Levels (suc k)). Store m k l) (sym (kept-words m k ws kept r)) (answered m k (order-pos (kept .shape)) (levelsOf m (suc k) ws 0 1) (kept .store) r .store);
       }
 
-  pub leaves-kept : (rs : List Request) (ws : List ℕ) → Kept m k ws → Kept m k (leaves m (suc k) rs ws)
-  unfolding leaves
-  leaves-kept [] ws kept = kept
-  leaves-kept (r ∷ rs) ws kept = leaves-kept rs (called m (suc k) r ws .words) (called-kept r ws kept)
+  pub leaves-kept : (rs : List Request) (ws : List ℕ) → Kept m k ws → Kept m k (leaves (treeQueue m (suc k)) rs ws)
+  leaves-kept = leaves-keep (treeQueue m (suc k)) (Kept m k) called-kept
 
-  call-sum : (r : Request) (ws : List ℕ) → Kept m k ws → (f : Element → Bool)
-      → stored (room m (suc k)) (called m (suc k) r ws .words) f + given (called m (suc k) r ws .answer) f ≡ stored (room m (suc k)) ws f + brought r (called m (suc k) r ws .answer) f
+  pub call-sum : (r : Request) (ws : List ℕ) → Kept m k ws → (f : Element → Bool)
+      → stored (room m (suc k)) (called m (suc k) r ws .words) f + given r (called m (suc k) r ws .answer) f ≡ stored (room m (suc k)) ws f + brought r (called m (suc k) r ws .answer) f
   call-sum r ws kept f =
       rw (stored-holding m k (called m (suc k) r ws .words) f, stored-holding m k ws f, kept-words m k ws kept r, kept-answer m k ws kept r)
       (answered m k (order-pos (kept .shape)) (levelsOf m (suc k) ws 0 1) (kept .store) r .sum f)
-
-  list-sum : (rs : List Request) (ws : List ℕ) → Kept m k ws → (f : Element → Bool)
-      → stored (room m (suc k)) (leaves m (suc k) rs ws) f + allGiven (answers m (suc k) rs ws) f ≡ stored (room m (suc k)) ws f + allBrought rs (answers m (suc k) rs ws) f
-  unfolding leaves answers allGiven allBrought
-  list-sum [] ws kept f = refl
-  list-sum (r ∷ rs) ws kept f = omega (arith, call-sum r ws kept f, list-sum rs (called m (suc k) r ws .words) (called-kept r ws kept) f)
 
 -- ---- from a cleared store. The number of levels is any that passes the shape
 wipe-length : (n : ℕ) (ws : List ℕ) → n * width ≤ length ws → length (wipe n ws) ≡ length ws
@@ -218,7 +212,7 @@ wipe-length n ws h = rw (length-append, length-replicate, length-drop) (omega ar
 
 module _ (m k : ℕ) (ws : List ℕ) (sh : Shape m (suc k) (length ws)) where
   start-is : start m (suc k) ws ≡ wipe (room m (suc k)) ws
-  start-is = ap (λ (o : Outcome). o .words) (exactly-clear m (suc k) ws .2 sh)
+  start-is = ap (λ (o : Outcome). o .words) (cleared-fine m (suc k) ws (is-shape m (suc k) (length ws) sh))
 
   start-bare : levelsOf m (suc k) (start m (suc k) ws) 0 1 ≡ bareLevels m (suc k) 1
   start-bare =
@@ -232,7 +226,7 @@ module _ (m k : ℕ) (ws : List ℕ) (sh : Shape m (suc k) (length ws)) where
         store = subst (λ (l : Levels (suc k)). Store m k l) (sym start-bare) (cleared-store m k);
       }
 
-  start-empty : (f : Element → Bool) → stored (room m (suc k)) (start m (suc k) ws) f ≡ 0
+  pub start-empty : (f : Element → Bool) → stored (room m (suc k)) (start m (suc k) ws) f ≡ 0
   start-empty f = stored-holding m k (start m (suc k) ws) f ∙ ap (λ (l : Levels (suc k)). holding m k l f) start-bare ∙ cleared-holds m k f
 
 -- the call held on a kept store
@@ -247,16 +241,18 @@ kept-sum m k ws kept = ap sumCounts (sym (root-node m ws)) ∙ root-sum m k (ord
 -- THE PROMISES. Any order and number of levels that pass the shape, any words to start with, any list of requests.
 
 module _ (m : ℕ) (ws : List ℕ) (rs : List Request) where
+  abbrev pub said : ℕ → List Answer
+  said levels = answers (treeQueue m levels) rs (start m levels ws)
+
   -- HOLDS: of every kind of element as many are stored as went in and have not come out
-  pub holds : (levels : ℕ) → Shape m levels (length ws) → (f : Element → Bool)
-      → stored (room m levels) (after m levels rs ws) f + allGiven (answers m levels rs (start m levels ws)) f ≡ allBrought rs (answers m levels rs (start m levels ws)) f
+  pub holds : (levels : ℕ) → Shape m levels (length ws) → Holds (stored (room m levels) (after m levels rs ws)) rs (said levels)
   holds zero sh f = absurd (not-suc-le-zero (sh .some))
-  holds (suc k) sh f = omega (arith, list-sum m k rs (start m (suc k) ws) (start-kept m k ws sh) f, start-empty m k ws sh f)
+  holds (suc k) sh f =
+      omega (arith, all-sum (treeQueue m (suc k)) (Kept m k) (called-kept m k) (stored (room m (suc k))) (call-sum m k) rs (start m (suc k) ws) (start-kept m k ws sh) f, start-empty m k ws sh f)
 
   -- .. so each pair as often
   pub pairs : (levels : ℕ) → Shape m levels (length ws) → (e : Element)
-      → stored (room m levels) (after m levels rs ws) (same e) + allGiven (answers m levels rs (start m levels ws)) (same e)
-      ≡ allBrought rs (answers m levels rs (start m levels ws)) (same e)
+      → stored (room m levels) (after m levels rs ws) (same e) + allGiven rs (said levels) (same e) ≡ allBrought rs (said levels) (same e)
   pairs levels sh e = holds levels sh (same e)
 
   -- LEAST: what comes out has the lowest rank of all stored and, in a replace, of the newcomer
@@ -269,11 +265,6 @@ module _ (m : ℕ) (ws : List ℕ) (rs : List Request) where
       subst (λ (a : Answer). Least (stored (room m (suc k)) now) r a) (sym (kept-answer m k now kept r))
       (least-same (holding m k (levelsOf m (suc k) now 0 1)) (stored (room m (suc k)) now) (λ f. sym (stored-holding m k now f)) r
       (ruled m k r (levelsOf m (suc k) now 0 1) .answer) (answered m k (order-pos sh) (levelsOf m (suc k) now 0 1) (kept .store) r .least))
-    where
-      least-same : (g h : (Element → Bool) → ℕ) → ((f : Element → Bool) → g f ≡ h f) → (r : Request) (a : Answer) → Least g r a → Least h r a
-      least-same g h p r Done l = tt
-      least-same g h p r (Out e) l = (sym (p (below (key e))) ∙ l .0, l .1)
-      least-same g h p r (Refused n) l = tt
 
   -- SOUND: every count is one plus what lies below, no rank lies above a lower one, and an empty slot is all zero with nothing below
   pub sound : (levels : ℕ) → Shape m levels (length ws) → Sound m levels (treeOf m levels (levelsOf m levels (after m levels rs ws) 0 1) 0)

@@ -1,4 +1,4 @@
--- A request served on a sound store leaves it sound, holding what was brought in less what was given out; what is given has the least key.
+-- A request served on a sound store leaves it sound, holding what was brought in less what was given out; what is given has the lowest rank.
 -- Assumes nothing.
 use Prim.Native.Nat.{_*_, _+_, _<_, suc, zero, ℕ}
 use native.Mathlib.Nat.{le-of-lt, pos-of-ne-zero}
@@ -10,6 +10,7 @@ use lib.Dec.{eqb, ltb}
 use lib.ListN.{getD, getD-replicate, length, length-replicate, replicate}
 use borrow.Author.Tests.{eqb-false, eqb-true, ltb-false, ltb-true}
 use Rattle.laws.specs.Lists.{All, all-replicate, sum-zero}
+use Rattle.promise.specs.Served.{always, brought, given, Least}
 use Rattle.strip.specs.Answers.{key}
 use Rattle.strip.specs.declared.Answer.the-variants.{Done, Out, Refused}
 use Rattle.strip.specs.declared.Element.{Element}
@@ -23,8 +24,8 @@ use Rattle.tree_model.specs.Calls.{rule, ruling, Ruling}
 use Rattle.tree_model.specs.Damage.{room}
 use Rattle.tree_model.specs.Levels.{apply, Levels, Shaped, work}
 use Rattle.tree_model.specs.Node.{low, sumCounts, vacant}
-use Rattle.tree_model.specs.Serve.{bareLevels, brought, given, holding, Least, ruled, serve, Store}
-use Rattle.tree_model.specs.Tree.{always, below, Can, gain, hang, held, loss, lowOf, many, nothing, slots, Sound, Tree, treeOf}
+use Rattle.tree_model.specs.Serve.{bareLevels, holding, ruled, serve, Store}
+use Rattle.tree_model.specs.Tree.{below, Can, gain, hang, held, loss, lowOf, many, nothing, slots, Sound, Tree, treeOf}
 use Rattle.tree_model.specs.declared.Op.{Op}
 use Rattle.tree_model.specs.declared.Op.the-variants.{Nothing, Put, Swap, Take}
 use Rattle.tree_model.specs.declared.Slot.{Slot}
@@ -72,11 +73,11 @@ module _ (m k : ℕ) (some : 0 < m) (ls : Levels (suc k)) (st : Store m k ls) wh
   -- what a request comes to can be done, gives and brings in what its answer says, and gives the least
   record Ruled (r : Request) (g : Ruling) : Type 0 where
     can : Can m (suc k) (g .op) t
-    sum : (f : Element → Bool) → loss (suc k) (g .op) t f + brought r (g .answer) f ≡ gain (g .op) f + given (g .answer) f
+    sum : (f : Element → Bool) → loss (suc k) (g .op) t f + brought r (g .answer) f ≡ gain (g .op) f + given r (g .answer) f
     least : Least (holding m k ls) r (g .answer)
 
   rules : (r : Request) → Ruled r (ruled m k r ls)
-  unfolding ruled rule holding
+  unfolding ruled rule holding key
   rules Idle = record { can = tt; sum = λ f. refl; least = tt }
   rules (Push x) = go (ltb (sumCounts root) (room m (suc k))) refl
     where
@@ -86,28 +87,28 @@ module _ (m k : ℕ) (some : 0 < m) (ls : Levels (suc k)) (st : Store m k ls) wh
   rules Pop = go (eqb (sumCounts root) 0) refl
     where
       go : (b : Bool) → eqb (sumCounts root) 0 ≡ b → Ruled Pop (cond b (ruling (Refused Empty) Nothing) (ruling (Out (low root)) Take))
-      go true e = record { can = tt; sum = λ f. refl; least = tt }
-      go false e = record { can = some-held e; sum = λ f. rw root-low (omega arith); least = (root-least (some-held e), tt) }
+      go true e = record { can = tt; sum = λ f. refl; least = λ z. absurd (omega arith) }
+      go false e = record { can = some-held e; sum = λ f. rw root-low (omega arith); least = λ z. root-least (some-held e) }
   rules (Replace x) = go (eqb (sumCounts root) 0) refl (ltb (key x) (key (low root))) refl
     where
       go : (a : Bool) → eqb (sumCounts root) 0 ≡ a → (b : Bool) → ltb (key x) (key (low root)) ≡ b
           → Ruled (Replace x) (cond (a || b) (ruling (Out x) Nothing) (ruling (Out (low root)) (Swap x)))
       go true e b e′ =
-          record { can = tt; sum = λ f. omega arith; least = (omega (arith, many-held (below (key x)) (suc k) t, root-sum, eqb-true (sumCounts root) 0 e), omega arith) }
+          record { can = tt; sum = λ f. omega arith; least = λ z. (omega (arith, many-held (below (key x)) (suc k) t, root-sum, eqb-true (sumCounts root) 0 e), omega arith) }
       go false e true e′ =
           record {
             can = tt;
             sum = λ f. omega arith;
-            least = (none-under (key x) (key (low root)) (suc k) t (le-of-lt (ltb-true (key x) (key (low root)) e′)) (root-least (some-held e)), omega arith);
+            least = λ z. (none-under (key x) (key (low root)) (suc k) t (le-of-lt (ltb-true (key x) (key (low root)) e′)) (root-least (some-held e)), omega arith);
           }
       go false e false e′ =
-          record { can = some-held e; sum = λ f. rw root-low (omega arith); least = (root-least (some-held e), ltb-false (key x) (key (low root)) e′) }
+          record { can = some-held e; sum = λ f. rw root-low (omega arith); least = λ z. (root-least (some-held e), ltb-false (key x) (key (low root)) e′) }
 
   -- what a request does
   pub record Answered (r : Request) : Type 0 where
     pub can : Can m (suc k) (ruled m k r ls .op) t
     pub store : Store m k (serve m k r ls)
-    pub sum : (f : Element → Bool) → holding m k (serve m k r ls) f + given (ruled m k r ls .answer) f ≡ holding m k ls f + brought r (ruled m k r ls .answer) f
+    pub sum : (f : Element → Bool) → holding m k (serve m k r ls) f + given r (ruled m k r ls .answer) f ≡ holding m k ls f + brought r (ruled m k r ls .answer) f
     pub least : Least (holding m k ls) r (ruled m k r ls .answer)
 
   pub answered : (r : Request) → Answered r

@@ -19,7 +19,7 @@ use Rattle.tree_model.proofs.Choice.{filled, least-in, lowest-is}
 use Rattle.tree_model.proofs.Hang.{below-less, digits}
 use Rattle.tree_model.proofs.Nothing.{is-none, step-none}
 use Rattle.tree_model.specs.Damage.{fine, hasSome, nodeOk, pathOk, readOk, room, stepOk}
-use Rattle.tree_model.specs.Levels.{apply, Level, levelMove, Levels, Shaped, stepLevel, stepWork, top}
+use Rattle.tree_model.specs.Levels.{apply, Level, levelMove, Levels, stepLevel, stepWork, top}
 use Rattle.tree_model.specs.Node.{every, firstEmpty, isEmpty, isNothing, lowest, opMove, putBy, putMove, slotAt, sumCounts, swapBy, swapMove, takeBy, takeMove, vacant}
 use Rattle.tree_model.specs.Tree.{at}
 use Rattle.tree_model.specs.Words.{applyWords, levelOf, levelsOf, nodeOf, size, slotOf, stepWords, tabulate, under, width, write}
