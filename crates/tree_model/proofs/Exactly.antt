@@ -10,14 +10,14 @@ use mathlib.Core.Path.{_∙_, _≡_, ap, refl, subst, sym}
 use lib.Dec.{eqb, leb, ltb}
 use lib.ListN.{getD, length}
 use lib.Seq.{slice}
-use borrow.Author.Tests.{eq-eqb, eqb-false, eqb-true, le-leb, le-ltb, leb-true, ltb-false, ltb-true}
+use borrow.Author.Tests.{eq-eqb, eqb-false, eqb-true, le-leb, le-ltb, leb-true, ltb-false}
 use Rattle.laws.specs.Fails.{Fails, fails-and, fails-every, fails-leb, fails-not-eqb, fails-not-every, fails-or, fails-true}
 use Rattle.laws.specs.Ladder.{climb, climb-by, climb-fine, climb-stop, Exactly, Granted, Ladder, left-behind, rung}
 use Rattle.laws.specs.Ladder as ladder
 use Rattle.laws.specs.Lists.{All}
 use Rattle.laws.specs.Tests.{and-left, and-right, and-true, or-right}
 use Rattle.promise.specs.Refused.{IsPush, limits, refusal-told, zero-told}
-use Rattle.strip.specs.Answers.{countNumber, key, numberOf, refusalNumber}
+use Rattle.strip.specs.Answers.{countNumber, numberOf, refusalNumber}
 use Rattle.strip.specs.declared.Answer.{Answer}
 use Rattle.strip.specs.declared.Answer.the-variants.{Done, Out, Refused}
 use Rattle.strip.specs.declared.Count.{Count}
@@ -26,14 +26,15 @@ use Rattle.strip.specs.declared.Element.{Element}
 use Rattle.strip.specs.declared.Refusal.{Refusal}
 use Rattle.strip.specs.declared.Refusal.the-variants.{BadShape, Damaged, Empty, Full}
 use Rattle.strip.specs.declared.Request.{Request}
-use Rattle.strip.specs.declared.Request.the-variants.{Idle, Pop, Push, Replace}
 use Rattle.tree_model.proofs.Nothing.{op-work, work-none}
+use Rattle.tree_model.proofs.Rules.{comes}
 use Rattle.tree_model.proofs.Words.{node-length}
 use Rattle.tree_model.specs.Calls.{called, carriedOut, cleared, counted, orderOk, Outcome, outcome, rootOf, rootOk, rule, ruling, Ruling, shapeOk, slotLimit, verdict, wayOk}
 use Rattle.tree_model.specs.Damage.{fine, hasRoom, hasSome, isBlank, lifts, nodeOk, pathOk, readOk, room, slotOk, stepOk}
 use Rattle.tree_model.specs.Levels.{Level, Levels, stepWork, top, work}
 use Rattle.tree_model.specs.Node.{every, isEmpty, isNothing, low, lowest, slotAt, sumCounts}
 use Rattle.tree_model.specs.Promise.{clearRefusals, Damage, heldRefusals, Lifts, NodeDamaged, PathDamaged, ReadDamaged, refusals, Shape, SlotDamaged, Some, StepDamaged, WorkDamaged}
+use Rattle.tree_model.specs.Rules.{Comes, empty, full, idles, puts, returns, swaps, takes}
 use Rattle.tree_model.specs.Words.{applyWords, levelOf, levelsOf, stepWords, under, width, wipe}
 use Rattle.tree_model.specs.declared.Op.{Op}
 use Rattle.tree_model.specs.declared.Op.the-variants.{Nothing, Put, Swap, Take}
@@ -208,7 +209,7 @@ words-none m (suc k) w b c ws e =
 -- 5 and 6. What a request comes to at a root with at most c, made to an outcome by o: a ruling's answer is the outcome's, and a refused one
 -- leaves behind what the table says
 module _ {O : Type 0} (answer : O → Answer) (left : Refusal → O) (left-says : (x : Refusal) → answer (left x) ≡ Refused x)
-    (o : Ruling → O) (says : (g : Ruling) → answer (o g) ≡ g .answer) (full : o (ruling (Refused Full) Nothing) ≡ left Full) (empty : o (ruling (Refused Empty) Nothing) ≡ left Empty) where
+    (o : Ruling → O) (says : (g : Ruling) → answer (o g) ≡ g .answer) (at-full : o (ruling (Refused Full) Nothing) ≡ left Full) (at-empty : o (ruling (Refused Empty) Nothing) ≡ left Empty) where
   abbrev number : O → ℕ
   number z = numberOf (answer z)
 
@@ -218,28 +219,17 @@ module _ {O : Type 0} (answer : O → Answer) (left : Refusal → O) (left-says 
   accepted : (a : Answer) (w : Op) → numberOf a ≡ 0 → Granted number left (o (ruling a w))
   accepted a w e r q = zero-told r (sym e ∙ ap numberOf (sym (says (ruling a w))) ∙ q ∙ ap numberOf (left-says r))
 
+  comes-exactly : (c : ℕ) (nd : List Slot) (r : Request) (g : Ruling) → Comes c nd r g → (IsPush r → sumCounts nd ≤ c) → Exactly number left (o g) (limits r (sumCounts nd) c ladder.fine)
+  comes-exactly c nd r g idles most = climb-fine number left _ (accepted Done Nothing refl)
+  comes-exactly c nd r g (puts x h) most = climb-stop number left tells Full _ _ ladder.fine (inl ((λ e. omega arith), climb-fine number left _ (accepted Done (Put x) refl)))
+  comes-exactly c nd r g (full x h) most = climb-stop number left tells Full _ _ ladder.fine (inr (omega (arith, most tt), at-full))
+  comes-exactly c nd r g (takes h) most = climb-stop number left tells Empty _ _ ladder.fine (inl ((λ e. omega arith), climb-fine number left _ (accepted (Out (low nd)) Take refl)))
+  comes-exactly c nd r g (empty h) most = climb-stop number left tells Empty _ _ ladder.fine (inr (h, at-empty))
+  comes-exactly c nd r g (returns x h) most = climb-fine number left _ (accepted (Out x) Nothing refl)
+  comes-exactly c nd r g (swaps x h l) most = climb-fine number left _ (accepted (Out (low nd)) (Swap x) refl)
+
   pub limits-exactly : (c : ℕ) (r : Request) (nd : List Slot) → (IsPush r → sumCounts nd ≤ c) → Exactly number left (o (rule c r nd)) (limits r (sumCounts nd) c ladder.fine)
-  unfolding rule
-  limits-exactly c Idle nd most = climb-fine number left _ (accepted Done Nothing refl)
-  limits-exactly c (Push x) nd most = climb-stop number left tells Full _ _ ladder.fine (go (ltb (sumCounts nd) c) refl)
-    where
-      go : (t : Bool) → ltb (sumCounts nd) c ≡ t
-          → ((sumCounts nd ≡ c → ⊥) × Exactly number left (o (cond t (ruling Done (Put x)) (ruling (Refused Full) Nothing))) ladder.fine)
-          ⊎ ((sumCounts nd ≡ c) × (o (cond t (ruling Done (Put x)) (ruling (Refused Full) Nothing)) ≡ left Full))
-      go true e = inl ((λ z. omega (arith, ltb-true (sumCounts nd) c e)), climb-fine number left _ (accepted Done (Put x) refl))
-      go false e = inr (omega (arith, most tt, ltb-false (sumCounts nd) c e), full)
-  limits-exactly c Pop nd most = climb-stop number left tells Empty _ _ ladder.fine (go (eqb (sumCounts nd) 0) refl)
-    where
-      go : (t : Bool) → eqb (sumCounts nd) 0 ≡ t
-          → ((sumCounts nd ≡ 0 → ⊥) × Exactly number left (o (cond t (ruling (Refused Empty) Nothing) (ruling (Out (low nd)) Take))) ladder.fine)
-          ⊎ ((sumCounts nd ≡ 0) × (o (cond t (ruling (Refused Empty) Nothing) (ruling (Out (low nd)) Take)) ≡ left Empty))
-      go true e = inr (eqb-true (sumCounts nd) 0 e, empty)
-      go false e = inl (eqb-false (sumCounts nd) 0 e, climb-fine number left _ (accepted (Out (low nd)) Take refl))
-  limits-exactly c (Replace x) nd most = go (eqb (sumCounts nd) 0 || ltb (key x) (key (low nd)))
-    where
-      go : (t : Bool) → Exactly number left (o (cond t (ruling (Out x) Nothing) (ruling (Out (low nd)) (Swap x)))) ladder.fine
-      go true = climb-fine number left _ (accepted (Out x) Nothing refl)
-      go false = climb-fine number left _ (accepted (Out (low nd)) (Swap x) refl)
+  limits-exactly c r nd = comes-exactly c nd r _ (comes c r nd)
 
 module _ (m levels : ℕ) (ws : List ℕ) where
   -- a refused call leaves every word

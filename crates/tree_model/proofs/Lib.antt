@@ -1,5 +1,6 @@
 pub mod Nothing
 pub mod Choice
+pub mod Rules
 pub mod Many
 pub mod Acts
 pub mod Hang

@@ -3,24 +3,26 @@
 use Prim.Native.Nat.{_*_, _+_, _<_, _≤_, suc, zero, ℕ}
 use native.Mathlib.Nat.{le-of-suc-le-suc, mul-assoc, mul-suc, mul-zero, not-suc-le-zero}
 use native.Mathlib.Omega.{arith}
-use mathlib.Core.Bool.{_&&_, _||_, Bool, cond, false, not, true, true≢false}
+use mathlib.Core.Bool.{_&&_, Bool, cond, false, true, true≢false}
 use mathlib.Core.List.{[], _∷_, List}
 use mathlib.Core.Logic.{_≢_}
 use mathlib.Core.Path.{_∙_, _≡_, ap, ap₂, refl, subst, sym}
-use lib.Dec.{leb, ltb}
+use lib.Dec.{ltb}
 use lib.ListN.{getD, length, length-set, set}
 use lib.Seq.{getD-set-other, getD-set-same}
 use borrow.Author.Tests.{ltb-true, not-true}
 use Rattle.laws.specs.Lists.{All}
 use Rattle.laws.specs.Tests.{and-left, and-right, cond-path}
-use Rattle.strip.specs.Answers.{element, key}
+use Rattle.strip.specs.Answers.{element}
 use Rattle.strip.specs.declared.Element.{Element}
 use Rattle.tree_model.proofs.Choice.{filled, least-in, lowest-is}
 use Rattle.tree_model.proofs.Hang.{below-less, digits}
 use Rattle.tree_model.proofs.Nothing.{is-none, step-none}
+use Rattle.tree_model.proofs.Rules.{put-rule, swap-rule, take-rule}
 use Rattle.tree_model.specs.Damage.{fine, hasSome, nodeOk, pathOk, readOk, room, stepOk}
 use Rattle.tree_model.specs.Levels.{apply, Level, levelMove, Levels, stepLevel, stepWork, top}
-use Rattle.tree_model.specs.Node.{every, firstEmpty, isEmpty, isNothing, lowest, opMove, putBy, putMove, slotAt, sumCounts, swapBy, swapMove, takeBy, takeMove, vacant}
+use Rattle.tree_model.specs.Node.{every, isEmpty, isNothing, opMove, slotAt, sumCounts, vacant}
+use Rattle.tree_model.specs.Rules.{clears, ends, exchanges, goes, passes, Puts, receives, stays, Swaps, Takes}
 use Rattle.tree_model.specs.Tree.{at}
 use Rattle.tree_model.specs.Words.{applyWords, levelOf, levelsOf, nodeOf, size, slotOf, stepWords, tabulate, under, width, write}
 use Rattle.tree_model.specs.declared.Move.{Move}
@@ -169,36 +171,25 @@ pub has-sum : (nd : List Slot) → hasSome nd ≡ true → 0 < sumCounts nd
 unfolding hasSome
 has-sum nd e = some-sum nd (not-true (every isEmpty nd) e)
 
-take-place : (nd : List Slot) (b : ℕ → Element) → 0 < sumCounts nd → takeMove nd b .place < length nd
-unfolding takeMove takeBy
-take-place nd b h = go (leb (slotAt nd (lowest nd) .count) 1)
-  where
-    go : (t : Bool) → takeBy t nd b .place < length nd
-    go true = lowest-is nd h .inside
-    go false = lowest-is nd h .inside
+take-place : (nd : List Slot) (b : ℕ → Element) (v : Move) → Takes nd b v → 0 < sumCounts nd → v .place < length nd
+take-place nd b v (clears e) h = lowest-is nd h .inside
+take-place nd b v (receives e) h = lowest-is nd h .inside
 
-swap-place : (x : Element) (nd : List Slot) (b : ℕ → Element) → 0 < sumCounts nd → swapMove x nd b .place < length nd
-unfolding swapMove swapBy
-swap-place x nd b h = go (leb (slotAt nd (lowest nd) .count) 1 || not (ltb (key (b (lowest nd))) (key x)))
-  where
-    go : (t : Bool) → swapBy t x nd b .place < length nd
-    go true = lowest-is nd h .inside
-    go false = lowest-is nd h .inside
+swap-place : (x : Element) (nd : List Slot) (b : ℕ → Element) (v : Move) → Swaps x nd b v → 0 < sumCounts nd → v .place < length nd
+swap-place x nd b v (stays e) h = lowest-is nd h .inside
+swap-place x nd b v (goes e l) h = lowest-is nd h .inside
 
-put-place : (x : Element) (nd : List Slot) → 0 < length nd → putMove x nd .place < length nd
-unfolding putMove putBy
-put-place x nd h = go (ltb (firstEmpty nd) (length nd)) refl
-  where
-    go : (t : Bool) → ltb (firstEmpty nd) (length nd) ≡ t → putBy t x nd .place < length nd
-    go true e = ltb-true (firstEmpty nd) (length nd) e
-    go false e = least-in nd h
+put-place : (x : Element) (nd : List Slot) (v : Move) → Puts x nd v → 0 < length nd → v .place < length nd
+put-place x nd v (ends e) h = e
+put-place x nd v (exchanges e l) h = least-in nd h
+put-place x nd v (passes e l) h = least-in nd h
 
 pub place-inside : (o : Op) (r : ℕ) (nd : List Slot) (b : ℕ → Element) → isNothing o ≡ false → 0 < length nd → readOk o r nd ≡ true → opMove o nd b .place < length nd
 unfolding readOk opMove isNothing
 place-inside Nothing r nd b n h e = absurd (true≢false n)
-place-inside (Put x) r nd b n h e = put-place x nd h
-place-inside Take r nd b n h e = take-place nd b (has-sum nd (and-right (nodeOk r nd) (hasSome nd) e))
-place-inside (Swap x) r nd b n h e = swap-place x nd b (has-sum nd (and-right (nodeOk r nd) (hasSome nd) e))
+place-inside (Put x) r nd b n h e = put-place x nd _ (put-rule x nd) h
+place-inside Take r nd b n h e = take-place nd b _ (take-rule nd b) (has-sum nd (and-right (nodeOk r nd) (hasSome nd) e))
+place-inside (Swap x) r nd b n h e = swap-place x nd b _ (swap-rule x nd b) (has-sum nd (and-right (nodeOk r nd) (hasSome nd) e))
 
 -- ---- the step of a level on the words
 module _ (m : ℕ) where

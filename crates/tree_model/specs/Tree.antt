@@ -3,12 +3,11 @@ use Prim.Native.Nat.{ℕ, zero, suc, _+_, _*_, _<_}
 use mathlib.Core.Path.{_≡_}
 use mathlib.Core.Bool.{Bool}
 use mathlib.Core.List.{List, [], _∷_, map}
-use lib.Dec.{ltb}
 use lib.ListN.{length, getD, set}
 use Rattle.strip.specs.declared.Element.{Element}
-use Rattle.strip.specs.Answers.{blank, key}
+use Rattle.strip.specs.Answers.{blank}
 use Rattle.laws.specs.Lists.{sumOf, All}
-use Rattle.promise.specs.Served.{always, hit}
+use Rattle.promise.specs.Served.{always, hit, lower}
 use Rattle.tree_model.specs.declared.Slot.{Slot}
 use Rattle.tree_model.specs.declared.Op.{Op}
 use Rattle.tree_model.specs.declared.Op.the-variants.{Nothing, Put, Take, Swap}
@@ -71,18 +70,14 @@ unfoldable pub many : (Element → Bool) → (k : ℕ) → Tree k → ℕ
 many f zero t = 0
 many f (suc k) t = sumOf (λ z. own f (z .0) + many f k (z .1)) t
 
--- the test that those of a key below r pass
-abbrev pub below : ℕ → Element → Bool
-below r e = ltb (key e) r
-
 abbrev pub held : (k : ℕ) → Tree k → ℕ
 held k t = many always k t
 
 -- ---- soundness
--- a slot and the tree below it: both empty; or "The count covers the slot's own element and all below it", none of which has a lower key
+-- a slot and the tree below it: both empty; or "The count covers the slot's own element and all below it", none of which has a lower rank
 pub data Fit (k : ℕ) (s : Slot) (t : Tree k) : Type 0 where
   nothing : s ≡ vacant → held k t ≡ 0 → Fit k s t
-  something : s .count ≡ suc (held k t) → many (below (key (s .element))) k t ≡ 0 → Fit k s t
+  something : s .count ≡ suc (held k t) → many (lower (s .element .rank .0)) k t ≡ 0 → Fit k s t
 
 -- every node has m slots, and every slot fits
 abbrev pub Sound : ℕ → (k : ℕ) → Tree k → Type 0
