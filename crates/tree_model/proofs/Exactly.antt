@@ -10,7 +10,7 @@ use mathlib.Core.Path.{_∙_, _≡_, ap, refl, subst, sym}
 use lib.Dec.{eqb, leb, ltb}
 use lib.ListN.{getD, length}
 use lib.Seq.{slice}
-use borrow.Author.Tests.{eq-eqb, eqb-false, eqb-true, le-leb, le-ltb, leb-true, ltb-false}
+use borrow.Author.Tests.{eq-eqb, eqb-false, eqb-true, le-leb, le-ltb, leb-true, ltb-false, ltb-true}
 use Rattle.laws.specs.Fails.{Fails, fails-and, fails-every, fails-leb, fails-not-eqb, fails-not-every, fails-or, fails-true}
 use Rattle.laws.specs.Ladder.{climb, climb-by, climb-fine, climb-stop, Exactly, Granted, Ladder, left-behind, rung}
 use Rattle.laws.specs.Ladder as ladder
@@ -167,6 +167,22 @@ pub root-limit : (m levels : ℕ) (ws : List ℕ) → 1 ≤ levels → rootOk m 
 unfolding room
 root-limit m zero ws h e = absurd (not-suc-le-zero h)
 root-limit m (suc k) ws h e = subst (λ (n : ℕ). sumCounts (rootOf m ws) ≤ n * suc (room m k)) (node-length m ws 0) (every-sum (room m k) (rootOf m ws) e)
+
+-- .. and one that leaves room for a put less than that
+full-all : (r : ℕ) (nd : List Slot) → nodeOk r nd ≡ true → length nd * suc r ≤ sumCounts nd → All (λ s. s .count ≡ suc r) nd
+unfolding nodeOk every sumCounts
+full-all r [] e h = tt
+full-all r (s ∷ nd) e h =
+    let a = slot-limit r s (and-left (slotOk r s) (every (slotOk r) nd) e) in
+    let b = every-sum r nd (and-right (slotOk r s) (every (slotOk r) nd) e) in
+    (omega (arith, a, b), full-all r nd (and-right (slotOk r s) (every (slotOk r) nd) e) (omega (arith, a, b)))
+
+pub room-less : (r : ℕ) (nd : List Slot) → nodeOk r nd ≡ true → hasRoom r nd ≡ true → sumCounts nd < length nd * suc r
+room-less r nd ok h = go (ltb (sumCounts nd) (length nd * suc r)) refl
+  where
+    go : (t : Bool) → ltb (sumCounts nd) (length nd * suc r) ≡ t → sumCounts nd < length nd * suc r
+    go true e = ltb-true (sumCounts nd) (length nd * suc r) e
+    go false e = absurd (true≢false (sym h ∙ room-fails r nd .shown (full-all r nd ok (ltb-false (sumCounts nd) (length nd * suc r) e))))
 
 -- ---- the call by its tests
 module _ (m levels : ℕ) (r : Request) (ws : List ℕ) where
