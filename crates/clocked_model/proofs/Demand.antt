@@ -11,7 +11,6 @@ use lib.Dec.{leb}
 use lib.ListN.{getD, length, length-replicate, replicate}
 use borrow.Author.Tests.{leb-false, leb-true, not-false}
 use Rattle.clocked_model.proofs.Clock.{at-rest, lead-quiet, leads}
-use Rattle.clocked_model.proofs.Same.{same-words}
 use Rattle.clocked_model.proofs.Step.{beside-is, idle-ruling, in-step, InStep, quiet-clear, quiet-ready, quiet-spaced, step-answer, step-mark, ticks}
 use Rattle.clocked_model.proofs.Turn.{plain-rest, works-after}
 use Rattle.clocked_model.specs.Calls.{CycleOutcome, fresh, marks, pending, recordCount, ticked, turned}
@@ -29,6 +28,7 @@ use Rattle.tree_model.proofs.Exactly.{words-none}
 use Rattle.tree_model.proofs.Hang.{past}
 use Rattle.tree_model.proofs.Nothing.{op-work, work-none}
 use Rattle.tree_model.proofs.Promises.{Kept, start-kept}
+use Rattle.tree_model.proofs.Same.{same-words}
 use Rattle.tree_model.specs.Calls.{Outcome, rootOf, Ruling, ruling}
 use Rattle.tree_model.specs.Damage.{room}
 use Rattle.tree_model.specs.Levels.{idle, Levels, top, work}

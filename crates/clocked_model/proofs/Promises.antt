@@ -20,10 +20,9 @@ use Rattle.clocked_model.specs.declared.State.{State}
 use Rattle.laws.specs.Tests.{and-right, and-true}
 use Rattle.promise.specs.Queue.{leaves}
 use Rattle.promise.specs.Served.{all-sum, allBrought, allGiven, always, brought, given, Holds, Least, same}
-use Rattle.strip.specs.Answers.{numberOf}
+use Rattle.strip.specs.Answers.{countNumber, countOf, numberOf}
 use Rattle.strip.specs.declared.Answer.{Answer}
 use Rattle.strip.specs.declared.Answer.the-variants.{Refused}
-use Rattle.strip.specs.declared.Count.the-variants.{Held}
 use Rattle.strip.specs.declared.Element.{Element}
 use Rattle.strip.specs.declared.Refusal.the-variants.{TooSoon}
 use Rattle.strip.specs.declared.Request.{Request}
@@ -184,7 +183,7 @@ module _ (m : ℕ) (ws : List ℕ) (rs : List Request) where
 
   -- the call held answers, once idled, how many are stored
   pub held-says : (levels : ℕ) → Shape m levels (length ws) → (n : ℕ) → Idled levels n
-      → counted m levels (at-rest-after levels n) ≡ Held (stored (room m levels) (at-rest-after levels n) always)
+      → (countNumber (counted m levels (at-rest-after levels n)) ≡ 0) × (countOf (counted m levels (at-rest-after levels n)) ≡ stored (room m levels) (at-rest-after levels n) always)
   held-says levels sh n e = rw (idled levels sh n e) (tree.held-says m ws (calls levels) levels sh)
 
 -- ---- DRAINED: after any list of cycles a drain with a budget of levels - 1 or more is not refused, runs at most levels - 1 cycles, leaves

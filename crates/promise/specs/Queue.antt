@@ -1,7 +1,7 @@
 -- A queue is a step function on a state: what a call is answered, and the state it leaves. What is said of a list of calls is said here, once
 -- for every queue. Assumes nothing.
 use mathlib.Core.List.{[], _∷_, List}
-use mathlib.Core.Path.{_≡_, ap₂, refl}
+use mathlib.Core.Path.{_∙_, _≡_, ap₂, refl, sym}
 
 pub record Step (A S : Type 0) : Type 0 where
   pub said : A
@@ -38,3 +38,10 @@ module _ {C A S T : Type 0} (one : C → S → Step A S) (other : C → T → St
   unfolding leaves
   leaves-in-step [] s t i = i
   leaves-in-step (c ∷ cs) s t i = leaves-in-step cs _ _ (keep c s t i)
+
+-- PINNED: "any two outcomes allowed by the statement are shown equal". A contract states an outcome by an equation
+abbrev pub Pins : {A : Type 0} → A → Type 0
+Pins {A} stated = (x y : A) → x ≡ stated → y ≡ stated → x ≡ y
+
+pub pins : {A : Type 0} (stated : A) → Pins stated
+pins stated x y p q = p ∙ sym q

@@ -17,6 +17,7 @@ use Rattle.laws.specs.Ladder as ladder
 use Rattle.laws.specs.Lists.{All}
 use Rattle.laws.specs.Tests.{and-left, and-right, and-true, or-right}
 use Rattle.promise.specs.Refused.{IsPush, limits, refusal-told, zero-told}
+use Rattle.promise.specs.Served.{Kind}
 use Rattle.strip.specs.Answers.{countNumber, numberOf, refusalNumber}
 use Rattle.strip.specs.declared.Answer.{Answer}
 use Rattle.strip.specs.declared.Answer.the-variants.{Done, Out, Refused}
@@ -206,6 +207,18 @@ module _ (m levels : ℕ) (r : Request) (ws : List ℕ) where
   unfolding called carriedOut
   called-fine s o w = rw (s, o, w)
 
+  -- what is so of a refused call and of one that is done is so of the call
+  pub called-either : (P : Outcome → Type 0) → ((x : Refusal) → P (outcome (Refused x) ws))
+      → (shapeOk m levels (length ws) ≡ true → rootOk m levels ws ≡ true → wayOk m levels (g .op) ws ≡ true → P (outcome (g .answer) (applyWords m levels (work (g .op) 0) 0 1 ws)))
+      → P (called m levels r ws)
+  called-either P refused ruled = go (shapeOk m levels (length ws)) refl (rootOk m levels ws) refl (wayOk m levels (g .op) ws) refl
+    where
+      go : (a : Bool) → shapeOk m levels (length ws) ≡ a → (b : Bool) → rootOk m levels ws ≡ b → (c : Bool) → wayOk m levels (g .op) ws ≡ c → P (called m levels r ws)
+      go false s b o c w = subst P (sym (called-bad s)) (refused BadShape)
+      go true s false o c w = subst P (sym (called-root s o)) (refused Damaged)
+      go true s true o false w = subst P (sym (called-way s o w)) (refused Damaged)
+      go true s true o true w = subst P (sym (called-fine s o w)) (ruled s o w)
+
   pub no-damage : rootOk m levels ws ≡ true → wayOk m levels (g .op) ws ≡ true → Damage m levels r ws → ⊥
   no-damage o w = ⊎-elim (λ d. true≢false (sym o ∙ node-fails (room m (pred levels)) (rootOf m ws) .shown d))
       (λ d. true≢false (sym w ∙ path-fails m levels (work (g .op) 0) (levelsOf m levels ws 0 1) .shown d))
@@ -304,6 +317,31 @@ module _ (m levels : ℕ) (ws : List ℕ) where
 
 pub same-unknown : {a b : Refusal} → _≡_ {A = Count} (Unknown a) (Unknown b) → a ≡ b
 same-unknown {a} {b} e = cc
+
+-- ---- KIND: of a call that is not refused a push and an idle request answer done, a pop and a replace an element
+pub comes-kind : (c : ℕ) (nd : List Slot) (r : Request) (g : Ruling) → Comes c nd r g → numberOf (g .answer) ≡ 0 → Kind r (g .answer)
+comes-kind c nd r g idles e = refl
+comes-kind c nd r g (puts x h) e = refl
+comes-kind c nd r g (full x h) e = absurd (omega arith)
+comes-kind c nd r g (takes h) e = tt
+comes-kind c nd r g (empty h) e = absurd (omega arith)
+comes-kind c nd r g (returns x h) e = tt
+comes-kind c nd r g (swaps x h l) e = tt
+
+-- .. and its number is 0, 5 or 6
+pub comes-number : (c : ℕ) (nd : List Slot) (r : Request) (g : Ruling) → Comes c nd r g → (numberOf (g .answer) ≡ 0) ⊎ (numberOf (g .answer) ≡ 5) ⊎ (numberOf (g .answer) ≡ 6)
+comes-number c nd r g idles = inl refl
+comes-number c nd r g (puts x h) = inl refl
+comes-number c nd r g (full x h) = inr (inl refl)
+comes-number c nd r g (takes h) = inl refl
+comes-number c nd r g (empty h) = inr (inr refl)
+comes-number c nd r g (returns x h) = inl refl
+comes-number c nd r g (swaps x h l) = inl refl
+
+pub kind : (m levels : ℕ) (r : Request) (ws : List ℕ) → numberOf (called m levels r ws .answer) ≡ 0 → Kind r (called m levels r ws .answer)
+kind m levels r ws =
+    called-either m levels r ws (λ o. numberOf (o .answer) ≡ 0 → Kind r (o .answer)) (λ x e. absurd (zero-told x (sym e)))
+    (λ s o w. comes-kind (room m levels) (rootOf m ws) r (verdict m levels r ws) (comes (room m levels) r (rootOf m ws)))
 
 -- held
 pub exactly-held : (m levels : ℕ) (ws : List ℕ) → Exactly countNumber Unknown (counted m levels ws) (heldRefusals m levels ws)

@@ -11,3 +11,6 @@ pub mod Exactly
 pub mod Promises
 pub mod Place
 pub mod Root
+pub mod Slice
+pub mod Same
+pub mod Unread

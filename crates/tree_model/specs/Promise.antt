@@ -10,14 +10,16 @@ use Rattle.laws.specs.Fails.{Any}
 use Rattle.laws.specs.Ladder.{fine, Ladder, rung, stop}
 use Rattle.laws.specs.Lists.{All}
 use Rattle.laws.specs.Sums.{sumTo}
-use Rattle.promise.specs.Queue.{leaves, step, Step}
+use Rattle.promise.specs.Queue.{leaves, Pins, step, Step}
 use Rattle.promise.specs.Refused.{limits}
+use Rattle.strip.specs.Answers.{element}
 use Rattle.strip.specs.declared.Answer.{Answer}
 use Rattle.strip.specs.declared.Element.{Element}
 use Rattle.strip.specs.declared.Refusal.{Refusal}
 use Rattle.strip.specs.declared.Refusal.the-variants.{BadShape, Damaged}
 use Rattle.strip.specs.declared.Request.{Request}
-use Rattle.tree_model.specs.Calls.{called, cleared, rootOf, verdict}
+use Rattle.strip.specs.declared.Request.the-variants.{Pop, Push, Replace}
+use Rattle.tree_model.specs.Calls.{called, cleared, counted, rootOf, verdict}
 use Rattle.tree_model.specs.Damage.{room}
 use Rattle.tree_model.specs.Levels.{Level, Levels, stepWork, top, work}
 use Rattle.tree_model.specs.Node.{lowest, slotAt, sumCounts}
@@ -104,6 +106,27 @@ clearRefusals m levels ws = rung BadShape (Shape m levels (length ws)) fine
 abbrev pub heldRefusals : ℕ → ℕ → List ℕ → Ladder Refusal
 heldRefusals m levels ws = rung BadShape (Shape m levels (length ws)) (stop Damaged (NodeDamaged (room m (pred levels)) (rootOf m ws)) fine)
 
+-- ---- where the words stand
+-- level i of a store, the topmost is 0
+unfoldable pub levelAt : (k : ℕ) → Levels k → ℕ → Level
+levelAt zero ls i = []
+levelAt (suc k) ls zero = ls .0
+levelAt (suc k) ls (suc i) = levelAt k (ls .1) i
+
+-- "three 32-bit words: rank, tag, count": slot i of the slice
+abbrev pub threeWords : List ℕ → ℕ → Slot
+threeWords ws i = record { element = element (getD ws (3 * i) 0) (getD ws (3 * i + 1) 0); count = getD ws (3 * i + 2) 0 }
+
+-- "Clear writes zeros. .. of a longer one the rest is never touched", word by word
+pub record Zeroed (n : ℕ) (ws vs : List ℕ) : Type 0 where
+  pub length : length vs ≡ length ws
+  pub zeros : (p d : ℕ) → p < 3 * n → getD vs p d ≡ 0
+  pub rest : (p d : ℕ) → 3 * n ≤ p → getD vs p d ≡ getD ws p d
+
+-- two slices that agree on the words of n slots
+abbrev pub Agree : ℕ → List ℕ → List ℕ → Type 0
+Agree n ws vs = (p : ℕ) → p < 3 * n → getD ws p 0 ≡ getD vs p 0
+
 -- ---- what a store holds
 -- how many of the first n slots hold an element that passes the test
 unfoldable pub stored : ℕ → List ℕ → (Element → Bool) → ℕ
@@ -119,3 +142,11 @@ start m levels ws = cleared m levels ws .words
 
 abbrev pub after : ℕ → ℕ → List Request → List ℕ → List ℕ
 after m levels rs ws = leaves (treeQueue m levels) rs (start m levels ws)
+
+-- ---- each public call's outcome is one
+pub record Pinned (m levels : ℕ) (ws : List ℕ) : Type 0 where
+  pub clear : Pins (cleared m levels ws)
+  pub push : (x : Element) → Pins (called m levels (Push x) ws)
+  pub pop : Pins (called m levels Pop ws)
+  pub replace : (x : Element) → Pins (called m levels (Replace x) ws)
+  pub held : Pins (counted m levels ws)
