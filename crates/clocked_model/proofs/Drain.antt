@@ -11,10 +11,10 @@ use lib.ListN.{length, replicate}
 use borrow.Author.Tests.{leb-false, leb-true, ltb-false, ltb-true}
 use Rattle.clocked_model.proofs.Clock.{lead-quiet}
 use Rattle.clocked_model.proofs.Demand.{lead, turned-lead}
-use Rattle.clocked_model.proofs.Exactly.{damage-fails, exactly-cycle, sound, ticked-bad, ticked-damaged, ticked-fine}
+use Rattle.clocked_model.proofs.Exactly.{damage-fails, exactly-cycle, sound, ticked-bad, ticked-damaged, ticked-either, ticked-fine}
 use Rattle.clocked_model.proofs.Step.{idle-ruling}
 use Rattle.clocked_model.proofs.Turn.{after-length, cycle-length}
-use Rattle.clocked_model.specs.Calls.{CycleOutcome, cycleOutcome, drainFrom, DrainOutcome, drainOutcome, drains, hearing, isRefused, pending, ticked, turned}
+use Rattle.clocked_model.specs.Calls.{CycleOutcome, cycleOutcome, drainFrom, DrainOutcome, drainOutcome, drains, isRefused, pending, ticked, turned}
 use Rattle.clocked_model.specs.Promise.{capped, clockedQueue, CycleDamage, drainLeft, drainRefusals, idles, Jams}
 use Rattle.clocked_model.specs.declared.State.{State}
 use Rattle.laws.specs.Ladder.{climb-by, climb-fine, climb-stop, Exactly, fine, left-behind, stop}
@@ -44,15 +44,7 @@ not-less {a} {b} h = go (leb b a) refl
 -- every cycle keeps the slice's length
 pub ticked-length : (m levels : ℕ) (r : Request) (s : State) (ws : List ℕ) → length (ticked m levels r s ws .words) ≡ length ws
 unfolding turned
-ticked-length m levels r s ws = go (shapeOk m levels (length ws)) refl (sound m levels r s ws) refl
-  where
-    turned-length : length (turned m levels r (hearing m levels r s ws) s ws .words) ≡ length ws
-    turned-length = cycle-length m (suc (pred levels)) _ 0 1 ws
-
-    go : (a : Bool) → shapeOk m levels (length ws) ≡ a → (b : Bool) → sound m levels r s ws ≡ b → length (ticked m levels r s ws .words) ≡ length ws
-    go false e b f = ap (λ (c : CycleOutcome). length (c .words)) (ticked-bad m levels r s ws e)
-    go true e false f = ap (λ (c : CycleOutcome). length (c .words)) (ticked-damaged m levels r s ws e f)
-    go true e true f = ap (λ (c : CycleOutcome). length (c .words)) (ticked-fine m levels r s ws e f) ∙ turned-length
+ticked-length m levels r s ws = ticked-either m levels r s ws (λ c. length (c .words) ≡ length ws) refl refl (λ e f. cycle-length m (suc (pred levels)) _ 0 1 ws)
 
 -- ---- an idle cycle of a good shape: it runs, or it meets damage and leaves everything
 data Idling (m levels : ℕ) (s : State) (ws : List ℕ) : Type 0 where
@@ -324,6 +316,14 @@ module _ (m levels b : ℕ) (s : State) (ws : List ℕ) where
   -- "Drain stops at 2 and reports the cycles already run, work left; at 1 it reports 0 and no work left"
   pub drain-refused : (n : Refusal) → numberOf (d .answer) ≡ refusalNumber n → d ≡ left n
   drain-refused = left-behind says left exactly-drain
+
+-- KIND: a drain that is not refused is done
+pub drain-kind : (m levels b : ℕ) (s : State) (ws : List ℕ) → numberOf (drains m levels b s ws .answer) ≡ 0 → drains m levels b s ws .answer ≡ Done
+drain-kind m levels b s ws = by-shape m levels b s ws (λ d. numberOf (d .answer) ≡ 0 → d .answer ≡ Done) (λ e. absurd (omega arith)) (λ d x. go d (x .end))
+  where
+    go : (d : DrainOutcome) {more : ℕ} → End m levels b more s ws d → numberOf (d .answer) ≡ 0 → d .answer ≡ Done
+    go d (done a l) e = a
+    go d (jammed a l j) e = absurd (zero-told Damaged (sym e ∙ ap numberOf a))
 
 -- ---- DRAIN-FEW: whatever the state and the budget, no more cycles are run than there are levels from 2: each leaves one more level with
 -- nothing to do

@@ -1,5 +1,6 @@
 -- Every refusal of a cycle is given exactly for its cause, and leaves behind what the table says. Assumes nothing.
 use Prim.Native.Nat.{_≤_, pred, suc, zero, ℕ}
+use native.Mathlib.Omega.{arith}
 use mathlib.Core.Bool.{_&&_, Bool, cond, false, false≢true, not, true, true≢false}
 use mathlib.Core.List.{List}
 use mathlib.Core.Logic.{_⊎_, inl, inr}
@@ -13,16 +14,20 @@ use Rattle.clocked_model.specs.declared.State.{State}
 use Rattle.laws.specs.Fails.{Fails, fails-and, fails-or, fails-true}
 use Rattle.laws.specs.Ladder.{climb-by, climb-stop, Exactly, Ladder, left-behind, stop}
 use Rattle.laws.specs.Ladder as ladder
-use Rattle.laws.specs.Tests.{and-left, and-right, and-true}
+use Rattle.laws.specs.Means.{Iff}
+use Rattle.laws.specs.Tests.{and-left, and-right, and-true, cond-both}
 use Rattle.promise.specs.Queue.{leaves}
-use Rattle.promise.specs.Refused.{IsPush, limits, refusal-told}
+use Rattle.promise.specs.Refused.{IsPush, limits, refusal-told, zero-told}
+use Rattle.promise.specs.Served.{Kind}
 use Rattle.strip.specs.Answers.{numberOf, refusalNumber}
-use Rattle.strip.specs.declared.Answer.the-variants.{Done, Refused}
+use Rattle.strip.specs.declared.Answer.{Answer}
+use Rattle.strip.specs.declared.Answer.the-variants.{Done, Out, Refused}
 use Rattle.strip.specs.declared.Refusal.{Refusal}
 use Rattle.strip.specs.declared.Refusal.the-variants.{BadShape, Damaged, Empty, Full, TooSoon}
 use Rattle.strip.specs.declared.Request.{Request}
 use Rattle.strip.specs.declared.Request.the-variants.{Idle, Pop, Push, Replace}
-use Rattle.tree_model.proofs.Exactly.{is-shape, limits-exactly, node-fails, root-limit, shape-is, work-fails}
+use Rattle.tree_model.proofs.Exactly.{comes-kind, is-shape, limits-exactly, node-fails, root-limit, shape-is, work-fails}
+use Rattle.tree_model.proofs.Rules.{comes}
 use Rattle.tree_model.specs.Calls.{rootOf, rootOk, Ruling, ruling, shapeOk, verdict}
 use Rattle.tree_model.specs.Damage.{fine, room}
 use Rattle.tree_model.specs.Levels.{Levels, top, work}
@@ -77,6 +82,16 @@ module _ (m levels : ℕ) (r : Request) (s : State) (ws : List ℕ) where
   pub ticked-fine : shapeOk m levels (length ws) ≡ true → sound ≡ true → ticked m levels r s ws ≡ turned m levels r g s ws
   unfolding ticked
   ticked-fine e f = rw (e, f)
+
+  -- what is so of a cycle refused for the shape or for damage, and of one that ran, is so of the cycle
+  pub ticked-either : (P : CycleOutcome → Type 0) → P (cycleOutcome (Refused BadShape) ws s) → P (cycleOutcome (Refused Damaged) ws s)
+      → (shapeOk m levels (length ws) ≡ true → sound ≡ true → P (turned m levels r g s ws)) → P (ticked m levels r s ws)
+  ticked-either P bad damaged fine = go (shapeOk m levels (length ws)) refl sound refl
+    where
+      go : (a : Bool) → shapeOk m levels (length ws) ≡ a → (b : Bool) → sound ≡ b → P (ticked m levels r s ws)
+      go false e b f = subst P (sym (ticked-bad e)) bad
+      go true e false f = subst P (sym (ticked-damaged e f)) damaged
+      go true e true f = subst P (sym (ticked-fine e f)) (fine e f)
 
   pub damage-fails : Fails sound (CycleDamage m levels r s ws)
   damage-fails =
@@ -198,3 +213,37 @@ module _ (m levels : ℕ) (r : Request) (s : State) (ws : List ℕ) where
   -- LEFT BEHIND: 1 and 2 everything, mark and records too; 3, 5 and 6 "cycle runs as idle"
   pub stands : (n : Refusal) → said (ticked m levels r s ws) ≡ refusalNumber n → ticked m levels r s ws ≡ left n
   stands = left-behind said left exactly-cycle
+
+-- ---- KIND: of a cycle that is not refused a push and an idle request answer done, a pop and a replace an element
+heard-kind : (mark : Bool) (r : Request) (g : Ruling) → (numberOf (g .answer) ≡ 0 → Kind r (g .answer)) → numberOf (heard mark r g .answer) ≡ 0 → Kind r (heard mark r g .answer)
+unfolding heard
+heard-kind mark r g k =
+    cond-both (λ (g : Ruling). numberOf (g .answer) ≡ 0 → Kind r (g .answer)) (mark && popsOrReplaces r) (ruling (Refused TooSoon) Nothing) g (λ t e. absurd (omega arith)) (λ t. k)
+
+pub kind : (m levels : ℕ) (r : Request) (s : State) (ws : List ℕ) → numberOf (ticked m levels r s ws .answer) ≡ 0 → Kind r (ticked m levels r s ws .answer)
+unfolding turned
+kind m levels r s ws =
+    ticked-either m levels r s ws (λ c. numberOf (c .answer) ≡ 0 → Kind r (c .answer)) (λ e. absurd (omega arith)) (λ e. absurd (omega arith))
+    (λ e f. heard-kind (s .mark) r (verdict m levels r ws) (comes-kind (room m levels) (rootOf m ws) r _ (comes (room m levels) r (rootOf m ws))))
+
+-- ---- MARK: rows 1 and 2 aside, it is on exactly if an operation was asked for and not refused
+accepts-mean : (a : Answer) → Iff (not (isRefused a) ≡ true) (Unit {0} × (numberOf a ≡ 0))
+unfolding isRefused
+accepts-mean Done = record { to = λ e. (tt, refl); from = λ d. refl }
+accepts-mean (Out x) = record { to = λ e. (tt, refl); from = λ d. refl }
+accepts-mean (Refused n) = record { to = λ e. absurd (false≢true e); from = λ d. absurd (zero-told n (sym (d .1))) }
+
+marks-mean : (r : Request) (a : Answer) → Iff (marks r a ≡ true) (Asks r × (numberOf a ≡ 0))
+unfolding marks asks isRefused
+marks-mean Idle a = record { to = λ e. absurd (false≢true e); from = λ d. absurd (d .0) }
+marks-mean (Push x) a = accepts-mean a
+marks-mean Pop a = accepts-mean a
+marks-mean (Replace x) a = accepts-mean a
+
+pub mark-says : (m levels : ℕ) (r : Request) (s : State) (ws : List ℕ) → (numberOf (ticked m levels r s ws .answer) ≡ 1 → ⊥) → (numberOf (ticked m levels r s ws .answer) ≡ 2 → ⊥)
+    → Iff (ticked m levels r s ws .state .mark ≡ true) (Asks r × (numberOf (ticked m levels r s ws .answer) ≡ 0))
+unfolding turned
+mark-says m levels r s ws =
+    ticked-either m levels r s ws
+    (λ c. (numberOf (c .answer) ≡ 1 → ⊥) → (numberOf (c .answer) ≡ 2 → ⊥) → Iff (c .state .mark ≡ true) (Asks r × (numberOf (c .answer) ≡ 0)))
+    (λ no1 no2. absurd (no1 refl)) (λ no1 no2. absurd (no2 refl)) (λ e f no1 no2. marks-mean r (hearing m levels r s ws .answer))

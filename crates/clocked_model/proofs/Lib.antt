@@ -7,3 +7,4 @@ pub mod Exactly
 pub mod Drain
 pub mod Promises
 pub mod Cases
+pub mod OneStep

@@ -1,23 +1,20 @@
 -- The promises of the clocked tree beside demand 3: each level does its one step, nothing is damaged, it holds exactly what went in and has
 -- not come out, and what comes out has the lowest rank. Assumes nothing.
-use Prim.Native.Nat.{_*_, _+_, _≤_, pred, suc, zero, ℕ}
+use Prim.Native.Nat.{_+_, _≤_, pred, suc, zero, ℕ}
 use native.Mathlib.Nat.{not-suc-le-zero}
 use native.Mathlib.Omega.{arith}
 use mathlib.Core.Bool.{_&&_, Bool, cond, false, true, true≢false}
 use mathlib.Core.List.{[], _∷_, List}
 use mathlib.Core.Path.{_∙_, _≡_, ap, refl, subst, sym}
-use lib.ListN.{getD, length}
-use Rattle.clocked_model.proofs.Demand.{demand-answers, demand-idles, demand-store, few-levels, idles-in-step, ran-in-step}
+use lib.ListN.{length}
+use Rattle.clocked_model.proofs.Demand.{demand-answers, demand-idles, demand-store, idles-in-step, ran-in-step}
 use Rattle.clocked_model.proofs.Drain.{done, drain-ends, drain-left, drain-needed, drain-spent, drain-state, End, jammed, not-less}
-use Rattle.clocked_model.proofs.Exactly.{no-damage-sound, refused-mark, sound, sound-no-damage, ticked-fine}
+use Rattle.clocked_model.proofs.Exactly.{refused-mark, sound-no-damage}
 use Rattle.clocked_model.proofs.Step.{beside-kept, root-fine, step-answer, steps-fine}
-use Rattle.clocked_model.proofs.Turn.{after-past, plain-rest, words-cycle, works-after}
-use Rattle.clocked_model.specs.Calls.{askedOk, cycleOutcome, CycleOutcome, cycleWork, drainOutcome, DrainOutcome, drains, hearing, marks, pending, popsOrReplaces, recordCount, stepsOk, ticked, turned}
-use Rattle.clocked_model.specs.Cycle.{cycleLevels, cycleWords, cycleWorks}
-use Rattle.clocked_model.specs.Promise.{beside, besideQueue, besideWords, callsOf, cycleAnswers, CycleDamage, idles, OneStep, ran}
-use Rattle.clocked_model.specs.Records.{worksOf}
+use Rattle.clocked_model.specs.Calls.{askedOk, cycleOutcome, CycleOutcome, drainOutcome, DrainOutcome, drains, marks, pending, popsOrReplaces, ticked}
+use Rattle.clocked_model.specs.Promise.{beside, besideQueue, besideWords, callsOf, cycleAnswers, CycleDamage, idles, ran}
 use Rattle.clocked_model.specs.declared.State.{State}
-use Rattle.laws.specs.Tests.{and-right, and-true}
+use Rattle.laws.specs.Tests.{and-true}
 use Rattle.promise.specs.Queue.{leaves}
 use Rattle.promise.specs.Served.{all-sum, allBrought, allGiven, always, brought, given, Holds, Least, same}
 use Rattle.strip.specs.Answers.{countNumber, countOf, numberOf}
@@ -27,52 +24,11 @@ use Rattle.strip.specs.declared.Element.{Element}
 use Rattle.strip.specs.declared.Refusal.the-variants.{TooSoon}
 use Rattle.strip.specs.declared.Request.{Request}
 use Rattle.strip.specs.declared.Request.the-variants.{Idle, Pop, Push, Replace}
-use Rattle.tree_model.proofs.Exactly.{is-shape, order-pos}
 use Rattle.tree_model.proofs.Promises.{Kept}
-use Rattle.tree_model.proofs.Words.{size-room}
-use Rattle.tree_model.specs.Calls.{called, counted, outcome, Outcome, Ruling}
+use Rattle.tree_model.specs.Calls.{called, counted, outcome, Outcome}
 use Rattle.tree_model.specs.Damage.{room}
-use Rattle.tree_model.specs.Levels.{idle, work}
 use Rattle.tree_model.specs.Promise.{after, Shape, start, stored, treeQueue}
-use Rattle.tree_model.specs.Words.{levelsOf, size, under, width}
 use Rattle.tree_model.proofs.Promises as tree
-
--- ---- ONE-STEP
-pub one-step : (m levels : ℕ) (r : Request) (s : State) (ws : List ℕ) → Shape m levels (length ws) → length (s .records) ≡ recordCount → (CycleDamage m levels r s ws → ⊥)
-    → OneStep m levels r s ws
-unfolding turned cycleWorks levelsOf
-one-step m levels r s ws sh len d =
-    record {
-      slots = ap (λ (c : CycleOutcome). levelsOf m (suc (pred levels)) (c .words) 0 1) here ∙ cycled .0;
-      past = λ a h. ap (λ (c : CycleOutcome). getD (c .words) a 0) here ∙ cycled .1 a (omega (arith, size-room m (suc (pred levels)) 1, whole));
-      works = ap (λ (c : CycleOutcome). worksOf (pred levels) (c .state .records) 0) here
-          ∙ works-after m (pred levels) _ 0 (s .records) (under m (pred levels) ws 0 1) (plain-rest m (work (g .op) 0) _ _) (omega (arith, few-levels m levels (length ws) sh));
-      spare = λ j h. ap (λ (c : CycleOutcome). getD (c .state .records) j idle) here
-          ∙ after-past m (pred levels) _ 0 (s .records) (under m (pred levels) ws 0 1) j (omega arith);
-    }
-  where
-    g : Ruling
-    g = hearing m levels r s ws
-
-    ok : sound m levels r s ws ≡ true
-    ok = no-damage-sound m levels r s ws d
-
-    here : ticked m levels r s ws ≡ turned m levels r g s ws
-    here = ticked-fine m levels r s ws (is-shape m levels (length ws) sh) ok
-
-    some-levels : (n : ℕ) → 1 ≤ n → suc (pred n) ≡ n
-    some-levels zero h = absurd (not-suc-le-zero h)
-    some-levels (suc n) h = refl
-
-    whole : room m (suc (pred levels)) ≡ room m levels
-    whole = ap (room m) (some-levels levels (sh .some))
-
-    cycled : (levelsOf m (suc (pred levels)) (cycleWords m (suc (pred levels)) (cycleWork m levels (g .op) s) 0 1 ws) 0 1
-        ≡ cycleLevels m (suc (pred levels)) (cycleWork m levels (g .op) s) (levelsOf m (suc (pred levels)) ws 0 1))
-        × ((a : ℕ) → width * (0 + size m (suc (pred levels)) 1) ≤ a → getD (cycleWords m (suc (pred levels)) (cycleWork m levels (g .op) s) 0 1 ws) a 0 ≡ getD ws a 0)
-    cycled =
-        words-cycle m (order-pos sh) (suc (pred levels)) (cycleWork m levels (g .op) s) 0 1 ws (omega (arith, sh .slice, size-room m (suc (pred levels)) 1, whole))
-        (and-right (askedOk m levels r ws) (stepsOk m levels (g .op) s ws) ok)
 
 -- ---- the calls that are not too soon
 module _ (m levels : ℕ) where

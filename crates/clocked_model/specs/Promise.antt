@@ -1,6 +1,6 @@
 -- What is promised of the clocked tree is said in these words: the one-at-a-time tree beside it, idle cycles, and 01's causes of refusal.
 -- Assumes nothing: these are definitions.
-use Prim.Native.Nat.{_*_, _<_, _≤_, pred, suc, zero, ℕ}
+use Prim.Native.Nat.{_*_, _+_, _<_, _^_, _≤_, pred, suc, zero, ℕ}
 use mathlib.Core.Bool.{_&&_, Bool, cond, false, not, true}
 use mathlib.Core.List.{[], _∷_, List}
 use mathlib.Core.Logic.{_⊎_}
@@ -8,10 +8,11 @@ use mathlib.Core.Path.{_≡_}
 use lib.Dec.{leb}
 use lib.ListN.{getD, length, replicate}
 use Rattle.clocked_model.specs.Calls.{cycleOutcome, CycleOutcome, cycleWork, drainOutcome, DrainOutcome, fresh, hearing, marks, pending, popsOrReplaces, ticked}
-use Rattle.clocked_model.specs.Cycle.{cycleLevels, cycleWorks, Works}
-use Rattle.clocked_model.specs.Records.{worksOf}
+use Rattle.clocked_model.specs.Cycle.{Works}
+use Rattle.clocked_model.specs.Records.{recordAt}
 use Rattle.clocked_model.specs.declared.State.{State}
 use Rattle.laws.specs.Ladder.{fine, Ladder, rung, stop}
+use Rattle.laws.specs.Sums.{sumTo}
 use Rattle.promise.specs.Queue.{answers, leaves, step, Step}
 use Rattle.promise.specs.Refused.{limits}
 use Rattle.strip.specs.declared.Answer.{Answer}
@@ -22,10 +23,12 @@ use Rattle.strip.specs.declared.Request.{Request}
 use Rattle.strip.specs.declared.Request.the-variants.{Idle, Pop, Push, Replace}
 use Rattle.tree_model.specs.Calls.{called, outcome, Outcome, rootOf}
 use Rattle.tree_model.specs.Damage.{room}
-use Rattle.tree_model.specs.Levels.{idle, Levels, top}
+use Rattle.tree_model.specs.Levels.{idle, Level, Levels, stepLevel, stepWork, top, work}
 use Rattle.tree_model.specs.Node.{sumCounts}
-use Rattle.tree_model.specs.Promise.{NodeDamaged, Shape, start, WorkDamaged}
-use Rattle.tree_model.specs.Words.{levelsOf, width}
+use Rattle.tree_model.specs.Promise.{levelAt, NodeDamaged, Shape, Some, start, threeWords, WorkDamaged}
+use Rattle.tree_model.specs.Words.{levelsOf}
+use Rattle.tree_model.specs.declared.Op.the-variants.{Nothing}
+use Rattle.tree_model.specs.declared.Work.{Work}
 
 -- ---- the clocked tree as a queue: a list of cycles, each handed the words and the state that the one before left
 pub record Machine : Type 0 where
@@ -153,15 +156,52 @@ drainLeft m levels cycles s ws n =
 abbrev pub capped : ℕ → ℕ → ℕ
 capped budget n = cond (leb n budget) n budget
 
--- ---- one step: what a cycle with no damage does to the levels and the records, by what stood at its start
+-- ---- one step: what a cycle with no damage does to the levels and the records, by what stood at its start. The topmost level is 0
+module _ (m levels : ℕ) where
+  -- level i as it stands
+  abbrev pub levelNow : List ℕ → ℕ → Level
+  levelNow ws i = levelAt levels (levelsOf m levels ws 0 1) i
+
+  -- "Level 1 does the requested operation's root step; a level with pending work does that node's step": the work of level i
+  abbrev pub levelWork : Request → State → List ℕ → ℕ → Work
+  levelWork r s ws zero = work (hearing m levels r s ws .op) 0
+  levelWork r s ws (suc i) = recordAt (s .records) i
+
+  -- what a step at level i leaves for the next level
+  abbrev pub leaveBelow : List ℕ → ℕ → Work → Work
+  leaveBelow ws i w = stepWork m w (levelNow ws i) (levelNow ws (suc i))
+
+-- a record: q is what the level above leaves for it, w what it was, v what it is then
+pub record Recorded (q w v : Work) : Type 0 where
+  -- "it loads the next level's record"
+  pub loaded : Some (q .op) → v ≡ q
+  -- work done and nothing loaded: "Numbers that a record's kind doesn't use are written 0"
+  pub finished : q .op ≡ Nothing → Some (w .op) → v ≡ record { op = Nothing; node = 0 }
+  -- "A level with nothing to do changes no word"
+  pub stands : q .op ≡ Nothing → w .op ≡ Nothing → v ≡ w
+
+-- the first slot of level i: M + M² + … + M^i stand above it
+abbrev pub firstSlot : ℕ → ℕ → ℕ
+firstSlot m i = sumTo i (λ a. m ^ suc a)
+
 pub record OneStep (m levels : ℕ) (r : Request) (s : State) (ws : List ℕ) : Type 0 where
-  -- each level is what its own step makes of it: one slot of one node, or none
-  pub slots : levelsOf m (suc (pred levels)) (ticked m levels r s ws .words) 0 1
-      ≡ cycleLevels m (suc (pred levels)) (cycleWork m levels (hearing m levels r s ws .op) s) (levelsOf m (suc (pred levels)) ws 0 1)
+  -- "every level reads what stood at the cycle's start and writes only its own level": each is what its own step makes of it
+  pub each : (i : ℕ) → i < levels → levelNow m levels (ticked m levels r s ws .words) i ≡ stepLevel m (levelWork m levels r s ws i) (levelNow m levels ws i) (levelNow m levels ws (suc i))
+  -- .. that is one slot at the most: every other one stands
+  pub slot : ℕ → ℕ
+  pub others : (i q : ℕ) → i < levels → q < m ^ suc i → (q ≡ slot i → ⊥) → threeWords (ticked m levels r s ws .words) (firstSlot m i + q) ≡ threeWords ws (firstSlot m i + q)
+  -- .. and none of a level with nothing to do
+  pub still : (i q : ℕ) → i < levels → q < m ^ suc i → levelWork m levels r s ws i .op ≡ Nothing → threeWords (ticked m levels r s ws .words) (firstSlot m i + q) ≡ threeWords ws (firstSlot m i + q)
   -- no word past the capacity changes
-  pub past : (a : ℕ) → width * room m levels ≤ a → getD (ticked m levels r s ws .words) a 0 ≡ getD ws a 0
-  -- each record holds what the level above leaves for it
-  pub works : worksOf (pred levels) (ticked m levels r s ws .state .records) 0
-      ≡ cycleWorks m (suc (pred levels)) idle (cycleWork m levels (hearing m levels r s ws .op) s) (levelsOf m (suc (pred levels)) ws 0 1) .1
+  pub past : (a : ℕ) → 3 * room m levels ≤ a → getD (ticked m levels r s ws .words) a 0 ≡ getD ws a 0
+  -- each record is what the level above leaves for it, or is done with, or stands
+  pub records : (i : ℕ) → suc i < levels → Recorded (leaveBelow m levels ws i (levelWork m levels r s ws i)) (getD (s .records) i idle) (getD (ticked m levels r s ws .state .records) i idle)
+  -- the last level leaves nothing
+  pub last : leaveBelow m levels ws (pred levels) (levelWork m levels r s ws (pred levels)) .op ≡ Nothing
   -- "records past the last level are left alone"
   pub spare : (j : ℕ) → pred levels ≤ j → getD (ticked m levels r s ws .state .records) j idle ≡ getD (s .records) j idle
+
+-- an operation's work on its way down: w at level i in this cycle, what it leaves at level i + 1 in the next, whatever is asked then
+unfoldable pub flight : (m levels i : ℕ) → Work → List Request → Machine → Work
+flight m levels i w [] x = w
+flight m levels i w (r ∷ rs) x = flight m levels (suc i) (leaveBelow m levels (x .words) i w) rs (clockedQueue m levels r x .next)

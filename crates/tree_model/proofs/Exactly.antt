@@ -90,7 +90,7 @@ lifts-fails (Put x) nd = fails-true
 lifts-fails Take nd = above-fails (slotAt nd (lowest nd) .count)
 lifts-fails (Swap x) nd = above-fails (slotAt nd (lowest nd) .count)
 
-nothing-fails : (o : Op) → Fails (isNothing o) (Some o)
+pub nothing-fails : (o : Op) → Fails (isNothing o) (Some o)
 unfolding isNothing
 nothing-fails Nothing = fails-true
 nothing-fails (Put x) = record { found = λ e. tt; shown = λ d. refl }

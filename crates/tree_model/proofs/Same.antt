@@ -19,14 +19,14 @@ use Rattle.tree_model.specs.Words.{levelOf, levelsOf, nodeOf, size, slot
 use Rattle.tree_model.specs.declared.Slot.{Slot}
 
 -- a number below c * m by its row and its place
-record Place (m c i : ℕ) : Type 0 where
-  row : ℕ
-  place : ℕ
-  in-rows : row < c
-  in-row : place < m
-  is : i ≡ row * m + place
+pub record Place (m c i : ℕ) : Type 0 where
+  pub row : ℕ
+  pub place : ℕ
+  pub in-rows : row < c
+  pub in-row : place < m
+  pub is : i ≡ row * m + place
 
-place-of : (m c i : ℕ) → i < c * m → Place m c i
+pub place-of : (m c i : ℕ) → i < c * m → Place m c i
 place-of m zero i h = absurd (not-suc-le-zero (rw zero-mul at h))
 place-of m (suc c) i h = go (ltb i m) refl (place-of m c (i - m))
   where

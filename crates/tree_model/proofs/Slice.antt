@@ -13,7 +13,7 @@ use Rattle.strip.specs.declared.Answer.the-variants.{Done}
 use Rattle.strip.specs.declared.Count.the-variants.{Held, Unknown}
 use Rattle.strip.specs.declared.Refusal.the-variants.{BadShape, Damaged}
 use Rattle.tree_model.proofs.Exactly.{cleared-fine, is-shape}
-use Rattle.tree_model.proofs.Words.{level-node, node-slot, size-room}
+use Rattle.tree_model.proofs.Words.{level-length, level-node, node-slot, size-room}
 use Rattle.tree_model.specs.Calls.{cleared, counted, Outcome, rootOf, rootOk, shapeOk}
 use Rattle.tree_model.specs.Damage.{room}
 use Rattle.tree_model.specs.Levels.{Level}
@@ -46,6 +46,9 @@ level-lies m (suc k) ws b c (suc i) h =
     let at : b + c * m + size m i (c * m) ≡ b + (c * m + size m i (c * m)) = omega arith in
     let wide : c * m * m ^ i ≡ c * m ^ suc i = mul-assoc c m (m ^ i) ∙ ap (λ (n : ℕ). c * n) (sym (pow-succ' m i)) in
     level-lies m k ws (b + c * m) (c * m) i (omega arith) ∙ ap₂ (levelOf m ws) at wide
+
+pub level-wide : (m k : ℕ) (ws : List ℕ) (i : ℕ) → i < k → length (levelAt k (levelsOf m k ws 0 1) i) ≡ m ^ i
+level-wide m k ws i h = ap length (level-lies m k ws 0 1 i h) ∙ level-length m ws _ (1 * m ^ i) ∙ one-mul (m ^ i)
 
 -- slot j of node n of level i stands behind the slots of the levels above, the nodes before and the slots before
 pub lies : (m k : ℕ) (ws : List ℕ) (i n j : ℕ) → i < k → n < m ^ i → j < m
