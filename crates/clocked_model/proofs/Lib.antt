@@ -8,3 +8,4 @@ pub mod Drain
 pub mod Promises
 pub mod Cases
 pub mod OneStep
+pub mod Unread

@@ -5,28 +5,31 @@ use native.Mathlib.Nat.{not-suc-le-zero}
 use native.Mathlib.Omega.{arith}
 use mathlib.Core.Bool.{_&&_, Bool, cond, false, true, true≢false}
 use mathlib.Core.List.{[], _∷_, List}
+use mathlib.Core.Logic.{_⊎_, inl, inr, ⊎-elim}
 use mathlib.Core.Path.{_∙_, _≡_, ap, refl, subst, sym}
 use lib.ListN.{length}
 use Rattle.clocked_model.proofs.Demand.{demand-answers, demand-idles, demand-store, idles-in-step, ran-in-step}
 use Rattle.clocked_model.proofs.Drain.{done, drain-ends, drain-left, drain-needed, drain-spent, drain-state, End, jammed, not-less}
 use Rattle.clocked_model.proofs.Exactly.{refused-mark, sound-no-damage}
-use Rattle.clocked_model.proofs.Step.{beside-kept, root-fine, step-answer, steps-fine}
-use Rattle.clocked_model.specs.Calls.{askedOk, cycleOutcome, CycleOutcome, drainOutcome, DrainOutcome, drains, marks, pending, popsOrReplaces, ticked}
-use Rattle.clocked_model.specs.Promise.{beside, besideQueue, besideWords, callsOf, cycleAnswers, CycleDamage, idles, ran}
+use Rattle.clocked_model.proofs.Step.{beside-is, beside-kept, root-fine, step-answer, steps-fine}
+use Rattle.clocked_model.specs.Calls.{askedOk, DrainOutcome, drains, heard, marks, pending, popsOrReplaces, ticked}
+use Rattle.clocked_model.specs.Promise.{beside, besideQueue, besideWords, callsOf, cycleAnswers, CycleDamage, idles, Pinned, ran}
 use Rattle.clocked_model.specs.declared.State.{State}
-use Rattle.laws.specs.Tests.{and-true}
-use Rattle.promise.specs.Queue.{leaves}
+use Rattle.laws.specs.Tests.{and-true, cond-both}
+use Rattle.promise.specs.Queue.{leaves, pins}
 use Rattle.promise.specs.Served.{all-sum, allBrought, allGiven, always, brought, given, Holds, Least, same}
 use Rattle.strip.specs.Answers.{countNumber, countOf, numberOf}
-use Rattle.strip.specs.declared.Answer.{Answer}
 use Rattle.strip.specs.declared.Answer.the-variants.{Refused}
 use Rattle.strip.specs.declared.Element.{Element}
 use Rattle.strip.specs.declared.Refusal.the-variants.{TooSoon}
 use Rattle.strip.specs.declared.Request.{Request}
 use Rattle.strip.specs.declared.Request.the-variants.{Idle, Pop, Push, Replace}
 use Rattle.tree_model.proofs.Promises.{Kept}
-use Rattle.tree_model.specs.Calls.{called, counted, outcome, Outcome}
+use Rattle.tree_model.proofs.Exactly.{comes-number}
+use Rattle.tree_model.proofs.Rules.{comes}
+use Rattle.tree_model.specs.Calls.{called, counted, outcome, Outcome, rootOf, Ruling, ruling}
 use Rattle.tree_model.specs.Damage.{room}
+use Rattle.tree_model.specs.declared.Op.the-variants.{Nothing}
 use Rattle.tree_model.specs.Promise.{after, Shape, start, stored, treeQueue}
 use Rattle.tree_model.proofs.Promises as tree
 
@@ -97,6 +100,18 @@ module _ (m : ℕ) (ws : List ℕ) (rs : List Request) where
   undamaged (suc k) sh r =
       let i = ran-in-step m ws rs k sh in
       sound-no-damage m (suc k) r _ _ (and-true (askedOk m (suc k) r (ran m (suc k) rs ws .words)) _ (root-fine m k _ _ _ i r) (steps-fine m k _ _ _ i r))
+
+  -- .. so that only 0, 3, 5 and 6 are answered
+  pub numbers : (levels : ℕ) → Shape m levels (length ws) → (r : Request)
+      → let n = numberOf (ticked m levels r (ran m levels rs ws .state) (ran m levels rs ws .words) .answer) in (n ≡ 0) ⊎ (n ≡ 3) ⊎ (n ≡ 5) ⊎ (n ≡ 6)
+  unfolding heard
+  numbers zero sh r = absurd (not-suc-le-zero (sh .some))
+  numbers (suc k) sh r =
+      let i = ran-in-step m ws rs k sh in
+      let vs : List ℕ = besideWords m (suc k) rs false (start m (suc k) ws) in
+      rw (step-answer m k _ _ _ i r, beside-is m k vs (i .kept) (ran m (suc k) rs ws .state .mark) r)
+      (cond-both (λ (g : Ruling). let n = numberOf (g .answer) in (n ≡ 0) ⊎ (n ≡ 3) ⊎ (n ≡ 5) ⊎ (n ≡ 6)) (ran m (suc k) rs ws .state .mark && popsOrReplaces r) (ruling (Refused TooSoon) Nothing) _ (λ t. inr (inl refl))
+      (λ t. ⊎-elim inl (λ e. inr (inr e)) (comes-number (room m (suc k)) (rootOf m vs) r _ (comes (room m (suc k)) r (rootOf m vs)))))
 
   pub shape-kept : (levels : ℕ) → Shape m levels (length ws) → Shape m levels (length (ran m levels rs ws .words))
   shape-kept zero sh = absurd (not-suc-le-zero (sh .some))
@@ -197,20 +212,7 @@ module _ (m : ℕ) (ws : List ℕ) (rs : List Request) (levels : ℕ) (sh : Shap
       ∙ demand-store m ws rs levels sh (d .cycles)
       (ap (pending m levels) (sym (drain-state m levels budget s vs .1)) ∙ sym (drain-left m levels budget s vs shape) ∙ drained-left)
 
--- PINNED: what a contract says of answer, words and state allows one outcome only
-pub pinned : (o : CycleOutcome) (a b : Answer) (v w : List ℕ) (s u : State) → cycleOutcome a v s ≡ o → cycleOutcome b w u ≡ o → (a ≡ b) × (v ≡ w) × (s ≡ u)
-pinned o a b v w s u p q = (
-  ap (λ (o : CycleOutcome). o .answer) (p ∙ sym q),
-  ap (λ (o : CycleOutcome). o .words) (p ∙ sym q),
-  ap (λ (o : CycleOutcome). o .state) (p ∙ sym q),
-)
-
-pub pinned-drain : (o : DrainOutcome) (a b : Answer) (n k : ℕ) (l d : Bool) (v w : List ℕ) (s u : State) → drainOutcome a n l v s ≡ o → drainOutcome b k d w u ≡ o
-    → (a ≡ b) × (n ≡ k) × (l ≡ d) × (v ≡ w) × (s ≡ u)
-pinned-drain o a b n k l d v w s u p q = (
-  ap (λ (o : DrainOutcome). o .answer) (p ∙ sym q),
-  ap (λ (o : DrainOutcome). o .cycles) (p ∙ sym q),
-  ap (λ (o : DrainOutcome). o .left) (p ∙ sym q),
-  ap (λ (o : DrainOutcome). o .words) (p ∙ sym q),
-  ap (λ (o : DrainOutcome). o .state) (p ∙ sym q),
-)
+-- PINNED: every public call, for all inputs
+pub pinned : (m levels : ℕ) (s : State) (ws : List ℕ) → Pinned m levels s ws
+pinned m levels s ws =
+    record { cycle = λ r. pins _; push = λ x. pins _; pop = pins _; replace = λ x. pins _; drain = λ b. pins _; clear = pins _; held = pins _ }

@@ -7,25 +7,26 @@ use mathlib.Core.Logic.{_⊎_}
 use mathlib.Core.Path.{_≡_}
 use lib.Dec.{leb}
 use lib.ListN.{getD, length, replicate}
-use Rattle.clocked_model.specs.Calls.{cycleOutcome, CycleOutcome, cycleWork, drainOutcome, DrainOutcome, fresh, hearing, marks, pending, popsOrReplaces, ticked}
+use Rattle.clocked_model.specs.Calls.{cycleOutcome, CycleOutcome, cycleWork, drainOutcome, DrainOutcome, drains, fresh, hearing, marks, pending, popsOrReplaces, restarted, ticked}
 use Rattle.clocked_model.specs.Cycle.{Works}
-use Rattle.clocked_model.specs.Records.{recordAt}
+use Rattle.clocked_model.specs.Records.{recordAt, worksOf}
 use Rattle.clocked_model.specs.declared.State.{State}
 use Rattle.laws.specs.Ladder.{fine, Ladder, rung, stop}
 use Rattle.laws.specs.Sums.{sumTo}
-use Rattle.promise.specs.Queue.{answers, leaves, step, Step}
+use Rattle.promise.specs.Queue.{answers, leaves, Pins, step, Step}
 use Rattle.promise.specs.Refused.{limits}
 use Rattle.strip.specs.declared.Answer.{Answer}
 use Rattle.strip.specs.declared.Answer.the-variants.{Refused}
+use Rattle.strip.specs.declared.Element.{Element}
 use Rattle.strip.specs.declared.Refusal.{Refusal}
 use Rattle.strip.specs.declared.Refusal.the-variants.{BadRank, BadShape, Damaged, Empty, Full, TooSoon}
 use Rattle.strip.specs.declared.Request.{Request}
 use Rattle.strip.specs.declared.Request.the-variants.{Idle, Pop, Push, Replace}
-use Rattle.tree_model.specs.Calls.{called, outcome, Outcome, rootOf}
+use Rattle.tree_model.specs.Calls.{called, counted, outcome, Outcome, rootOf}
 use Rattle.tree_model.specs.Damage.{room}
 use Rattle.tree_model.specs.Levels.{idle, Level, Levels, stepLevel, stepWork, top, work}
 use Rattle.tree_model.specs.Node.{sumCounts}
-use Rattle.tree_model.specs.Promise.{levelAt, NodeDamaged, Shape, Some, start, threeWords, WorkDamaged}
+use Rattle.tree_model.specs.Promise.{Agree, levelAt, NodeDamaged, Shape, Some, start, threeWords, WorkDamaged}
 use Rattle.tree_model.specs.Words.{levelsOf}
 use Rattle.tree_model.specs.declared.Op.the-variants.{Nothing}
 use Rattle.tree_model.specs.declared.Work.{Work}
@@ -205,3 +206,20 @@ pub record OneStep (m levels : ℕ) (r : Request) (s : State) (ws : List ℕ) : 
 unfoldable pub flight : (m levels i : ℕ) → Work → List Request → Machine → Work
 flight m levels i w [] x = w
 flight m levels i w (r ∷ rs) x = flight m levels (suc i) (leaveBelow m levels (x .words) i w) rs (clockedQueue m levels r x .next)
+
+-- ---- what is never read. Two machines are alike where they agree on the words of the shape, on the work of the records of its levels, and on the
+-- mark: words behind, records past the last level, and numbers that a record's kind does not use may differ
+pub record Alike (m levels : ℕ) (x y : Machine) : Type 0 where
+  pub words : Agree (room m levels) (x .words) (y .words)
+  pub works : worksOf (pred levels) (x .state .records) 0 ≡ worksOf (pred levels) (y .state .records) 0
+  pub mark : x .state .mark ≡ y .state .mark
+
+-- ---- each public call's outcome is one
+pub record Pinned (m levels : ℕ) (s : State) (ws : List ℕ) : Type 0 where
+  pub cycle : (r : Request) → Pins (ticked m levels r s ws)
+  pub push : (x : Element) → Pins (ticked m levels (Push x) s ws)
+  pub pop : Pins (ticked m levels Pop s ws)
+  pub replace : (x : Element) → Pins (ticked m levels (Replace x) s ws)
+  pub drain : (budget : ℕ) → Pins (drains m levels budget s ws)
+  pub clear : Pins (restarted m levels ws)
+  pub held : Pins (counted m levels ws)
