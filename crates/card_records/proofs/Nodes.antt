@@ -3,7 +3,7 @@ use Prim.Native.Nat.{_*_, _+_, _<_, _≤_, pred, suc, zero, ℕ}
 use native.Mathlib.Nat.{eq-or-lt-of-le, mul-le-mul-right, suc-mul, suc-pred-eq-of-pos}
 use native.Mathlib.Omega.{arith}
 use mathlib.Core.Bool.{_&&_, _||_, Bool, cond, false, true}
-use mathlib.Core.List.{[], _∷_, List}
+use mathlib.Core.List.{[], List}
 use mathlib.Core.Logic.{⊎-elim}
 use mathlib.Core.Path.{_∙_, _≡_, ap, refl, subst, sym}
 use lib.Dec.{eqb, ltb}
@@ -14,12 +14,14 @@ use Rattle.clocked_model.proofs.Demand.{few-levels}
 use Rattle.clocked_model.proofs.Drain.{drain-state}
 use Rattle.clocked_model.proofs.Exactly.{sound, ticked-bad, ticked-damaged, ticked-fine}
 use Rattle.clocked_model.proofs.Turn.{after-length, plain-rest, works-after}
-use Rattle.clocked_model.specs.Calls.{askedOk, CycleOutcome, cycleWork, drains, fresh, hearing, recordCount, runs, stepsOk, ticked, turned}
+use Rattle.clocked_model.specs.Calls.{askedOk, CycleOutcome, cycleWork, drains, fresh, hearing, recordCount, stepsOk, ticked, turned}
 use Rattle.clocked_model.specs.Cycle.{cycleOk, cycleWorks, Works}
+use Rattle.clocked_model.specs.Promise.{clockedQueue, machine}
 use Rattle.clocked_model.specs.Records.{recordAt, worksOf}
 use Rattle.clocked_model.specs.declared.State.{State}
 use Rattle.laws.specs.Lists.{All, all-at, all-replicate, all-set}
 use Rattle.laws.specs.Tests.{and-left, and-right}
+use Rattle.promise.specs.Queue.{leaves-keep}
 use Rattle.strip.specs.Answers.{element}
 use Rattle.strip.specs.declared.Element.{Element}
 use Rattle.strip.specs.declared.Request.{Request}
@@ -124,15 +126,11 @@ module _ (m levels : ℕ) where
           subst (λ (o : CycleOutcome). Fits levels (o .state)) (sym (ticked-fine m levels r s ws e h))
           (turned-fits r (hearing m levels r s ws) s ws e (and-right (askedOk m levels r ws) (stepsOk m levels (hearing m levels r s ws .op) s ws) h) f)
 
-  runs-fit : (rs : List Request) (s : State) (ws : List ℕ) → Fits levels s → Fits levels (runs m levels rs s ws .state)
-  unfolding runs
-  runs-fit [] s ws f = f
-  runs-fit (r ∷ rs) s ws f = runs-fit rs (ticked m levels r s ws .state) (ticked m levels r s ws .words) (ticked-fits r s ws f)
-
   -- .. and so does every drain
   pub drained-fits : (budget : ℕ) (s : State) (ws : List ℕ) → Fits levels s → Fits levels (drains m levels budget s ws .state)
   drained-fits budget s ws f =
-      subst (Fits levels) (sym (drain-state m levels budget s ws .1)) (runs-fit (replicate (drains m levels budget s ws .cycles) Idle) s ws f)
+      subst (Fits levels) (sym (drain-state m levels budget s ws .1))
+      (leaves-keep (clockedQueue m levels) (λ x. Fits levels (x .state)) (λ r x. ticked-fits r (x .state) (x .words)) (replicate (drains m levels budget s ws .cycles) Idle) (machine s ws) f)
 
 -- ---- what is read from words of 32 bits fits
 read-low : (kind node rank tag : ℕ) → workOf kind node rank tag .node ≤ node

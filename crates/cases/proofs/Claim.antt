@@ -4,12 +4,12 @@ use Rattle.bucket_model.proofs.Case8.{case8-holds}
 use Rattle.cases.specs.Table.{Right, table}
 use Rattle.clocked_model.proofs.Cases.{case-6}
 use Rattle.laws.specs.Lists.{All}
+use Rattle.promise.specs.Queue.{answers, leaves}
 use Rattle.strip.specs.Answers.{blank, key}
 use Rattle.tree_model.specs.Calls.{called, carriedOut, cleared, orderOk, rule, shapeOk}
 use Rattle.tree_model.specs.Damage.{fine, hasRoom, hasSome, isBlank, lifts, nodeOk, pathOk, readOk, room, slotOk, stepOk}
 use Rattle.tree_model.specs.Levels.{levelMove, stepWork, top, work}
 use Rattle.tree_model.specs.Node.{every, firstEmpty, isEmpty, isNothing, keep, leastCount, low, lowest, opMove, pass, putBy, putMove, seek, slotAt, sumCounts, swapBy, swapMove, takeBy, takeMove, vacant}
-use Rattle.tree_model.specs.Promise.{answers, leaves}
 use Rattle.tree_model.specs.Words.{applyWords, levelOf, levelsOf, nodeOf, size, slotOf, stepWords, tabulate, wipe, write}
 
 pub cases : All Right table

@@ -6,13 +6,14 @@ use lib.ListN.{length, replicate}
 use Rattle.bucket_model.specs.Case8.{case8, case8Answers}
 use Rattle.bucket_model.specs.Plain.{bucketAnswers}
 use Rattle.clocked_model.specs.Cases.{caseSix, caseSixSays}
+use Rattle.promise.specs.Queue.{answers}
 use Rattle.strip.specs.Answers.{element}
 use Rattle.strip.specs.declared.Answer.{Answer}
 use Rattle.strip.specs.declared.Answer.the-variants.{Done, Out, Refused}
 use Rattle.strip.specs.declared.Refusal.the-variants.{Empty, Full}
 use Rattle.strip.specs.declared.Request.{Request}
 use Rattle.strip.specs.declared.Request.the-variants.{Pop, Push, Replace}
-use Rattle.tree_model.specs.Promise.{after, answers, start}
+use Rattle.tree_model.specs.Promise.{after, start, treeQueue}
 
 -- a row: what is asked of a cleared queue, what it answers, and the words it leaves. A slice to begin with is garbage, and longer than needed
 pub data Row : Type 0 where
@@ -26,7 +27,7 @@ garbage n = replicate n 9
 -- what a row claims of the definitions
 abbrev pub Right : Row → Type 0
 Right (tree m l rs said left) =
-    (answers m l rs (start m l (garbage (length left))) ≡ said) × (after m l rs (garbage (length left)) ≡ left)
+    (answers (treeQueue m l) rs (start m l (garbage (length left))) ≡ said) × (after m l rs (garbage (length left)) ≡ left)
 Right (clocked words said) = words ≡ said
 Right (bucket n rs said) = bucketAnswers n rs ≡ said
 

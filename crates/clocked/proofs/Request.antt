@@ -15,7 +15,6 @@ use Rattle.strip.specs.declared.Request.{Request}
 use Rattle.strip.specs.declared.Request.the-variants.{Idle}
 use Rattle.tree.specs.Down.{Lies}
 use Rattle.tree_model.specs.Calls.{rule, ruling, verdict}
-use Rattle.tree_model.specs.Promise.{same}
 use Rattle.tree_model.specs.Words.{size}
 use Rattle.tree_model.specs.declared.Op.{Op}
 use Rattle.tree_model.specs.declared.Op.the-variants.{Nothing}

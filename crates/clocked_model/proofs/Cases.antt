@@ -1,9 +1,10 @@
 -- 01's worked case 6, and case 10, computed from the definitions. Assumes nothing.
 use mathlib.Core.Path.{_≡_, refl}
-use Rattle.clocked_model.specs.Calls.{asks, drainFrom, drains, fresh, heard, isRefused, marks, popsOrReplaces, runAnswers, runs, ticked, turned}
-use Rattle.clocked_model.specs.Cases.{caseSix, caseSixSays, caseTen, caseTenSays, clockedA, runWords}
+use Rattle.clocked_model.specs.Calls.{asks, drainFrom, drains, fresh, heard, isRefused, marks, popsOrReplaces, ticked, turned}
+use Rattle.clocked_model.specs.Cases.{caseSix, caseSixSays, caseTen, caseTenSays, clockedA}
 use Rattle.clocked_model.specs.Cycle.{cycleOk, cycleWords, quiet}
 use Rattle.clocked_model.specs.Records.{landed, recordAt, recordsAfter, worksOf}
+use Rattle.promise.specs.Queue.{answers, leaves}
 use Rattle.strip.specs.Answers.{blank, key}
 use Rattle.tree_model.specs.Calls.{cleared, orderOk, rule, shapeOk}
 use Rattle.tree_model.specs.Damage.{fine, hasRoom, hasSome, isBlank, lifts, nodeOk, readOk, room, slotOk, stepOk}
@@ -12,9 +13,9 @@ use Rattle.tree_model.specs.Node.{every, firstEmpty, isEmpty, isNothing, keep, 
 use Rattle.tree_model.specs.Words.{levelOf, levelsOf, nodeOf, slotOf, stepWords, tabulate, wipe, write}
 
 pub case-6 : caseSix ≡ caseSixSays
-unfolding caseSix clockedA runWords runs ticked turned drains drainFrom fresh heard asks popsOrReplaces isRefused marks quiet cycleWords cycleOk recordAt worksOf landed recordsAfter blank key vacant isEmpty seek every firstEmpty leastCount lowest slotAt low keep pass putBy putMove takeBy takeMove swapBy swapMove opMove isNothing sumCounts work top levelMove stepWork room isBlank slotOk nodeOk hasRoom hasSome readOk lifts stepOk fine slotOf write wipe tabulate nodeOf levelOf levelsOf stepWords orderOk shapeOk rule cleared
+unfolding caseSix clockedA leaves ticked turned drains drainFrom fresh heard asks popsOrReplaces isRefused marks quiet cycleWords cycleOk recordAt worksOf landed recordsAfter blank key vacant isEmpty seek every firstEmpty leastCount lowest slotAt low keep pass putBy putMove takeBy takeMove swapBy swapMove opMove isNothing sumCounts work top levelMove stepWork room isBlank slotOk nodeOk hasRoom hasSome readOk lifts stepOk fine slotOf write wipe tabulate nodeOf levelOf levelsOf stepWords orderOk shapeOk rule cleared
 case-6 = refl
 
 pub case-10 : caseTen ≡ caseTenSays
-unfolding caseTen runAnswers ticked turned fresh heard asks popsOrReplaces isRefused marks cycleWords cycleOk recordAt worksOf landed recordsAfter blank key vacant isEmpty seek every firstEmpty leastCount lowest slotAt low keep pass putBy putMove takeBy takeMove swapBy swapMove opMove isNothing sumCounts work top levelMove stepWork room isBlank slotOk nodeOk hasRoom hasSome readOk lifts stepOk fine slotOf write wipe tabulate nodeOf levelOf levelsOf stepWords orderOk shapeOk rule cleared
+unfolding caseTen answers ticked turned fresh heard asks popsOrReplaces isRefused marks cycleWords cycleOk recordAt worksOf landed recordsAfter blank key vacant isEmpty seek every firstEmpty leastCount lowest slotAt low keep pass putBy putMove takeBy takeMove swapBy swapMove opMove isNothing sumCounts work top levelMove stepWork room isBlank slotOk nodeOk hasRoom hasSome readOk lifts stepOk fine slotOf write wipe tabulate nodeOf levelOf levelsOf stepWords orderOk shapeOk rule cleared
 case-10 = refl

@@ -4,24 +4,23 @@ use Prim.Native.Nat.{_+_, _-_, _≤_, pred, suc, zero, ℕ}
 use native.Mathlib.Nat.{mul-le-mul, not-suc-le-zero, suc-add}
 use native.Mathlib.Omega.{arith}
 use mathlib.Core.Bool.{Bool, false, not, true}
-use mathlib.Core.List.{[], _∷_, List}
+use mathlib.Core.List.{List}
 use mathlib.Core.Logic.{⊎-elim}
-use mathlib.Core.Path.{_∙_, _≡_, ap, ap₂, refl, subst, sym}
+use mathlib.Core.Path.{_∙_, _≡_, ap, refl, subst, sym}
 use lib.Dec.{leb}
 use lib.ListN.{getD, length, length-replicate, replicate}
 use borrow.Author.Tests.{leb-false, leb-true, not-false}
 use Rattle.clocked_model.proofs.Clock.{at-rest, lead-quiet, leads}
-use Rattle.clocked_model.proofs.Same.{same-words}
 use Rattle.clocked_model.proofs.Step.{beside-is, idle-ruling, in-step, InStep, quiet-clear, quiet-ready, quiet-spaced, step-answer, step-mark, ticks}
 use Rattle.clocked_model.proofs.Turn.{plain-rest, works-after}
-use Rattle.clocked_model.specs.Calls.{CycleOutcome, fresh, pending, recordCount, restarted, runAnswers, runs, ticked, turned}
+use Rattle.clocked_model.specs.Calls.{CycleOutcome, fresh, marks, pending, recordCount, ticked, turned}
 use Rattle.clocked_model.specs.Cycle.{quiet}
-use Rattle.clocked_model.specs.Promise.{beside, besideAnswers, besideWords, idles}
+use Rattle.clocked_model.specs.Promise.{beside, besideAnswers, besideQueue, besideWords, clockedQueue, cycleAnswers, idles, Machine, ran}
 use Rattle.clocked_model.specs.Records.{recordAt, worksOf}
 use Rattle.clocked_model.specs.Settle.{Lead}
 use Rattle.clocked_model.specs.declared.State.{State}
 use Rattle.laws.specs.Tests.{and-true}
-use Rattle.strip.specs.declared.Answer.{Answer}
+use Rattle.promise.specs.Queue.{answers-same, leaves, leaves-in-step}
 use Rattle.strip.specs.declared.Answer.the-variants.{Done}
 use Rattle.strip.specs.declared.Request.{Request}
 use Rattle.strip.specs.declared.Request.the-variants.{Idle}
@@ -29,6 +28,7 @@ use Rattle.tree_model.proofs.Exactly.{words-none}
 use Rattle.tree_model.proofs.Hang.{past}
 use Rattle.tree_model.proofs.Nothing.{op-work, work-none}
 use Rattle.tree_model.proofs.Promises.{Kept, start-kept}
+use Rattle.tree_model.proofs.Same.{same-words}
 use Rattle.tree_model.specs.Calls.{Outcome, rootOf, Ruling, ruling}
 use Rattle.tree_model.specs.Damage.{room}
 use Rattle.tree_model.specs.Levels.{idle, Levels, top, work}
@@ -108,24 +108,18 @@ module _ (m levels : ℕ) where
 
 -- ---- lists of cycles
 module _ (m k : ℕ) where
-  pub run-answers : (rs : List Request) (s : State) (ws vs : List ℕ) → InStep m k s ws vs → runAnswers m (suc k) rs s ws ≡ besideAnswers m (suc k) rs (s .mark) vs
-  unfolding runAnswers besideAnswers
-  run-answers [] s ws vs i = refl
-  run-answers (r ∷ rs) s ws vs i =
-      let o = ticked m (suc k) r s ws in
-      let b = beside m (suc k) (s .mark) r vs in
-      ap₂ (λ (a : Answer) (t : List Answer). a ∷ t) (step-answer m k s ws vs i r)
-      (run-answers rs (o .state) (o .words) (b .words) (in-step m k s ws vs i r) ∙ ap (λ (t : Bool). besideAnswers m (suc k) rs t (b .words)) (step-mark m k s ws vs i r))
+  -- the machine, and the mark and the words of the tree beside it
+  abbrev Both : Machine → Bool × List ℕ → Type 0
+  Both x b = InStep m k (x .state) (x .words) (b .1) × (x .state .mark ≡ b .0)
 
-  pub run-in-step : (rs : List Request) (s : State) (ws vs : List ℕ) → InStep m k s ws vs
-      → InStep m k (runs m (suc k) rs s ws .state) (runs m (suc k) rs s ws .words) (besideWords m (suc k) rs (s .mark) vs)
-  unfolding runs besideWords
-  run-in-step [] s ws vs i = i
-  run-in-step (r ∷ rs) s ws vs i =
-      let o = ticked m (suc k) r s ws in
-      let b = beside m (suc k) (s .mark) r vs in
-      subst (λ (t : Bool). InStep m k (runs m (suc k) rs (o .state) (o .words) .state) (runs m (suc k) rs (o .state) (o .words) .words) (besideWords m (suc k) rs t (b .words)))
-      (step-mark m k s ws vs i r) (run-in-step rs (o .state) (o .words) (b .words) (in-step m k s ws vs i r))
+  both-answer : (r : Request) (x : Machine) (b : Bool × List ℕ) → Both x b → clockedQueue m (suc k) r x .said ≡ besideQueue m (suc k) r b .said
+  both-answer r x b i = step-answer m k _ _ _ (i .0) r ∙ ap (λ (t : Bool). beside m (suc k) t r (b .1) .answer) (i .1)
+
+  both-kept : (r : Request) (x : Machine) (b : Bool × List ℕ) → Both x b → Both (clockedQueue m (suc k) r x .next) (besideQueue m (suc k) r b .next)
+  both-kept r x b i = (
+    subst (λ (t : Bool). InStep m k (clockedQueue m (suc k) r x .next .state) (clockedQueue m (suc k) r x .next .words) (beside m (suc k) t r (b .1) .words)) (i .1) (in-step m k _ _ _ (i .0) r),
+    step-mark m k _ _ _ (i .0) r ∙ ap (λ (t : Bool). marks r (beside m (suc k) t r (b .1) .answer)) (i .1),
+  )
 
   -- ---- idle cycles
   -- the tree beside stands
@@ -139,7 +133,7 @@ module _ (m k : ℕ) where
       subst (λ (v : List ℕ). InStep m k (ticked m (suc k) Idle s ws .state) (ticked m (suc k) Idle s ws .words) v) (idle-stands (s .mark) vs (i .kept)) (in-step m k s ws vs i Idle)
 
   pub idles-in-step : (n : ℕ) (s : State) (ws vs : List ℕ) → InStep m k s ws vs → InStep m k (idles m (suc k) n s ws .state) (idles m (suc k) n s ws .words) vs
-  unfolding runs
+  unfolding leaves
   idles-in-step zero s ws vs i = i
   idles-in-step (suc n) s ws vs i = idles-in-step n _ _ vs (idle-in-step s ws vs i)
 
@@ -151,7 +145,7 @@ module _ (m k : ℕ) where
 
   idles-quiet : (n j : ℕ) (s : State) (ws vs : List ℕ) → InStep m k s ws vs → k ≤ j + n → Lead j k (worksOf k (s .records) 0)
       → quiet k (worksOf k (idles m (suc k) n s ws .state .records) 0) ≡ true
-  unfolding runs
+  unfolding leaves
   idles-quiet zero j s ws vs i l h = lead-quiet j k (worksOf k (s .records) 0) (omega arith) h
   idles-quiet (suc n) j s ws vs i l h = idles-quiet n (suc j) _ _ vs (idle-in-step s ws vs i) (omega arith) (idle-lead j s ws vs i h)
 
@@ -166,27 +160,21 @@ module _ (m k : ℕ) where
       (ap (λ (l : Levels k). (levelOf m ws 0 1, l)) (sym (at-rest m k (worksOf k (s .records) 0) (under m k ws 0 1) (not-false (quiet k (worksOf k (s .records) 0)) e))) ∙ i .final) (i .past)
 
 -- THE DEMAND. Any order and number of levels that pass the shape, any words to start with, any list of cycles from the cleared machine
-abbrev pub ran : ℕ → ℕ → List Request → List ℕ → CycleOutcome
-ran m levels rs ws = runs m levels rs (restarted m levels ws .state) (restarted m levels ws .words)
-
 fresh-mark : fresh .mark ≡ false
 unfolding fresh
 fresh-mark = refl
 
 module _ (m : ℕ) (ws : List ℕ) (rs : List Request) where
   -- ANSWERS: too soon exactly where the mark says, and every other answer is that of the call on the one-at-a-time tree
-  pub demand-answers : (levels : ℕ) → Shape m levels (length ws)
-      → runAnswers m levels rs (restarted m levels ws .state) (restarted m levels ws .words) ≡ besideAnswers m levels rs false (start m levels ws)
+  pub demand-answers : (levels : ℕ) → Shape m levels (length ws) → cycleAnswers m levels rs ws ≡ besideAnswers m levels rs false (start m levels ws)
   demand-answers zero sh = absurd (not-suc-le-zero (sh .some))
   demand-answers (suc k) sh =
-      run-answers m k rs fresh (start m (suc k) ws) (start m (suc k) ws) (start-in-step m k ws sh)
-      ∙ ap (λ (t : Bool). besideAnswers m (suc k) rs t (start m (suc k) ws)) fresh-mark
+      answers-same (clockedQueue m (suc k)) (besideQueue m (suc k)) (Both m k) (both-answer m k) (both-kept m k) rs _ (false, start m (suc k) ws) (start-in-step m k ws sh, fresh-mark)
 
   -- after any cycle the machine is in step with that tree
   pub ran-in-step : (k : ℕ) → Shape m (suc k) (length ws) → InStep m k (ran m (suc k) rs ws .state) (ran m (suc k) rs ws .words) (besideWords m (suc k) rs false (start m (suc k) ws))
   ran-in-step k sh =
-      subst (λ (t : Bool). InStep m k (ran m (suc k) rs ws .state) (ran m (suc k) rs ws .words) (besideWords m (suc k) rs t (start m (suc k) ws))) fresh-mark
-      (run-in-step m k rs fresh (start m (suc k) ws) (start m (suc k) ws) (start-in-step m k ws sh))
+      leaves-in-step (clockedQueue m (suc k)) (besideQueue m (suc k)) (Both m k) (both-answer m k) (both-kept m k) rs _ (false, start m (suc k) ws) (start-in-step m k ws sh, fresh-mark) .0
 
   -- IDLES: after any cycle, levels - 1 idle cycles leave nothing pending
   pub demand-idles : (levels : ℕ) → Shape m levels (length ws) → pending m levels (idles m levels (pred levels) (ran m levels rs ws .state) (ran m levels rs ws .words) .state) ≡ false

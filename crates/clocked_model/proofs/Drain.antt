@@ -1,28 +1,33 @@
 -- A drain is so many idle cycles: none once nothing is pending, no more than the budget, and it stops at damage. Assumes nothing.
 use Prim.Native.Nat.{_+_, _<_, _≤_, pred, suc, zero, ℕ}
-use native.Mathlib.Nat.{not-suc-le-zero}
+use native.Mathlib.Nat.{add-zero, not-suc-le-zero, zero-add}
 use native.Mathlib.Omega.{arith}
 use mathlib.Core.Bool.{Bool, cond, false, false≢true, not, true, true≢false}
 use mathlib.Core.List.{List}
+use mathlib.Core.Logic.{_⊎_, inl, inr}
 use mathlib.Core.Path.{_∙_, _≡_, ap, refl, subst, sym}
-use lib.Dec.{leb}
-use lib.ListN.{length}
-use borrow.Author.Tests.{leb-false, leb-true}
+use lib.Dec.{leb, ltb}
+use lib.ListN.{length, replicate}
+use borrow.Author.Tests.{leb-false, leb-true, ltb-false, ltb-true}
 use Rattle.clocked_model.proofs.Clock.{lead-quiet}
 use Rattle.clocked_model.proofs.Demand.{lead, turned-lead}
-use Rattle.clocked_model.proofs.Exactly.{damage-fails, exactly-cycle, same-number, sound, ticked-bad, ticked-damaged, ticked-fine}
+use Rattle.clocked_model.proofs.Exactly.{damage-fails, exactly-cycle, sound, ticked-bad, ticked-damaged, ticked-either, ticked-fine}
 use Rattle.clocked_model.proofs.Step.{idle-ruling}
 use Rattle.clocked_model.proofs.Turn.{after-length, cycle-length}
-use Rattle.clocked_model.specs.Calls.{CycleOutcome, cycleOutcome, drainFrom, DrainOutcome, drainOutcome, drains, hearing, isRefused, pending, runs, ticked, turned}
-use Rattle.clocked_model.specs.Promise.{capped, CycleDamage, DrainCause, idles, Jams}
-use Rattle.clocked_model.specs.Records.{worksOf}
+use Rattle.clocked_model.specs.Calls.{CycleOutcome, cycleOutcome, drainFrom, DrainOutcome, drainOutcome, drains, isRefused, pending, ticked, turned}
+use Rattle.clocked_model.specs.Promise.{capped, clockedQueue, CycleDamage, drainLeft, drainRefusals, idles, Jams}
 use Rattle.clocked_model.specs.declared.State.{State}
+use Rattle.laws.specs.Ladder.{climb-by, climb-fine, climb-stop, Exactly, fine, left-behind, stop}
+use Rattle.promise.specs.Queue.{leaves, leaves-keep}
+use Rattle.promise.specs.Refused.{refusal-told, zero-told}
+use Rattle.strip.specs.Answers.{numberOf, refusalNumber}
+use Rattle.strip.specs.declared.Answer.{Answer}
 use Rattle.strip.specs.declared.Answer.the-variants.{Done, Refused}
 use Rattle.strip.specs.declared.Refusal.{Refusal}
-use Rattle.strip.specs.declared.Refusal.the-variants.{BadRank, BadShape, Damaged, Empty, Full, TooSoon}
+use Rattle.strip.specs.declared.Refusal.the-variants.{BadShape, Damaged}
 use Rattle.strip.specs.declared.Request.{Request}
 use Rattle.strip.specs.declared.Request.the-variants.{Idle}
-use Rattle.tree_model.proofs.Exactly.{is-shape, no-refusal-done, shape-is}
+use Rattle.tree_model.proofs.Exactly.{is-shape, shape-is}
 use Rattle.tree_model.specs.Calls.{rootOf, Ruling, ruling, shapeOk}
 use Rattle.tree_model.specs.Damage.{room}
 use Rattle.tree_model.specs.Promise.{Shape}
@@ -36,26 +41,55 @@ not-less {a} {b} h = go (leb b a) refl
     go true e = leb-true b a e
     go false e = absurd (h (leb-false b a e))
 
--- a refused idle cycle is refused for the shape or for damage, and leaves everything
-idle-accepts : (m levels : ℕ) (s : State) (ws : List ℕ) → isRefused (turned m levels Idle (hearing m levels Idle s ws) s ws .answer) ≡ false
-unfolding turned isRefused
-idle-accepts m levels s ws = ap (λ (g : Ruling). isRefused (g .answer)) (idle-ruling (s .mark) (room m levels) (rootOf m ws))
+-- every cycle keeps the slice's length
+pub ticked-length : (m levels : ℕ) (r : Request) (s : State) (ws : List ℕ) → length (ticked m levels r s ws .words) ≡ length ws
+unfolding turned
+ticked-length m levels r s ws = ticked-either m levels r s ws (λ c. length (c .words) ≡ length ws) refl refl (λ e f. cycle-length m (suc (pred levels)) _ 0 1 ws)
 
-pub idle-stands : (m levels : ℕ) (s : State) (ws : List ℕ) → isRefused (ticked m levels Idle s ws .answer) ≡ true
-    → (ticked m levels Idle s ws .words ≡ ws) × (ticked m levels Idle s ws .state ≡ s)
-idle-stands m levels s ws p = go (shapeOk m levels (length ws)) refl (sound m levels Idle s ws) refl
+-- ---- an idle cycle of a good shape: it runs, or it meets damage and leaves everything
+data Idling (m levels : ℕ) (s : State) (ws : List ℕ) : Type 0 where
+  runs : ticked m levels Idle s ws ≡ turned m levels Idle (ruling Done Nothing) s ws → Idling m levels s ws
+  jams : ticked m levels Idle s ws ≡ cycleOutcome (Refused Damaged) ws s → CycleDamage m levels Idle s ws → Idling m levels s ws
+
+idling : (m levels : ℕ) (s : State) (ws : List ℕ) → shapeOk m levels (length ws) ≡ true → Idling m levels s ws
+idling m levels s ws e = go (sound m levels Idle s ws) refl
   where
-    go : (a : Bool) → shapeOk m levels (length ws) ≡ a → (b : Bool) → sound m levels Idle s ws ≡ b → (ticked m levels Idle s ws .words ≡ ws) × (ticked m levels Idle s ws .state ≡ s)
-    go false e b f = (ap (λ (c : CycleOutcome). c .words) (ticked-bad m levels Idle s ws e), ap (λ (c : CycleOutcome). c .state) (ticked-bad m levels Idle s ws e))
-    go true e false f = (ap (λ (c : CycleOutcome). c .words) (ticked-damaged m levels Idle s ws e f), ap (λ (c : CycleOutcome). c .state) (ticked-damaged m levels Idle s ws e f))
-    go true e true f =
-        absurd (true≢false (sym p ∙ ap (λ (c : CycleOutcome). isRefused (c .answer)) (ticked-fine m levels Idle s ws e f) ∙ idle-accepts m levels s ws))
+    go : (b : Bool) → sound m levels Idle s ws ≡ b → Idling m levels s ws
+    go true f = runs (ticked-fine m levels Idle s ws e f ∙ ap (λ (g : Ruling). turned m levels Idle g s ws) (idle-ruling (s .mark) (room m levels) (rootOf m ws)))
+    go false f = jams (ticked-damaged m levels Idle s ws e f) (damage-fails m levels Idle s ws .found f)
 
-done-accepted : isRefused Done ≡ true → ⊥
-unfolding isRefused
-done-accepted e = false≢true e
+-- the answer of the one, and of the other
+abbrev idle-answer : ℕ → ℕ → State → List ℕ → Answer
+idle-answer m levels s ws = ticked m levels Idle s ws .answer
 
--- ---- what a drain with the budget b leaves, that has already run n cycles
+runs-done : (m levels : ℕ) (s : State) (ws : List ℕ) → ticked m levels Idle s ws ≡ turned m levels Idle (ruling Done Nothing) s ws → idle-answer m levels s ws ≡ Done
+unfolding turned
+runs-done m levels s ws e = ap (λ (c : CycleOutcome). c .answer) e
+
+jams-damaged : (m levels : ℕ) (s : State) (ws : List ℕ) → ticked m levels Idle s ws ≡ cycleOutcome (Refused Damaged) ws s → idle-answer m levels s ws ≡ Refused Damaged
+jams-damaged m levels s ws e = ap (λ (c : CycleOutcome). c .answer) e
+
+-- one that is not refused has run
+idle-turns : (m levels : ℕ) (s : State) (ws : List ℕ) → numberOf (idle-answer m levels s ws) ≡ 0 → ticked m levels Idle s ws ≡ turned m levels Idle (ruling Done Nothing) s ws
+idle-turns m levels s ws z = go (shapeOk m levels (length ws)) refl
+  where
+    refused : (n : Refusal) → ticked m levels Idle s ws ≡ cycleOutcome (Refused n) ws s → ⊥
+    refused n e = zero-told n (sym z ∙ ap (λ (c : CycleOutcome). numberOf (c .answer)) e)
+
+    by : Idling m levels s ws → ticked m levels Idle s ws ≡ turned m levels Idle (ruling Done Nothing) s ws
+    by (runs e) = e
+    by (jams e d) = absurd (refused Damaged e)
+
+    go : (a : Bool) → shapeOk m levels (length ws) ≡ a → ticked m levels Idle s ws ≡ turned m levels Idle (ruling Done Nothing) s ws
+    go false e = absurd (refused BadShape (ticked-bad m levels Idle s ws e))
+    go true e = by (idling m levels s ws e)
+
+-- ---- how a drain with the budget b ends after so many idle cycles: done, with nothing pending or the budget spent; or jammed
+pub data End (m levels b more : ℕ) (s : State) (ws : List ℕ) (d : DrainOutcome) : Type 0 where
+  done : d .answer ≡ Done → (d .left ≡ true → more ≡ b) → End m levels b more s ws d
+  jammed : d .answer ≡ Refused Damaged → d .left ≡ true → Jams m levels b more s ws → End m levels b more s ws d
+
+-- .. where n cycles have already been run
 pub record Ends (m levels b n : ℕ) (s : State) (ws : List ℕ) (d : DrainOutcome) : Type 0 where
   pub more : ℕ
   pub counts : d .cycles ≡ n + more
@@ -63,14 +97,15 @@ pub record Ends (m levels b n : ℕ) (s : State) (ws : List ℕ) (d : DrainOutco
   pub state : d .state ≡ idles m levels more s ws .state
   pub within : more ≤ b
   pub needed : (j : ℕ) → j < more → pending m levels (idles m levels j s ws .state) ≡ true
+  pub unrefused : (j : ℕ) → j < more → numberOf (idle-answer m levels (idles m levels j s ws .state) (idles m levels j s ws .words)) ≡ 0
   pub left : d .left ≡ pending m levels (d .state)
-  pub spent : isRefused (d .answer) ≡ false → d .left ≡ true → more ≡ b
-  pub stopped : isRefused (d .answer) ≡ true → d .left ≡ true
+  pub end : End m levels b more s ws d
 
 module _ (m levels : ℕ) where
-  ends-quiet : (b n : ℕ) (s : State) (ws : List ℕ) → pending m levels s ≡ false → Ends m levels b n s ws (drainOutcome Done n false ws s)
-  unfolding runs
-  ends-quiet b n s ws e =
+  -- nothing is run
+  ends-here : (b n : ℕ) (s : State) (ws : List ℕ) (a : Answer) (l : Bool) → l ≡ pending m levels s → End m levels b 0 s ws (drainOutcome a n l ws s) → Ends m levels b n s ws (drainOutcome a n l ws s)
+  unfolding leaves
+  ends-here b n s ws a l p end =
       record {
         more = 0;
         counts = omega arith;
@@ -78,32 +113,24 @@ module _ (m levels : ℕ) where
         state = refl;
         within = omega arith;
         needed = λ j h. absurd (not-suc-le-zero h);
-        left = sym e;
-        spent = λ r l. absurd (false≢true l);
-        stopped = λ r. absurd (done-accepted r);
+        unrefused = λ j h. absurd (not-suc-le-zero h);
+        left = p;
+        end = end;
       }
 
-  ends-jam : (b n : ℕ) (s : State) (ws : List ℕ) → pending m levels s ≡ true → isRefused (ticked m levels Idle s ws .answer) ≡ true
-      → Ends m levels b n s ws (drainOutcome (ticked m levels Idle s ws .answer) n true (ticked m levels Idle s ws .words) (ticked m levels Idle s ws .state))
-  unfolding runs
-  ends-jam b n s ws on r =
-      let st = idle-stands m levels s ws r in
-      record {
-        more = 0;
-        counts = omega arith;
-        words = st .0;
-        state = st .1;
-        within = omega arith;
-        needed = λ j h. absurd (not-suc-le-zero h);
-        left = sym (ap (pending m levels) (st .1) ∙ on);
-        spent = λ a l. absurd (true≢false (sym r ∙ a));
-        stopped = λ a. refl;
-      }
+  jams-here : (b : ℕ) (s : State) (ws : List ℕ) → pending m levels s ≡ true → CycleDamage m levels Idle s ws → Jams m levels (suc b) 0 s ws
+  unfolding leaves
+  jams-here b s ws on d = record { within = omega arith; waits = λ j h. still j h; damage = d }
+    where
+      still : (j : ℕ) → j ≤ 0 → pending m levels (idles m levels j s ws .state) ≡ true
+      still zero h = on
+      still (suc j) h = absurd (not-suc-le-zero h)
 
-  ends-next : (b n : ℕ) (s : State) (ws : List ℕ) (d : DrainOutcome) → pending m levels s ≡ true
+  -- one cycle is run, and the rest after it
+  ends-next : (b n : ℕ) (s : State) (ws : List ℕ) (d : DrainOutcome) → pending m levels s ≡ true → idle-answer m levels s ws ≡ Done
       → Ends m levels b (suc n) (ticked m levels Idle s ws .state) (ticked m levels Idle s ws .words) d → Ends m levels (suc b) n s ws d
-  unfolding runs
-  ends-next b n s ws d on i =
+  unfolding leaves
+  ends-next b n s ws d on ok i =
       record {
         more = suc (i .more);
         counts = omega (arith, i .counts);
@@ -111,104 +138,121 @@ module _ (m levels : ℕ) where
         state = i .state;
         within = omega (arith, i .within);
         needed = λ j h. needs j h;
+        unrefused = λ j h. runs-so j h;
         left = i .left;
-        spent = λ r l. ap suc (i .spent r l);
-        stopped = i .stopped;
+        end = later (i .end);
       }
     where
       needs : (j : ℕ) → j < suc (i .more) → pending m levels (idles m levels j s ws .state) ≡ true
       needs zero h = on
       needs (suc j) h = i .needed j (omega arith)
 
-  pub ends : (b n : ℕ) (s : State) (ws : List ℕ) → Ends m levels b n s ws (drainFrom m levels b n s ws)
-  unfolding drainFrom runs
-  ends zero n s ws =
-      record {
-        more = 0;
-        counts = omega arith;
-        words = refl;
-        state = refl;
-        within = omega arith;
-        needed = λ j h. absurd (not-suc-le-zero h);
-        left = refl;
-        spent = λ r l. refl;
-        stopped = λ r. absurd (done-accepted r);
-      }
-  ends (suc b) n s ws = go (pending m levels s) refl (isRefused (ticked m levels Idle s ws .answer)) refl (ends b (suc n) (ticked m levels Idle s ws .state) (ticked m levels Idle s ws .words))
+      runs-so : (j : ℕ) → j < suc (i .more) → numberOf (idle-answer m levels (idles m levels j s ws .state) (idles m levels j s ws .words)) ≡ 0
+      runs-so zero h = ap numberOf ok
+      runs-so (suc j) h = i .unrefused j (omega arith)
+
+      waits : Jams m levels b (i .more) (ticked m levels Idle s ws .state) (ticked m levels Idle s ws .words) → (j : ℕ) → j ≤ suc (i .more) → pending m levels (idles m levels j s ws .state) ≡ true
+      waits x zero h = on
+      waits x (suc j) h = x .waits j (omega arith)
+
+      later : End m levels b (i .more) (ticked m levels Idle s ws .state) (ticked m levels Idle s ws .words) d → End m levels (suc b) (suc (i .more)) s ws d
+      later (done a l) = done a (λ e. ap suc (l e))
+      later (jammed a l x) = jammed a l (record { within = omega (arith, x .within); waits = waits x; damage = x .damage })
+
+  next-shape : (s : State) (ws : List ℕ) → shapeOk m levels (length ws) ≡ true → shapeOk m levels (length (ticked m levels Idle s ws .words)) ≡ true
+  next-shape s ws e = ap (shapeOk m levels) (ticked-length m levels Idle s ws) ∙ e
+
+  ends : (b n : ℕ) (s : State) (ws : List ℕ) → shapeOk m levels (length ws) ≡ true → Ends m levels b n s ws (drainFrom m levels b n s ws)
+  unfolding drainFrom isRefused
+  ends zero n s ws e = ends-here zero n s ws Done (pending m levels s) refl (done refl (λ l. refl))
+  ends (suc b) n s ws e = go (pending m levels s) refl (idling m levels s ws e) (ends b (suc n) (ticked m levels Idle s ws .state) (ticked m levels Idle s ws .words) (next-shape s ws e))
     where
       jam : DrainOutcome
-      jam = drainOutcome (ticked m levels Idle s ws .answer) n true (ticked m levels Idle s ws .words) (ticked m levels Idle s ws .state)
+      jam = drainOutcome (idle-answer m levels s ws) n true (ticked m levels Idle s ws .words) (ticked m levels Idle s ws .state)
 
       on : DrainOutcome
       on = drainFrom m levels b (suc n) (ticked m levels Idle s ws .state) (ticked m levels Idle s ws .words)
 
-      go : (p : Bool) → pending m levels s ≡ p → (t : Bool) → isRefused (ticked m levels Idle s ws .answer) ≡ t → Ends m levels b (suc n) (ticked m levels Idle s ws .state) (ticked m levels Idle s ws .words) on
-          → Ends m levels (suc b) n s ws (cond p (cond t jam on) (drainOutcome Done n false ws s))
-      go false e t f i = ends-quiet (suc b) n s ws e
-      go true e true f i = ends-jam (suc b) n s ws e f
-      go true e false f i = ends-next b n s ws on e i
+      go : (p : Bool) → pending m levels s ≡ p → Idling m levels s ws → Ends m levels b (suc n) (ticked m levels Idle s ws .state) (ticked m levels Idle s ws .words) on
+          → Ends m levels (suc b) n s ws (cond p (cond (isRefused (idle-answer m levels s ws)) jam on) (drainOutcome Done n false ws s))
+      go false q x ih = ends-here (suc b) n s ws Done false (sym q) (done refl (λ l. absurd (false≢true l)))
+      go true q (runs x) ih = rw (runs-done m levels s ws x) (ends-next b n s ws on q (runs-done m levels s ws x) ih)
+      go true q (jams x d) ih = rw (jams-damaged m levels s ws x, x) (ends-here (suc b) n s ws (Refused Damaged) true (sym q) (jammed refl refl (jams-here b s ws q d)))
 
   -- ---- the call
-  by-shape : (b : ℕ) (s : State) (ws : List ℕ) (P : DrainOutcome → Type 0) → P (drainOutcome (Refused BadShape) 0 false ws s) → P (drainFrom m levels b 0 s ws) → P (drains m levels b s ws)
+  pub drain-bad : (b : ℕ) (s : State) (ws : List ℕ) → shapeOk m levels (length ws) ≡ false → drains m levels b s ws ≡ drainOutcome (Refused BadShape) 0 false ws s
   unfolding drains
-  by-shape b s ws P bad good = go (shapeOk m levels (length ws))
-    where
-      go : (t : Bool) → P (cond t (drainFrom m levels b 0 s ws) (drainOutcome (Refused BadShape) 0 false ws s))
-      go true = good
-      go false = bad
+  drain-bad b s ws e = rw e
 
-  good-shape : (b : ℕ) (s : State) (ws : List ℕ) → Shape m levels (length ws) → drains m levels b s ws ≡ drainFrom m levels b 0 s ws
+  drain-good : (b : ℕ) (s : State) (ws : List ℕ) → shapeOk m levels (length ws) ≡ true → drains m levels b s ws ≡ drainFrom m levels b 0 s ws
   unfolding drains
-  good-shape b s ws sh = rw (is-shape m levels (length ws) sh)
+  drain-good b s ws e = rw e
+
+  by-shape : (b : ℕ) (s : State) (ws : List ℕ) (P : DrainOutcome → Type 0) → P (drainOutcome (Refused BadShape) 0 false ws s)
+      → ((d : DrainOutcome) → Ends m levels b 0 s ws d → P d) → P (drains m levels b s ws)
+  by-shape b s ws P bad good = go (shapeOk m levels (length ws)) refl
+    where
+      go : (t : Bool) → shapeOk m levels (length ws) ≡ t → P (drains m levels b s ws)
+      go true e = subst P (sym (drain-good b s ws e)) (good _ (ends b 0 s ws e))
+      go false e = subst P (sym (drain-bad b s ws e)) bad
+
+  ran-so-many : (b : ℕ) (s : State) (ws : List ℕ) (d : DrainOutcome) (e : Ends m levels b 0 s ws d) → e .more ≡ d .cycles
+  ran-so-many b s ws d e = omega (arith, e .counts)
 
   module _ (b : ℕ) (s : State) (ws : List ℕ) where
-    ran-so-many : drainFrom m levels b 0 s ws .cycles ≡ ends b 0 s ws .more
-    ran-so-many = omega (arith, ends b 0 s ws .counts)
-
     -- DRAIN-STATE: "The state left is that of exactly so many idle cycles", whatever is drained
     pub drain-state : (drains m levels b s ws .words ≡ idles m levels (drains m levels b s ws .cycles) s ws .words)
         × (drains m levels b s ws .state ≡ idles m levels (drains m levels b s ws .cycles) s ws .state)
-    unfolding runs
+    unfolding leaves
     drain-state =
         by-shape b s ws (λ d. (d .words ≡ idles m levels (d .cycles) s ws .words) × (d .state ≡ idles m levels (d .cycles) s ws .state)) (refl, refl)
-        (ends b 0 s ws .words ∙ ap (λ (k : ℕ). idles m levels k s ws .words) (sym ran-so-many), ends b 0 s ws .state ∙ ap (λ (k : ℕ). idles m levels k s ws .state) (sym ran-so-many))
+        (λ d e. (e .words ∙ ap (λ (k : ℕ). idles m levels k s ws .words) (ran-so-many b s ws d e), e .state ∙ ap (λ (k : ℕ). idles m levels k s ws .state) (ran-so-many b s ws d e)))
 
     -- "none is run once nothing is pending", and none past the budget
     pub drain-needed : (j : ℕ) → j < drains m levels b s ws .cycles → pending m levels (idles m levels j s ws .state) ≡ true
     drain-needed =
         by-shape b s ws (λ d. (j : ℕ) → j < d .cycles → pending m levels (idles m levels j s ws .state) ≡ true) (λ j h. absurd (not-suc-le-zero h))
-        (λ j h. ends b 0 s ws .needed j (omega (arith, ran-so-many)))
+        (λ d e j h. e .needed j (omega (arith, ran-so-many b s ws d e)))
 
     pub drain-within : drains m levels b s ws .cycles ≤ b
-    drain-within = by-shape b s ws (λ d. d .cycles ≤ b) (omega arith) (omega (arith, ran-so-many, ends b 0 s ws .within))
+    drain-within = by-shape b s ws (λ d. d .cycles ≤ b) (omega arith) (λ d e. omega (arith, ran-so-many b s ws d e, e .within))
+
+    -- DRAIN-RAN: "reports the cycles already run": each of them ran unrefused
+    pub drain-ran : (j : ℕ) → j < drains m levels b s ws .cycles → numberOf (ticked m levels Idle (idles m levels j s ws .state) (idles m levels j s ws .words) .answer) ≡ 0
+    drain-ran =
+        by-shape b s ws (λ d. (j : ℕ) → j < d .cycles → numberOf (idle-answer m levels (idles m levels j s ws .state) (idles m levels j s ws .words)) ≡ 0)
+        (λ j h. absurd (not-suc-le-zero h)) (λ d e j h. e .unrefused j (omega (arith, ran-so-many b s ws d e)))
 
     module _ (sh : Shape m levels (length ws)) where
+      drained : Ends m levels b 0 s ws (drains m levels b s ws)
+      drained = subst (Ends m levels b 0 s ws) (sym (drain-good b s ws (is-shape m levels (length ws) sh))) (ends b 0 s ws (is-shape m levels (length ws) sh))
+
+      -- DRAIN-ENDS: done, with no work left or the budget spent; or stopped at 2 with work left, where the cycle after exactly so many meets damage
+      pub drain-ends : End m levels b (drains m levels b s ws .cycles) s ws (drains m levels b s ws)
+      drain-ends = subst (λ (n : ℕ). End m levels b n s ws (drains m levels b s ws)) (ran-so-many b s ws _ drained) (drained .end)
+
       -- "whether work is left"
       pub drain-left : drains m levels b s ws .left ≡ pending m levels (drains m levels b s ws .state)
-      drain-left = subst (λ (d : DrainOutcome). d .left ≡ pending m levels (d .state)) (sym (good-shape b s ws sh)) (ends b 0 s ws .left)
-
-      -- .. and there is, where damage stops it
-      pub drain-stopped : isRefused (drains m levels b s ws .answer) ≡ true → drains m levels b s ws .left ≡ true
-      drain-stopped r =
-          ap (λ (d : DrainOutcome). d .left) (good-shape b s ws sh)
-          ∙ ends b 0 s ws .stopped (ap (λ (d : DrainOutcome). isRefused (d .answer)) (sym (good-shape b s ws sh)) ∙ r)
+      drain-left = drained .left
 
       -- with work left and no damage the budget is spent
-      pub drain-spent : isRefused (drains m levels b s ws .answer) ≡ false → drains m levels b s ws .left ≡ true → drains m levels b s ws .cycles ≡ b
-      drain-spent r l =
-          ap (λ (d : DrainOutcome). d .cycles) (good-shape b s ws sh) ∙ ran-so-many
-          ∙ ends b 0 s ws .spent (ap (λ (d : DrainOutcome). isRefused (d .answer)) (sym (good-shape b s ws sh)) ∙ r) (ap (λ (d : DrainOutcome). d .left) (sym (good-shape b s ws sh)) ∙ l)
+      pub drain-spent : numberOf (drains m levels b s ws .answer) ≡ 0 → drains m levels b s ws .left ≡ true → drains m levels b s ws .cycles ≡ b
+      drain-spent r l = go drain-ends
+        where
+          go : End m levels b (drains m levels b s ws .cycles) s ws (drains m levels b s ws) → drains m levels b s ws .cycles ≡ b
+          go (done a f) = f l
+          go (jammed a f j) = absurd (zero-told Damaged (sym r ∙ ap numberOf a))
 
       -- DRAIN-COUNT: where no cycle is refused and n idle cycles are those until nothing is pending, the count is n capped by the budget
-      pub drain-count : isRefused (drains m levels b s ws .answer) ≡ false → (n : ℕ) → pending m levels (idles m levels n s ws .state) ≡ false
+      pub drain-count : numberOf (drains m levels b s ws .answer) ≡ 0 → (n : ℕ) → pending m levels (idles m levels n s ws .state) ≡ false
           → ((j : ℕ) → j < n → pending m levels (idles m levels j s ws .state) ≡ true) → drains m levels b s ws .cycles ≡ capped b n
-      drain-count r n done before = go (leb n b) refl (d .left) refl
+      drain-count r n quiet before = go (leb n b) refl (d .left) refl
         where
           d : DrainOutcome
           d = drains m levels b s ws
 
           most : n < d .cycles → ⊥
-          most h = true≢false (sym (drain-needed n h) ∙ done)
+          most h = true≢false (sym (drain-needed n h) ∙ quiet)
 
           least : d .left ≡ false → d .cycles < n → ⊥
           least l h = true≢false (sym (before (d .cycles) h) ∙ ap (pending m levels) (sym (drain-state .1)) ∙ sym drain-left ∙ l)
@@ -219,136 +263,67 @@ module _ (m levels : ℕ) where
           go false e true l = drain-spent r l
           go false e false l = let k : n ≤ d .cycles = not-less (least l) in absurd (omega (arith, leb-false n b e, drain-within))
 
--- ---- exactly: a drain is refused for the shape, or where an idle cycle within the budget meets damage
-is-refused : (n : Refusal) → isRefused (Refused n) ≡ true
-unfolding isRefused
-is-refused n = refl
+-- ---- EXACTLY: a drain is refused for the shape, or where an idle cycle within the budget meets damage, and leaves behind what the rule says
+idles-shape : (m levels n : ℕ) (s : State) (ws : List ℕ) → Shape m levels (length ws) → Shape m levels (length (idles m levels n s ws .words))
+idles-shape m levels n s ws =
+    leaves-keep (clockedQueue m levels) (λ x. Shape m levels (length (x .words))) (λ r x. subst (Shape m levels) (sym (ticked-length m levels r (x .state) (x .words)))) (replicate n Idle) _
 
--- an idle cycle is refused for no other cause
-idle-damaged : (m levels : ℕ) (s : State) (ws : List ℕ) → Shape m levels (length ws) → isRefused (ticked m levels Idle s ws .answer) ≡ true
-    → (ticked m levels Idle s ws .answer ≡ Refused Damaged) × CycleDamage m levels Idle s ws
-idle-damaged m levels s ws sh p = go (sound m levels Idle s ws) refl
-  where
-    e : shapeOk m levels (length ws) ≡ true
-    e = is-shape m levels (length ws) sh
+module _ (m levels b : ℕ) (s : State) (ws : List ℕ) where
+  abbrev d : DrainOutcome
+  d = drains m levels b s ws
 
-    go : (b : Bool) → sound m levels Idle s ws ≡ b → (ticked m levels Idle s ws .answer ≡ Refused Damaged) × CycleDamage m levels Idle s ws
-    go false f = (ap (λ (c : CycleOutcome). c .answer) (ticked-damaged m levels Idle s ws e f), damage-fails m levels Idle s ws .found f)
-    go true f = absurd (true≢false (sym p ∙ ap (λ (c : CycleOutcome). isRefused (c .answer)) (ticked-fine m levels Idle s ws e f) ∙ idle-accepts m levels s ws))
+  abbrev says : DrainOutcome → ℕ
+  says d = numberOf (d .answer)
 
--- every cycle keeps the slice's length
-pub ticked-length : (m levels : ℕ) (r : Request) (s : State) (ws : List ℕ) → length (ticked m levels r s ws .words) ≡ length ws
-unfolding turned
-ticked-length m levels r s ws = go (shapeOk m levels (length ws)) refl (sound m levels r s ws) refl
-  where
-    turned-length : length (turned m levels r (hearing m levels r s ws) s ws .words) ≡ length ws
-    turned-length = cycle-length m (suc (pred levels)) _ 0 1 ws
+  abbrev left : Refusal → DrainOutcome
+  left = drainLeft m levels (d .cycles) s ws
 
-    go : (a : Bool) → shapeOk m levels (length ws) ≡ a → (b : Bool) → sound m levels r s ws ≡ b → length (ticked m levels r s ws .words) ≡ length ws
-    go false e b f = ap (λ (c : CycleOutcome). length (c .words)) (ticked-bad m levels r s ws e)
-    go true e false f = ap (λ (c : CycleOutcome). length (c .words)) (ticked-damaged m levels r s ws e f)
-    go true e true f = ap (λ (c : CycleOutcome). length (c .words)) (ticked-fine m levels r s ws e f) ∙ turned-length
-
-module _ (m levels : ℕ) where
-  next-shape : (s : State) (ws : List ℕ) → Shape m levels (length ws) → Shape m levels (length (ticked m levels Idle s ws .words))
-  next-shape s ws sh = subst (λ (n : ℕ). Shape m levels n) (sym (ticked-length m levels Idle s ws)) sh
-
-  -- what refuses a drain
-  jam-here : (b : ℕ) (s : State) (ws : List ℕ) → Shape m levels (length ws) → pending m levels s ≡ true → isRefused (ticked m levels Idle s ws .answer) ≡ true → Jams m levels (suc b) s ws
-  unfolding runs
-  jam-here b s ws sh on r = record { cycles = 0; within = omega arith; waits = λ j h. still j h; damage = idle-damaged m levels s ws sh r .1 }
+  -- a drain that is done has met no damage that it could meet
+  no-jam : Shape m levels (length ws) → d .answer ≡ Done → (d .left ≡ true → d .cycles ≡ b) → (n : ℕ) × Jams m levels b n s ws → ⊥
+  no-jam sh a l (n, j) = go (ltb n (d .cycles)) refl
     where
-      still : (j : ℕ) → j ≤ 0 → pending m levels (idles m levels j s ws .state) ≡ true
-      still zero h = on
-      still (suc j) h = absurd (not-suc-le-zero h)
+      x : State
+      x = idles m levels n s ws .state
 
-  jam-later : (b : ℕ) (s : State) (ws : List ℕ) → pending m levels s ≡ true → Jams m levels b (ticked m levels Idle s ws .state) (ticked m levels Idle s ws .words) → Jams m levels (suc b) s ws
-  unfolding runs
-  jam-later b s ws on i = record { cycles = suc (i .cycles); within = omega (arith, i .within); waits = λ j h. still j h; damage = i .damage }
+      v : List ℕ
+      v = idles m levels n s ws .words
+
+      go : (t : Bool) → ltb n (d .cycles) ≡ t → ⊥
+      go true e =
+          zero-told Damaged (sym (drain-ran m levels b s ws n (ltb-true n (d .cycles) e))
+          ∙ ap (λ (c : CycleOutcome). numberOf (c .answer)) (exactly-cycle m levels Idle x v .always Damaged (inr (idles-shape m levels n s ws sh, inl (j .damage, refl)))))
+      go false e =
+          let waits : d .left ≡ true = drain-left m levels b s ws sh ∙ ap (pending m levels) (drain-state m levels b s ws .1) ∙ j .waits (d .cycles) (ltb-false n (d .cycles) e) in
+          omega (arith, l waits, j .within, ltb-false n (d .cycles) e)
+
+  pub exactly-drain : Exactly says left d (drainRefusals m levels b s ws)
+  unfolding leaves
+  exactly-drain = climb-by says left refusal-told BadShape _ _ _ (go (shapeOk m levels (length ws)) refl)
     where
-      still : (j : ℕ) → j ≤ suc (i .cycles) → pending m levels (idles m levels j s ws .state) ≡ true
-      still zero h = on
-      still (suc j) h = i .waits j (omega arith)
+      by-end : Shape m levels (length ws) → End m levels b (d .cycles) s ws d → (((n : ℕ) × Jams m levels b n s ws → ⊥) × Exactly says left d fine) ⊎ (((n : ℕ) × Jams m levels b n s ws) × (d ≡ left Damaged))
+      by-end sh (done a l) = inl (no-jam sh a l, climb-fine says left _ (λ r e. zero-told r (ap numberOf (sym a) ∙ e)))
+      by-end sh (jammed a l j) =
+          let st = drain-state m levels b s ws in
+          inr ((d .cycles, j), λ i. record { answer = a i; cycles = d .cycles; left = l i; words = st .0 i; state = st .1 i })
 
-  -- each way: by the budget
-  drain-only : (b n : ℕ) (s : State) (ws : List ℕ) → Shape m levels (length ws) → (k : Refusal) → drainFrom m levels b n s ws .answer ≡ Refused k → (k ≡ Damaged) × Jams m levels b s ws
-  unfolding drainFrom
-  drain-only zero n s ws sh k p = absurd (no-refusal-done k p)
-  drain-only (suc b) n s ws sh k p =
-      go (pending m levels s) refl (isRefused (ticked m levels Idle s ws .answer)) refl p (drain-only b (suc n) (ticked m levels Idle s ws .state) (ticked m levels Idle s ws .words) (next-shape s ws sh) k)
-    where
-      jam : DrainOutcome
-      jam = drainOutcome (ticked m levels Idle s ws .answer) n true (ticked m levels Idle s ws .words) (ticked m levels Idle s ws .state)
-
-      on : DrainOutcome
-      on = drainFrom m levels b (suc n) (ticked m levels Idle s ws .state) (ticked m levels Idle s ws .words)
-
-      go : (a : Bool) → pending m levels s ≡ a → (t : Bool) → isRefused (ticked m levels Idle s ws .answer) ≡ t → cond a (cond t jam on) (drainOutcome Done n false ws s) .answer ≡ Refused k
-          → (on .answer ≡ Refused k → (k ≡ Damaged) × Jams m levels b (ticked m levels Idle s ws .state) (ticked m levels Idle s ws .words)) → (k ≡ Damaged) × Jams m levels (suc b) s ws
-      go false e t f p ih = absurd (no-refusal-done k p)
-      go true e true f p ih = (same-number (sym p ∙ idle-damaged m levels s ws sh f .0), jam-here b s ws sh e f)
-      go true e false f p ih = let i = ih p in (i .0, jam-later b s ws e (i .1))
-
-  drain-if : (b n : ℕ) (s : State) (ws : List ℕ) → Shape m levels (length ws) → Jams m levels b s ws → drainFrom m levels b n s ws .answer ≡ Refused Damaged
-  unfolding drainFrom runs
-  drain-if zero n s ws sh j = absurd (not-suc-le-zero (j .within))
-  drain-if (suc b) n s ws sh j =
-      go (pending m levels s) refl (isRefused (ticked m levels Idle s ws .answer)) refl (j .cycles) (j .within) (j .waits) (j .damage)
-      (drain-if b (suc n) (ticked m levels Idle s ws .state) (ticked m levels Idle s ws .words) (next-shape s ws sh))
-    where
-      jam : DrainOutcome
-      jam = drainOutcome (ticked m levels Idle s ws .answer) n true (ticked m levels Idle s ws .words) (ticked m levels Idle s ws .state)
-
-      on : DrainOutcome
-      on = drainFrom m levels b (suc n) (ticked m levels Idle s ws .state) (ticked m levels Idle s ws .words)
-
-      go : (a : Bool) → pending m levels s ≡ a → (t : Bool) → isRefused (ticked m levels Idle s ws .answer) ≡ t
-          → (c : ℕ) → c < suc b → ((j : ℕ) → j ≤ c → pending m levels (idles m levels j s ws .state) ≡ true) → CycleDamage m levels Idle (idles m levels c s ws .state) (idles m levels c s ws .words)
-          → (Jams m levels b (ticked m levels Idle s ws .state) (ticked m levels Idle s ws .words) → on .answer ≡ Refused Damaged)
-          → cond a (cond t jam on) (drainOutcome Done n false ws s) .answer ≡ Refused Damaged
-      go false e t f c h w d ih = absurd (true≢false (sym (w 0 (omega arith)) ∙ e))
-      go true e true f c h w d ih = idle-damaged m levels s ws sh f .0
-      go true e false f zero h w d ih =
-          absurd (true≢false (sym (ap isRefused (exactly-cycle m levels Idle s ws Damaged .1 (sh, d)) ∙ is-refused Damaged) ∙ f))
-      go true e false f (suc c) h w d ih = ih (record { cycles = c; within = omega arith; waits = λ j l. w (suc j) (omega arith); damage = d })
-
-  -- EXACTLY, for a drain
-  exactly-drain-only : (b : ℕ) (s : State) (ws : List ℕ) (k : Refusal) → drains m levels b s ws .answer ≡ Refused k → DrainCause m levels b s ws k
-  unfolding drains
-  exactly-drain-only b s ws k p = go (shapeOk m levels (length ws)) refl p
-    where
-      go : (t : Bool) → shapeOk m levels (length ws) ≡ t → cond t (drainFrom m levels b 0 s ws) (drainOutcome (Refused BadShape) 0 false ws s) .answer ≡ Refused k → DrainCause m levels b s ws k
-      go false e p = subst (DrainCause m levels b s ws) (same-number p) (λ sh. true≢false (sym (is-shape m levels (length ws) sh) ∙ e))
-      go true e p =
+      go : (t : Bool) → shapeOk m levels (length ws) ≡ t
+          → (Shape m levels (length ws) × Exactly says left d (stop Damaged ((n : ℕ) × Jams m levels b n s ws) fine)) ⊎ ((Shape m levels (length ws) → ⊥) × (d ≡ left BadShape))
+      go true e =
           let sh = shape-is m levels (length ws) e in
-          let d = drain-only b 0 s ws sh k p in
-          subst (DrainCause m levels b s ws) (sym (d .0)) (sh, d .1)
+          inl (sh, climb-stop says left refusal-told Damaged _ _ fine (by-end sh (drain-ends m levels b s ws sh)))
+      go false e = inr ((λ sh. true≢false (sym (is-shape m levels (length ws) sh) ∙ e)), drain-bad m levels b s ws e)
 
-  exactly-drain-if : (b : ℕ) (s : State) (ws : List ℕ) (k : Refusal) → DrainCause m levels b s ws k → drains m levels b s ws .answer ≡ Refused k
-  unfolding drains
-  exactly-drain-if b s ws BadShape c = go (shapeOk m levels (length ws)) refl
-    where
-      go : (t : Bool) → shapeOk m levels (length ws) ≡ t → cond t (drainFrom m levels b 0 s ws) (drainOutcome (Refused BadShape) 0 false ws s) .answer ≡ Refused BadShape
-      go true e = absurd (c (shape-is m levels (length ws) e))
-      go false e = refl
-  exactly-drain-if b s ws Damaged c = ap (λ (d : DrainOutcome). d .answer) (good-shape m levels b s ws (c .0)) ∙ drain-if b 0 s ws (c .0) (c .1)
-  exactly-drain-if b s ws TooSoon c = absurd c
-  exactly-drain-if b s ws BadRank c = absurd c
-  exactly-drain-if b s ws Full c = absurd c
-  exactly-drain-if b s ws Empty c = absurd c
+  -- "Drain stops at 2 and reports the cycles already run, work left; at 1 it reports 0 and no work left"
+  pub drain-refused : (n : Refusal) → numberOf (d .answer) ≡ refusalNumber n → d ≡ left n
+  drain-refused = left-behind says left exactly-drain
 
-  pub exactly-drain : (b : ℕ) (s : State) (ws : List ℕ) (k : Refusal)
-      → (drains m levels b s ws .answer ≡ Refused k → DrainCause m levels b s ws k) × (DrainCause m levels b s ws k → drains m levels b s ws .answer ≡ Refused k)
-  exactly-drain b s ws k = (exactly-drain-only b s ws k, exactly-drain-if b s ws k)
-
-  -- 01's fixed values: at 1 no cycle and no work left, and everything stands; at 2 the cycles run, work left
-  pub drain-bad : (b : ℕ) (s : State) (ws : List ℕ) → (Shape m levels (length ws) → ⊥) → drains m levels b s ws ≡ drainOutcome (Refused BadShape) 0 false ws s
-  unfolding drains
-  drain-bad b s ws bad = go (shapeOk m levels (length ws)) refl
-    where
-      go : (t : Bool) → shapeOk m levels (length ws) ≡ t → cond t (drainFrom m levels b 0 s ws) (drainOutcome (Refused BadShape) 0 false ws s) ≡ drainOutcome (Refused BadShape) 0 false ws s
-      go true e = absurd (bad (shape-is m levels (length ws) e))
-      go false e = refl
+-- KIND: a drain that is not refused is done
+pub drain-kind : (m levels b : ℕ) (s : State) (ws : List ℕ) → numberOf (drains m levels b s ws .answer) ≡ 0 → drains m levels b s ws .answer ≡ Done
+drain-kind m levels b s ws = by-shape m levels b s ws (λ d. numberOf (d .answer) ≡ 0 → d .answer ≡ Done) (λ e. absurd (omega arith)) (λ d x. go d (x .end))
+  where
+    go : (d : DrainOutcome) {more : ℕ} → End m levels b more s ws d → numberOf (d .answer) ≡ 0 → d .answer ≡ Done
+    go d (done a l) e = a
+    go d (jammed a l j) e = absurd (zero-told Damaged (sym e ∙ ap numberOf a))
 
 -- ---- DRAIN-FEW: whatever the state and the budget, no more cycles are run than there are levels from 2: each leaves one more level with
 -- nothing to do
@@ -357,40 +332,18 @@ module _ (m levels : ℕ) where
   unfolding turned
   turned-records s ws = after-length m (pred levels) _ 0 (s .records) (under m (pred levels) ws 0 1)
 
-  -- an idle cycle that is not refused
-  idle-turns : (s : State) (ws : List ℕ) → isRefused (ticked m levels Idle s ws .answer) ≡ false → ticked m levels Idle s ws ≡ turned m levels Idle (ruling Done Nothing) s ws
-  idle-turns s ws p = go (shapeOk m levels (length ws)) refl (sound m levels Idle s ws) refl
-    where
-      refused : (n : Refusal) → ticked m levels Idle s ws ≡ cycleOutcome (Refused n) ws s → ⊥
-      refused n e = true≢false (sym (ap (λ (c : CycleOutcome). isRefused (c .answer)) e ∙ is-refused n) ∙ p)
-
-      go : (a : Bool) → shapeOk m levels (length ws) ≡ a → (b : Bool) → sound m levels Idle s ws ≡ b → ticked m levels Idle s ws ≡ turned m levels Idle (ruling Done Nothing) s ws
-      go false e b f = absurd (refused BadShape (ticked-bad m levels Idle s ws e))
-      go true e false f = absurd (refused Damaged (ticked-damaged m levels Idle s ws e f))
-      go true e true f = ticked-fine m levels Idle s ws e f ∙ ap (λ (g : Ruling). turned m levels Idle g s ws) (idle-ruling (s .mark) (room m levels) (rootOf m ws))
-
-  few-from : (b n j c : ℕ) (s : State) (ws : List ℕ) → pred levels ≤ length (s .records) → pred levels ≤ j + c → lead m levels j s → drainFrom m levels b n s ws .cycles ≤ n + c
-  unfolding drainFrom
-  few-from zero n j c s ws len l h = omega arith
-  few-from (suc b) n j c s ws len l h = go (pending m levels s) refl (isRefused (ticked m levels Idle s ws .answer)) refl c l (λ c. few-from b (suc n) (suc j) c (ticked m levels Idle s ws .state) (ticked m levels Idle s ws .words))
-    where
-      jam : DrainOutcome
-      jam = drainOutcome (ticked m levels Idle s ws .answer) n true (ticked m levels Idle s ws .words) (ticked m levels Idle s ws .state)
-
-      on : DrainOutcome
-      on = drainFrom m levels b (suc n) (ticked m levels Idle s ws .state) (ticked m levels Idle s ws .words)
-
-      go : (p : Bool) → pending m levels s ≡ p → (t : Bool) → isRefused (ticked m levels Idle s ws .answer) ≡ t → (c : ℕ) → pred levels ≤ j + c
-          → ((c : ℕ) → pred levels ≤ length (ticked m levels Idle s ws .state .records) → pred levels ≤ suc j + c → lead m levels (suc j) (ticked m levels Idle s ws .state) → on .cycles ≤ suc n + c)
-          → cond p (cond t jam on) (drainOutcome Done n false ws s) .cycles ≤ n + c
-      go false e t f c l ih = omega arith
-      go true e true f c l ih = omega arith
-      go true e false f zero l ih = absurd (true≢false (sym e ∙ ap not (lead-quiet j (pred levels) (worksOf (pred levels) (s .records) 0) (omega arith) h)))
-      go true e false f (suc c) l ih =
-          let turns = idle-turns s ws f in
-          let i = ih c (omega (arith, ap (λ (o : CycleOutcome). length (o .state .records)) turns, turned-records s ws)) (omega arith)
-          (subst (λ (o : CycleOutcome). lead m levels (suc j) (o .state)) (sym turns) (turned-lead m levels j s ws len h)) in
-          omega arith
+  lead-along : (j i : ℕ) (s : State) (ws : List ℕ) → pred levels ≤ length (s .records) → lead m levels i s
+      → ((t : ℕ) → t < j → numberOf (idle-answer m levels (idles m levels t s ws .state) (idles m levels t s ws .words)) ≡ 0) → lead m levels (i + j) (idles m levels j s ws .state)
+  unfolding leaves
+  lead-along zero i s ws len h ran = rw add-zero h
+  lead-along (suc j) i s ws len h ran =
+      let turns = idle-turns m levels s ws (ran 0 (omega arith)) in
+      let at : i + suc j ≡ suc i + j = omega arith in
+      rw at (lead-along j (suc i) (ticked m levels Idle s ws .state) (ticked m levels Idle s ws .words)
+      (omega (arith, ap (λ (o : CycleOutcome). length (o .state .records)) turns, turned-records s ws))
+      (subst (λ (o : CycleOutcome). lead m levels (suc i) (o .state)) (sym turns) (turned-lead m levels i s ws len h)) (λ t l. ran (suc t) (omega arith)))
 
   pub drain-few : (b : ℕ) (s : State) (ws : List ℕ) → pred levels ≤ length (s .records) → drains m levels b s ws .cycles ≤ pred levels
-  drain-few b s ws len = by-shape m levels b s ws (λ d. d .cycles ≤ pred levels) (omega arith) (omega (arith, few-from b 0 0 (pred levels) s ws len (omega arith) tt))
+  drain-few b s ws len =
+      not-less (λ h. true≢false (sym (drain-needed m levels b s ws (pred levels) h)
+      ∙ ap not (lead-quiet (pred levels) (pred levels) _ (omega arith) (rw zero-add at (lead-along (pred levels) 0 s ws len tt (λ t l. drain-ran m levels b s ws t (omega arith)))))))

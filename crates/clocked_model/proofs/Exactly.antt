@@ -1,34 +1,41 @@
 -- Every refusal of a cycle is given exactly for its cause, and leaves behind what the table says. Assumes nothing.
 use Prim.Native.Nat.{_≤_, pred, suc, zero, ℕ}
+use native.Mathlib.Omega.{arith}
 use mathlib.Core.Bool.{_&&_, Bool, cond, false, false≢true, not, true, true≢false}
 use mathlib.Core.List.{List}
 use mathlib.Core.Logic.{_⊎_, inl, inr}
-use mathlib.Core.Path.{_∙_, _≡_, ap, ap₂, refl, subst, sym}
+use mathlib.Core.Path.{_∙_, _≡_, ap, refl, subst, sym}
 use lib.ListN.{length}
 use Rattle.clocked_model.proofs.Step.{idle-ruling}
 use Rattle.clocked_model.specs.Calls.{askedOk, asks, CycleOutcome, cycleOutcome, cycleWork, heard, hearing, isRefused, marks, popsOrReplaces, stepsOk, ticked, turned}
-use Rattle.clocked_model.specs.Cycle.{cycleOk, cycleWords, Works}
-use Rattle.clocked_model.specs.Promise.{Asks, CycleCause, CycleDamage, PopsOrReplaces, WorksDamaged}
-use Rattle.clocked_model.specs.Records.{recordsAfter}
+use Rattle.clocked_model.specs.Cycle.{cycleOk, Works}
+use Rattle.clocked_model.specs.Promise.{Asks, CycleDamage, cycleLeft, cycleRefusals, PopsOrReplaces, runsIdle, WorksDamaged}
 use Rattle.clocked_model.specs.declared.State.{State}
 use Rattle.laws.specs.Fails.{Fails, fails-and, fails-or, fails-true}
-use Rattle.laws.specs.Tests.{and-left, and-right, and-true}
+use Rattle.laws.specs.Ladder.{climb-by, climb-stop, Exactly, Ladder, left-behind, stop}
+use Rattle.laws.specs.Ladder as ladder
+use Rattle.laws.specs.Means.{Iff}
+use Rattle.laws.specs.Tests.{and-left, and-right, and-true, cond-both}
+use Rattle.promise.specs.Queue.{leaves}
+use Rattle.promise.specs.Refused.{IsPush, limits, refusal-told, zero-told}
+use Rattle.promise.specs.Served.{Kind}
+use Rattle.strip.specs.Answers.{numberOf, refusalNumber}
 use Rattle.strip.specs.declared.Answer.{Answer}
-use Rattle.strip.specs.declared.Answer.the-variants.{Done, Refused}
+use Rattle.strip.specs.declared.Answer.the-variants.{Done, Out, Refused}
 use Rattle.strip.specs.declared.Refusal.{Refusal}
-use Rattle.strip.specs.declared.Refusal.the-variants.{BadRank, BadShape, Damaged, Empty, Full, TooSoon}
+use Rattle.strip.specs.declared.Refusal.the-variants.{BadShape, Damaged, Empty, Full, TooSoon}
 use Rattle.strip.specs.declared.Request.{Request}
 use Rattle.strip.specs.declared.Request.the-variants.{Idle, Pop, Push, Replace}
-use Rattle.tree_model.proofs.Exactly.{accepted, empty, empty-answer, full, full-answer, is-shape, no-refusal-done, node-fails, refused-idle, root-limit, Ruled, ruled-as, shape-is, work-fails}
-use Rattle.tree_model.specs.Calls.{rootOf, rootOk, rule, Ruling, ruling, shapeOk, verdict}
+use Rattle.tree_model.proofs.Exactly.{comes-kind, is-shape, limits-exactly, node-fails, root-limit, shape-is, work-fails}
+use Rattle.tree_model.proofs.Rules.{comes}
+use Rattle.tree_model.specs.Calls.{rootOf, rootOk, Ruling, ruling, shapeOk, verdict}
 use Rattle.tree_model.specs.Damage.{fine, room}
 use Rattle.tree_model.specs.Levels.{Levels, top, work}
-use Rattle.tree_model.specs.Node.{sumCounts}
-use Rattle.tree_model.specs.Promise.{IsPop, IsPush, Shape}
-use Rattle.tree_model.specs.Words.{levelsOf, restWords, under}
+use Rattle.tree_model.specs.Node.{isNothing, sumCounts}
+use Rattle.tree_model.specs.Promise.{Shape}
+use Rattle.tree_model.specs.Words.{levelsOf}
 use Rattle.tree_model.specs.declared.Op.{Op}
 use Rattle.tree_model.specs.declared.Op.the-variants.{Nothing}
-use Rattle.tree_model.specs.declared.Slot.{Slot}
 
 pub works-fails : (m k : ℕ) (p : Works k) (ls : Levels k) → Fails (cycleOk m k p ls) (WorksDamaged m k p ls)
 unfolding cycleOk
@@ -56,22 +63,9 @@ so-pops (Push x) d = absurd d
 so-pops Pop d = refl
 so-pops (Replace x) d = refl
 
-push-not : (r : Request) → IsPush r → popsOrReplaces r ≡ false
-unfolding popsOrReplaces
-push-not Idle d = absurd d
-push-not (Push x) d = refl
-push-not Pop d = absurd d
-push-not (Replace x) d = absurd d
-
-pub same-number : {a b : Refusal} → _≡_ {A = Answer} (Refused a) (Refused b) → a ≡ b
-same-number {a} {b} e = cc
-
 module _ (m levels : ℕ) (r : Request) (s : State) (ws : List ℕ) where
   abbrev g : Ruling
   g = hearing m levels r s ws
-
-  abbrev A : Answer
-  A = ticked m levels r s ws .answer
 
   abbrev pub sound : Bool
   sound = askedOk m levels r ws && stepsOk m levels (g .op) s ws
@@ -89,21 +83,21 @@ module _ (m levels : ℕ) (r : Request) (s : State) (ws : List ℕ) where
   unfolding ticked
   ticked-fine e f = rw (e, f)
 
+  -- what is so of a cycle refused for the shape or for damage, and of one that ran, is so of the cycle
+  pub ticked-either : (P : CycleOutcome → Type 0) → P (cycleOutcome (Refused BadShape) ws s) → P (cycleOutcome (Refused Damaged) ws s)
+      → (shapeOk m levels (length ws) ≡ true → sound ≡ true → P (turned m levels r g s ws)) → P (ticked m levels r s ws)
+  ticked-either P bad damaged fine = go (shapeOk m levels (length ws)) refl sound refl
+    where
+      go : (a : Bool) → shapeOk m levels (length ws) ≡ a → (b : Bool) → sound ≡ b → P (ticked m levels r s ws)
+      go false e b f = subst P (sym (ticked-bad e)) bad
+      go true e false f = subst P (sym (ticked-damaged e f)) damaged
+      go true e true f = subst P (sym (ticked-fine e f)) (fine e f)
+
   pub damage-fails : Fails sound (CycleDamage m levels r s ws)
   damage-fails =
       fails-and (askedOk m levels r ws) (stepsOk m levels (g .op) s ws)
       (fails-or (not (asks r)) (rootOk m levels ws) (asks-fails r) (node-fails (room m (pred levels)) (rootOf m ws)))
       (works-fails m (suc (pred levels)) (cycleWork m levels (g .op) s) (levelsOf m (suc (pred levels)) ws 0 1))
-
-  answer-of : (o : CycleOutcome) → ticked m levels r s ws ≡ o → A ≡ o .answer
-  answer-of o e = ap (λ (o : CycleOutcome). o .answer) e
-
-  turned-answer : turned m levels r g s ws .answer ≡ g .answer
-  unfolding turned
-  turned-answer = refl
-
-  fine-answer : shapeOk m levels (length ws) ≡ true → sound ≡ true → A ≡ g .answer
-  fine-answer e f = answer-of _ (ticked-fine e f) ∙ turned-answer
 
   pub no-damage-sound : (CycleDamage m levels r s ws → ⊥) → sound ≡ true
   no-damage-sound d = go sound refl
@@ -115,133 +109,12 @@ module _ (m levels : ℕ) (r : Request) (s : State) (ws : List ℕ) where
   pub sound-no-damage : sound ≡ true → CycleDamage m levels r s ws → ⊥
   sound-no-damage e d = true≢false (sym e ∙ damage-fails .shown d)
 
--- ---- what a request comes to where nothing is damaged
-rules-so : (m levels : ℕ) (r : Request) (ws : List ℕ) → (asks r ≡ true → sumCounts (rootOf m ws) ≤ room m levels) → Ruled m levels r ws (verdict m levels r ws .answer)
-unfolding asks rule
-rules-so m levels Idle ws h = accepted no-refusal-done
-rules-so m levels (Push x) ws h = ruled-as m levels ws (h refl) (Push x)
-rules-so m levels Pop ws h = ruled-as m levels ws (h refl) Pop
-rules-so m levels (Replace x) ws h = ruled-as m levels ws (h refl) (Replace x)
-
-heard-plain : (mark : Bool) (r : Request) (g : Ruling) → (mark && popsOrReplaces r) ≡ false → heard mark r g ≡ g
-unfolding heard
-heard-plain mark r g e = rw e
-
-heard-soon : (mark : Bool) (r : Request) (g : Ruling) → (mark && popsOrReplaces r) ≡ true → heard mark r g ≡ ruling (Refused TooSoon) Nothing
-unfolding heard
-heard-soon mark r g e = rw e
-
-module _ (m levels : ℕ) (r : Request) (s : State) (ws : List ℕ) where
-  abbrev B : Answer
-  B = ticked m levels r s ws .answer
-
-  root-holds : Shape m levels (length ws) → sound m levels r s ws ≡ true → asks r ≡ true → sumCounts (rootOf m ws) ≤ room m levels
-  root-holds sh e a = root-limit m levels ws (sh .some) (rw a at (and-left (askedOk m levels r ws) _ e))
-
-  fine-cause : Shape m levels (length ws) → (CycleDamage m levels r s ws → ⊥) → sound m levels r s ws ≡ true → (n : Refusal)
-      → heard (s .mark) r (verdict m levels r ws) .answer ≡ Refused n → CycleCause m levels r s ws n
-  fine-cause sh d e n p = go (s .mark) refl (popsOrReplaces r) refl
-    where
-      plain : (s .mark ≡ true → popsOrReplaces r ≡ true → ⊥) → Ruled m levels r ws (verdict m levels r ws .answer) → verdict m levels r ws .answer ≡ Refused n → CycleCause m levels r s ws n
-      plain off (accepted f) q = absurd (f n q)
-      plain off (full z a b) q = subst (CycleCause m levels r s ws) (same-number (sym z ∙ q)) (sh, d, a, b)
-      plain off (empty z a b) q = subst (CycleCause m levels r s ws) (same-number (sym z ∙ q)) (sh, d, a, mark-off (s .mark) off (pop-so r a), b)
-        where
-          mark-off : (b : Bool) → (b ≡ true → popsOrReplaces r ≡ true → ⊥) → popsOrReplaces r ≡ true → b ≡ false
-          mark-off true off p = absurd (off refl p)
-          mark-off false off p = refl
-
-          pop-so : (r : Request) → IsPop r → popsOrReplaces r ≡ true
-          pop-so Idle a = absurd a
-          pop-so (Push x) a = absurd a
-          pop-so Pop a = so-pops Pop tt
-          pop-so (Replace x) a = absurd a
-
-      go : (b : Bool) → s .mark ≡ b → (t : Bool) → popsOrReplaces r ≡ t → CycleCause m levels r s ws n
-      go true x true y =
-          subst (CycleCause m levels r s ws) (same-number (sym (ap (λ (g : Ruling). g .answer) (heard-soon (s .mark) r (verdict m levels r ws) (rw (x, y)))) ∙ p))
-          (sh, d, pops-so r y, x)
-      go false x t y =
-          plain (λ a b. true≢false (sym a ∙ x)) (rules-so m levels r ws (root-holds sh e)) (sym (ap (λ (g : Ruling). g .answer) (heard-plain (s .mark) r (verdict m levels r ws) (rw x))) ∙ p)
-      go true x false y =
-          plain (λ a b. true≢false (sym b ∙ y)) (rules-so m levels r ws (root-holds sh e)) (sym (ap (λ (g : Ruling). g .answer) (heard-plain (s .mark) r (verdict m levels r ws) (rw (x, y)))) ∙ p)
-
-  only : (n : Refusal) → B ≡ Refused n → CycleCause m levels r s ws n
-  only n p = go (shapeOk m levels (length ws)) refl (sound m levels r s ws) refl
-    where
-      go : (a : Bool) → shapeOk m levels (length ws) ≡ a → (b : Bool) → sound m levels r s ws ≡ b → CycleCause m levels r s ws n
-      go false e b f =
-          subst (CycleCause m levels r s ws) (same-number (sym (answer-of m levels r s ws _ (ticked-bad m levels r s ws e)) ∙ p)) (λ sh. true≢false (sym (is-shape m levels (length ws) sh) ∙ e))
-      go true e false f =
-          subst (CycleCause m levels r s ws) (same-number (sym (answer-of m levels r s ws _ (ticked-damaged m levels r s ws e f)) ∙ p))
-          (shape-is m levels (length ws) e, damage-fails m levels r s ws .found f)
-      go true e true f =
-          fine-cause (shape-is m levels (length ws) e) (sound-no-damage m levels r s ws f) f n (sym (fine-answer m levels r s ws e f) ∙ p)
-
-fine-refusal : (m levels : ℕ) (r : Request) (s : State) (ws : List ℕ) (n : Refusal) → Shape m levels (length ws) → (CycleDamage m levels r s ws → ⊥)
-    → heard (s .mark) r (verdict m levels r ws) .answer ≡ Refused n → ticked m levels r s ws .answer ≡ Refused n
-fine-refusal m levels r s ws n sh d p = fine-answer m levels r s ws (is-shape m levels (length ws) sh) (no-damage-sound m levels r s ws d) ∙ p
-
-refused-for : (m levels : ℕ) (r : Request) (s : State) (ws : List ℕ) (n : Refusal) → CycleCause m levels r s ws n → ticked m levels r s ws .answer ≡ Refused n
-refused-for m levels r s ws BadShape c = go (shapeOk m levels (length ws)) refl
-  where
-    go : (b : Bool) → shapeOk m levels (length ws) ≡ b → ticked m levels r s ws .answer ≡ Refused BadShape
-    go true e = absurd (c (shape-is m levels (length ws) e))
-    go false e = answer-of m levels r s ws _ (ticked-bad m levels r s ws e)
-refused-for m levels r s ws Damaged c =
-    answer-of m levels r s ws _ (ticked-damaged m levels r s ws (is-shape m levels (length ws) (c .0)) (damage-fails m levels r s ws .shown (c .1)))
-refused-for m levels r s ws TooSoon c =
-    fine-refusal m levels r s ws TooSoon (c .0) (c .1) (ap (λ (g : Ruling). g .answer) (heard-soon (s .mark) r (verdict m levels r ws) (rw (c .3, so-pops r (c .2)))))
-refused-for m levels r s ws BadRank c = absurd c
-refused-for m levels r s ws Full c =
-    fine-refusal m levels r s ws Full (c .0) (c .1)
-    (ap (λ (g : Ruling). g .answer) (heard-plain (s .mark) r (verdict m levels r ws) (off (s .mark))) ∙ full-answer m levels r ws (c .2) (c .3))
-  where
-    off : (b : Bool) → (b && popsOrReplaces r) ≡ false
-    off true = push-not r (c .2)
-    off false = refl
-refused-for m levels r s ws Empty c =
-    fine-refusal m levels r s ws Empty (c .0) (c .1)
-    (ap (λ (g : Ruling). g .answer) (heard-plain (s .mark) r (verdict m levels r ws) (rw (c .3))) ∙ empty-answer m levels r ws (c .2) (c .4))
-
--- EXACTLY: a cycle gives each refusal for its cause, and for that cause only
-pub exactly-cycle : (m levels : ℕ) (r : Request) (s : State) (ws : List ℕ) (n : Refusal)
-    → (ticked m levels r s ws .answer ≡ Refused n → CycleCause m levels r s ws n) × (CycleCause m levels r s ws n → ticked m levels r s ws .answer ≡ Refused n)
-exactly-cycle m levels r s ws n = (only m levels r s ws n, refused-for m levels r s ws n)
-
--- ---- LEFT BEHIND. 1 and 2: everything, mark and records too
-pub stands : (m levels : ℕ) (r : Request) (s : State) (ws : List ℕ) (n : Refusal) → (n ≡ BadShape) ⊎ (n ≡ Damaged) → ticked m levels r s ws .answer ≡ Refused n
-    → ticked m levels r s ws ≡ cycleOutcome (Refused n) ws s
-stands m levels r s ws n (inl e) p = go (shapeOk m levels (length ws)) refl
-  where
-    go : (b : Bool) → shapeOk m levels (length ws) ≡ b → ticked m levels r s ws ≡ cycleOutcome (Refused n) ws s
-    go true q = absurd (subst (CycleCause m levels r s ws) e (only m levels r s ws n p) (shape-is m levels (length ws) q))
-    go false q = ticked-bad m levels r s ws q ∙ ap (λ (n : Refusal). cycleOutcome (Refused n) ws s) (sym e)
-stands m levels r s ws n (inr e) p =
-    let c = subst (CycleCause m levels r s ws) e (only m levels r s ws n p) in
-    ticked-damaged m levels r s ws (is-shape m levels (length ws) (c .0)) (damage-fails m levels r s ws .shown (c .1)) ∙ ap (λ (n : Refusal). cycleOutcome (Refused n) ws s) (sym e)
-
--- a refused request has no work
-heard-idle : (mark : Bool) (r : Request) (c : ℕ) (nd : List Slot) (n : Refusal) → heard mark r (rule c r nd) .answer ≡ Refused n → heard mark r (rule c r nd) .op ≡ Nothing
-unfolding heard
-heard-idle mark r c nd n e = go (mark && popsOrReplaces r) e
-  where
-    go : (t : Bool) → cond t (ruling (Refused TooSoon) Nothing) (rule c r nd) .answer ≡ Refused n → cond t (ruling (Refused TooSoon) Nothing) (rule c r nd) .op ≡ Nothing
-    go true e = refl
-    go false e = refused-idle c r nd n e
-
--- what a cycle leaves goes by its work and its mark
-abbrev state-by : (m levels : ℕ) → State → List ℕ → Op → Bool → State
-state-by m levels s ws o b =
-    record { records = recordsAfter m (pred levels) (restWords m (pred levels) (work o 0) 0 1 ws) 0 (s .records) (under m (pred levels) ws 0 1); mark = b }
-
-turned-as : (m levels : ℕ) (r : Request) (g : Ruling) (s : State) (ws : List ℕ) (o : Op) → g .op ≡ o → marks r (g .answer) ≡ false
-    → (turned m levels r g s ws .words ≡ turned m levels Idle (ruling Done o) s ws .words) × (turned m levels r g s ws .state ≡ turned m levels Idle (ruling Done o) s ws .state)
-unfolding turned marks asks
-turned-as m levels r g s ws o e k = (
-  ap (λ (o : Op). cycleWords m (suc (pred levels)) (cycleWork m levels o s) 0 1 ws) e,
-  ap₂ (state-by m levels s ws) e k,
-)
+-- ---- a refused request runs the cycle as idle
+steps-none : (m levels : ℕ) (o : Op) (s : State) (ws : List ℕ) → stepsOk m levels o s ws ≡ true → stepsOk m levels Nothing s ws ≡ true
+unfolding cycleOk fine work isNothing
+steps-none m levels o s ws e =
+    let ls : Levels (suc (pred levels)) = levelsOf m (suc (pred levels)) ws 0 1 in
+    and-right (fine m (pred levels) (work o 0) (ls .0) (top (pred levels) (ls .1))) _ e
 
 pub refused-mark : (r : Request) (n : Refusal) → marks r (Refused n) ≡ false
 unfolding marks isRefused asks
@@ -255,28 +128,122 @@ pub root-unread : (m levels : ℕ) (ws : List ℕ) → askedOk m levels Idle ws 
 unfolding asks
 root-unread m levels ws = refl
 
--- 3, 5 and 6: "cycle runs as idle"
-pub as-idle : (m levels : ℕ) (r : Request) (s : State) (ws : List ℕ) (n : Refusal) → (n ≡ BadShape → ⊥) → (n ≡ Damaged → ⊥) → ticked m levels r s ws .answer ≡ Refused n
-    → (ticked m levels r s ws .words ≡ ticked m levels Idle s ws .words) × (ticked m levels r s ws .state ≡ ticked m levels Idle s ws .state)
-as-idle m levels r s ws n no1 no2 p = go (shapeOk m levels (length ws)) refl (sound m levels r s ws) refl
+-- .. and leaves what its steps do
+pub idle-turned : (m levels : ℕ) (o : Op) (s : State) (ws : List ℕ) → shapeOk m levels (length ws) ≡ true → stepsOk m levels o s ws ≡ true
+    → ticked m levels Idle s ws ≡ turned m levels Idle (ruling Done Nothing) s ws
+idle-turned m levels o s ws e f =
+    let i : hearing m levels Idle s ws ≡ ruling Done Nothing = idle-ruling (s .mark) (room m levels) (rootOf m ws) in
+    ticked-fine m levels Idle s ws e
+    (and-true (askedOk m levels Idle ws) (stepsOk m levels (hearing m levels Idle s ws .op) s ws) (root-unread m levels ws)
+    (ap (λ (g : Ruling). stepsOk m levels (g .op) s ws) i ∙ steps-none m levels o s ws f))
+    ∙ ap (λ (g : Ruling). turned m levels Idle g s ws) i
+
+-- what a refusal of the rule leaves
+turned-refused : (m levels : ℕ) (r : Request) (s : State) (ws : List ℕ) (n : Refusal) → runsIdle n ≡ true → (o : Op) → shapeOk m levels (length ws) ≡ true → stepsOk m levels o s ws ≡ true
+    → turned m levels r (ruling (Refused n) Nothing) s ws ≡ cycleLeft m levels s ws n
+unfolding turned marks asks leaves
+turned-refused m levels r s ws n i o e f =
+    rw i (rw (idle-turned m levels o s ws e f) (ap (λ (b : Bool). cycleOutcome (Refused n) (idly .words) (record { records = idly .state .records; mark = b })) (refused-mark r n)))
   where
-    go : (a : Bool) → shapeOk m levels (length ws) ≡ a → (b : Bool) → sound m levels r s ws ≡ b
-        → (ticked m levels r s ws .words ≡ ticked m levels Idle s ws .words) × (ticked m levels r s ws .state ≡ ticked m levels Idle s ws .state)
-    go false e b f = absurd (no1 (sym (same-number (sym (answer-of m levels r s ws _ (ticked-bad m levels r s ws e)) ∙ p))))
-    go true e false f = absurd (no2 (sym (same-number (sym (answer-of m levels r s ws _ (ticked-damaged m levels r s ws e f)) ∙ p))))
-    go true e true f =
-        let g = hearing m levels r s ws in
-        let i = hearing m levels Idle s ws in
-        let a : g .answer ≡ Refused n = sym (fine-answer m levels r s ws e f) ∙ p in
-        let o : g .op ≡ Nothing = heard-idle (s .mark) r (room m levels) (rootOf m ws) n a in
-        let rest : i ≡ ruling Done Nothing = idle-ruling (s .mark) (room m levels) (rootOf m ws) in
-        let steps : stepsOk m levels (g .op) s ws ≡ true = and-right (askedOk m levels r ws) (stepsOk m levels (g .op) s ws) f in
-        let idle-sound : sound m levels Idle s ws ≡ true =
-        idle-asked (stepsOk m levels (i .op) s ws) (ap (λ (o : Op). stepsOk m levels o s ws) (ap (λ (g : Ruling). g .op) rest ∙ sym o) ∙ steps) in
-        let here = ticked-fine m levels r s ws e f in
-        let there = ticked-fine m levels Idle s ws e idle-sound ∙ ap (λ (g : Ruling). turned m levels Idle g s ws) rest in
-        let same = turned-as m levels r g s ws Nothing o (ap (marks r) a ∙ refused-mark r n) in
-        (ap (λ (c : CycleOutcome). c .words) here ∙ same .0 ∙ sym (ap (λ (c : CycleOutcome). c .words) there), ap (λ (c : CycleOutcome). c .state) here ∙ same .1 ∙ sym (ap (λ (c : CycleOutcome). c .state) there))
+    idly : CycleOutcome
+    idly = turned m levels Idle (ruling Done Nothing) s ws
+
+-- EXACTLY: a cycle gives each refusal for its cause and for that cause only, and leaves behind what the table says
+module _ (m levels : ℕ) (r : Request) (s : State) (ws : List ℕ) where
+  abbrev pub said : CycleOutcome → ℕ
+  said c = numberOf (c .answer)
+
+  abbrev left : Refusal → CycleOutcome
+  left = cycleLeft m levels s ws
+
+  abbrev last : Ladder Refusal
+  last = limits r (sumCounts (rootOf m ws)) (room m levels) ladder.fine
+
+  push-asks : IsPush r → asks r ≡ true
+  unfolding asks
+  push-asks p = go r p
+    where
+      go : (r : Request) → IsPush r → asks r ≡ true
+      go Idle p = absurd p
+      go (Push x) p = refl
+      go Pop p = absurd p
+      go (Replace x) p = absurd p
+
+  module _ (e : shapeOk m levels (length ws) ≡ true) (f : sound m levels r s ws ≡ true) where
+    steps : stepsOk m levels (hearing m levels r s ws .op) s ws ≡ true
+    steps = and-right (askedOk m levels r ws) _ f
+
+    refused-as : (n : Refusal) → runsIdle n ≡ true → turned m levels r (ruling (Refused n) Nothing) s ws ≡ left n
+    refused-as n i = turned-refused m levels r s ws n i _ e steps
+
+    root-most : IsPush r → sumCounts (rootOf m ws) ≤ room m levels
+    root-most p = root-limit m levels ws (shape-is m levels (length ws) e .some) (rw (push-asks p) at (and-left (askedOk m levels r ws) _ f))
+
+    -- 3, then 5 or 6
+    heard-exactly : Exactly said left (turned m levels r (hearing m levels r s ws) s ws) (stop TooSoon (PopsOrReplaces r × (s .mark ≡ true)) last)
+    unfolding heard turned
+    heard-exactly = climb-stop said left refusal-told TooSoon _ _ last (go (s .mark) refl (popsOrReplaces r) refl)
       where
-        idle-asked : (b : Bool) → b ≡ true → (askedOk m levels Idle ws && b) ≡ true
-        idle-asked b h = and-true (askedOk m levels Idle ws) b (root-unread m levels ws) h
+        plain : Exactly said left (turned m levels r (verdict m levels r ws) s ws) last
+        plain = limits-exactly (λ (c : CycleOutcome). c .answer) left (λ x. refl) (λ g. turned m levels r g s ws) (λ g. refl) (refused-as Full refl) (refused-as Empty refl) (room m levels) r (rootOf m ws) root-most
+
+        go : (b : Bool) → s .mark ≡ b → (t : Bool) → popsOrReplaces r ≡ t
+            → ((PopsOrReplaces r × (s .mark ≡ true) → ⊥) × Exactly said left (turned m levels r (cond (b && t) (ruling (Refused TooSoon) Nothing) (verdict m levels r ws)) s ws) last)
+            ⊎ ((PopsOrReplaces r × (s .mark ≡ true)) × (turned m levels r (cond (b && t) (ruling (Refused TooSoon) Nothing) (verdict m levels r ws)) s ws ≡ left TooSoon))
+        go true x true y = inr ((pops-so r y, x), refused-as TooSoon refl)
+        go true x false y = inl ((λ d. true≢false (sym (so-pops r (d .0)) ∙ y)), plain)
+        go false x t y = inl ((λ d. true≢false (sym (d .1) ∙ x)), plain)
+
+  pub exactly-cycle : Exactly said left (ticked m levels r s ws) (cycleRefusals m levels r s ws)
+  exactly-cycle = climb-by said left refusal-told BadShape _ _ _ (shape-by (shapeOk m levels (length ws)) refl)
+    where
+      damage-by : shapeOk m levels (length ws) ≡ true → (b : Bool) → sound m levels r s ws ≡ b
+          → ((CycleDamage m levels r s ws → ⊥) × Exactly said left (ticked m levels r s ws) (stop TooSoon (PopsOrReplaces r × (s .mark ≡ true)) last))
+          ⊎ (CycleDamage m levels r s ws × (ticked m levels r s ws ≡ left Damaged))
+      damage-by e true f =
+          inl (sound-no-damage m levels r s ws f, subst (λ (c : CycleOutcome). Exactly said left c (stop TooSoon (PopsOrReplaces r × (s .mark ≡ true)) last)) (sym (ticked-fine m levels r s ws e f)) (heard-exactly e f))
+      damage-by e false f = inr (damage-fails m levels r s ws .found f, ticked-damaged m levels r s ws e f)
+
+      shape-by : (a : Bool) → shapeOk m levels (length ws) ≡ a
+          → (Shape m levels (length ws) × Exactly said left (ticked m levels r s ws) (stop Damaged (CycleDamage m levels r s ws) (stop TooSoon (PopsOrReplaces r × (s .mark ≡ true)) last)))
+          ⊎ ((Shape m levels (length ws) → ⊥) × (ticked m levels r s ws ≡ left BadShape))
+      shape-by true e = inl (shape-is m levels (length ws) e, climb-stop said left refusal-told Damaged _ _ _ (damage-by e (sound m levels r s ws) refl))
+      shape-by false e = inr ((λ sh. true≢false (sym (is-shape m levels (length ws) sh) ∙ e)), ticked-bad m levels r s ws e)
+
+  -- LEFT BEHIND: 1 and 2 everything, mark and records too; 3, 5 and 6 "cycle runs as idle"
+  pub stands : (n : Refusal) → said (ticked m levels r s ws) ≡ refusalNumber n → ticked m levels r s ws ≡ left n
+  stands = left-behind said left exactly-cycle
+
+-- ---- KIND: of a cycle that is not refused a push and an idle request answer done, a pop and a replace an element
+heard-kind : (mark : Bool) (r : Request) (g : Ruling) → (numberOf (g .answer) ≡ 0 → Kind r (g .answer)) → numberOf (heard mark r g .answer) ≡ 0 → Kind r (heard mark r g .answer)
+unfolding heard
+heard-kind mark r g k =
+    cond-both (λ (g : Ruling). numberOf (g .answer) ≡ 0 → Kind r (g .answer)) (mark && popsOrReplaces r) (ruling (Refused TooSoon) Nothing) g (λ t e. absurd (omega arith)) (λ t. k)
+
+pub kind : (m levels : ℕ) (r : Request) (s : State) (ws : List ℕ) → numberOf (ticked m levels r s ws .answer) ≡ 0 → Kind r (ticked m levels r s ws .answer)
+unfolding turned
+kind m levels r s ws =
+    ticked-either m levels r s ws (λ c. numberOf (c .answer) ≡ 0 → Kind r (c .answer)) (λ e. absurd (omega arith)) (λ e. absurd (omega arith))
+    (λ e f. heard-kind (s .mark) r (verdict m levels r ws) (comes-kind (room m levels) (rootOf m ws) r _ (comes (room m levels) r (rootOf m ws))))
+
+-- ---- MARK: rows 1 and 2 aside, it is on exactly if an operation was asked for and not refused
+accepts-mean : (a : Answer) → Iff (not (isRefused a) ≡ true) (Unit {0} × (numberOf a ≡ 0))
+unfolding isRefused
+accepts-mean Done = record { to = λ e. (tt, refl); from = λ d. refl }
+accepts-mean (Out x) = record { to = λ e. (tt, refl); from = λ d. refl }
+accepts-mean (Refused n) = record { to = λ e. absurd (false≢true e); from = λ d. absurd (zero-told n (sym (d .1))) }
+
+marks-mean : (r : Request) (a : Answer) → Iff (marks r a ≡ true) (Asks r × (numberOf a ≡ 0))
+unfolding marks asks isRefused
+marks-mean Idle a = record { to = λ e. absurd (false≢true e); from = λ d. absurd (d .0) }
+marks-mean (Push x) a = accepts-mean a
+marks-mean Pop a = accepts-mean a
+marks-mean (Replace x) a = accepts-mean a
+
+pub mark-says : (m levels : ℕ) (r : Request) (s : State) (ws : List ℕ) → (numberOf (ticked m levels r s ws .answer) ≡ 1 → ⊥) → (numberOf (ticked m levels r s ws .answer) ≡ 2 → ⊥)
+    → Iff (ticked m levels r s ws .state .mark ≡ true) (Asks r × (numberOf (ticked m levels r s ws .answer) ≡ 0))
+unfolding turned
+mark-says m levels r s ws =
+    ticked-either m levels r s ws
+    (λ c. (numberOf (c .answer) ≡ 1 → ⊥) → (numberOf (c .answer) ≡ 2 → ⊥) → Iff (c .state .mark ≡ true) (Asks r × (numberOf (c .answer) ≡ 0)))
+    (λ no1 no2. absurd (no1 refl)) (λ no1 no2. absurd (no2 refl)) (λ e f no1 no2. marks-mean r (hearing m levels r s ws .answer))

@@ -2,9 +2,10 @@ pub mod Clock
 pub mod Undamaged
 pub mod Turn
 pub mod Step
-pub mod Same
 pub mod Demand
 pub mod Exactly
 pub mod Drain
 pub mod Promises
 pub mod Cases
+pub mod OneStep
+pub mod Unread

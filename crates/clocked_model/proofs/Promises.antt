@@ -1,127 +1,81 @@
 -- The promises of the clocked tree beside demand 3: each level does its one step, nothing is damaged, it holds exactly what went in and has
 -- not come out, and what comes out has the lowest rank. Assumes nothing.
-use Prim.Native.Nat.{_*_, _+_, _≤_, pred, suc, zero, ℕ}
-use native.Mathlib.Nat.{not-suc-le-zero, zero-add}
+use Prim.Native.Nat.{_+_, _≤_, pred, suc, zero, ℕ}
+use native.Mathlib.Nat.{not-suc-le-zero}
 use native.Mathlib.Omega.{arith}
-use mathlib.Core.Bool.{_&&_, Bool, cond, false, false≢true, true, true≢false}
+use mathlib.Core.Bool.{_&&_, Bool, cond, false, true, true≢false}
 use mathlib.Core.List.{[], _∷_, List}
+use mathlib.Core.Logic.{_⊎_, inl, inr, ⊎-elim}
 use mathlib.Core.Path.{_∙_, _≡_, ap, refl, subst, sym}
-use lib.ListN.{getD, length}
-use Rattle.clocked_model.proofs.Demand.{demand-answers, demand-idles, demand-store, few-levels, idles-in-step, ran, ran-in-step}
-use Rattle.clocked_model.proofs.Drain.{drain-left, drain-needed, drain-spent, drain-state, exactly-drain, not-less}
-use Rattle.clocked_model.proofs.Exactly.{no-damage-sound, refused-mark, sound, sound-no-damage, ticked-fine}
-use Rattle.clocked_model.proofs.Step.{root-fine, step-answer, steps-fine}
-use Rattle.clocked_model.proofs.Turn.{after-past, plain-rest, words-cycle, works-after}
-use Rattle.clocked_model.specs.Calls.{askedOk, cycleOutcome, CycleOutcome, cycleWork, drainOutcome, DrainOutcome, drains, hearing, isRefused, marks, pending, popsOrReplaces, recordCount, restarted, runAnswers, stepsOk, ticked, turned}
-use Rattle.clocked_model.specs.Cycle.{cycleLevels, cycleWords, cycleWorks}
-use Rattle.clocked_model.specs.Promise.{beside, besideAnswers, besideWords, callsOf, CycleDamage, DrainCause, idles, OneStep}
-use Rattle.clocked_model.specs.Records.{worksOf}
+use lib.ListN.{length}
+use Rattle.clocked_model.proofs.Demand.{demand-answers, demand-idles, demand-store, idles-in-step, ran-in-step}
+use Rattle.clocked_model.proofs.Drain.{done, drain-ends, drain-left, drain-needed, drain-spent, drain-state, End, jammed, not-less}
+use Rattle.clocked_model.proofs.Exactly.{refused-mark, sound-no-damage}
+use Rattle.clocked_model.proofs.Step.{beside-is, beside-kept, root-fine, step-answer, steps-fine}
+use Rattle.clocked_model.specs.Calls.{askedOk, DrainOutcome, drains, heard, marks, pending, popsOrReplaces, ticked}
+use Rattle.clocked_model.specs.Promise.{beside, besideQueue, besideWords, callsOf, cycleAnswers, CycleDamage, idles, Pinned, ran}
 use Rattle.clocked_model.specs.declared.State.{State}
-use Rattle.laws.specs.Tests.{and-right, and-true}
-use Rattle.strip.specs.declared.Answer.{Answer}
-use Rattle.strip.specs.declared.Answer.the-variants.{Done, Out, Refused}
-use Rattle.strip.specs.declared.Count.the-variants.{Held}
+use Rattle.laws.specs.Tests.{and-true, cond-both}
+use Rattle.promise.specs.Queue.{leaves, pins}
+use Rattle.promise.specs.Served.{all-sum, allBrought, allGiven, always, brought, given, Holds, Least, same}
+use Rattle.strip.specs.Answers.{countNumber, countOf, numberOf}
+use Rattle.strip.specs.declared.Answer.the-variants.{Refused}
 use Rattle.strip.specs.declared.Element.{Element}
-use Rattle.strip.specs.declared.Refusal.{Refusal}
-use Rattle.strip.specs.declared.Refusal.the-variants.{BadRank, BadShape, Damaged, Empty, Full, TooSoon}
+use Rattle.strip.specs.declared.Refusal.the-variants.{TooSoon}
 use Rattle.strip.specs.declared.Request.{Request}
 use Rattle.strip.specs.declared.Request.the-variants.{Idle, Pop, Push, Replace}
-use Rattle.tree_model.proofs.Exactly.{is-shape, order-pos}
-use Rattle.tree_model.proofs.Words.{size-room}
-use Rattle.tree_model.specs.Calls.{called, counted, outcome, Ruling}
+use Rattle.tree_model.proofs.Promises.{Kept}
+use Rattle.tree_model.proofs.Exactly.{comes-number}
+use Rattle.tree_model.proofs.Rules.{comes}
+use Rattle.tree_model.specs.Calls.{called, counted, outcome, Outcome, rootOf, Ruling, ruling}
 use Rattle.tree_model.specs.Damage.{room}
-use Rattle.tree_model.specs.Levels.{idle, work}
-use Rattle.tree_model.specs.Promise.{after, allBrought, allGiven, answers, leaves, same, Shape, start, stored}
-use Rattle.tree_model.specs.Serve.{brought, given, Least}
-use Rattle.tree_model.specs.Tree.{always}
-use Rattle.tree_model.specs.Words.{levelsOf, size, under, width}
+use Rattle.tree_model.specs.declared.Op.the-variants.{Nothing}
+use Rattle.tree_model.specs.Promise.{after, Shape, start, stored, treeQueue}
 use Rattle.tree_model.proofs.Promises as tree
 
--- ---- ONE-STEP
-pub one-step : (m levels : ℕ) (r : Request) (s : State) (ws : List ℕ) → Shape m levels (length ws) → length (s .records) ≡ recordCount → (CycleDamage m levels r s ws → ⊥)
-    → OneStep m levels r s ws
-unfolding turned cycleWorks levelsOf
-one-step m levels r s ws sh len d =
-    record {
-      slots = ap (λ (c : CycleOutcome). levelsOf m (suc (pred levels)) (c .words) 0 1) here ∙ cycled .0;
-      past = λ a h. ap (λ (c : CycleOutcome). getD (c .words) a 0) here ∙ cycled .1 a (omega (arith, size-room m (suc (pred levels)) 1, whole));
-      works = ap (λ (c : CycleOutcome). worksOf (pred levels) (c .state .records) 0) here
-          ∙ works-after m (pred levels) _ 0 (s .records) (under m (pred levels) ws 0 1) (plain-rest m (work (g .op) 0) _ _) (omega (arith, few-levels m levels (length ws) sh));
-      spare = λ j h. ap (λ (c : CycleOutcome). getD (c .state .records) j idle) here
-          ∙ after-past m (pred levels) _ 0 (s .records) (under m (pred levels) ws 0 1) j (omega arith);
-    }
-  where
-    g : Ruling
-    g = hearing m levels r s ws
-
-    ok : sound m levels r s ws ≡ true
-    ok = no-damage-sound m levels r s ws d
-
-    here : ticked m levels r s ws ≡ turned m levels r g s ws
-    here = ticked-fine m levels r s ws (is-shape m levels (length ws) sh) ok
-
-    some-levels : (n : ℕ) → 1 ≤ n → suc (pred n) ≡ n
-    some-levels zero h = absurd (not-suc-le-zero h)
-    some-levels (suc n) h = refl
-
-    whole : room m (suc (pred levels)) ≡ room m levels
-    whole = ap (room m) (some-levels levels (sh .some))
-
-    cycled : (levelsOf m (suc (pred levels)) (cycleWords m (suc (pred levels)) (cycleWork m levels (g .op) s) 0 1 ws) 0 1
-        ≡ cycleLevels m (suc (pred levels)) (cycleWork m levels (g .op) s) (levelsOf m (suc (pred levels)) ws 0 1))
-        × ((a : ℕ) → width * (0 + size m (suc (pred levels)) 1) ≤ a → getD (cycleWords m (suc (pred levels)) (cycleWork m levels (g .op) s) 0 1 ws) a 0 ≡ getD ws a 0)
-    cycled =
-        words-cycle m (order-pos sh) (suc (pred levels)) (cycleWork m levels (g .op) s) 0 1 ws (omega (arith, sh .slice, size-room m (suc (pred levels)) 1, whole))
-        (and-right (askedOk m levels r ws) (stepsOk m levels (g .op) s ws) ok)
-
 -- ---- the calls that are not too soon
-brought-refused : (r : Request) (n : Refusal) (f : Element → Bool) → brought r (Refused n) f ≡ 0
-brought-refused Idle n f = refl
-brought-refused (Push x) n f = refl
-brought-refused Pop n f = refl
-brought-refused (Replace x) n f = refl
-
 module _ (m levels : ℕ) where
-  pub calls-words : (rs : List Request) (mark : Bool) (vs : List ℕ) → besideWords m levels rs mark vs ≡ leaves m levels (callsOf m levels rs mark vs) vs
-  unfolding besideWords callsOf leaves beside
+  pub calls-words : (rs : List Request) (mark : Bool) (vs : List ℕ) → besideWords m levels rs mark vs ≡ leaves (treeQueue m levels) (callsOf m levels rs mark vs) vs
+  unfolding callsOf leaves beside
   calls-words [] mark vs = refl
   calls-words (r ∷ rs) mark vs = go (mark && popsOrReplaces r) (calls-words rs)
     where
-      go : (t : Bool) → ((b : Bool) (vs : List ℕ) → besideWords m levels rs b vs ≡ leaves m levels (callsOf m levels rs b vs) vs)
-          → besideWords m levels rs (marks r (cond t (outcome (Refused TooSoon) vs) (called m levels r vs) .answer)) (cond t (outcome (Refused TooSoon) vs) (called m levels r vs) .words)
-          ≡ leaves m levels (cond t (callsOf m levels rs false vs)
-          (r ∷ callsOf m levels rs (marks r (cond t (outcome (Refused TooSoon) vs) (called m levels r vs) .answer)) (cond t (outcome (Refused TooSoon) vs) (called m levels r vs) .words))) vs
+      now : Bool → Outcome
+      now t = cond t (outcome (Refused TooSoon) vs) (called m levels r vs)
+
+      go : (t : Bool) → ((b : Bool) (vs : List ℕ) → besideWords m levels rs b vs ≡ leaves (treeQueue m levels) (callsOf m levels rs b vs) vs)
+          → besideWords m levels rs (marks r (now t .answer)) (now t .words)
+          ≡ leaves (treeQueue m levels) (cond t (callsOf m levels rs false vs) (r ∷ callsOf m levels rs (marks r (now t .answer)) (now t .words))) vs
       go true ih = ap (λ (b : Bool). besideWords m levels rs b vs) (refused-mark r TooSoon) ∙ ih false vs
       go false ih = ih (marks r (called m levels r vs .answer)) (called m levels r vs .words)
 
-  calls-given : (f : Element → Bool) (rs : List Request) (mark : Bool) (vs : List ℕ) → allGiven (besideAnswers m levels rs mark vs) f ≡ allGiven (answers m levels (callsOf m levels rs mark vs) vs) f
-  unfolding besideAnswers callsOf answers beside allGiven
-  calls-given f [] mark vs = refl
-  calls-given f (r ∷ rs) mark vs = go (mark && popsOrReplaces r) (calls-given f rs)
-    where
-      go : (t : Bool) → ((b : Bool) (vs : List ℕ) → allGiven (besideAnswers m levels rs b vs) f ≡ allGiven (answers m levels (callsOf m levels rs b vs) vs) f)
-          → given (cond t (outcome (Refused TooSoon) vs) (called m levels r vs) .answer) f
-          + allGiven (besideAnswers m levels rs (marks r (cond t (outcome (Refused TooSoon) vs) (called m levels r vs) .answer)) (cond t (outcome (Refused TooSoon) vs) (called m levels r vs) .words)) f
-          ≡ allGiven (answers m levels (cond t (callsOf m levels rs false vs)
-          (r ∷ callsOf m levels rs (marks r (cond t (outcome (Refused TooSoon) vs) (called m levels r vs) .answer)) (cond t (outcome (Refused TooSoon) vs) (called m levels r vs) .words))) vs) f
-      go true ih = rw (refused-mark r TooSoon) (zero-add _ ∙ ih false vs)
-      go false ih = ap (λ (n : ℕ). given (called m levels r vs .answer) f + n) (ih (marks r (called m levels r vs .answer)) (called m levels r vs .words))
+-- one that is too soon brings nothing in and gives nothing out
+soon-sum : (r : Request) (n : ℕ) (f : Element → Bool) → n + given r (Refused TooSoon) f ≡ n + brought r (Refused TooSoon) f
+soon-sum Idle n f = refl
+soon-sum (Push x) n f = refl
+soon-sum Pop n f = refl
+soon-sum (Replace x) n f = refl
 
-  calls-brought : (f : Element → Bool) (rs : List Request) (mark : Bool) (vs : List ℕ)
-      → allBrought rs (besideAnswers m levels rs mark vs) f ≡ allBrought (callsOf m levels rs mark vs) (answers m levels (callsOf m levels rs mark vs) vs) f
-  unfolding besideAnswers callsOf answers beside allBrought
-  calls-brought f [] mark vs = refl
-  calls-brought f (r ∷ rs) mark vs = go (mark && popsOrReplaces r) (calls-brought f rs)
+soon-least : (held : (Element → Bool) → ℕ) (r : Request) → Least held r (Refused TooSoon)
+soon-least held Idle = tt
+soon-least held (Push x) = tt
+soon-least held Pop = λ e. absurd (omega arith)
+soon-least held (Replace x) = λ e. absurd (omega arith)
+
+-- the tree beside keeps a sound store, and holds what goes in and has not come out
+module _ (m k : ℕ) where
+  beside-sum : (r : Request) (b : Bool × List ℕ) → Kept m k (b .1) → (f : Element → Bool)
+      → stored (room m (suc k)) (besideQueue m (suc k) r b .next .1) f + given r (besideQueue m (suc k) r b .said) f
+      ≡ stored (room m (suc k)) (b .1) f + brought r (besideQueue m (suc k) r b .said) f
+  unfolding beside
+  beside-sum r b kept f = go (b .0 && popsOrReplaces r)
     where
-      go : (t : Bool) → ((b : Bool) (vs : List ℕ) → allBrought rs (besideAnswers m levels rs b vs) f ≡ allBrought (callsOf m levels rs b vs) (answers m levels (callsOf m levels rs b vs) vs) f)
-          → brought r (cond t (outcome (Refused TooSoon) vs) (called m levels r vs) .answer) f
-          + allBrought rs (besideAnswers m levels rs (marks r (cond t (outcome (Refused TooSoon) vs) (called m levels r vs) .answer)) (cond t (outcome (Refused TooSoon) vs) (called m levels r vs) .words)) f
-          ≡ allBrought (cond t (callsOf m levels rs false vs)
-          (r ∷ callsOf m levels rs (marks r (cond t (outcome (Refused TooSoon) vs) (called m levels r vs) .answer)) (cond t (outcome (Refused TooSoon) vs) (called m levels r vs) .words)))
-          (answers m levels (cond t (callsOf m levels rs false vs)
-          (r ∷ callsOf m levels rs (marks r (cond t (outcome (Refused TooSoon) vs) (called m levels r vs) .answer)) (cond t (outcome (Refused TooSoon) vs) (called m levels r vs) .words))) vs) f
-      go true ih = rw (refused-mark r TooSoon, brought-refused r TooSoon f) (zero-add _ ∙ ih false vs)
-      go false ih = ap (λ (n : ℕ). brought r (called m levels r vs .answer) f + n) (ih (marks r (called m levels r vs .answer)) (called m levels r vs .words))
+      now : Bool → Outcome
+      now t = cond t (outcome (Refused TooSoon) (b .1)) (called m (suc k) r (b .1))
+
+      go : (t : Bool) → stored (room m (suc k)) (now t .words) f + given r (now t .answer) f ≡ stored (room m (suc k)) (b .1) f + brought r (now t .answer) f
+      go true = soon-sum r (stored (room m (suc k)) (b .1) f) f
+      go false = tree.call-sum m k r (b .1) kept f
 
 -- ---- over any list of cycles from the cleared machine
 module _ (m : ℕ) (ws : List ℕ) (rs : List Request) where
@@ -129,15 +83,15 @@ module _ (m : ℕ) (ws : List ℕ) (rs : List Request) where
   abbrev calls : ℕ → List Request
   calls levels = callsOf m levels rs false (start m levels ws)
 
-  abbrev at-rest-after : ℕ → ℕ → List ℕ
+  abbrev pub at-rest-after : ℕ → ℕ → List ℕ
   at-rest-after levels n = idles m levels n (ran m levels rs ws .state) (ran m levels rs ws .words) .words
 
-  abbrev said : ℕ → List Answer
-  said levels = runAnswers m levels rs (restarted m levels ws .state) (restarted m levels ws .words)
+  -- nothing is pending after n idle cycles
+  abbrev pub Idled : ℕ → ℕ → Type 0
+  Idled levels n = pending m levels (idles m levels n (ran m levels rs ws .state) (ran m levels rs ws .words) .state) ≡ false
 
   -- once idled, the words are those that these calls leave
-  pub idled : (levels : ℕ) → Shape m levels (length ws) → (n : ℕ) → pending m levels (idles m levels n (ran m levels rs ws .state) (ran m levels rs ws .words) .state) ≡ false
-      → at-rest-after levels n ≡ after m levels (calls levels) ws
+  pub idled : (levels : ℕ) → Shape m levels (length ws) → (n : ℕ) → Idled levels n → at-rest-after levels n ≡ after m levels (calls levels) ws
   idled levels sh n e = demand-store m ws rs levels sh n e ∙ calls-words m levels rs false (start m levels ws)
 
   -- UNDAMAGED: no cycle is refused for damage, and none for the shape
@@ -147,6 +101,18 @@ module _ (m : ℕ) (ws : List ℕ) (rs : List Request) where
       let i = ran-in-step m ws rs k sh in
       sound-no-damage m (suc k) r _ _ (and-true (askedOk m (suc k) r (ran m (suc k) rs ws .words)) _ (root-fine m k _ _ _ i r) (steps-fine m k _ _ _ i r))
 
+  -- .. so that only 0, 3, 5 and 6 are answered
+  pub numbers : (levels : ℕ) → Shape m levels (length ws) → (r : Request)
+      → let n = numberOf (ticked m levels r (ran m levels rs ws .state) (ran m levels rs ws .words) .answer) in (n ≡ 0) ⊎ (n ≡ 3) ⊎ (n ≡ 5) ⊎ (n ≡ 6)
+  unfolding heard
+  numbers zero sh r = absurd (not-suc-le-zero (sh .some))
+  numbers (suc k) sh r =
+      let i = ran-in-step m ws rs k sh in
+      let vs : List ℕ = besideWords m (suc k) rs false (start m (suc k) ws) in
+      rw (step-answer m k _ _ _ i r, beside-is m k vs (i .kept) (ran m (suc k) rs ws .state .mark) r)
+      (cond-both (λ (g : Ruling). let n = numberOf (g .answer) in (n ≡ 0) ⊎ (n ≡ 3) ⊎ (n ≡ 5) ⊎ (n ≡ 6)) (ran m (suc k) rs ws .state .mark && popsOrReplaces r) (ruling (Refused TooSoon) Nothing) _ (λ t. inr (inl refl))
+      (λ t. ⊎-elim inl (λ e. inr (inr e)) (comes-number (room m (suc k)) (rootOf m vs) r _ (comes (room m (suc k)) r (rootOf m vs)))))
+
   pub shape-kept : (levels : ℕ) → Shape m levels (length ws) → Shape m levels (length (ran m levels rs ws .words))
   shape-kept zero sh = absurd (not-suc-le-zero (sh .some))
   shape-kept (suc k) sh =
@@ -154,52 +120,45 @@ module _ (m : ℕ) (ws : List ℕ) (rs : List Request) where
       subst (λ (n : ℕ). Shape m (suc k) n) (sym (i .same-length)) (i .kept .shape)
 
   -- HOLDS: once idled, of every kind of element as many are stored as went in and have not come out
-  pub holds : (levels : ℕ) → Shape m levels (length ws) → (n : ℕ) → pending m levels (idles m levels n (ran m levels rs ws .state) (ran m levels rs ws .words) .state) ≡ false
-      → (f : Element → Bool) → stored (room m levels) (at-rest-after levels n) f + allGiven (said levels) f ≡ allBrought rs (said levels) f
-  holds levels sh n e f =
-      rw (idled levels sh n e, demand-answers m ws rs levels sh)
-      (ap (λ (k : ℕ). stored (room m levels) (after m levels (calls levels) ws) f + k) (calls-given m levels f rs false (start m levels ws))
-      ∙ tree.holds m ws (calls levels) levels sh f ∙ sym (calls-brought m levels f rs false (start m levels ws)))
+  pub holds : (levels : ℕ) → Shape m levels (length ws) → (n : ℕ) → Idled levels n → Holds (stored (room m levels) (at-rest-after levels n)) rs (cycleAnswers m levels rs ws)
+  holds zero sh n e f = absurd (not-suc-le-zero (sh .some))
+  holds (suc k) sh n e f =
+      rw (demand-store m ws rs (suc k) sh n e, demand-answers m ws rs (suc k) sh)
+      (omega (
+        arith,
+        all-sum (besideQueue m (suc k)) (λ b. Kept m k (b .1)) (λ r b kept. beside-kept m k (b .1) kept (b .0) r) (λ b. stored (room m (suc k)) (b .1)) (beside-sum m k) rs (false, start m (suc k) ws)
+            (tree.start-kept m k ws sh) f,
+        tree.start-empty m k ws sh f,
+      ))
 
   -- .. so each pair as often
-  pub pairs : (levels : ℕ) → Shape m levels (length ws) → (n : ℕ) → pending m levels (idles m levels n (ran m levels rs ws .state) (ran m levels rs ws .words) .state) ≡ false
-      → (e : Element) → stored (room m levels) (at-rest-after levels n) (same e) + allGiven (said levels) (same e) ≡ allBrought rs (said levels) (same e)
+  pub pairs : (levels : ℕ) → Shape m levels (length ws) → (n : ℕ) → Idled levels n → (e : Element)
+      → stored (room m levels) (at-rest-after levels n) (same e) + allGiven rs (cycleAnswers m levels rs ws) (same e) ≡ allBrought rs (cycleAnswers m levels rs ws) (same e)
   pairs levels sh n q e = holds levels sh n q (same e)
 
   -- LEAST: what a cycle gives out has the lowest rank of all that the store holds once idled and, in a replace, of the newcomer
-  pub least : (levels : ℕ) → Shape m levels (length ws) → (n : ℕ) → pending m levels (idles m levels n (ran m levels rs ws .state) (ran m levels rs ws .words) .state) ≡ false
+  pub least : (levels : ℕ) → Shape m levels (length ws) → (n : ℕ) → Idled levels n
       → (r : Request) → Least (stored (room m levels) (at-rest-after levels n)) r (ticked m levels r (ran m levels rs ws .state) (ran m levels rs ws .words) .answer)
   unfolding beside
   least zero sh n e r = absurd (not-suc-le-zero (sh .some))
   least (suc k) sh n e r =
       let i = ran-in-step m ws rs k sh in
-      let vs : List ℕ = besideWords m (suc k) rs false (start m (suc k) ws) in
-      subst (λ (v : List ℕ). Least (stored (room m (suc k)) v) r (ticked m (suc k) r (ran m (suc k) rs ws .state) (ran m (suc k) rs ws .words) .answer)) (sym (idled (suc k) sh n e))
-      (subst (Least (stored (room m (suc k)) (after m (suc k) (calls (suc k)) ws)) r) (sym (step-answer m k _ _ _ i r))
-      (by-mark (ran m (suc k) rs ws .state .mark) r vs (calls-words m (suc k) rs false (start m (suc k) ws))))
+      rw (idled (suc k) sh n e, step-answer m k _ _ _ i r, calls-words m (suc k) rs false (start m (suc k) ws)) (go (ran m (suc k) rs ws .state .mark && popsOrReplaces r))
     where
-      by-mark : (mark : Bool) (r : Request) (vs : List ℕ) → vs ≡ after m (suc k) (calls (suc k)) ws
-          → Least (stored (room m (suc k)) (after m (suc k) (calls (suc k)) ws)) r (beside m (suc k) mark r vs .answer)
-      by-mark mark r vs e = go (mark && popsOrReplaces r)
-        where
-          go : (t : Bool) → Least (stored (room m (suc k)) (after m (suc k) (calls (suc k)) ws)) r (cond t (outcome (Refused TooSoon) vs) (called m (suc k) r vs) .answer)
-          go true = tt
-          go false =
-              subst (λ (v : List ℕ). Least (stored (room m (suc k)) (after m (suc k) (calls (suc k)) ws)) r (called m (suc k) r v .answer)) (sym e) (tree.least m ws (calls (suc k)) (suc k) sh r)
+      vs : List ℕ
+      vs = after m (suc k) (calls (suc k)) ws
+
+      go : (t : Bool) → Least (stored (room m (suc k)) vs) r (cond t (outcome (Refused TooSoon) vs) (called m (suc k) r vs) .answer)
+      go true = soon-least (stored (room m (suc k)) vs) r
+      go false = tree.least m ws (calls (suc k)) (suc k) sh r
 
   -- the call held answers, once idled, how many are stored
-  pub held-says : (levels : ℕ) → Shape m levels (length ws) → (n : ℕ) → pending m levels (idles m levels n (ran m levels rs ws .state) (ran m levels rs ws .words) .state) ≡ false
-      → counted m levels (at-rest-after levels n) ≡ Held (stored (room m levels) (at-rest-after levels n) always)
+  pub held-says : (levels : ℕ) → Shape m levels (length ws) → (n : ℕ) → Idled levels n
+      → (countNumber (counted m levels (at-rest-after levels n)) ≡ 0) × (countOf (counted m levels (at-rest-after levels n)) ≡ stored (room m levels) (at-rest-after levels n) always)
   held-says levels sh n e = rw (idled levels sh n e) (tree.held-says m ws (calls levels) levels sh)
 
 -- ---- DRAINED: after any list of cycles a drain with a budget of levels - 1 or more is not refused, runs at most levels - 1 cycles, leaves
 -- no work, and leaves the words of the one-at-a-time tree beside it
-refusal-of : (a : Answer) → isRefused a ≡ true → ((k : Refusal) → a ≡ Refused k → ⊥) → ⊥
-unfolding isRefused
-refusal-of Done e f = false≢true e
-refusal-of (Out x) e f = false≢true e
-refusal-of (Refused k) e f = f k refl
-
 module _ (m : ℕ) (ws : List ℕ) (rs : List Request) (levels : ℕ) (sh : Shape m levels (length ws)) (budget : ℕ) (enough : pred levels ≤ budget) where
   abbrev s : State
   s = ran m levels rs ws .state
@@ -225,20 +184,12 @@ module _ (m : ℕ) (ws : List ℕ) (rs : List Request) (levels : ℕ) (sh : Shap
           sound-no-damage m (suc k) Idle _ _
           (and-true (askedOk m (suc k) Idle (idles m (suc k) n (ran m (suc k) rs ws .state) (ran m (suc k) rs ws .words) .words)) _ (root-fine m k _ _ _ i Idle) (steps-fine m k _ _ _ i Idle))
 
-  pub drained-fine : isRefused (d .answer) ≡ false
-  drained-fine = go (isRefused (d .answer)) refl
+  pub drained-fine : numberOf (d .answer) ≡ 0
+  drained-fine = go (drain-ends m levels budget s vs shape)
     where
-      jam : (k : Refusal) → DrainCause m levels budget s vs k → ⊥
-      jam BadShape c = c shape
-      jam Damaged c = idle-undamaged (c .1 .cycles) (c .1 .damage)
-      jam TooSoon c = c
-      jam BadRank c = c
-      jam Full c = c
-      jam Empty c = c
-
-      go : (b : Bool) → isRefused (d .answer) ≡ b → b ≡ false
-      go false e = refl
-      go true e = absurd (refusal-of (d .answer) e (λ k p. jam k (exactly-drain m levels budget s vs k .0 p)))
+      go : End m levels budget (d .cycles) s vs d → numberOf (d .answer) ≡ 0
+      go (done a l) = ap numberOf a
+      go (jammed a l j) = absurd (idle-undamaged (d .cycles) (j .damage))
 
   pub drained-few : d .cycles ≤ pred levels
   drained-few = not-less (λ h. true≢false (sym (drain-needed m levels budget s vs (pred levels) h) ∙ demand-idles m ws rs levels sh))
@@ -261,20 +212,7 @@ module _ (m : ℕ) (ws : List ℕ) (rs : List Request) (levels : ℕ) (sh : Shap
       ∙ demand-store m ws rs levels sh (d .cycles)
       (ap (pending m levels) (sym (drain-state m levels budget s vs .1)) ∙ sym (drain-left m levels budget s vs shape) ∙ drained-left)
 
--- PINNED: what a contract says of answer, words and state allows one outcome only
-pub pinned : (o : CycleOutcome) (a b : Answer) (v w : List ℕ) (s u : State) → cycleOutcome a v s ≡ o → cycleOutcome b w u ≡ o → (a ≡ b) × (v ≡ w) × (s ≡ u)
-pinned o a b v w s u p q = (
-  ap (λ (o : CycleOutcome). o .answer) (p ∙ sym q),
-  ap (λ (o : CycleOutcome). o .words) (p ∙ sym q),
-  ap (λ (o : CycleOutcome). o .state) (p ∙ sym q),
-)
-
-pub pinned-drain : (o : DrainOutcome) (a b : Answer) (n k : ℕ) (l d : Bool) (v w : List ℕ) (s u : State) → drainOutcome a n l v s ≡ o → drainOutcome b k d w u ≡ o
-    → (a ≡ b) × (n ≡ k) × (l ≡ d) × (v ≡ w) × (s ≡ u)
-pinned-drain o a b n k l d v w s u p q = (
-  ap (λ (o : DrainOutcome). o .answer) (p ∙ sym q),
-  ap (λ (o : DrainOutcome). o .cycles) (p ∙ sym q),
-  ap (λ (o : DrainOutcome). o .left) (p ∙ sym q),
-  ap (λ (o : DrainOutcome). o .words) (p ∙ sym q),
-  ap (λ (o : DrainOutcome). o .state) (p ∙ sym q),
-)
+-- PINNED: every public call, for all inputs
+pub pinned : (m levels : ℕ) (s : State) (ws : List ℕ) → Pinned m levels s ws
+pinned m levels s ws =
+    record { cycle = λ r. pins _; push = λ x. pins _; pop = pins _; replace = λ x. pins _; drain = λ b. pins _; clear = pins _; held = pins _ }

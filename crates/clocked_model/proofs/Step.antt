@@ -2,10 +2,9 @@
 -- done to its end, gives that tree's store. Assumes nothing.
 use Prim.Native.Nat.{_*_, _+_, _<_, _≤_, suc, zero, ℕ}
 use native.Mathlib.Omega.{arith}
-use mathlib.Core.Bool.{_&&_, _||_, Bool, cond, false, false≢true, not, true, true≢false}
+use mathlib.Core.Bool.{_&&_, Bool, cond, false, false≢true, not, true, true≢false}
 use mathlib.Core.List.{[], List}
 use mathlib.Core.Path.{_∙_, _≡_, ap, ap₂, refl, subst, sym}
-use lib.Dec.{eqb, ltb}
 use lib.ListN.{getD, length}
 use Rattle.clocked_model.proofs.Clock.{clears, settled, spaced}
 use Rattle.clocked_model.proofs.Turn.{after-length, cycle-length, plain-rest, words-cycle, works-after}
@@ -17,24 +16,25 @@ use Rattle.clocked_model.specs.Records.{worksOf}
 use Rattle.clocked_model.specs.Settle.{Clear, finally, Gap, Ready, settle, Spaced}
 use Rattle.clocked_model.specs.declared.State.{State}
 use Rattle.laws.specs.Tests.{and-left, and-right, or-right}
-use Rattle.strip.specs.Answers.{key}
-use Rattle.strip.specs.declared.Answer.the-variants.{Done, Out, Refused}
-use Rattle.strip.specs.declared.Refusal.the-variants.{Empty, Full, TooSoon}
+use Rattle.strip.specs.declared.Answer.the-variants.{Done, Refused}
+use Rattle.strip.specs.declared.Refusal.the-variants.{TooSoon}
 use Rattle.strip.specs.declared.Request.{Request}
-use Rattle.strip.specs.declared.Request.the-variants.{Idle, Pop, Push, Replace}
+use Rattle.strip.specs.declared.Request.the-variants.{Idle}
 use Rattle.tree_model.proofs.Exactly.{is-shape, order-pos, words-none}
 use Rattle.tree_model.proofs.Nothing.{apply-none, is-none, op-work}
 use Rattle.tree_model.proofs.Path.{path-none}
 use Rattle.tree_model.proofs.Promises.{called-kept, Kept, kept-called, root-node, sound-root, sound-way}
+use Rattle.tree_model.proofs.Rules.{comes}
 use Rattle.tree_model.proofs.Words.{apply-length, size-room, words-apply}
 use Rattle.tree_model.specs.Calls.{called, Outcome, outcome, rootOf, rule, Ruling, ruling, shapeOk, verdict, wayOk}
 use Rattle.tree_model.specs.Damage.{nodeOk, pathOk, room}
 use Rattle.tree_model.specs.Levels.{apply, idle, Levels, work}
-use Rattle.tree_model.specs.Node.{isNothing, low, sumCounts}
+use Rattle.tree_model.specs.Node.{isNothing}
 use Rattle.tree_model.specs.Promise.{Shape}
+use Rattle.tree_model.specs.Rules.{Comes, empty, full, idles, puts, returns, swaps, takes}
 use Rattle.tree_model.specs.Words.{applyWords, levelOf, levelsOf, size, under, width}
 use Rattle.tree_model.specs.declared.Op.{Op}
-use Rattle.tree_model.specs.declared.Op.the-variants.{Nothing, Put, Swap, Take}
+use Rattle.tree_model.specs.declared.Op.the-variants.{Nothing}
 use Rattle.tree_model.specs.declared.Slot.{Slot}
 use Rattle.tree_model.specs.declared.Work.{Work}
 
@@ -57,18 +57,16 @@ quiet-ready m zero p ls e = tt
 quiet-ready m (suc k) p ls e = (path-none m (suc k) (p .0) _ (quiet-clear (suc k) p e), quiet-ready m k (p .1) (ls .1) (quiet-more k p e))
 
 -- ---- rulings
-gap-cond : (t : Bool) (a b : Ruling) (G : Type 0) → Gap (a .op) G → Gap (b .op) G → Gap (cond t a b .op) G
-gap-cond true a b G p q = p
-gap-cond false a b G p q = q
-
 -- a ruling's work reads the level below only for a pop or a replace
-rule-gap : (c : ℕ) (r : Request) (nd : List Slot) (G : Type 0) → (popsOrReplaces r ≡ true → G) → Gap (rule c r nd .op) G
-unfolding rule popsOrReplaces
-rule-gap c Idle nd G h = tt
-rule-gap c (Push x) nd G h = gap-cond (ltb (sumCounts nd) c) (ruling Done (Put x)) (ruling (Refused Full) Nothing) G tt tt
-rule-gap c Pop nd G h = gap-cond (eqb (sumCounts nd) 0) (ruling (Refused Empty) Nothing) (ruling (Out (low nd)) Take) G tt (h refl)
-rule-gap c (Replace x) nd G h =
-    gap-cond (eqb (sumCounts nd) 0 || ltb (key x) (key (low nd))) (ruling (Out x) Nothing) (ruling (Out (low nd)) (Swap x)) G tt (h refl)
+comes-gap : (c : ℕ) (nd : List Slot) (G : Type 0) (r : Request) (g : Ruling) → Comes c nd r g → (popsOrReplaces r ≡ true → G) → Gap (g .op) G
+unfolding popsOrReplaces
+comes-gap c nd G r g idles h = tt
+comes-gap c nd G r g (puts x l) h = tt
+comes-gap c nd G r g (full x l) h = tt
+comes-gap c nd G r g (takes l) h = h refl
+comes-gap c nd G r g (empty l) h = tt
+comes-gap c nd G r g (returns x l) h = tt
+comes-gap c nd G r g (swaps x l e) h = h refl
 
 -- .. and such a request is too soon with the mark on
 heard-gap : (mark : Bool) (r : Request) (g : Ruling) (G : Type 0) → (mark ≡ false → G) → ((popsOrReplaces r ≡ true → G) → Gap (g .op) G) → Gap (heard mark r g .op) G
@@ -82,26 +80,15 @@ heard-gap mark r g G off h = go mark (popsOrReplaces r) off h
     go false false off h = h (λ e. off refl)
 
 -- a request that leaves the mark off has no work
-unmarked : (c : ℕ) (r : Request) (nd : List Slot) → marks r (rule c r nd .answer) ≡ false → rule c r nd .op ≡ Nothing
-unfolding rule marks isRefused asks
-unmarked c Idle nd e = refl
-unmarked c (Push x) nd e = go (ltb (sumCounts nd) c) e
-  where
-    go : (t : Bool) → not (isRefused (cond t (ruling Done (Put x)) (ruling (Refused Full) Nothing) .answer)) ≡ false → cond t (ruling Done (Put x)) (ruling (Refused Full) Nothing) .op ≡ Nothing
-    go true e = absurd (true≢false e)
-    go false e = refl
-unmarked c Pop nd e = go (eqb (sumCounts nd) 0) e
-  where
-    go : (t : Bool) → not (isRefused (cond t (ruling (Refused Empty) Nothing) (ruling (Out (low nd)) Take) .answer)) ≡ false
-        → cond t (ruling (Refused Empty) Nothing) (ruling (Out (low nd)) Take) .op ≡ Nothing
-    go true e = refl
-    go false e = absurd (true≢false e)
-unmarked c (Replace x) nd e = go (eqb (sumCounts nd) 0 || ltb (key x) (key (low nd))) e
-  where
-    go : (t : Bool) → not (isRefused (cond t (ruling (Out x) Nothing) (ruling (Out (low nd)) (Swap x)) .answer)) ≡ false
-        → cond t (ruling (Out x) Nothing) (ruling (Out (low nd)) (Swap x)) .op ≡ Nothing
-    go true e = refl
-    go false e = absurd (true≢false e)
+comes-unmarked : (c : ℕ) (nd : List Slot) (r : Request) (g : Ruling) → Comes c nd r g → marks r (g .answer) ≡ false → g .op ≡ Nothing
+unfolding marks isRefused asks
+comes-unmarked c nd r g idles e = refl
+comes-unmarked c nd r g (puts x l) e = absurd (true≢false e)
+comes-unmarked c nd r g (full x l) e = refl
+comes-unmarked c nd r g (takes l) e = absurd (true≢false e)
+comes-unmarked c nd r g (empty l) e = refl
+comes-unmarked c nd r g (returns x l) e = refl
+comes-unmarked c nd r g (swaps x l f) e = absurd (true≢false e)
 
 heard-unmarked : (mark : Bool) (r : Request) (g : Ruling) → (marks r (g .answer) ≡ false → g .op ≡ Nothing) → marks r (heard mark r g .answer) ≡ false → heard mark r g .op ≡ Nothing
 unfolding heard
@@ -191,7 +178,7 @@ module _ (m k : ℕ) (s : State) (ws vs : List ℕ) (i : InStep m k s ws vs) whe
     vls = levelsOf m (suc k) vs 0 1
 
     gap : Gap (w .op) (Clear k (worksOf k (s .records) 0))
-    gap = rw op-work (heard-gap (s .mark) r (verdict m (suc k) r ws) _ (i .off) (rule-gap _ r _ _))
+    gap = rw op-work (heard-gap (s .mark) r (verdict m (suc k) r ws) _ (i .off) (comes-gap _ _ _ r _ (comes (room m (suc k)) r (rootOf m ws))))
 
     spaced-whole : Spaced (suc k) p
     spaced-whole = (gap, i .gaps)
@@ -266,7 +253,7 @@ module _ (m k : ℕ) (s : State) (ws vs : List ℕ) (i : InStep m k s ws vs) whe
     unfolding cycleWorks levelsOf
     clear-then e =
         clears m k w (worksOf k (s .records) 0) (levelOf m ws 0 1) (under m k ws 0 1)
-        (op-work (g .op) 0 ∙ heard-unmarked (s .mark) r (verdict m (suc k) r ws) (unmarked _ r _) (sym mark-is ∙ e))
+        (op-work (g .op) 0 ∙ heard-unmarked (s .mark) r (verdict m (suc k) r ws) (comes-unmarked _ _ r _ (comes (room m (suc k)) r (rootOf m ws))) (sym mark-is ∙ e))
 
     length-then : length (o .words) ≡ length ws
     unfolding turned

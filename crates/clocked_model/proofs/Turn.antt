@@ -70,7 +70,7 @@ pub plain-rest : (m : ℕ) (w : Work) (l below : Level) → Plain (stepWork m w 
 unfolding stepWork
 plain-rest m w l below = plain-work _ _
 
-none-idle : (w : Work) → w .op ≡ Nothing → work (w .op) (w .node) ≡ idle
+pub none-idle : (w : Work) → w .op ≡ Nothing → work (w .op) (w .node) ≡ idle
 unfolding work
 none-idle w e = ap (λ (o : Op). work o (w .node)) e
 

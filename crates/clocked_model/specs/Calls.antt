@@ -2,7 +2,7 @@
 -- Assumes nothing: these are definitions.
 use Prim.Native.Nat.{pred, suc, zero, ℕ}
 use mathlib.Core.Bool.{_&&_, _||_, Bool, cond, false, not, true}
-use mathlib.Core.List.{[], _∷_, List}
+use mathlib.Core.List.{List}
 use lib.ListN.{length, replicate}
 use Rattle.clocked_model.specs.Cycle.{cycleOk, cycleWords, quiet, Works}
 use Rattle.clocked_model.specs.Records.{recordsAfter, worksOf}
@@ -126,13 +126,3 @@ module _ (m levels : ℕ) where
   -- ---- clear writes zeros and hands back a fresh state; the call held is that of the tree, `counted`
   abbrev pub restarted : List ℕ → CycleOutcome
   restarted ws = cycleOutcome (cleared m levels ws .answer) (cleared m levels ws .words) fresh
-
-  -- ---- lists of cycles
-  -- one after the other, each handed the words and the state that the one before left
-  unfoldable pub runs : List Request → State → List ℕ → CycleOutcome
-  runs [] s ws = cycleOutcome Done ws s
-  runs (r ∷ rs) s ws = runs rs (ticked r s ws .state) (ticked r s ws .words)
-
-  unfoldable pub runAnswers : List Request → State → List ℕ → List Answer
-  runAnswers [] s ws = []
-  runAnswers (r ∷ rs) s ws = ticked r s ws .answer ∷ runAnswers rs (ticked r s ws .state) (ticked r s ws .words)

@@ -2,31 +2,24 @@
 use Prim.Native.Nat.{ℕ}
 use mathlib.Core.List.{[], _∷_, List}
 use lib.ListN.{replicate}
-use Rattle.clocked_model.specs.Calls.{CycleOutcome, drains, restarted, runAnswers, runs, ticked}
-use Rattle.clocked_model.specs.declared.State.{State}
+use Rattle.clocked_model.specs.Calls.{drains}
+use Rattle.clocked_model.specs.Promise.{clockedQueue, cycleAnswers, Machine, machine, ran}
+use Rattle.promise.specs.Queue.{leaves}
 use Rattle.strip.specs.Answers.{element}
 use Rattle.strip.specs.declared.Answer.{Answer}
 use Rattle.strip.specs.declared.Answer.the-variants.{Done, Out, Refused}
 use Rattle.strip.specs.declared.Refusal.the-variants.{TooSoon}
-use Rattle.strip.specs.declared.Request.{Request}
 use Rattle.strip.specs.declared.Request.the-variants.{Idle, Pop, Push}
 
--- the words after each of a list of cycles
-unfoldable pub runWords : ℕ → ℕ → List Request → State → List ℕ → List (List ℕ)
-runWords m levels [] s ws = []
-runWords m levels (r ∷ rs) s ws = ticked m levels r s ws .words ∷ runWords m levels rs (ticked m levels r s ws .state) (ticked m levels r s ws .words)
-
 -- order 2, levels 2: "Store A is cleared, then push 5/50, 3/30, 8/80, 1/10", by cycles
-unfoldable pub clockedA : CycleOutcome
-clockedA =
-    let c = restarted 2 2 (replicate 18 0) in
-    runs 2 2 (Push (element 5 50) ∷ Push (element 3 30) ∷ Push (element 8 80) ∷ Push (element 1 10) ∷ []) (c .state) (c .words)
+unfoldable pub clockedA : Machine
+clockedA = ran 2 2 (Push (element 5 50) ∷ Push (element 3 30) ∷ Push (element 8 80) ∷ Push (element 1 10) ∷ []) (replicate 18 0)
 
 -- "A clocked, drained, pop": the words after that cycle, and after one idle cycle more
 unfoldable pub caseSix : List (List ℕ)
 caseSix =
     let d = drains 2 2 2 (clockedA .state) (clockedA .words) in
-    runWords 2 2 (Pop ∷ Idle ∷ []) (d .state) (d .words)
+    leaves (clockedQueue 2 2) (Pop ∷ []) (machine (d .state) (d .words)) .words ∷ leaves (clockedQueue 2 2) (Pop ∷ Idle ∷ []) (machine (d .state) (d .words)) .words ∷ []
 
 -- "after that cycle slot 1 is (3,30,1) and node 1 still begins (3,30,1); one idle cycle later node 1 is empty"
 abbrev pub caseSixSays : List (List ℕ)
@@ -37,9 +30,7 @@ caseSixSays =
 
 -- case 10: "push, idle, pop is taken; pop, push, push is taken; a pop just after a refused pop is not too soon"
 unfoldable pub caseTen : List Answer
-caseTen =
-    let c = restarted 2 2 (replicate 18 0) in
-    runAnswers 2 2 (Push (element 5 50) ∷ Idle ∷ Pop ∷ Push (element 1 10) ∷ Push (element 2 20) ∷ Pop ∷ Pop ∷ []) (c .state) (c .words)
+caseTen = cycleAnswers 2 2 (Push (element 5 50) ∷ Idle ∷ Pop ∷ Push (element 1 10) ∷ Push (element 2 20) ∷ Pop ∷ Pop ∷ []) (replicate 18 0)
 
 abbrev pub caseTenSays : List Answer
 caseTenSays = Done ∷ Done ∷ Out (element 5 50) ∷ Done ∷ Done ∷ Refused TooSoon ∷ Out (element 1 10) ∷ []

@@ -1,47 +1,80 @@
 -- What is promised of the clocked tree is said in these words: the one-at-a-time tree beside it, idle cycles, and 01's causes of refusal.
 -- Assumes nothing: these are definitions.
-use Prim.Native.Nat.{_*_, _<_, _≤_, pred, suc, zero, ℕ}
-use mathlib.Core.Bool.{_&&_, Bool, cond, false, true}
+use Prim.Native.Nat.{_*_, _+_, _<_, _^_, _≤_, pred, suc, zero, ℕ}
+use mathlib.Core.Bool.{_&&_, Bool, cond, false, not, true}
 use mathlib.Core.List.{[], _∷_, List}
 use mathlib.Core.Logic.{_⊎_}
 use mathlib.Core.Path.{_≡_}
 use lib.Dec.{leb}
 use lib.ListN.{getD, length, replicate}
-use Rattle.clocked_model.specs.Calls.{CycleOutcome, cycleWork, hearing, marks, pending, popsOrReplaces, runs, ticked}
-use Rattle.clocked_model.specs.Cycle.{cycleLevels, cycleWorks, Works}
-use Rattle.clocked_model.specs.Records.{worksOf}
+use Rattle.clocked_model.specs.Calls.{cycleOutcome, CycleOutcome, cycleWork, drainOutcome, DrainOutcome, drains, fresh, hearing, marks, pending, popsOrReplaces, restarted, ticked}
+use Rattle.clocked_model.specs.Cycle.{Works}
+use Rattle.clocked_model.specs.Records.{recordAt, worksOf}
 use Rattle.clocked_model.specs.declared.State.{State}
+use Rattle.laws.specs.Ladder.{fine, Ladder, rung, stop}
+use Rattle.laws.specs.Sums.{sumTo}
+use Rattle.promise.specs.Queue.{answers, leaves, Pins, step, Step}
+use Rattle.promise.specs.Refused.{limits}
 use Rattle.strip.specs.declared.Answer.{Answer}
 use Rattle.strip.specs.declared.Answer.the-variants.{Refused}
+use Rattle.strip.specs.declared.Element.{Element}
 use Rattle.strip.specs.declared.Refusal.{Refusal}
 use Rattle.strip.specs.declared.Refusal.the-variants.{BadRank, BadShape, Damaged, Empty, Full, TooSoon}
 use Rattle.strip.specs.declared.Request.{Request}
 use Rattle.strip.specs.declared.Request.the-variants.{Idle, Pop, Push, Replace}
-use Rattle.tree_model.specs.Calls.{called, outcome, Outcome, rootOf}
+use Rattle.tree_model.specs.Calls.{called, counted, outcome, Outcome, rootOf}
 use Rattle.tree_model.specs.Damage.{room}
-use Rattle.tree_model.specs.Levels.{idle, Levels, top}
+use Rattle.tree_model.specs.Levels.{idle, Level, Levels, stepLevel, stepWork, top, work}
 use Rattle.tree_model.specs.Node.{sumCounts}
-use Rattle.tree_model.specs.Promise.{IsPop, IsPush, NodeDamaged, Shape, WorkDamaged}
-use Rattle.tree_model.specs.Words.{levelsOf, width}
+use Rattle.tree_model.specs.Promise.{Agree, levelAt, NodeDamaged, Shape, Some, start, threeWords, WorkDamaged}
+use Rattle.tree_model.specs.Words.{levelsOf}
+use Rattle.tree_model.specs.declared.Op.the-variants.{Nothing}
+use Rattle.tree_model.specs.declared.Work.{Work}
+
+-- ---- the clocked tree as a queue: a list of cycles, each handed the words and the state that the one before left
+pub record Machine : Type 0 where
+  pub state : State
+  pub words : List ℕ
+
+abbrev pub machine : State → List ℕ → Machine
+machine s ws = record { state = s; words = ws }
 
 module _ (m levels : ℕ) where
-  -- ---- the one-at-a-time tree beside the clocked one
+  abbrev pub clockedQueue : Request → Machine → Step Answer Machine
+  clockedQueue r x =
+      let o = ticked m levels r (x .state) (x .words) in
+      step (o .answer) (machine (o .state) (o .words))
+
+  -- so many idle cycles
+  abbrev pub idles : ℕ → State → List ℕ → Machine
+  idles n s ws = leaves clockedQueue (replicate n Idle) (machine s ws)
+
+  -- any list of cycles from the cleared machine: what it is answered, and what is left
+  abbrev pub cleared : List ℕ → Machine
+  cleared ws = machine fresh (start m levels ws)
+
+  abbrev pub ran : List Request → List ℕ → Machine
+  ran rs ws = leaves clockedQueue rs (cleared ws)
+
+  abbrev pub cycleAnswers : List Request → List ℕ → List Answer
+  cycleAnswers rs ws = answers clockedQueue rs (cleared ws)
+
+  -- ---- the one-at-a-time tree beside it, as a queue of the mark and the words
   -- a pop or replace with the mark on is too soon and is left out; every other request is a call
   unfoldable pub beside : Bool → Request → List ℕ → Outcome
   beside mark r vs = cond (mark && popsOrReplaces r) (outcome (Refused TooSoon) vs) (called m levels r vs)
 
-  -- the answers over a list of requests, the mark going by them; and the words left
-  unfoldable pub besideAnswers : List Request → Bool → List ℕ → List Answer
-  besideAnswers [] mark vs = []
-  besideAnswers (r ∷ rs) mark vs =
-      let o = beside mark r vs in
-      o .answer ∷ besideAnswers rs (marks r (o .answer)) (o .words)
+  -- .. the mark going by the answers
+  abbrev pub besideQueue : Request → Bool × List ℕ → Step Answer (Bool × List ℕ)
+  besideQueue r b =
+      let o = beside (b .0) r (b .1) in
+      step (o .answer) (marks r (o .answer), o .words)
 
-  unfoldable pub besideWords : List Request → Bool → List ℕ → List ℕ
-  besideWords [] mark vs = vs
-  besideWords (r ∷ rs) mark vs =
-      let o = beside mark r vs in
-      besideWords rs (marks r (o .answer)) (o .words)
+  abbrev pub besideAnswers : List Request → Bool → List ℕ → List Answer
+  besideAnswers rs mark vs = answers besideQueue rs (mark, vs)
+
+  abbrev pub besideWords : List Request → Bool → List ℕ → List ℕ
+  besideWords rs mark vs = leaves besideQueue rs (mark, vs) .1
 
   -- the requests that are not too soon, in order
   unfoldable pub callsOf : List Request → Bool → List ℕ → List Request
@@ -49,10 +82,6 @@ module _ (m levels : ℕ) where
   callsOf (r ∷ rs) mark vs =
       let o = beside mark r vs in
       cond (mark && popsOrReplaces r) (callsOf rs false vs) (r ∷ callsOf rs (marks r (o .answer)) (o .words))
-
-  -- ---- so many idle cycles
-  abbrev pub idles : ℕ → State → List ℕ → CycleOutcome
-  idles n s ws = runs m levels (replicate n Idle) s ws
 
 -- ---- causes: column "Exactly when" of the table of refusals
 abbrev pub Asks : Request → Type 0
@@ -79,44 +108,118 @@ CycleDamage m levels r s ws =
     (Asks r × NodeDamaged (room m (pred levels)) (rootOf m ws))
     ⊎ WorksDamaged m (suc (pred levels)) (cycleWork m levels (hearing m levels r s ws .op) s) (levelsOf m (suc (pred levels)) ws 0 1)
 
--- each refusal's cause, an earlier cause excluded. 4 is given by another queue
-abbrev pub CycleCause : ℕ → ℕ → Request → State → List ℕ → Refusal → Type 0
-CycleCause m levels r s ws BadShape = Shape m levels (length ws) → ⊥
-CycleCause m levels r s ws Damaged = Shape m levels (length ws) × CycleDamage m levels r s ws
-CycleCause m levels r s ws TooSoon = Shape m levels (length ws) × (CycleDamage m levels r s ws → ⊥) × PopsOrReplaces r × (s .mark ≡ true)
-CycleCause m levels r s ws BadRank = ⊥
-CycleCause m levels r s ws Full = Shape m levels (length ws) × (CycleDamage m levels r s ws → ⊥) × IsPush r × (sumCounts (rootOf m ws) ≡ room m levels)
-CycleCause m levels r s ws Empty =
-    Shape m levels (length ws) × (CycleDamage m levels r s ws → ⊥) × IsPop r × (s .mark ≡ false) × (sumCounts (rootOf m ws) ≡ 0)
+-- the table, in order: "Order for the tree: 1, 2, 3, then 5 or 6". 4 is the bucket queue's
+abbrev pub cycleRefusals : ℕ → ℕ → Request → State → List ℕ → Ladder Refusal
+cycleRefusals m levels r s ws =
+    rung BadShape (Shape m levels (length ws))
+    (stop Damaged (CycleDamage m levels r s ws)
+    (stop TooSoon (PopsOrReplaces r × (s .mark ≡ true))
+    (limits r (sumCounts (rootOf m ws)) (room m levels) fine)))
 
--- .. and of a refused drain: within the budget and with work pending all along, an idle cycle meets damage
-pub record Jams (m levels budget : ℕ) (s : State) (ws : List ℕ) : Type 0 where
-  pub cycles : ℕ
+-- column "Left behind": after 1 and 2 "everything, mark and records too"; after the others the "cycle runs as idle"
+abbrev pub runsIdle : Refusal → Bool
+runsIdle BadShape = false
+runsIdle Damaged = false
+runsIdle TooSoon = true
+runsIdle BadRank = true
+runsIdle Full = true
+runsIdle Empty = true
+
+abbrev pub cycleLeft : ℕ → ℕ → State → List ℕ → Refusal → CycleOutcome
+cycleLeft m levels s ws n =
+    let x = cond {A = Machine} (runsIdle n) (idles m levels 1 s ws) (machine s ws) in
+    cycleOutcome (Refused n) (x .words) (x .state)
+
+-- a refused drain: within the budget and with work pending all along, so many idle cycles run and the next meets damage
+pub record Jams (m levels budget cycles : ℕ) (s : State) (ws : List ℕ) : Type 0 where
   pub within : cycles < budget
   pub waits : (j : ℕ) → j ≤ cycles → pending m levels (idles m levels j s ws .state) ≡ true
   pub damage : CycleDamage m levels Idle (idles m levels cycles s ws .state) (idles m levels cycles s ws .words)
 
-abbrev pub DrainCause : ℕ → ℕ → ℕ → State → List ℕ → Refusal → Type 0
-DrainCause m levels budget s ws BadShape = Shape m levels (length ws) → ⊥
-DrainCause m levels budget s ws Damaged = Shape m levels (length ws) × Jams m levels budget s ws
-DrainCause m levels budget s ws TooSoon = ⊥
-DrainCause m levels budget s ws BadRank = ⊥
-DrainCause m levels budget s ws Full = ⊥
-DrainCause m levels budget s ws Empty = ⊥
+abbrev pub drainRefusals : ℕ → ℕ → ℕ → State → List ℕ → Ladder Refusal
+drainRefusals m levels budget s ws = rung BadShape (Shape m levels (length ws)) (stop Damaged ((n : ℕ) × Jams m levels budget n s ws) fine)
+
+-- "Drain stops at 2 and reports the cycles already run, work left; at 1 it reports 0 and no work left"
+abbrev pub isBadShape : Refusal → Bool
+isBadShape BadShape = true
+isBadShape Damaged = false
+isBadShape TooSoon = false
+isBadShape BadRank = false
+isBadShape Full = false
+isBadShape Empty = false
+
+abbrev pub drainLeft : ℕ → ℕ → ℕ → State → List ℕ → Refusal → DrainOutcome
+drainLeft m levels cycles s ws n =
+    let ran = cond (isBadShape n) 0 cycles in
+    drainOutcome (Refused n) ran (not (isBadShape n)) (idles m levels ran s ws .words) (idles m levels ran s ws .state)
 
 -- a number capped by the budget
 abbrev pub capped : ℕ → ℕ → ℕ
 capped budget n = cond (leb n budget) n budget
 
--- ---- one step: what a cycle with no damage does to the levels and the records, by what stood at its start
+-- ---- one step: what a cycle with no damage does to the levels and the records, by what stood at its start. The topmost level is 0
+module _ (m levels : ℕ) where
+  -- level i as it stands
+  abbrev pub levelNow : List ℕ → ℕ → Level
+  levelNow ws i = levelAt levels (levelsOf m levels ws 0 1) i
+
+  -- "Level 1 does the requested operation's root step; a level with pending work does that node's step": the work of level i
+  abbrev pub levelWork : Request → State → List ℕ → ℕ → Work
+  levelWork r s ws zero = work (hearing m levels r s ws .op) 0
+  levelWork r s ws (suc i) = recordAt (s .records) i
+
+  -- what a step at level i leaves for the next level
+  abbrev pub leaveBelow : List ℕ → ℕ → Work → Work
+  leaveBelow ws i w = stepWork m w (levelNow ws i) (levelNow ws (suc i))
+
+-- a record: q is what the level above leaves for it, w what it was, v what it is then
+pub record Recorded (q w v : Work) : Type 0 where
+  -- "it loads the next level's record"
+  pub loaded : Some (q .op) → v ≡ q
+  -- work done and nothing loaded: "Numbers that a record's kind doesn't use are written 0"
+  pub finished : q .op ≡ Nothing → Some (w .op) → v ≡ record { op = Nothing; node = 0 }
+  -- "A level with nothing to do changes no word"
+  pub stands : q .op ≡ Nothing → w .op ≡ Nothing → v ≡ w
+
+-- the first slot of level i: M + M² + … + M^i stand above it
+abbrev pub firstSlot : ℕ → ℕ → ℕ
+firstSlot m i = sumTo i (λ a. m ^ suc a)
+
 pub record OneStep (m levels : ℕ) (r : Request) (s : State) (ws : List ℕ) : Type 0 where
-  -- each level is what its own step makes of it: one slot of one node, or none
-  pub slots : levelsOf m (suc (pred levels)) (ticked m levels r s ws .words) 0 1
-      ≡ cycleLevels m (suc (pred levels)) (cycleWork m levels (hearing m levels r s ws .op) s) (levelsOf m (suc (pred levels)) ws 0 1)
+  -- "every level reads what stood at the cycle's start and writes only its own level": each is what its own step makes of it
+  pub each : (i : ℕ) → i < levels → levelNow m levels (ticked m levels r s ws .words) i ≡ stepLevel m (levelWork m levels r s ws i) (levelNow m levels ws i) (levelNow m levels ws (suc i))
+  -- .. that is one slot at the most: every other one stands
+  pub slot : ℕ → ℕ
+  pub others : (i q : ℕ) → i < levels → q < m ^ suc i → (q ≡ slot i → ⊥) → threeWords (ticked m levels r s ws .words) (firstSlot m i + q) ≡ threeWords ws (firstSlot m i + q)
+  -- .. and none of a level with nothing to do
+  pub still : (i q : ℕ) → i < levels → q < m ^ suc i → levelWork m levels r s ws i .op ≡ Nothing → threeWords (ticked m levels r s ws .words) (firstSlot m i + q) ≡ threeWords ws (firstSlot m i + q)
   -- no word past the capacity changes
-  pub past : (a : ℕ) → width * room m levels ≤ a → getD (ticked m levels r s ws .words) a 0 ≡ getD ws a 0
-  -- each record holds what the level above leaves for it
-  pub works : worksOf (pred levels) (ticked m levels r s ws .state .records) 0
-      ≡ cycleWorks m (suc (pred levels)) idle (cycleWork m levels (hearing m levels r s ws .op) s) (levelsOf m (suc (pred levels)) ws 0 1) .1
+  pub past : (a : ℕ) → 3 * room m levels ≤ a → getD (ticked m levels r s ws .words) a 0 ≡ getD ws a 0
+  -- each record is what the level above leaves for it, or is done with, or stands
+  pub records : (i : ℕ) → suc i < levels → Recorded (leaveBelow m levels ws i (levelWork m levels r s ws i)) (getD (s .records) i idle) (getD (ticked m levels r s ws .state .records) i idle)
+  -- the last level leaves nothing
+  pub last : leaveBelow m levels ws (pred levels) (levelWork m levels r s ws (pred levels)) .op ≡ Nothing
   -- "records past the last level are left alone"
   pub spare : (j : ℕ) → pred levels ≤ j → getD (ticked m levels r s ws .state .records) j idle ≡ getD (s .records) j idle
+
+-- an operation's work on its way down: w at level i in this cycle, what it leaves at level i + 1 in the next, whatever is asked then
+unfoldable pub flight : (m levels i : ℕ) → Work → List Request → Machine → Work
+flight m levels i w [] x = w
+flight m levels i w (r ∷ rs) x = flight m levels (suc i) (leaveBelow m levels (x .words) i w) rs (clockedQueue m levels r x .next)
+
+-- ---- what is never read. Two machines are alike where they agree on the words of the shape, on the work of the records of its levels, and on the
+-- mark: words behind, records past the last level, and numbers that a record's kind does not use may differ
+pub record Alike (m levels : ℕ) (x y : Machine) : Type 0 where
+  pub words : Agree (room m levels) (x .words) (y .words)
+  pub works : worksOf (pred levels) (x .state .records) 0 ≡ worksOf (pred levels) (y .state .records) 0
+  pub mark : x .state .mark ≡ y .state .mark
+
+-- ---- each public call's outcome is one
+pub record Pinned (m levels : ℕ) (s : State) (ws : List ℕ) : Type 0 where
+  pub cycle : (r : Request) → Pins (ticked m levels r s ws)
+  pub push : (x : Element) → Pins (ticked m levels (Push x) s ws)
+  pub pop : Pins (ticked m levels Pop s ws)
+  pub replace : (x : Element) → Pins (ticked m levels (Replace x) s ws)
+  pub drain : (budget : ℕ) → Pins (drains m levels budget s ws)
+  pub clear : Pins (restarted m levels ws)
+  pub held : Pins (counted m levels ws)

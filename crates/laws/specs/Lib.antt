@@ -4,3 +4,5 @@ pub mod Sums
 pub mod Fails
 pub mod Snoc
 pub mod Updates
+pub mod Means
+pub mod Ladder

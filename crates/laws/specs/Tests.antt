@@ -30,6 +30,11 @@ pub cond-path : {A B : Type 0} (f : A → B) (t : Bool) (x y : A) (z : B) → f 
 cond-path f true x y z p q = p
 cond-path f false x y z p q = q
 
+-- .. each branch by what its test says
+pub cond-both : {A : Type 0} (P : A → Type 0) (t : Bool) (x y : A) → (t ≡ true → P x) → (t ≡ false → P y) → P (cond t x y)
+cond-both P true x y f g = f refl
+cond-both P false x y f g = g refl
+
 pub and-unit : (b : Bool) → (b && true) ≡ b
 and-unit true = refl
 and-unit false = refl

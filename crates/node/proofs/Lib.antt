@@ -1,3 +1,4 @@
 pub mod Scan
 pub mod Steps
+pub mod Looks
 pub mod Rulings

@@ -78,7 +78,7 @@ module _ (m : ℕ) (ws : List ℕ) (i : ℕ) (j : ℕ) (a : Slot) (inside : j < 
         let t : ltb (firstEmpty nd) (length nd) ≡ true = lt-ltb (firstEmpty nd) (length nd) (omega (arith, least-in nd len)) in
         e ∙ ap (λ (p : ℕ). move p x 1 Nothing) (at-least ∙ sym f) ∙ sym (ap (λ (b : Bool). putBy b x nd) t)
 
-    put-full : (x : Element) → (a .count ≡ 0 → ⊥) → putMove x nd ≡ move j (keep x (a .element)) (suc (a .count)) (Put (pass x (a .element)))
+    pub put-full : (x : Element) → (a .count ≡ 0 → ⊥) → putMove x nd ≡ move j (keep x (a .element)) (suc (a .count)) (Put (pass x (a .element)))
     unfolding putMove putBy
     put-full x n =
         ap (λ (b : Bool). putBy b x nd) (le-ltb (firstEmpty nd) (length nd) (least-full nd (λ z. n (sym least-count-is ∙ z))))

@@ -1,6 +1,6 @@
 -- What a node's functions ask of the words, and the scans by which they choose a slot. Assumes nothing: these are definitions.
 -- a node of m slots lies within the words
-use Prim.Native.Nat.{_*_, _+_, _<_, _≤_, suc, zero, ℕ}
+use Prim.Native.Nat.{_*_, _+_, _<_, _≤_, pred, suc, zero, ℕ}
 use mathlib.Core.Bool.{_&&_, _||_, Bool, cond, not, true}
 use mathlib.Core.List.{List}
 use mathlib.Core.Path.{_≡_}
@@ -54,6 +54,10 @@ pub record Capacity (m levels r : ℕ) : Type 0 where
   pub within : room m levels ≤ slotLimit → r ≡ room m levels
   pub above : slotLimit < room m levels → slotLimit < r
 
+-- .. and the room of the next level by this one's
+abbrev pub RoomUnder : ℕ → ℕ → ℕ → Type 0
+RoomUnder m r u = (k : ℕ) → r ≡ room m k → u ≡ room m (pred k)
+
 -- ---- the scan for the smallest count, over the first j places
 unfoldable pub scanLeast : List Slot → ℕ → ℕ
 scanLeast nd zero = 0
@@ -75,3 +79,20 @@ everyTo f nd (suc j) = everyTo f nd j && f (slotAt nd j)
 unfoldable pub sumCountsTo : List Slot → ℕ → ℕ
 sumCountsTo nd zero = 0
 sumCountsTo nd (suc j) = sumCountsTo nd j + slotAt nd j .count
+
+-- ---- the scans that keep the best number read so far; above every number where there is none
+abbrev pub most : ℕ
+most = 4294967296
+
+-- the smallest of the first j counts
+unfoldable pub fewest : List Slot → ℕ → ℕ
+fewest nd zero = most
+fewest nd (suc j) = slotAt nd (scanLeast nd (suc j)) .count
+
+-- the rank of an occupied slot
+unfoldable pub keyOr : Slot → ℕ
+keyOr s = cond (isEmpty s) most (key (s .element))
+
+-- .. and of the best place
+unfoldable pub bestKey : List Slot → ℕ → ℕ
+bestKey nd b = cond (leb (length nd) b) most (key (slotAt nd b .element))

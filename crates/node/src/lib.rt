@@ -5,11 +5,11 @@ ghost use Prim.Native.Nat.{_+_, _*_, _<_, _≤_};
 ghost use lib.ListN.{length};
 ghost use lib.Dec.{ltb};
 ghost use Rattle.strip.specs.Answers.{key};
-ghost use Rattle.tree_model.specs.Node.{slotAt, leastCount, lowest, low, sumCounts, move, putMove, takeMove, swapMove};
+ghost use Rattle.tree_model.specs.Node.{slotAt, leastCount, lowest, low, sumCounts, keep, pass, move, putMove, takeMove, swapMove};
 ghost use Rattle.tree_model.specs.Words.{width, slotOf, write, nodeOf, nodeMove};
 ghost use Rattle.tree_model.specs.Damage.{slotOk, nodeOk, hasRoom, hasSome, stepOk};
 ghost use Rattle.tree_model.specs.Calls.{slotLimit, orderOk, shapeOk};
-ghost use Rattle.node.specs.Scan.{beats, NodeIn, StepIn, Doable, childOf, lowBelow, liftOk, Capacity};
+ghost use Rattle.node.specs.Scan.{beats, keyOr, NodeIn, StepIn, Doable, childOf, lowBelow, liftOk, Capacity, RoomUnder};
 use strip::Element;
 use strip::Rank;
 use strip::Tag;
@@ -186,6 +186,113 @@ fn take_ok(s: &[u32], at: usize, order: usize, room: usize) -> bool
 {
     let j = lowest_slot(s, at, order);
     node_ok(s, at, order, room) & (j < order)
+}
+
+// One scan of a node: whether no slot of it is damaged, and the chosen place.
+pub struct Look {
+    pub ok: bool,
+    pub place: usize,
+}
+
+// .. for the smallest count
+pub fn look_least(s: &[u32], at: usize, order: usize, room: usize) -> Look
+    requires { ⌜ NodeIn order at (now s) × (room ≤ slotLimit) ⌝ }
+    ensures whole { λ r. ⌜ r .ok ≡ nodeOk room (nodeOf order (now (s .entry)) at) ⌝ }
+    ensures place { λ r. ⌜ r .place ≡ leastCount (nodeOf order (now (s .entry)) at) ⌝ }
+    ensures within { λ r. ⌜ r .place < order ⌝ }
+{
+    let mut ok = true;
+    let mut best = 0;
+    let mut few: u64 = 4294967296;
+    let mut j = 0;
+    while j < order {
+        let a = slot_at(s, at + j);
+        ok = ok & slot_ok(a, room);
+        let c = a.count as u64;
+        if c < few {
+            best = j;
+            few = c;
+        }
+        j += 1;
+    }
+    Look { ok, place: best }
+}
+
+// The rank of an occupied slot; for an empty one a number above every rank.
+fn key_or(a: Slot) -> u64
+    ensures key { λ r. ⌜ r ≡ keyOr a ⌝ }
+    ensures most { λ r. ⌜ r ≤ 4294967296 ⌝ }
+{
+    if a.count == 0 {
+        return 4294967296;
+    }
+    let element = a.element;
+    let rank = element.rank;
+    rank.0 as u64
+}
+
+// .. for the occupied slot of lowest rank; the order where all are empty
+pub fn look_low(s: &[u32], at: usize, order: usize, room: usize) -> Look
+    requires { ⌜ NodeIn order at (now s) × (room ≤ slotLimit) ⌝ }
+    ensures whole { λ r. ⌜ r .ok ≡ nodeOk room (nodeOf order (now (s .entry)) at) ⌝ }
+    ensures place { λ r. ⌜ r .place ≡ lowest (nodeOf order (now (s .entry)) at) ⌝ }
+    ensures within { λ r. ⌜ r .place ≤ order ⌝ }
+{
+    let mut ok = true;
+    let mut best = order;
+    let mut low: u64 = 4294967296;
+    let mut j = 0;
+    while j < order {
+        let a = slot_at(s, at + j);
+        ok = ok & slot_ok(a, room);
+        let k = key_or(a);
+        if k < low {
+            best = j;
+            low = k;
+        }
+        j += 1;
+    }
+    Look { ok, place: best }
+}
+
+// Of a newcomer and a slot's element: the one that stays.
+pub fn stays(x: Element, y: Element) -> Element
+    ensures { λ r. ⌜ r ≡ keep x y ⌝ }
+{
+    if lower(x, y) {
+        return x;
+    }
+    y
+}
+
+// .. and the one that goes down
+pub fn goes_down(x: Element, y: Element) -> Element
+    ensures { λ r. ⌜ r ≡ pass x y ⌝ }
+{
+    if lower(x, y) {
+        return y;
+    }
+    x
+}
+
+// The room below a slot of the next level, by the room below a slot of this one.
+pub fn room_under(order: usize, room: usize) -> usize
+    requires { ⌜ 0 < order ⌝ }
+    ensures { λ r. ⌜ RoomUnder order room r ⌝ }
+{
+    if room == 0 {
+        return 0;
+    }
+    if order == 2 {
+        return (room - 1) / 2;
+    }
+    if order == 4 {
+        return (room - 1) / 4;
+    }
+    if order == 8 {
+        return (room - 1) / 8;
+    }
+    (room - 1) / order
 }
 
 // How many elements so many levels under one slot hold, where that is within the limit; else a number above the limit.

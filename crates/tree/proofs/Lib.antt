@@ -1,3 +1,3 @@
 pub mod Down
-pub mod Rest
+pub mod Once
 pub mod Calls

@@ -1,24 +1,22 @@
 // The multi-way tree, one operation at a time, over lent words. A level is named by the number of its first slot and how many nodes it has.
 ghost use mathlib.Core.Path.{_≡_};
 ghost use mathlib.Core.List.{_++_};
-ghost use Prim.Native.Nat.{_≤_};
+ghost use Prim.Native.Nat.{_≤_, _-_};
 ghost use lib.ListN.{length, drop, replicate};
-ghost use Rattle.tree_model.specs.Levels.{work};
-ghost use Rattle.tree_model.specs.Words.{levelsOf, applyWords};
-ghost use Rattle.tree_model.specs.Damage.{pathOk};
+ghost use Rattle.tree_model.specs.Damage.{room};
 ghost use Rattle.tree_model.specs.Calls.{outcome, called, cleared, counted};
-ghost use Rattle.tree.specs.Down.{Lies, Ready, pair};
+ghost use Rattle.tree.specs.Down.{Carried, Lies, Seen, pair};
 use node::capacity;
+use node::goes_down;
+use node::look_least;
+use node::look_low;
 use node::lower;
-use node::lowest_element;
-use node::move_of;
 use node::node_ok;
-use node::put_move;
+use node::room_under;
 use node::shape_ok;
-use node::step_ok;
+use node::slot_at;
+use node::stays;
 use node::sum_counts;
-use node::swap_move;
-use node::take_move;
 use node::write_slot;
 use strip::Answer;
 use strip::Count;
@@ -27,51 +25,128 @@ use strip::Rank;
 use strip::Refusal;
 use strip::Request;
 use strip::Tag;
+use strip::no_element;
 use tree_model::Op;
+use tree_model::Slot;
 
 // ---- the three operations: own step, then the same rule one level down, with the levels left falling
 
-fn put(s: &mut [u32], order: usize, left: usize, base: usize, width: usize, node: usize, x: Element)
-    requires { ⌜ Ready order left base width node (Op.Put x) (now s) ⌝ }
-    ensures { λ _. ⌜ now (s .exit) ≡ applyWords order left (work (Op.Put x) node) base width (now (s .entry)) ⌝ }
+// Tested on the way down, written on the way back. `cap` is the room below a slot of this level.
+fn put(
+    s: &mut [u32],
+    order: usize,
+    left: usize,
+    base: usize,
+    width: usize,
+    node: usize,
+    cap: usize,
+    x: Element,
+) -> bool
+    requires { ⌜ Lies order left base width node (now s) × (cap ≡ room order (left - 1)) ⌝ }
+    ensures { λ r. ⌜ Carried order left base width node (Op.Put x) (now (s .entry)) r (now (s .exit)) ⌝ }
 {
     if left == 0 {
-        return;
+        return true;
     }
     let first = node * order;
     let at = base + first;
-    let v = put_move(s, at, order, x);
-    write_slot(s, at + v.place, v.slot);
-    let rest = v.rest;
-    if let Op::Put(y) = rest {
-        put(
-            s,
-            order,
-            left - 1,
-            base + width * order,
-            width * order,
-            first + v.place,
-            y,
-        );
+    let v = look_least(s, at, order, cap);
+    if !v.ok {
+        return false;
     }
+    let j = v.place;
+    let i = at + j;
+    let a = slot_at(s, i);
+    let count = a.count;
+    if cap < count as usize {
+        return false;
+    }
+    if count == 0 {
+        let new = Slot {
+            element: x,
+            count: 1,
+        };
+        write_slot(s, i, new);
+        return true;
+    }
+    let y = a.element;
+    let down = goes_down(x, y);
+    let up = stays(x, y);
+    let under = room_under(order, cap);
+    let wide = width * order;
+    if !put(
+        s,
+        order,
+        left - 1,
+        base + wide,
+        wide,
+        first + j,
+        under,
+        down,
+    ) {
+        return false;
+    }
+    let more = count + 1;
+    let kept = Slot {
+        element: up,
+        count: more,
+    };
+    write_slot(s, i, kept);
+    true
 }
 
-fn take(s: &mut [u32], order: usize, left: usize, base: usize, width: usize, node: usize)
-    requires { ⌜ Ready order left base width node Op.Take (now s) ⌝ }
-    ensures { λ _. ⌜ now (s .exit) ≡ applyWords order left (work Op.Take node) base width (now (s .entry)) ⌝ }
+// The node has been looked at, and its place is known: the node below is looked at before the work goes there.
+fn take(
+    s: &mut [u32],
+    order: usize,
+    left: usize,
+    base: usize,
+    width: usize,
+    node: usize,
+    j: usize,
+    cap: usize,
+) -> bool
+    requires { ⌜ Lies order left base width node (now s) × Seen order left base node j cap (now s) ⌝ }
+    ensures { λ r. ⌜ Carried order left base width node Op.Take (now (s .entry)) r (now (s .exit)) ⌝ }
 {
-    if left == 0 {
-        return;
-    }
     let first = node * order;
-    let at = base + first;
-    let next = base + width * order;
-    let v = take_move(s, at, next + first * order, order);
-    write_slot(s, at + v.place, v.slot);
-    let rest = v.rest;
-    if let Op::Take = rest {
-        take(s, order, left - 1, next, width * order, first + v.place);
+    let i = base + first + j;
+    let a = slot_at(s, i);
+    let count = a.count;
+    if count <= 1 {
+        let none = no_element();
+        let gone = Slot {
+            element: none,
+            count: 0,
+        };
+        write_slot(s, i, gone);
+        return true;
     }
+    let wide = width * order;
+    let next = base + wide;
+    let child = first + j;
+    let at = next + child * order;
+    let under = room_under(order, cap);
+    let v = look_low(s, at, order, under);
+    if !v.ok {
+        return false;
+    }
+    let p = v.place;
+    if p == order {
+        return false;
+    }
+    let k = slot_at(s, at + p);
+    let up = k.element;
+    if !take(s, order, left - 1, next, wide, child, p, under) {
+        return false;
+    }
+    let fewer = count - 1;
+    let kept = Slot {
+        element: up,
+        count: fewer,
+    };
+    write_slot(s, i, kept);
+    true
 }
 
 fn swap(
@@ -81,64 +156,48 @@ fn swap(
     base: usize,
     width: usize,
     node: usize,
+    j: usize,
+    cap: usize,
     x: Element,
-)
-    requires { ⌜ Ready order left base width node (Op.Swap x) (now s) ⌝ }
-    ensures { λ _. ⌜ now (s .exit) ≡ applyWords order left (work (Op.Swap x) node) base width (now (s .entry)) ⌝ }
-{
-    if left == 0 {
-        return;
-    }
-    let first = node * order;
-    let at = base + first;
-    let next = base + width * order;
-    let v = swap_move(s, at, next + first * order, order, x);
-    write_slot(s, at + v.place, v.slot);
-    let rest = v.rest;
-    if let Op::Swap(y) = rest {
-        swap(s, order, left - 1, next, width * order, first + v.place, y);
-    }
-}
-
-// ---- the whole path is tested before the first write
-
-// Whether every node that an operation reads, here and below, is in order.
-fn path_ok(
-    s: &[u32],
-    order: usize,
-    left: usize,
-    base: usize,
-    width: usize,
-    node: usize,
-    op: Op,
 ) -> bool
-    requires { ⌜ Lies order left base width node (now s) ⌝ }
-    ensures { λ r. ⌜ r ≡ pathOk order left (work op node) (levelsOf order left (now (s .entry)) base width) ⌝ }
+    requires { ⌜ Lies order left base width node (now s) × Seen order left base node j cap (now s) ⌝ }
+    ensures { λ r. ⌜ Carried order left base width node (Op.Swap x) (now (s .entry)) r (now (s .exit)) ⌝ }
 {
-    if left < 1 {
+    let first = node * order;
+    let i = base + first + j;
+    let a = slot_at(s, i);
+    let count = a.count;
+    if count <= 1 {
+        let new = Slot { element: x, count };
+        write_slot(s, i, new);
         return true;
     }
-    let first = node * order;
-    let at = base + first;
-    let next = base + width * order;
-    let below = next + first * order;
-    if !step_ok(s, at, below, order, left - 1, op) {
+    let wide = width * order;
+    let next = base + wide;
+    let child = first + j;
+    let at = next + child * order;
+    let under = room_under(order, cap);
+    let v = look_low(s, at, order, under);
+    if !v.ok {
         return false;
     }
-    let v = move_of(s, at, below, order, op);
-    let rest = v.rest;
-    if let Op::Nothing = rest {
+    let p = v.place;
+    if p == order {
+        return false;
+    }
+    let k = slot_at(s, at + p);
+    let up = k.element;
+    if !lower(up, x) {
+        let new = Slot { element: x, count };
+        write_slot(s, i, new);
         return true;
     }
-    path_ok(
-        s,
-        order,
-        left - 1,
-        next,
-        width * order,
-        first + v.place,
-        rest,
-    )
+    if !swap(s, order, left - 1, next, wide, child, p, under, x) {
+        return false;
+    }
+    let kept = Slot { element: up, count };
+    write_slot(s, i, kept);
+    true
 }
 
 // ---- the calls
@@ -159,67 +218,74 @@ pub fn held(store: &[u32], order: usize, levels: usize) -> Count
 pub fn push(store: &mut [u32], order: usize, levels: usize, rank: Rank, tag: Tag) -> Answer
     ensures { λ r. ⌜ outcome r (now (store .exit)) ≡ called order levels (Request.Push (pair rank tag)) (now (store .entry)) ⌝ }
 {
-    let count = held(store, order, levels);
-    match count {
-        Count::Unknown(n) => Answer::Refused(n),
-        Count::Held(h) => {
-            let wanted = h as usize + 1;
-            if capacity(order, levels) < wanted {
-                return Answer::Refused(Refusal::Full);
-            }
-            let x = Element { rank, tag };
-            if !path_ok(store, order, levels, 0, 1, 0, Op::Put(x)) {
-                return Answer::Refused(Refusal::Damaged);
-            }
-            put(store, order, levels, 0, 1, 0, x);
-            Answer::Done
-        }
+    if !shape_ok(order, levels, store.len()) {
+        return Answer::Refused(Refusal::BadShape);
     }
+    let x = Element { rank, tag };
+    let cap = capacity(order, levels - 1);
+    if put(store, order, levels, 0, 1, 0, cap, x) {
+        return Answer::Done;
+    }
+    // not done, and nothing written: why
+    if !node_ok(store, 0, order, cap) {
+        return Answer::Refused(Refusal::Damaged);
+    }
+    let sum = sum_counts(store, 0, order);
+    if sum < capacity(order, levels) {
+        return Answer::Refused(Refusal::Damaged);
+    }
+    Answer::Refused(Refusal::Full)
 }
 
 pub fn pop(store: &mut [u32], order: usize, levels: usize) -> Answer
     ensures { λ r. ⌜ outcome r (now (store .exit)) ≡ called order levels Request.Pop (now (store .entry)) ⌝ }
 {
-    let count = held(store, order, levels);
-    match count {
-        Count::Unknown(n) => Answer::Refused(n),
-        Count::Held(h) => {
-            if h == 0 {
-                return Answer::Refused(Refusal::Empty);
-            }
-            let low = lowest_element(store, 0, order);
-            if !path_ok(store, order, levels, 0, 1, 0, Op::Take) {
-                return Answer::Refused(Refusal::Damaged);
-            }
-            take(store, order, levels, 0, 1, 0);
-            Answer::Out(low)
-        }
+    if !shape_ok(order, levels, store.len()) {
+        return Answer::Refused(Refusal::BadShape);
     }
+    let cap = capacity(order, levels - 1);
+    let v = look_low(store, 0, order, cap);
+    if !v.ok {
+        return Answer::Refused(Refusal::Damaged);
+    }
+    let j = v.place;
+    if j == order {
+        return Answer::Refused(Refusal::Empty);
+    }
+    let a = slot_at(store, j);
+    let low = a.element;
+    if !take(store, order, levels, 0, 1, 0, j, cap) {
+        return Answer::Refused(Refusal::Damaged);
+    }
+    Answer::Out(low)
 }
 
 // A newcomer of a rank below all held comes straight back, and the store stands.
 pub fn replace(store: &mut [u32], order: usize, levels: usize, rank: Rank, tag: Tag) -> Answer
     ensures { λ r. ⌜ outcome r (now (store .exit)) ≡ called order levels (Request.Replace (pair rank tag)) (now (store .entry)) ⌝ }
 {
-    let count = held(store, order, levels);
-    match count {
-        Count::Unknown(n) => Answer::Refused(n),
-        Count::Held(h) => {
-            let x = Element { rank, tag };
-            if h == 0 {
-                return Answer::Out(x);
-            }
-            let low = lowest_element(store, 0, order);
-            if lower(x, low) {
-                return Answer::Out(x);
-            }
-            if !path_ok(store, order, levels, 0, 1, 0, Op::Swap(x)) {
-                return Answer::Refused(Refusal::Damaged);
-            }
-            swap(store, order, levels, 0, 1, 0, x);
-            Answer::Out(low)
-        }
+    if !shape_ok(order, levels, store.len()) {
+        return Answer::Refused(Refusal::BadShape);
     }
+    let cap = capacity(order, levels - 1);
+    let v = look_low(store, 0, order, cap);
+    if !v.ok {
+        return Answer::Refused(Refusal::Damaged);
+    }
+    let x = Element { rank, tag };
+    let j = v.place;
+    if j == order {
+        return Answer::Out(x);
+    }
+    let a = slot_at(store, j);
+    let low = a.element;
+    if lower(x, low) {
+        return Answer::Out(x);
+    }
+    if !swap(store, order, levels, 0, 1, 0, j, cap, x) {
+        return Answer::Refused(Refusal::Damaged);
+    }
+    Answer::Out(low)
 }
 
 // Writes zeros to the first n words.

@@ -57,26 +57,35 @@ fails c n (u ∷ ss) e h = go (leb n (u .count)) refl e (λ e. fails c n ss e (h
     go true p e ih = ih e
     go false p e ih = omega (arith, leb-false n (u .count) p, h .0)
 
-pub least-in : (nd : List Slot) → 0 < length nd → leastCount nd < length nd
-unfolding leastCount seek every
-least-in [] h = absurd (not-suc-le-zero h)
-least-in (s ∷ []) h = omega arith
-least-in (s ∷ t ∷ ss) h = go (every (λ u. leb (s .count) (u .count)) (t ∷ ss)) (least-in (t ∷ ss) (omega arith))
+-- a slot of the node, smallest, and leftmost on a tie
+abbrev Leftmost : List Slot → ℕ → Type 0
+Leftmost nd j = (0 < length nd → j < length nd) × All (λ u. slotAt nd j .count ≤ u .count) nd × ((i : ℕ) → i < j → slotAt nd j .count < slotAt nd i .count)
+
+leftmost : (nd : List Slot) → Leftmost nd (leastCount nd)
+unfolding leastCount seek slotAt every
+leftmost [] = (λ h. absurd (not-suc-le-zero h), tt, λ i h. absurd (not-suc-le-zero h))
+leftmost (s ∷ ss) = go (every (λ u. leb (s .count) (u .count)) ss) refl (leftmost ss)
   where
-    go : (b : Bool) → leastCount (t ∷ ss) < suc (length ss) → cond b 0 (suc (leastCount (t ∷ ss))) < suc (suc (length ss))
-    go true h = omega arith
-    go false h = omega arith
+    go : (b : Bool) → every (λ u. leb (s .count) (u .count)) ss ≡ b → Leftmost ss (leastCount ss) → Leftmost (s ∷ ss) (cond b 0 (suc (leastCount ss)))
+    go true e ih = (λ h. omega arith, (omega arith, all-map _ _ (λ u p. leb-true (s .count) (u .count) p) ss (every-all _ ss e)), λ i h. absurd (not-suc-le-zero h))
+    go false e ih = (λ h. omega (arith, ih .0 (longer ss e)), (le-of-lt l, ih .1), λ i h. left i h)
+      where
+        l : slotAt ss (leastCount ss) .count < s .count
+        l = fails (slotAt ss (leastCount ss) .count) (s .count) ss e (ih .1)
+
+        longer : (ss : List Slot) → every (λ u. leb (s .count) (u .count)) ss ≡ false → 0 < length ss
+        longer [] e = absurd (true≢false e)
+        longer (u ∷ ss) e = omega arith
+
+        left : (i : ℕ) → i < suc (leastCount ss) → slotAt ss (leastCount ss) .count < slotAt (s ∷ ss) i .count
+        left zero h = l
+        left (suc i) h = ih .2 i (le-of-suc-le-suc h)
+
+pub least-in : (nd : List Slot) → 0 < length nd → leastCount nd < length nd
+least-in nd = leftmost nd .0
 
 pub least-le : (nd : List Slot) → All (λ u. slotAt nd (leastCount nd) .count ≤ u .count) nd
-unfolding leastCount seek slotAt
-least-le [] = tt
-least-le (s ∷ ss) = go (every (λ u. leb (s .count) (u .count)) ss) refl (least-le ss)
-  where
-    go : (b : Bool) → every (λ u. leb (s .count) (u .count)) ss ≡ b → All (λ u. slotAt ss (leastCount ss) .count ≤ u .count) ss
-        → (getD (s ∷ ss) (cond b 0 (suc (leastCount ss))) vacant .count ≤ s .count)
-        × All (λ u. getD (s ∷ ss) (cond b 0 (suc (leastCount ss))) vacant .count ≤ u .count) ss
-    go true e ih = (omega arith, all-map _ _ (λ u p. leb-true (s .count) (u .count) p) ss (every-all _ ss e))
-    go false e ih = (le-of-lt (fails (slotAt ss (leastCount ss) .count) (s .count) ss e ih), ih)
+least-le nd = leftmost nd .1
 
 -- ---- the lowest key
 pub record IsLowest (nd : List Slot) (j : ℕ) : Type 0 where
@@ -147,16 +156,7 @@ all-slotAt P nd j h lt = all-at P nd j vacant h lt
 
 -- ---- leftmost: for the code that finds the place. A place with the laws is the place
 pub least-left : (nd : List Slot) (i : ℕ) → i < leastCount nd → slotAt nd (leastCount nd) .count < slotAt nd i .count
-unfolding leastCount seek slotAt
-least-left [] i h = absurd (not-suc-le-zero h)
-least-left (s ∷ ss) i h = go (every (λ u. leb (s .count) (u .count)) ss) refl i h (least-left ss)
-  where
-    go : (b : Bool) → every (λ u. leb (s .count) (u .count)) ss ≡ b → (i : ℕ) → i < cond b 0 (suc (leastCount ss))
-        → ((i : ℕ) → i < leastCount ss → slotAt ss (leastCount ss) .count < slotAt ss i .count)
-        → getD (s ∷ ss) (cond b 0 (suc (leastCount ss))) vacant .count < getD (s ∷ ss) i vacant .count
-    go true e i h ih = absurd (not-suc-le-zero h)
-    go false e zero h ih = fails (slotAt ss (leastCount ss) .count) (s .count) ss e (least-le ss)
-    go false e (suc i) h ih = ih i (le-of-suc-le-suc h)
+least-left nd = leftmost nd .2
 
 pub least-unique : (nd : List Slot) (j : ℕ) → j < length nd
     → ((i : ℕ) → i < length nd → slotAt nd j .count ≤ slotAt nd i .count) → ((i : ℕ) → i < j → slotAt nd j .count < slotAt nd i .count) → leastCount nd ≡ j

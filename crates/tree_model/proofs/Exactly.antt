@@ -10,27 +10,32 @@ use mathlib.Core.Path.{_∙_, _≡_, ap, refl, subst, sym}
 use lib.Dec.{eqb, leb, ltb}
 use lib.ListN.{getD, length}
 use lib.Seq.{slice}
-use borrow.Author.Tests.{eq-eqb, eqb-false, eqb-true, le-leb, le-ltb, leb-true, ltb-false}
+use borrow.Author.Tests.{eq-eqb, eqb-false, eqb-true, le-leb, le-ltb, leb-true, ltb-false, ltb-true}
 use Rattle.laws.specs.Fails.{Fails, fails-and, fails-every, fails-leb, fails-not-eqb, fails-not-every, fails-or, fails-true}
+use Rattle.laws.specs.Ladder.{climb, climb-by, climb-fine, climb-stop, Exactly, Granted, Ladder, left-behind, rung}
+use Rattle.laws.specs.Ladder as ladder
 use Rattle.laws.specs.Lists.{All}
 use Rattle.laws.specs.Tests.{and-left, and-right, and-true, or-right}
-use Rattle.strip.specs.Answers.{key}
+use Rattle.promise.specs.Refused.{IsPush, limits, refusal-told, zero-told}
+use Rattle.promise.specs.Served.{Kind}
+use Rattle.strip.specs.Answers.{countNumber, numberOf, refusalNumber}
 use Rattle.strip.specs.declared.Answer.{Answer}
 use Rattle.strip.specs.declared.Answer.the-variants.{Done, Out, Refused}
 use Rattle.strip.specs.declared.Count.{Count}
 use Rattle.strip.specs.declared.Count.the-variants.{Held, Unknown}
 use Rattle.strip.specs.declared.Element.{Element}
 use Rattle.strip.specs.declared.Refusal.{Refusal}
-use Rattle.strip.specs.declared.Refusal.the-variants.{BadRank, BadShape, Damaged, Empty, Full, TooSoon}
+use Rattle.strip.specs.declared.Refusal.the-variants.{BadShape, Damaged, Empty, Full}
 use Rattle.strip.specs.declared.Request.{Request}
-use Rattle.strip.specs.declared.Request.the-variants.{Idle, Pop, Push, Replace}
 use Rattle.tree_model.proofs.Nothing.{op-work, work-none}
+use Rattle.tree_model.proofs.Rules.{comes}
 use Rattle.tree_model.proofs.Words.{node-length}
 use Rattle.tree_model.specs.Calls.{called, carriedOut, cleared, counted, orderOk, Outcome, outcome, rootOf, rootOk, rule, ruling, Ruling, shapeOk, slotLimit, verdict, wayOk}
 use Rattle.tree_model.specs.Damage.{fine, hasRoom, hasSome, isBlank, lifts, nodeOk, pathOk, readOk, room, slotOk, stepOk}
 use Rattle.tree_model.specs.Levels.{Level, Levels, stepWork, top, work}
 use Rattle.tree_model.specs.Node.{every, isEmpty, isNothing, low, lowest, slotAt, sumCounts}
-use Rattle.tree_model.specs.Promise.{Cause, Damage, HeldCause, IsPop, IsPush, Lifts, NodeDamaged, PathDamaged, ReadDamaged, Shape, SlotDamaged, Some, StepDamaged, WorkDamaged}
+use Rattle.tree_model.specs.Promise.{clearRefusals, Damage, heldRefusals, Lifts, NodeDamaged, PathDamaged, ReadDamaged, refusals, Shape, SlotDamaged, Some, StepDamaged, WorkDamaged}
+use Rattle.tree_model.specs.Rules.{Comes, empty, full, idles, puts, returns, swaps, takes}
 use Rattle.tree_model.specs.Words.{applyWords, levelOf, levelsOf, stepWords, under, width, wipe}
 use Rattle.tree_model.specs.declared.Op.{Op}
 use Rattle.tree_model.specs.declared.Op.the-variants.{Nothing, Put, Swap, Take}
@@ -85,7 +90,7 @@ lifts-fails (Put x) nd = fails-true
 lifts-fails Take nd = above-fails (slotAt nd (lowest nd) .count)
 lifts-fails (Swap x) nd = above-fails (slotAt nd (lowest nd) .count)
 
-nothing-fails : (o : Op) → Fails (isNothing o) (Some o)
+pub nothing-fails : (o : Op) → Fails (isNothing o) (Some o)
 unfolding isNothing
 nothing-fails Nothing = fails-true
 nothing-fails (Put x) = record { found = λ e. tt; shown = λ d. refl }
@@ -164,6 +169,22 @@ unfolding room
 root-limit m zero ws h e = absurd (not-suc-le-zero h)
 root-limit m (suc k) ws h e = subst (λ (n : ℕ). sumCounts (rootOf m ws) ≤ n * suc (room m k)) (node-length m ws 0) (every-sum (room m k) (rootOf m ws) e)
 
+-- .. and one that leaves room for a put less than that
+full-all : (r : ℕ) (nd : List Slot) → nodeOk r nd ≡ true → length nd * suc r ≤ sumCounts nd → All (λ s. s .count ≡ suc r) nd
+unfolding nodeOk every sumCounts
+full-all r [] e h = tt
+full-all r (s ∷ nd) e h =
+    let a = slot-limit r s (and-left (slotOk r s) (every (slotOk r) nd) e) in
+    let b = every-sum r nd (and-right (slotOk r s) (every (slotOk r) nd) e) in
+    (omega (arith, a, b), full-all r nd (and-right (slotOk r s) (every (slotOk r) nd) e) (omega (arith, a, b)))
+
+pub room-less : (r : ℕ) (nd : List Slot) → nodeOk r nd ≡ true → hasRoom r nd ≡ true → sumCounts nd < length nd * suc r
+room-less r nd ok h = go (ltb (sumCounts nd) (length nd * suc r)) refl
+  where
+    go : (t : Bool) → ltb (sumCounts nd) (length nd * suc r) ≡ t → sumCounts nd < length nd * suc r
+    go true e = ltb-true (sumCounts nd) (length nd * suc r) e
+    go false e = absurd (true≢false (sym h ∙ room-fails r nd .shown (full-all r nd ok (ltb-false (sumCounts nd) (length nd * suc r) e))))
+
 -- ---- the call by its tests
 module _ (m levels : ℕ) (r : Request) (ws : List ℕ) where
   abbrev pub g : Ruling
@@ -186,6 +207,18 @@ module _ (m levels : ℕ) (r : Request) (ws : List ℕ) where
   unfolding called carriedOut
   called-fine s o w = rw (s, o, w)
 
+  -- what is so of a refused call and of one that is done is so of the call
+  pub called-either : (P : Outcome → Type 0) → ((x : Refusal) → P (outcome (Refused x) ws))
+      → (shapeOk m levels (length ws) ≡ true → rootOk m levels ws ≡ true → wayOk m levels (g .op) ws ≡ true → P (outcome (g .answer) (applyWords m levels (work (g .op) 0) 0 1 ws)))
+      → P (called m levels r ws)
+  called-either P refused ruled = go (shapeOk m levels (length ws)) refl (rootOk m levels ws) refl (wayOk m levels (g .op) ws) refl
+    where
+      go : (a : Bool) → shapeOk m levels (length ws) ≡ a → (b : Bool) → rootOk m levels ws ≡ b → (c : Bool) → wayOk m levels (g .op) ws ≡ c → P (called m levels r ws)
+      go false s b o c w = subst P (sym (called-bad s)) (refused BadShape)
+      go true s false o c w = subst P (sym (called-root s o)) (refused Damaged)
+      go true s true o false w = subst P (sym (called-way s o w)) (refused Damaged)
+      go true s true o true w = subst P (sym (called-fine s o w)) (ruled s o w)
+
   pub no-damage : rootOk m levels ws ≡ true → wayOk m levels (g .op) ws ≡ true → Damage m levels r ws → ⊥
   no-damage o w = ⊎-elim (λ d. true≢false (sym o ∙ node-fails (room m (pred levels)) (rootOf m ws) .shown d))
       (λ d. true≢false (sym w ∙ path-fails m levels (work (g .op) 0) (levelsOf m levels ws 0 1) .shown d))
@@ -193,145 +226,7 @@ module _ (m levels : ℕ) (r : Request) (ws : List ℕ) where
   answer-of : (o : Outcome) → called m levels r ws ≡ o → called m levels r ws .answer ≡ o .answer
   answer-of o e = ap (λ (o : Outcome). o .answer) e
 
--- what a request comes to at a root in order: no refusal, or 5 or 6 with its cause
-pub data Ruled (m levels : ℕ) (r : Request) (ws : List ℕ) (a : Answer) : Type 0 where
-  accepted : ((n : Refusal) → a ≡ Refused n → ⊥) → Ruled m levels r ws a
-  full : a ≡ Refused Full → IsPush r → sumCounts (rootOf m ws) ≡ room m levels → Ruled m levels r ws a
-  empty : a ≡ Refused Empty → IsPop r → sumCounts (rootOf m ws) ≡ 0 → Ruled m levels r ws a
-
-pub no-refusal-done : (n : Refusal) → _≡_ {A = Answer} Done (Refused n) → ⊥
-no-refusal-done n e = let z : _≡_ {A = ℕ} 0 1 = cc in omega arith
-
-no-refusal-out : (x : Element) (n : Refusal) → _≡_ {A = Answer} (Out x) (Refused n) → ⊥
-no-refusal-out x n e = let z : _≡_ {A = ℕ} 0 1 = cc in omega arith
-
-module _ (m levels : ℕ) (ws : List ℕ) (limit : sumCounts (rootOf m ws) ≤ room m levels) where
-  abbrev root : List Slot
-  root = rootOf m ws
-
-  pub ruled-as : (r : Request) → Ruled m levels r ws (verdict m levels r ws .answer)
-  unfolding rule
-  ruled-as Idle = accepted no-refusal-done
-  ruled-as (Push x) = go (ltb (sumCounts root) (room m levels)) refl
-    where
-      go : (b : Bool) → ltb (sumCounts root) (room m levels) ≡ b → Ruled m levels (Push x) ws (cond b (ruling Done (Put x)) (ruling (Refused Full) Nothing) .answer)
-      go true e = accepted no-refusal-done
-      go false e = full refl tt (omega (arith, ltb-false (sumCounts root) (room m levels) e))
-  ruled-as Pop = go (eqb (sumCounts root) 0) refl
-    where
-      go : (b : Bool) → eqb (sumCounts root) 0 ≡ b → Ruled m levels Pop ws (cond b (ruling (Refused Empty) Nothing) (ruling (Out (low root)) Take) .answer)
-      go true e = empty refl tt (eqb-true (sumCounts root) 0 e)
-      go false e = accepted (no-refusal-out (low root))
-  ruled-as (Replace x) = go (eqb (sumCounts root) 0 || ltb (key x) (key (low root)))
-    where
-      go : (b : Bool) → Ruled m levels (Replace x) ws (cond b (ruling (Out x) Nothing) (ruling (Out (low root)) (Swap x)) .answer)
-      go true = accepted (no-refusal-out x)
-      go false = accepted (no-refusal-out (low root))
-
--- a refusal with its cause
-record Refusing (m levels : ℕ) (r : Request) (ws : List ℕ) : Type 0 where
-  number : Refusal
-  says : called m levels r ws .answer ≡ Refused number
-  cause : Cause m levels r ws number
-
-module _ (m levels : ℕ) (r : Request) (ws : List ℕ) where
-  abbrev A : Answer
-  A = called m levels r ws .answer
-
-  -- no refusal, or one with its cause
-  classify : ((n : Refusal) → A ≡ Refused n → ⊥) ⊎ Refusing m levels r ws
-  classify = go (shapeOk m levels (length ws)) refl (rootOk m levels ws) refl (wayOk m levels (verdict m levels r ws .op) ws) refl
-    where
-      ruled : Shape m levels (length ws) → (Damage m levels r ws → ⊥) → A ≡ verdict m levels r ws .answer → Ruled m levels r ws (verdict m levels r ws .answer)
-          → ((n : Refusal) → A ≡ Refused n → ⊥) ⊎ Refusing m levels r ws
-      ruled s d e (accepted f) = inl (λ n z. f n (sym e ∙ z))
-      ruled s d e (full z p q) = inr (record { number = Full; says = e ∙ z; cause = (s, d, p, q) })
-      ruled s d e (empty z p q) = inr (record { number = Empty; says = e ∙ z; cause = (s, d, p, q) })
-
-      go : (a : Bool) → shapeOk m levels (length ws) ≡ a → (b : Bool) → rootOk m levels ws ≡ b → (c : Bool) → wayOk m levels (verdict m levels r ws .op) ws ≡ c
-          → ((n : Refusal) → A ≡ Refused n → ⊥) ⊎ Refusing m levels r ws
-      go false s b o c w =
-          inr (record { number = BadShape; says = answer-of m levels r ws _ (called-bad m levels r ws s); cause = λ z. true≢false (sym (is-shape m levels (length ws) z) ∙ s) })
-      go true s false o c w =
-          inr (record {
-            number = Damaged;
-            says = answer-of m levels r ws _ (called-root m levels r ws s o);
-            cause = (shape-is m levels (length ws) s, inl (node-fails (room m (pred levels)) (rootOf m ws) .found o));
-          })
-      go true s true o false w =
-          inr (record {
-            number = Damaged;
-            says = answer-of m levels r ws _ (called-way m levels r ws s o w);
-            cause = (shape-is m levels (length ws) s, inr (path-fails m levels (work (verdict m levels r ws .op) 0) (levelsOf m levels ws 0 1) .found w));
-          })
-      go true s true o true w =
-          let sh = shape-is m levels (length ws) s in
-          ruled sh (no-damage m levels r ws o w) (answer-of m levels r ws _ (called-fine m levels r ws s o w)) (ruled-as m levels ws (root-limit m levels ws (sh .some) o) r)
-
-  refused-only : (n : Refusal) → A ≡ Refused n → Cause m levels r ws n
-  refused-only n e = ⊎-elim (λ f. absurd (f n e)) (λ z. let p : z .number ≡ n = same-number (sym (z .says) ∙ e) in subst (Cause m levels r ws) p (z .cause)) classify
-    where
-      same-number : {a b : Refusal} → _≡_ {A = Answer} (Refused a) (Refused b) → a ≡ b
-      same-number {a} {b} e = cc
-
-  no-root-damage : (Damage m levels r ws → ⊥) → rootOk m levels ws ≡ true
-  no-root-damage d = go (rootOk m levels ws) refl
-    where
-      go : (b : Bool) → rootOk m levels ws ≡ b → b ≡ true
-      go true e = refl
-      go false e = absurd (d (inl (node-fails (room m (pred levels)) (rootOf m ws) .found e)))
-
-  no-way-damage : (Damage m levels r ws → ⊥) → wayOk m levels (verdict m levels r ws .op) ws ≡ true
-  no-way-damage d = go (wayOk m levels (verdict m levels r ws .op) ws) refl
-    where
-      go : (b : Bool) → wayOk m levels (verdict m levels r ws .op) ws ≡ b → b ≡ true
-      go true e = refl
-      go false e = absurd (d (inr (path-fails m levels (work (verdict m levels r ws .op) 0) (levelsOf m levels ws 0 1) .found e)))
-
-  -- with no damage the answer is the ruling's
-  fine-answer : Shape m levels (length ws) → (Damage m levels r ws → ⊥) → A ≡ verdict m levels r ws .answer
-  fine-answer s d = answer-of m levels r ws _ (called-fine m levels r ws (is-shape m levels (length ws) s) (no-root-damage d) (no-way-damage d))
-
-pub full-answer : (m levels : ℕ) (r : Request) (ws : List ℕ) → IsPush r → sumCounts (rootOf m ws) ≡ room m levels → verdict m levels r ws .answer ≡ Refused Full
-unfolding rule
-full-answer m levels Idle ws p q = absurd p
-full-answer m levels (Push x) ws p q = rw (le-ltb (sumCounts (rootOf m ws)) (room m levels) (omega arith))
-full-answer m levels Pop ws p q = absurd p
-full-answer m levels (Replace x) ws p q = absurd p
-
-pub empty-answer : (m levels : ℕ) (r : Request) (ws : List ℕ) → IsPop r → sumCounts (rootOf m ws) ≡ 0 → verdict m levels r ws .answer ≡ Refused Empty
-unfolding rule
-empty-answer m levels Idle ws p q = absurd p
-empty-answer m levels (Push x) ws p q = absurd p
-empty-answer m levels Pop ws p q = rw (eq-eqb (sumCounts (rootOf m ws)) 0 q)
-empty-answer m levels (Replace x) ws p q = absurd p
-
-refused-if : (m levels : ℕ) (r : Request) (ws : List ℕ) (n : Refusal) → Cause m levels r ws n → called m levels r ws .answer ≡ Refused n
-refused-if m levels r ws BadShape c = go (shapeOk m levels (length ws)) refl
-  where
-    go : (b : Bool) → shapeOk m levels (length ws) ≡ b → called m levels r ws .answer ≡ Refused BadShape
-    go true e = absurd (c (shape-is m levels (length ws) e))
-    go false e = answer-of m levels r ws _ (called-bad m levels r ws e)
-refused-if m levels r ws Damaged c = go (rootOk m levels ws) refl (c .1)
-  where
-    s : shapeOk m levels (length ws) ≡ true
-    s = is-shape m levels (length ws) (c .0)
-
-    go : (b : Bool) → rootOk m levels ws ≡ b → Damage m levels r ws → called m levels r ws .answer ≡ Refused Damaged
-    go false e d = answer-of m levels r ws _ (called-root m levels r ws s e)
-    go true e (inl d) = absurd (true≢false (sym e ∙ node-fails (room m (pred levels)) (rootOf m ws) .shown d))
-    go true e (inr d) =
-        answer-of m levels r ws _ (called-way m levels r ws s e (path-fails m levels (work (verdict m levels r ws .op) 0) (levelsOf m levels ws 0 1) .shown d))
-refused-if m levels r ws TooSoon c = absurd c
-refused-if m levels r ws BadRank c = absurd c
-refused-if m levels r ws Full c = fine-answer m levels r ws (c .0) (c .1) ∙ full-answer m levels r ws (c .2) (c .3)
-refused-if m levels r ws Empty c = fine-answer m levels r ws (c .0) (c .1) ∙ empty-answer m levels r ws (c .2) (c .3)
-
--- EXACTLY: push, pop and replace give each refusal for its cause, and for that cause only
-pub exactly : (m levels : ℕ) (r : Request) (ws : List ℕ) (n : Refusal)
-    → (called m levels r ws .answer ≡ Refused n → Cause m levels r ws n) × (Cause m levels r ws n → called m levels r ws .answer ≡ Refused n)
-exactly m levels r ws n = (refused-only m levels r ws n, refused-if m levels r ws n)
-
+-- ---- EXACTLY: the columns "Exactly when" and "Left behind"
 -- no work writes nothing
 pub words-none : (m k : ℕ) (w : Work) (b c : ℕ) (ws : List ℕ) → w .op ≡ Nothing → applyWords m k w b c ws ≡ ws
 unfolding applyWords stepWords isNothing
@@ -340,83 +235,123 @@ words-none m (suc k) w b c ws e =
     words-none m k _ (b + c * m) (c * m) _ (ap (λ (v : Work). v .op) (work-none m w (levelOf m ws b c) (top k (under m k ws b c)) e))
     ∙ ap (λ (o : Op). stepWords m k (record { op = o; node = w .node }) b c ws) e
 
--- a refusal of the rule has no work
-pub refused-idle : (c : ℕ) (r : Request) (nd : List Slot) (n : Refusal) → rule c r nd .answer ≡ Refused n → rule c r nd .op ≡ Nothing
-unfolding rule
-refused-idle c Idle nd n e = refl
-refused-idle c (Push x) nd n e = go (ltb (sumCounts nd) c) e
-  where
-    go : (b : Bool) → cond b (ruling Done (Put x)) (ruling (Refused Full) Nothing) .answer ≡ Refused n → cond b (ruling Done (Put x)) (ruling (Refused Full) Nothing) .op ≡ Nothing
-    go true e = absurd (no-refusal-done n e)
-    go false e = refl
-refused-idle c Pop nd n e = go (eqb (sumCounts nd) 0) e
-  where
-    go : (b : Bool) → cond b (ruling (Refused Empty) Nothing) (ruling (Out (low nd)) Take) .answer ≡ Refused n → cond b (ruling (Refused Empty) Nothing) (ruling (Out (low nd)) Take) .op ≡ Nothing
-    go true e = refl
-    go false e = absurd (no-refusal-out (low nd) n e)
-refused-idle c (Replace x) nd n e = go (eqb (sumCounts nd) 0 || ltb (key x) (key (low nd))) e
-  where
-    go : (b : Bool) → cond b (ruling (Out x) Nothing) (ruling (Out (low nd)) (Swap x)) .answer ≡ Refused n → cond b (ruling (Out x) Nothing) (ruling (Out (low nd)) (Swap x)) .op ≡ Nothing
-    go true e = refl
-    go false e = absurd (no-refusal-out (low nd) n e)
+-- 5 and 6. What a request comes to at a root with at most c, made to an outcome by o: a ruling's answer is the outcome's, and a refused one
+-- leaves behind what the table says
+module _ {O : Type 0} (answer : O → Answer) (left : Refusal → O) (left-says : (x : Refusal) → answer (left x) ≡ Refused x)
+    (o : Ruling → O) (says : (g : Ruling) → answer (o g) ≡ g .answer) (at-full : o (ruling (Refused Full) Nothing) ≡ left Full) (at-empty : o (ruling (Refused Empty) Nothing) ≡ left Empty) where
+  abbrev number : O → ℕ
+  number z = numberOf (answer z)
 
--- LEFT BEHIND: a refused call leaves every word
-pub stands : (m levels : ℕ) (r : Request) (ws : List ℕ) (n : Refusal) → called m levels r ws .answer ≡ Refused n → called m levels r ws .words ≡ ws
-unfolding called carriedOut
-stands m levels r ws n e = go (shapeOk m levels (length ws)) (rootOk m levels ws) (wayOk m levels (verdict m levels r ws .op) ws) e
-  where
-    done : Outcome
-    done = outcome (verdict m levels r ws .answer) (applyWords m levels (work (verdict m levels r ws .op) 0) 0 1 ws)
+  tells : (x y : Refusal) → number (left x) ≡ number (left y) → x ≡ y
+  tells x y e = refusal-told x y (ap numberOf (sym (left-says x)) ∙ e ∙ ap numberOf (left-says y))
 
-    go : (a b c : Bool) → cond a (cond b (cond c done (outcome (Refused Damaged) ws)) (outcome (Refused Damaged) ws)) (outcome (Refused BadShape) ws) .answer ≡ Refused n
-        → cond a (cond b (cond c done (outcome (Refused Damaged) ws)) (outcome (Refused Damaged) ws)) (outcome (Refused BadShape) ws) .words ≡ ws
-    go false b c e = refl
-    go true false c e = refl
-    go true true false e = refl
-    go true true true e =
-        words-none m levels (work (verdict m levels r ws .op) 0) 0 1 ws (op-work (verdict m levels r ws .op) 0 ∙ refused-idle (room m levels) r (rootOf m ws) n e)
+  accepted : (a : Answer) (w : Op) → numberOf a ≡ 0 → Granted number left (o (ruling a w))
+  accepted a w e r q = zero-told r (sym e ∙ ap numberOf (sym (says (ruling a w))) ∙ q ∙ ap numberOf (left-says r))
 
--- clear is refused for its shape only, held for the shape or the root
-pub exactly-clear : (m levels : ℕ) (ws : List ℕ)
-    → (cleared m levels ws .answer ≡ Refused BadShape → Shape m levels (length ws) → ⊥)
-    × ((Shape m levels (length ws) → ⊥) → cleared m levels ws ≡ outcome (Refused BadShape) ws)
-    × (Shape m levels (length ws) → cleared m levels ws ≡ outcome Done (wipe (room m levels) ws))
-unfolding cleared
-exactly-clear m levels ws = go (shapeOk m levels (length ws)) refl
-  where
-    go : (b : Bool) → shapeOk m levels (length ws) ≡ b
-        → (cond b (outcome Done (wipe (room m levels) ws)) (outcome (Refused BadShape) ws) .answer ≡ Refused BadShape → Shape m levels (length ws) → ⊥)
-        × ((Shape m levels (length ws) → ⊥) → cond b (outcome Done (wipe (room m levels) ws)) (outcome (Refused BadShape) ws) ≡ outcome (Refused BadShape) ws)
-        × (Shape m levels (length ws) → cond b (outcome Done (wipe (room m levels) ws)) (outcome (Refused BadShape) ws) ≡ outcome Done (wipe (room m levels) ws))
-    go true e = (λ z s. no-refusal-done BadShape z, λ f. absurd (f (shape-is m levels (length ws) e)), λ s. refl)
-    go false e = (λ z s. true≢false (sym (is-shape m levels (length ws) s) ∙ e), λ f. refl, λ s. absurd (true≢false (sym (is-shape m levels (length ws) s) ∙ e)))
+  comes-exactly : (c : ℕ) (nd : List Slot) (r : Request) (g : Ruling) → Comes c nd r g → (IsPush r → sumCounts nd ≤ c) → Exactly number left (o g) (limits r (sumCounts nd) c ladder.fine)
+  comes-exactly c nd r g idles most = climb-fine number left _ (accepted Done Nothing refl)
+  comes-exactly c nd r g (puts x h) most = climb-stop number left tells Full _ _ ladder.fine (inl ((λ e. omega arith), climb-fine number left _ (accepted Done (Put x) refl)))
+  comes-exactly c nd r g (full x h) most = climb-stop number left tells Full _ _ ladder.fine (inr (omega (arith, most tt), at-full))
+  comes-exactly c nd r g (takes h) most = climb-stop number left tells Empty _ _ ladder.fine (inl ((λ e. omega arith), climb-fine number left _ (accepted (Out (low nd)) Take refl)))
+  comes-exactly c nd r g (empty h) most = climb-stop number left tells Empty _ _ ladder.fine (inr (h, at-empty))
+  comes-exactly c nd r g (returns x h) most = climb-fine number left _ (accepted (Out x) Nothing refl)
+  comes-exactly c nd r g (swaps x h l) most = climb-fine number left _ (accepted (Out (low nd)) (Swap x) refl)
+
+  pub limits-exactly : (c : ℕ) (r : Request) (nd : List Slot) → (IsPush r → sumCounts nd ≤ c) → Exactly number left (o (rule c r nd)) (limits r (sumCounts nd) c ladder.fine)
+  limits-exactly c r nd = comes-exactly c nd r _ (comes c r nd)
+
+module _ (m levels : ℕ) (ws : List ℕ) where
+  -- a refused call leaves every word
+  abbrev pub left : Refusal → Outcome
+  left x = outcome (Refused x) ws
+
+  -- the number that it says
+  abbrev pub said : Outcome → ℕ
+  said o = numberOf (o .answer)
+
+  -- what a ruling does
+  abbrev does : Ruling → Outcome
+  does g = outcome (g .answer) (applyWords m levels (work (g .op) 0) 0 1 ws)
+
+  refused-stays : (x : Refusal) → does (ruling (Refused x) Nothing) ≡ left x
+  refused-stays x = ap (outcome (Refused x)) (words-none m levels (work Nothing 0) 0 1 ws (op-work Nothing 0))
+
+  by-shape : (o : Outcome) (l : Ladder Refusal) → (shapeOk m levels (length ws) ≡ false → o ≡ left BadShape)
+      → (shapeOk m levels (length ws) ≡ true → Shape m levels (length ws) → Exactly said left o l) → Exactly said left o (rung BadShape (Shape m levels (length ws)) l)
+  by-shape o l bad good = climb-by said left refusal-told BadShape _ o l (go (shapeOk m levels (length ws)) refl)
+    where
+      go : (t : Bool) → shapeOk m levels (length ws) ≡ t → (Shape m levels (length ws) × Exactly said left o l) ⊎ ((Shape m levels (length ws) → ⊥) × (o ≡ left BadShape))
+      go true e = inl (shape-is m levels (length ws) e, good e (shape-is m levels (length ws) e))
+      go false e = inr ((λ s. true≢false (sym (is-shape m levels (length ws) s) ∙ e)), bad e)
+
+  -- push, pop and replace
+  pub exactly : (r : Request) → Exactly said left (called m levels r ws) (refusals m levels r ws)
+  exactly r = by-shape _ _ (called-bad m levels r ws) (λ s sh. climb-stop said left refusal-told Damaged _ _ _ (go s sh (rootOk m levels ws) refl (wayOk m levels (verdict m levels r ws .op) ws) refl))
+    where
+      go : shapeOk m levels (length ws) ≡ true → Shape m levels (length ws) → (a : Bool) → rootOk m levels ws ≡ a → (b : Bool) → wayOk m levels (verdict m levels r ws .op) ws ≡ b
+          → ((Damage m levels r ws → ⊥) × Exactly said left (called m levels r ws) (limits r (sumCounts (rootOf m ws)) (room m levels) ladder.fine))
+          ⊎ (Damage m levels r ws × (called m levels r ws ≡ left Damaged))
+      go s sh false o b w = inr (inl (node-fails (room m (pred levels)) (rootOf m ws) .found o), called-root m levels r ws s o)
+      go s sh true o false w = inr (inr (path-fails m levels (work (verdict m levels r ws .op) 0) (levelsOf m levels ws 0 1) .found w), called-way m levels r ws s o w)
+      go s sh true o true w =
+          inl (
+            no-damage m levels r ws o w,
+            subst (λ (o : Outcome). Exactly said left o (limits r (sumCounts (rootOf m ws)) (room m levels) ladder.fine)) (sym (called-fine m levels r ws s o w))
+                (limits-exactly (λ (o : Outcome). o .answer) left (λ x. refl) does (λ g. refl) (refused-stays Full) (refused-stays Empty) (room m levels) r (rootOf m ws) (λ p. root-limit m levels ws (sh .some) o)),
+          )
+
+  pub stands : (r : Request) (n : Refusal) → said (called m levels r ws) ≡ refusalNumber n → called m levels r ws ≡ left n
+  stands r = left-behind said left (exactly r)
+
+  -- clear
+  cleared-bad : shapeOk m levels (length ws) ≡ false → cleared m levels ws ≡ left BadShape
+  unfolding cleared
+  cleared-bad e = rw e
+
+  pub cleared-fine : shapeOk m levels (length ws) ≡ true → cleared m levels ws ≡ outcome Done (wipe (room m levels) ws)
+  unfolding cleared
+  cleared-fine e = rw e
+
+  pub exactly-clear : Exactly said left (cleared m levels ws) (clearRefusals m levels ws)
+  exactly-clear = by-shape _ _ cleared-bad (λ s sh. climb-fine said left _ (λ r q. zero-told r (ap said (sym (cleared-fine s)) ∙ q)))
 
 pub same-unknown : {a b : Refusal} → _≡_ {A = Count} (Unknown a) (Unknown b) → a ≡ b
 same-unknown {a} {b} e = cc
 
-held-only : (m levels : ℕ) (ws : List ℕ) (n : Refusal) → counted m levels ws ≡ Unknown n → HeldCause m levels ws n
-unfolding counted
-held-only m levels ws n e = go (shapeOk m levels (length ws)) refl (rootOk m levels ws) refl e
-  where
-    go : (a : Bool) → shapeOk m levels (length ws) ≡ a → (b : Bool) → rootOk m levels ws ≡ b
-        → cond a (cond b (Held (sumCounts (rootOf m ws))) (Unknown Damaged)) (Unknown BadShape) ≡ Unknown n → HeldCause m levels ws n
-    go false s b o e = subst (HeldCause m levels ws) (same-unknown e) (λ z. true≢false (sym (is-shape m levels (length ws) z) ∙ s))
-    go true s false o e = subst (HeldCause m levels ws) (same-unknown e) (shape-is m levels (length ws) s, node-fails (room m (pred levels)) (rootOf m ws) .found o)
-    go true s true o e = let z : _≡_ {A = ℕ} 0 1 = cc in absurd (omega arith)
+-- ---- KIND: of a call that is not refused a push and an idle request answer done, a pop and a replace an element
+pub comes-kind : (c : ℕ) (nd : List Slot) (r : Request) (g : Ruling) → Comes c nd r g → numberOf (g .answer) ≡ 0 → Kind r (g .answer)
+comes-kind c nd r g idles e = refl
+comes-kind c nd r g (puts x h) e = refl
+comes-kind c nd r g (full x h) e = absurd (omega arith)
+comes-kind c nd r g (takes h) e = tt
+comes-kind c nd r g (empty h) e = absurd (omega arith)
+comes-kind c nd r g (returns x h) e = tt
+comes-kind c nd r g (swaps x h l) e = tt
 
-held-if : (m levels : ℕ) (ws : List ℕ) (n : Refusal) → HeldCause m levels ws n → counted m levels ws ≡ Unknown n
-unfolding counted
-held-if m levels ws BadShape c = go (shapeOk m levels (length ws)) refl
-  where
-    go : (a : Bool) → shapeOk m levels (length ws) ≡ a → cond a (cond (rootOk m levels ws) (Held (sumCounts (rootOf m ws))) (Unknown Damaged)) (Unknown BadShape) ≡ Unknown BadShape
-    go true s = absurd (c (shape-is m levels (length ws) s))
-    go false s = refl
-held-if m levels ws Damaged c = rw (is-shape m levels (length ws) (c .0), node-fails (room m (pred levels)) (rootOf m ws) .shown (c .1))
-held-if m levels ws TooSoon c = absurd c
-held-if m levels ws BadRank c = absurd c
-held-if m levels ws Full c = absurd c
-held-if m levels ws Empty c = absurd c
+-- .. and its number is 0, 5 or 6
+pub comes-number : (c : ℕ) (nd : List Slot) (r : Request) (g : Ruling) → Comes c nd r g → (numberOf (g .answer) ≡ 0) ⊎ (numberOf (g .answer) ≡ 5) ⊎ (numberOf (g .answer) ≡ 6)
+comes-number c nd r g idles = inl refl
+comes-number c nd r g (puts x h) = inl refl
+comes-number c nd r g (full x h) = inr (inl refl)
+comes-number c nd r g (takes h) = inl refl
+comes-number c nd r g (empty h) = inr (inr refl)
+comes-number c nd r g (returns x h) = inl refl
+comes-number c nd r g (swaps x h l) = inl refl
 
-pub exactly-held : (m levels : ℕ) (ws : List ℕ) (n : Refusal)
-    → (counted m levels ws ≡ Unknown n → HeldCause m levels ws n) × (HeldCause m levels ws n → counted m levels ws ≡ Unknown n)
-exactly-held m levels ws n = (held-only m levels ws n, held-if m levels ws n)
+pub kind : (m levels : ℕ) (r : Request) (ws : List ℕ) → numberOf (called m levels r ws .answer) ≡ 0 → Kind r (called m levels r ws .answer)
+kind m levels r ws =
+    called-either m levels r ws (λ o. numberOf (o .answer) ≡ 0 → Kind r (o .answer)) (λ x e. absurd (zero-told x (sym e)))
+    (λ s o w. comes-kind (room m levels) (rootOf m ws) r (verdict m levels r ws) (comes (room m levels) r (rootOf m ws)))
+
+-- held
+pub exactly-held : (m levels : ℕ) (ws : List ℕ) → Exactly countNumber Unknown (counted m levels ws) (heldRefusals m levels ws)
+unfolding counted
+exactly-held m levels ws =
+    climb countNumber Unknown refusal-told (shapeOk m levels (length ws)) _ BadShape _ _ (record { says = shape-is m levels (length ws); holds = is-shape m levels (length ws) })
+    (climb-stop countNumber Unknown refusal-told Damaged _ _ ladder.fine (go (rootOk m levels ws) refl))
+  where
+    go : (t : Bool) → rootOk m levels ws ≡ t
+        → ((NodeDamaged (room m (pred levels)) (rootOf m ws) → ⊥) × Exactly countNumber Unknown (cond t (Held (sumCounts (rootOf m ws))) (Unknown Damaged)) ladder.fine)
+        ⊎ (NodeDamaged (room m (pred levels)) (rootOf m ws) × (cond t (Held (sumCounts (rootOf m ws))) (Unknown Damaged) ≡ Unknown Damaged))
+    go true e = inl ((λ d. true≢false (sym e ∙ node-fails (room m (pred levels)) (rootOf m ws) .shown d)), climb-fine countNumber Unknown _ zero-told)
+    go false e = inr (node-fails (room m (pred levels)) (rootOf m ws) .found e, refl)

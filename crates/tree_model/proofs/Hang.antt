@@ -1,23 +1,21 @@
 -- An operation at a node of a store is the operation on the tree that hangs there, and leaves every other node's tree as it was.
 -- Assumes nothing.
-use Prim.Native.Nat.{_*_, _+_, _<_, _≤_, suc, zero, ℕ}
+use Prim.Native.Nat.{_*_, _+_, _<_, _≤_, pred, suc, zero, ℕ}
 use native.Mathlib.Nat.{le-of-eq, le-of-suc-le-suc, lt-of-not-le, mul-le-mul-right, not-suc-le-zero}
 use native.Mathlib.Omega.{arith}
-use mathlib.Core.Bool.{_||_, Bool, false, not, true}
 use mathlib.Core.List.{[], _∷_, List, map}
 use mathlib.Core.Logic.{_≢_, _⊎_, inl, inr, ⊎-elim}
 use mathlib.Core.Path.{_∙_, _≡_, ap, ap₂, refl, subst, sym}
-use lib.Dec.{leb, ltb}
 use lib.ListN.{getD, length, length-map, length-set, List·getD-eq-default, set}
 use lib.Seq.{getD-set-other, getD-set-same, set-out}
-use borrow.Author.Tests.{leb-false}
 use Rattle.laws.specs.Lists.{All, all-at, all-set′}
-use Rattle.strip.specs.Answers.{key}
 use Rattle.strip.specs.declared.Element.{Element}
 use Rattle.tree_model.proofs.Choice.{least-in}
 use Rattle.tree_model.proofs.Nothing.{apply-none}
+use Rattle.tree_model.proofs.Rules.{put-rule, swap-rule, take-rule}
 use Rattle.tree_model.specs.Levels.{apply, idle, Level, levelMove, Levels, Shaped, stepLevel, stepWork, top, work}
-use Rattle.tree_model.specs.Node.{firstEmpty, low, lowest, opMove, putBy, putMove, slotAt, swapBy, swapMove, takeBy, takeMove, vacant}
+use Rattle.tree_model.specs.Node.{low, lowest, move, opMove, slotAt, swapMove, takeMove, vacant}
+use Rattle.tree_model.specs.Rules.{clears, ends, exchanges, goes, passes, Puts, receives, stays, Swaps, Takes}
 use Rattle.tree_model.specs.Tree.{act, at, bare, hang, lowOf, slots, Tree, treeMove, treeOf}
 use Rattle.tree_model.specs.declared.Move.{Move}
 use Rattle.tree_model.specs.declared.Op.{Op}
@@ -68,54 +66,58 @@ Inside (Put x) nd j = j < length nd
 Inside Take nd j = j < length nd
 Inside (Swap x) nd j = j < length nd
 
+put-inside : (x : Element) (nd : List Slot) (v : Move) → Puts x nd v → 0 < length nd → Inside (v .rest) nd (v .place)
+put-inside x nd v (ends h) l = tt
+put-inside x nd v (exchanges h e) l = least-in nd l
+put-inside x nd v (passes h e) l = least-in nd l
+
+take-inside : (nd : List Slot) (b : ℕ → Element) (v : Move) → Takes nd b v → Inside (v .rest) nd (v .place)
+take-inside nd b v (clears h) = tt
+take-inside nd b v (receives h) = inside nd (lowest nd) (omega arith)
+
+swap-inside : (x : Element) (nd : List Slot) (b : ℕ → Element) (v : Move) → Swaps x nd b v → Inside (v .rest) nd (v .place)
+swap-inside x nd b v (stays h) = tt
+swap-inside x nd b v (goes h e) = inside nd (lowest nd) (omega arith)
+
 pub rest-inside : (o : Op) (nd : List Slot) (b : ℕ → Element) → 0 < length nd → Inside (opMove o nd b .rest) nd (opMove o nd b .place)
-unfolding opMove putMove takeMove swapMove putBy takeBy swapBy
+unfolding opMove
 rest-inside Nothing nd b h = tt
-rest-inside (Put x) nd b h = go (ltb (firstEmpty nd) (length nd))
-  where
-    go : (t : Bool) → Inside (putBy t x nd .rest) nd (putBy t x nd .place)
-    go true = tt
-    go false = least-in nd h
-rest-inside Take nd b h = go (leb (slotAt nd (lowest nd) .count) 1) refl
-  where
-    go : (t : Bool) → leb (slotAt nd (lowest nd) .count) 1 ≡ t → Inside (takeBy t nd b .rest) nd (takeBy t nd b .place)
-    go true e = tt
-    go false e = inside nd (lowest nd) (omega (arith, leb-false (slotAt nd (lowest nd) .count) 1 e))
-rest-inside (Swap x) nd b h = go (leb (slotAt nd (lowest nd) .count) 1) refl (not (ltb (key (b (lowest nd))) (key x)))
-  where
-    go : (t : Bool) → leb (slotAt nd (lowest nd) .count) 1 ≡ t → (r : Bool) → Inside (swapBy (t || r) x nd b .rest) nd (swapBy (t || r) x nd b .place)
-    go true e r = tt
-    go false e true = tt
-    go false e false = inside nd (lowest nd) (omega (arith, leb-false (slotAt nd (lowest nd) .count) 1 e))
+rest-inside (Put x) nd b h = put-inside x nd _ (put-rule x nd) h
+rest-inside Take nd b h = take-inside nd b _ (take-rule nd b)
+rest-inside (Swap x) nd b h = swap-inside x nd b _ (swap-rule x nd b)
 
--- ---- a step depends on what is below the node's places alone
-pub takeBy-ext : (t : Bool) (nd : List Slot) (b b′ : ℕ → Element) → b (lowest nd) ≡ b′ (lowest nd) → takeBy t nd b ≡ takeBy t nd b′
-unfolding takeBy
-takeBy-ext true nd b b′ p = refl
-takeBy-ext false nd b b′ p = ap (λ (e : Element). takeBy false nd (λ j. e)) p
+-- ---- a step depends on the element below the chosen place alone, and on that only with a count above one
+take-ext : (nd : List Slot) (b b′ : ℕ → Element) → (1 < slotAt nd (lowest nd) .count → b (lowest nd) ≡ b′ (lowest nd)) → takeMove nd b ≡ takeMove nd b′
+take-ext nd b b′ p = go _ _ (take-rule nd b) (take-rule nd b′)
+  where
+    go : (v w : Move) → Takes nd b v → Takes nd b′ w → v ≡ w
+    go v w (clears h) (clears h′) = refl
+    go v w (clears h) (receives h′) = absurd (omega arith)
+    go v w (receives h) (clears h′) = absurd (omega arith)
+    go v w (receives h) (receives h′) = ap (λ (e : Element). move (lowest nd) e (pred (slotAt nd (lowest nd) .count)) Take) (p h)
 
-pub swapBy-ext : (t : Bool) (x : Element) (nd : List Slot) (b b′ : ℕ → Element) → b (lowest nd) ≡ b′ (lowest nd) → swapBy t x nd b ≡ swapBy t x nd b′
-unfolding swapBy
-swapBy-ext true x nd b b′ p = refl
-swapBy-ext false x nd b b′ p = ap (λ (e : Element). swapBy false x nd (λ j. e)) p
+swap-ext : (x : Element) (nd : List Slot) (b b′ : ℕ → Element) → (1 < slotAt nd (lowest nd) .count → b (lowest nd) ≡ b′ (lowest nd)) → swapMove x nd b ≡ swapMove x nd b′
+swap-ext x nd b b′ p = go _ _ (swap-rule x nd b) (swap-rule x nd b′)
+  where
+    ranks : 1 < slotAt nd (lowest nd) .count → b (lowest nd) .rank .0 ≡ b′ (lowest nd) .rank .0
+    ranks h = ap (λ (e : Element). e .rank .0) (p h)
 
-move-ext : (o : Op) (nd : List Slot) (b b′ : ℕ → Element) → ((j : ℕ) → j < length nd → b j ≡ b′ j) → opMove o nd b ≡ opMove o nd b′
-unfolding opMove takeMove swapMove takeBy swapBy
+    apart : (c : ℕ → Element) (r : ℕ) → 1 < slotAt nd (lowest nd) .count → (slotAt nd (lowest nd) .count ≤ 1) ⊎ (x .rank .0 ≤ c (lowest nd) .rank .0) → c (lowest nd) .rank .0 ≡ r → r < x .rank .0 → ⊥
+    apart c r h (inl l) e o = omega arith
+    apart c r h (inr l) e o = omega arith
+
+    go : (v w : Move) → Swaps x nd b v → Swaps x nd b′ w → v ≡ w
+    go v w (stays h) (stays h′) = refl
+    go v w (stays h) (goes h′ l) = absurd (apart b _ h′ h (ranks h′) l)
+    go v w (goes h l) (stays h′) = absurd (apart b′ _ h h′ (sym (ranks h)) l)
+    go v w (goes h l) (goes h′ l′) = ap (λ (e : Element). move (lowest nd) e (slotAt nd (lowest nd) .count) (Swap x)) (p h)
+
+pub move-ext : (o : Op) (nd : List Slot) (b b′ : ℕ → Element) → (1 < slotAt nd (lowest nd) .count → b (lowest nd) ≡ b′ (lowest nd)) → opMove o nd b ≡ opMove o nd b′
+unfolding opMove
 move-ext Nothing nd b b′ h = refl
 move-ext (Put x) nd b b′ h = refl
-move-ext Take nd b b′ h = go (leb (slotAt nd (lowest nd) .count) 1) refl
-  where
-    go : (t : Bool) → leb (slotAt nd (lowest nd) .count) 1 ≡ t → takeBy t nd b ≡ takeBy t nd b′
-    go true e = refl
-    go false e = takeBy-ext false nd b b′ (h (lowest nd) (inside nd (lowest nd) (omega (arith, leb-false (slotAt nd (lowest nd) .count) 1 e))))
-move-ext (Swap x) nd b b′ h = go (leb (slotAt nd (lowest nd) .count) 1) refl
-  where
-    go : (t : Bool) → leb (slotAt nd (lowest nd) .count) 1 ≡ t
-        → swapBy (t || not (ltb (key (b (lowest nd))) (key x))) x nd b ≡ swapBy (t || not (ltb (key (b′ (lowest nd))) (key x))) x nd b′
-    go true e = refl
-    go false e =
-        let p = h (lowest nd) (inside nd (lowest nd) (omega (arith, leb-false (slotAt nd (lowest nd) .count) 1 e))) in
-        ap (λ (e : Element). swapBy (not (ltb (key e) (key x))) x nd b) p ∙ swapBy-ext (not (ltb (key (b′ (lowest nd))) (key x))) x nd b b′ p
+move-ext Take nd b b′ h = take-ext nd b b′ h
+move-ext (Swap x) nd b b′ h = swap-ext x nd b b′ h
 
 -- ---- numbers of nodes
 pub digits : (m n n′ j p : ℕ) → j < m → p < m → n * m + j ≡ n′ * m + p → n ≡ n′
@@ -239,7 +241,7 @@ module _ (m : ℕ) (some : 0 < m) where
     unfolding treeMove levelMove slots at
     same-move =
         ap (λ (s : List Slot). opMove (w .op) s (λ j. lowOf k (getD (hang nd g) j (vacant, bare k) .1))) (slots-hang nd g)
-        ∙ move-ext (w .op) nd _ _ (λ j lt. ap (lowOf k) (hang-at nd g j (vacant, bare k) lt) ∙ low-top m k (ls .1) (n * m + j))
+        ∙ move-ext (w .op) nd _ _ (λ h. ap (lowOf k) (hang-at nd g (lowest nd) (vacant, bare k) (inside nd (lowest nd) (omega arith))) ∙ low-top m k (ls .1) (n * m + lowest nd))
 
     own-node : getD (stepLevel m w (ls .0) (top k (ls .1))) n [] ≡ set nd (v .place) (v .slot)
     unfolding stepLevel

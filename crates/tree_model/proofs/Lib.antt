@@ -1,5 +1,6 @@
 pub mod Nothing
 pub mod Choice
+pub mod Rules
 pub mod Many
 pub mod Acts
 pub mod Hang
@@ -10,3 +11,6 @@ pub mod Exactly
 pub mod Promises
 pub mod Place
 pub mod Root
+pub mod Slice
+pub mod Same
+pub mod Unread

@@ -1,4 +1,4 @@
--- How many elements of a tree pass a test; the sum of a sound node's counts; the least key of a sound tree.
+-- How many elements of a tree pass a test; the sum of a sound node's counts; the lowest rank of a sound tree.
 -- Assumes nothing.
 use Prim.Native.Nat.{_*_, _+_, _<_, _≤_, suc, zero, ℕ}
 use native.Mathlib.Omega.{arith}
@@ -9,12 +9,13 @@ use lib.Dec.{ltb}
 use lib.ListN.{length, length-map, List·getD-map}
 use borrow.Author.Tests.{le-ltb, lt-ltb, ltb-true}
 use Rattle.laws.specs.Lists.{All, all-any, all-both, all-map, all-of-map, sum-le, sum-upper, sum-zero, sumOf}
+use Rattle.promise.specs.Served.{always, hit, lower}
 use Rattle.strip.specs.Answers.{key}
 use Rattle.strip.specs.declared.Element.{Element}
 use Rattle.tree_model.proofs.Choice.{lowest-is}
 use Rattle.tree_model.specs.Damage.{room}
 use Rattle.tree_model.specs.Node.{low, slotAt, sumCounts, vacant}
-use Rattle.tree_model.specs.Tree.{always, at, bare, below, Fit, held, hit, lowOf, many, nothing, own, ownBy, slots, something, Sound, Tree}
+use Rattle.tree_model.specs.Tree.{at, bare, Fit, held, lowOf, many, nothing, own, ownBy, slots, something, Sound, Tree}
 use Rattle.tree_model.specs.declared.Slot.{Slot}
 
 pub hit-le : (b : Bool) → hit b ≤ 1
@@ -33,19 +34,19 @@ many-le f g h (suc k) t = sum-le _ _ t (all-any _ (λ z. omega (arith, own-le (z
 pub many-held : (f : Element → Bool) (k : ℕ) (t : Tree k) → many f k t ≤ held k t
 many-held f k t = many-le f always (λ e. hit-le (f e)) k t
 
-pub not-under : (r : ℕ) (e : Element) → r ≤ key e → hit (below r e) ≡ 0
-not-under r e h = ap hit (le-ltb (key e) r h)
+pub not-lower : (r : ℕ) (e : Element) → r ≤ e .rank .0 → hit (lower r e) ≡ 0
+not-lower r e h = ap hit (le-ltb (e .rank .0) r h)
 
-under-mono : (r q : ℕ) (e : Element) → r ≤ q → hit (below r e) ≤ hit (below q e)
-under-mono r q e h = go (ltb (key e) r) refl
+lower-mono : (r q : ℕ) (e : Element) → r ≤ q → hit (lower r e) ≤ hit (lower q e)
+lower-mono r q e h = go (ltb (e .rank .0) r) refl
   where
-    go : (b : Bool) → ltb (key e) r ≡ b → hit b ≤ hit (below q e)
-    go true p = rw (lt-ltb (key e) q (omega (arith, ltb-true (key e) r p))) (omega arith)
+    go : (b : Bool) → ltb (e .rank .0) r ≡ b → hit b ≤ hit (lower q e)
+    go true p = rw (lt-ltb (e .rank .0) q (omega (arith, ltb-true (e .rank .0) r p))) (omega arith)
     go false p = omega arith
 
--- Nothing below q, so Nothing below r
-pub none-under : (r q k : ℕ) (t : Tree k) → r ≤ q → many (below q) k t ≡ 0 → many (below r) k t ≡ 0
-none-under r q k t h z = omega (arith, many-le (below r) (below q) (λ e. under-mono r q e h) k t)
+-- none lower than q, so none lower than r
+pub none-lower : (r q k : ℕ) (t : Tree k) → r ≤ q → many (lower q) k t ≡ 0 → many (lower r) k t ≡ 0
+none-lower r q k t h z = omega (arith, many-le (lower r) (lower q) (λ e. lower-mono r q e h) k t)
 
 pub own-zero : (f : Element → Bool) (s : Slot) → s .count ≡ 0 → own f s ≡ 0
 own-zero f s e = ap (λ (c : ℕ). ownBy c f (s .element)) e
@@ -88,18 +89,18 @@ pub all-slots : (k : ℕ) (P : Slot → Type 0) (t : Tree (suc k)) → All P (sl
 unfolding slots
 all-slots k P t h = all-of-map (λ (z : Slot × Tree k). z .0) P t h
 
--- ---- no element of a sound tree has a lower key than the one that a Take gives
-fit-under : (k r : ℕ) (s : Slot) (t : Tree k) → Fit k s t → (0 < s .count → r ≤ key (s .element)) → own (below r) s + many (below r) k t ≡ 0
+-- ---- no element of a sound tree has a lower rank than the one that a take gives
+fit-lower : (k r : ℕ) (s : Slot) (t : Tree k) → Fit k s t → (0 < s .count → r ≤ s .element .rank .0) → own (lower r) s + many (lower r) k t ≡ 0
 unfolding vacant
-fit-under k r s t (nothing e h) l = omega (arith, own-zero (below r) s (ap (λ (s : Slot). s .count) e), many-held (below r) k t)
-fit-under k r s t (something c u) l =
-    let h : r ≤ key (s .element) = l (omega arith) in
-    omega (arith, own-suc (below r) s (held k t) c, not-under r (s .element) h, none-under r (key (s .element)) k t h u)
+fit-lower k r s t (nothing e h) l = omega (arith, own-zero (lower r) s (ap (λ (s : Slot). s .count) e), many-held (lower r) k t)
+fit-lower k r s t (something c u) l =
+    let h : r ≤ s .element .rank .0 = l (omega arith) in
+    omega (arith, own-suc (lower r) s (held k t) c, not-lower r (s .element) h, none-lower r (s .element .rank .0) k t h u)
 
-pub low-least : (m k : ℕ) (t : Tree k) → Sound m k t → 0 < held k t → many (below (key (lowOf k t))) k t ≡ 0
-unfolding many lowOf low
+pub low-least : (m k : ℕ) (t : Tree k) → Sound m k t → 0 < held k t → many (lower (lowOf k t .rank .0)) k t ≡ 0
+unfolding many lowOf low key
 low-least m zero t s h = refl
 low-least m (suc k) t s h =
     let i = lowest-is (slots k t) (subst (λ (n : ℕ). 0 < n) (sym (sum-counts m k t (s .1))) h) in
-    sum-zero _ t (all-map _ _ (λ z p. fit-under k (key (low (slots k t))) (z .0) (z .1) (p .0 .1) (p .1)) t
-    (all-both _ _ t (s .1) (all-slots k (λ u. 0 < u .count → key (low (slots k t)) ≤ key (u .element)) t (i .least))))
+    sum-zero _ t (all-map _ _ (λ z p. fit-lower k (low (slots k t) .rank .0) (z .0) (z .1) (p .0 .1) (p .1)) t
+    (all-both _ _ t (s .1) (all-slots k (λ u. 0 < u .count → low (slots k t) .rank .0 ≤ u .element .rank .0) t (i .least))))

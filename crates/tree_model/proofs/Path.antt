@@ -12,7 +12,7 @@ use borrow.Author.Tests.{eqb-true, le-leb, leb-false, lt-ltb, ne-eqb}
 use Rattle.laws.specs.Lists.{All, all-map, all-to-map}
 use Rattle.laws.specs.Tests.{and-left, and-right, and-true, not-so, or-right}
 use Rattle.strip.specs.Answers.{blank}
-use Rattle.tree_model.proofs.Acts.{chosen-more, rest-can, sub-sound}
+use Rattle.tree_model.proofs.Acts.{rest-can, some-below, sub-sound}
 use Rattle.tree_model.proofs.Choice.{counts-lower, every-all}
 use Rattle.tree_model.proofs.Hang.{below-less, hang-at, Inside, inside, own-length, rest-inside, same-move, slots-hang}
 use Rattle.tree_model.proofs.Many.{held-room, length-slots, sum-counts}
@@ -124,14 +124,14 @@ module _ (m : ℕ) (some : 0 < m) where
     lifted : 0 < held (suc k) t → (not (not (leb (slotAt nd (lowest nd) .count) 1)) || readOk Take (room m (pred k)) (getD (top k (ls .1)) (w .node * m + lowest nd) [])) ≡ true
     lifted c = go (leb (slotAt nd (lowest nd) .count) 1) refl
       where
-        more : leb (slotAt nd (lowest nd) .count) 1 ≡ false → 0 < held k (at k t (lowest nd) .1)
-        more = subst (λ (s : List Slot). leb (slotAt s (lowest s) .count) 1 ≡ false → 0 < held k (at k t (lowest s) .1)) (slots-tree m k ls (w .node)) (chosen-more m k t so c)
+        more : 1 < slotAt nd (lowest nd) .count → 0 < held k (at k t (lowest nd) .1)
+        more = subst (λ (s : List Slot). 1 < slotAt s (lowest s) .count → 0 < held k (at k t (lowest s) .1)) (slots-tree m k ls (w .node)) (some-below m k t so c)
 
         go : (b : Bool) → leb (slotAt nd (lowest nd) .count) 1 ≡ b → (not (not b) || readOk Take (room m (pred k)) (getD (top k (ls .1)) (w .node * m + lowest nd) [])) ≡ true
         go true e = refl
         go false e =
             let lt = inside nd (lowest nd) (omega (arith, leb-false (slotAt nd (lowest nd) .count) 1 e)) in
-            lift-ok m k (ls .1) (w .node * m + lowest nd) (sound-of (lowest nd) lt) (subst (λ (u : Tree k). 0 < held k u) (sub-of (lowest nd) lt) (more e))
+            lift-ok m k (ls .1) (w .node * m + lowest nd) (sound-of (lowest nd) lt) (subst (λ (u : Tree k). 0 < held k u) (sub-of (lowest nd) lt) (more (leb-false (slotAt nd (lowest nd) .count) 1 e)))
 
     lift-part : (o : Op) → Can m (suc k) o t → (not (lifts o nd) || readOk Take (room m (pred k)) (getD (top k (ls .1)) (w .node * m + lowest nd) [])) ≡ true
     unfolding lifts

@@ -7,19 +7,18 @@ use mathlib.Core.List.{[], List}
 use mathlib.Core.Path.{_∙_, _≡_, ap, refl, subst, sym}
 use lib.Dec.{eqb, leb, ltb}
 use lib.ListN.{getD, length}
-use borrow.Author.Tests.{eq-eqb, leb-false, leb-true, lt-ltb, not-true}
+use borrow.Author.Tests.{eq-eqb, leb-false, leb-true, lt-leb, lt-ltb, not-true}
 use Rattle.laws.specs.Lists.{All, all-both, all-map}
 use Rattle.laws.specs.Tests.{and-left}
-use Rattle.strip.specs.Answers.{key}
 use Rattle.strip.specs.declared.Element.{Element}
 use Rattle.tree_model.proofs.Choice.{all-slotAt, every-all, least-le}
 use Rattle.tree_model.proofs.Exactly.{slot-limit}
-use Rattle.tree_model.proofs.Hang.{below-less, inside, swapBy-ext, takeBy-ext}
+use Rattle.tree_model.proofs.Hang.{below-less, inside, move-ext}
 use Rattle.tree_model.proofs.Path.{all-every}
 use Rattle.tree_model.proofs.Words.{level-length, level-node, node-length, place-inside}
 use Rattle.tree_model.specs.Damage.{fine, hasRoom, hasSome, lifts, nodeOk, readOk, room, slotOk, stepOk}
 use Rattle.tree_model.specs.Levels.{Level, levelMove, Levels, stepWork, top, work}
-use Rattle.tree_model.specs.Node.{every, isNothing, leastCount, low, lowest, opMove, slotAt, swapBy, swapMove, takeBy, takeMove}
+use Rattle.tree_model.specs.Node.{every, isNothing, leastCount, low, lowest, opMove, slotAt}
 use Rattle.tree_model.specs.Words.{levelOf, levelsOf, nodeMove, nodeOf, restWords, stepWords, under, write}
 use Rattle.tree_model.specs.declared.Move.{Move}
 use Rattle.tree_model.specs.declared.Op.{Op}
@@ -49,22 +48,11 @@ lifts-deep m k (Swap x) nd ok e = above-one m k nd (and-left (nodeOk (room m k) 
 
 -- a step depends on the node below only where it lifts
 move-lift : (o : Op) (nd : List Slot) (b b′ : ℕ → Element) → (lifts o nd ≡ true → b (lowest nd) ≡ b′ (lowest nd)) → opMove o nd b ≡ opMove o nd b′
-unfolding opMove takeMove swapMove takeBy swapBy lifts
+unfolding opMove lifts
 move-lift Nothing nd b b′ h = refl
 move-lift (Put x) nd b b′ h = refl
-move-lift Take nd b b′ h = go (leb (slotAt nd (lowest nd) .count) 1) h
-  where
-    go : (t : Bool) → (not t ≡ true → b (lowest nd) ≡ b′ (lowest nd)) → takeBy t nd b ≡ takeBy t nd b′
-    go true h = refl
-    go false h = takeBy-ext false nd b b′ (h refl)
-move-lift (Swap x) nd b b′ h = go (leb (slotAt nd (lowest nd) .count) 1) h
-  where
-    go : (t : Bool) → (not t ≡ true → b (lowest nd) ≡ b′ (lowest nd))
-        → swapBy (t || not (ltb (key (b (lowest nd))) (key x))) x nd b ≡ swapBy (t || not (ltb (key (b′ (lowest nd))) (key x))) x nd b′
-    go true h = refl
-    go false h =
-        ap (λ (e : Element). swapBy (not (ltb (key e) (key x))) x nd b) (h refl)
-        ∙ swapBy-ext (not (ltb (key (b′ (lowest nd))) (key x))) x nd b b′ (h refl)
+move-lift Take nd b b′ h = move-ext Take nd b b′ (λ l. h (rw (lt-leb (slotAt nd (lowest nd) .count) 1 l)))
+move-lift (Swap x) nd b b′ h = move-ext (Swap x) nd b b′ (λ l. h (rw (lt-leb (slotAt nd (lowest nd) .count) 1 l)))
 
 -- the tests of a step depend on the node below only where the node itself is in order and the step lifts
 test-lift : (m k : ℕ) (o : Op) (nd : List Slot) (c c′ : ℕ → List Slot) → (readOk o (room m k) nd ≡ true → lifts o nd ≡ true → c (lowest nd) ≡ c′ (lowest nd))

@@ -3,31 +3,34 @@
 use Prim.Native.Nat.{_*_, _+_, _<_, _≤_, suc, zero, ℕ}
 use native.Mathlib.Nat.{add-assoc, not-suc-le-zero, one-mul, zero-add, zero-mul}
 use native.Mathlib.Omega.{arith}
-use mathlib.Core.Bool.{Bool, cond, false, true}
-use mathlib.Core.List.{[], _++_, _∷_, List}
+use mathlib.Core.Bool.{Bool, true}
+use mathlib.Core.List.{[], _∷_, List}
+use mathlib.Core.Logic.{_⊎_}
 use mathlib.Core.Path.{_∙_, _≡_, ap, ap₂, refl, subst, sym}
-use lib.ListN.{drop, getD, getD-replicate, length, length-append, length-drop, length-replicate, List·getD-append, replicate}
+use lib.ListN.{getD, length, replicate}
 use Rattle.laws.specs.Lists.{sumOf}
 use Rattle.laws.specs.Sums.{grid, sum-index, sumTo, to-add, to-append, to-ext, to-zero}
-use Rattle.strip.specs.Answers.{blank, element, key}
+use Rattle.promise.specs.Queue.{answers, leaves, leaves-keep, pins}
+use Rattle.promise.specs.Served.{all-sum, allBrought, allGiven, always, brought, given, Holds, Least, least-same, same}
+use Rattle.strip.specs.Answers.{blank, countNumber, countOf, element, numberOf}
 use Rattle.strip.specs.declared.Answer.{Answer}
-use Rattle.strip.specs.declared.Answer.the-variants.{Done, Out, Refused}
 use Rattle.strip.specs.declared.Count.the-variants.{Held}
 use Rattle.strip.specs.declared.Element.{Element}
-use Rattle.strip.specs.declared.Refusal.the-variants.{BadShape, Damaged}
 use Rattle.strip.specs.declared.Request.{Request}
-use Rattle.tree_model.proofs.Exactly.{called-fine, exactly-clear, is-shape, no-damage, order-pos, shape-is}
+use Rattle.tree_model.proofs.Exactly.{called-either, called-fine, cleared-fine, comes-number, is-shape, no-damage, order-pos, shape-is}
 use Rattle.tree_model.proofs.Hang.{below-less}
 use Rattle.tree_model.proofs.Path.{node-ok, root-path}
+use Rattle.tree_model.proofs.Rules.{comes}
 use Rattle.tree_model.proofs.Serve.{answered, cleared-holds, cleared-store, root-slots, root-sum}
+use Rattle.tree_model.proofs.Slice.{wiped}
 use Rattle.tree_model.proofs.Words.{apply-length, level-node, node-length, node-slot, size-room, tab-ext, words-apply}
-use Rattle.tree_model.specs.Calls.{called, carriedOut, counted, Outcome, outcome, rootOf, rootOk, rule, Ruling, shapeOk, verdict, wayOk}
+use Rattle.tree_model.specs.Calls.{called, counted, Outcome, outcome, rootOf, rootOk, rule, Ruling, shapeOk, verdict, wayOk}
 use Rattle.tree_model.specs.Damage.{nodeOk, room}
 use Rattle.tree_model.specs.Levels.{apply, Level, Levels, work}
 use Rattle.tree_model.specs.Node.{slotAt, sumCounts, vacant}
-use Rattle.tree_model.specs.Promise.{after, allBrought, allGiven, answers, Damage, leaves, same, Shape, start, stored}
-use Rattle.tree_model.specs.Serve.{bareLevels, brought, given, holding, Least, ruled, serve, Store}
-use Rattle.tree_model.specs.Tree.{always, below, hang, many, own, Sound, Tree, treeOf}
+use Rattle.tree_model.specs.Promise.{after, Damage, Pinned, Shape, start, stored, treeQueue, Zeroed}
+use Rattle.tree_model.specs.Serve.{bareLevels, holding, ruled, serve, Store}
+use Rattle.tree_model.specs.Tree.{hang, many, own, Sound, Tree, treeOf}
 use Rattle.tree_model.specs.Words.{applyWords, levelOf, levelsOf, nodeOf, size, slotOf, tabulate, width, wipe}
 use Rattle.tree_model.specs.declared.Slot.{Slot}
 
@@ -74,12 +77,12 @@ levels-sum f m (suc k) ws b c =
         ∙ ap₂ (λ (a n : ℕ). a + sumTo n (λ j. many f k (G j))) own-sum (node-length m ws (b + n * m))
 
 -- ---- a cleared store
-wiped-slot : (n : ℕ) (ws : List ℕ) (i : ℕ) → i < n → slotOf (wipe n ws) i ≡ vacant
-unfolding slotOf wipe vacant blank
-wiped-slot n ws i h = slot-zero (zero-at (3 * i) (omega arith)) (zero-at (3 * i + 1) (omega arith)) (zero-at (3 * i + 2) (omega arith))
+wiped-slot : (n : ℕ) (ws : List ℕ) → 3 * n ≤ length ws → (i : ℕ) → i < n → slotOf (wipe n ws) i ≡ vacant
+unfolding slotOf vacant blank
+wiped-slot n ws fits i h = slot-zero (z .zeros (3 * i) 0 (omega arith)) (z .zeros (3 * i + 1) 0 (omega arith)) (z .zeros (3 * i + 2) 0 (omega arith))
   where
-    zero-at : (p : ℕ) → p < n * 3 → getD (replicate (n * 3) 0 ++ drop (n * 3) ws) p 0 ≡ 0
-    zero-at p lt = List·getD-append (replicate (n * 3) 0) (drop (n * 3) ws) 0 p (subst (λ (a : ℕ). p < a) (sym (length-replicate (n * 3) 0)) lt) ∙ getD-replicate (n * 3) p 0 0 lt
+    z : Zeroed n ws (wipe n ws)
+    z = wiped n ws fits
 
     slot-zero : {r t c : ℕ} → r ≡ 0 → t ≡ 0 → c ≡ 0 → _≡_ {A = Slot} (record { element = element r t; count = c }) (record { element = element 0 0; count = 0 })
     slot-zero p q o = λ i. record { element = record { rank = record { 0 = p i }; tag = record { 0 = q i } }; count = o i }
@@ -89,13 +92,13 @@ unfolding tabulate
 tab-same zero a = refl
 tab-same (suc n) a = ap (λ (l : List _). a ∷ l) (tab-same n a)
 
-wiped-levels : (m k n : ℕ) (ws : List ℕ) (b c : ℕ) → b + size m k c ≤ n → levelsOf m k (wipe n ws) b c ≡ bareLevels m k c
+wiped-levels : (m k n : ℕ) (ws : List ℕ) → 3 * n ≤ length ws → (b c : ℕ) → b + size m k c ≤ n → levelsOf m k (wipe n ws) b c ≡ bareLevels m k c
 unfolding levelsOf bareLevels size levelOf nodeOf
-wiped-levels m zero n ws b c h = refl
-wiped-levels m (suc k) n ws b c h =
+wiped-levels m zero n ws fits b c h = refl
+wiped-levels m (suc k) n ws fits b c h =
     ap₂ (λ (l : Level) (r : Levels k). (l, r))
-    (tab-ext c _ _ (λ a ha. tab-ext m _ _ (λ j hj. wiped-slot n ws (b + a * m + j) (omega (arith, below-less m a c j ha hj))) ∙ tab-same m vacant) ∙ tab-same c (replicate m vacant))
-    (wiped-levels m k n ws (b + c * m) (c * m) (omega arith))
+    (tab-ext c _ _ (λ a ha. tab-ext m _ _ (λ j hj. wiped-slot n ws fits (b + a * m + j) (omega (arith, below-less m a c j ha hj))) ∙ tab-same m vacant) ∙ tab-same c (replicate m vacant))
+    (wiped-levels m k n ws fits (b + c * m) (c * m) (omega arith))
 
 -- ---- the words of a store
 pub stored-holding : (m k : ℕ) (ws : List ℕ) (f : Element → Bool) → stored (room m (suc k)) ws f ≡ holding m k (levelsOf m (suc k) ws 0 1) f
@@ -156,34 +159,14 @@ module _ (m k : ℕ) (ws : List ℕ) (kept : Kept m k ws) where
 
 -- every call keeps the slice's length
 pub called-length : (m levels : ℕ) (r : Request) (ws : List ℕ) → length (called m levels r ws .words) ≡ length ws
-unfolding called carriedOut
-called-length m levels r ws = go (shapeOk m levels (length ws)) (rootOk m levels ws) (wayOk m levels (verdict m levels r ws .op) ws)
-  where
-    done : Outcome
-    done = outcome (verdict m levels r ws .answer) (applyWords m levels (work (verdict m levels r ws .op) 0) 0 1 ws)
-
-    go : (a b c : Bool) → length (cond a (cond b (cond c done (outcome (Refused Damaged) ws)) (outcome (Refused Damaged) ws)) (outcome (Refused BadShape) ws) .words) ≡ length ws
-    go false b c = refl
-    go true false c = refl
-    go true true false = refl
-    go true true true = apply-length m levels (work (verdict m levels r ws .op) 0) 0 1 ws
+called-length m levels r ws = called-either m levels r ws (λ o. length (o .words) ≡ length ws) (λ x. refl) (λ s o w. apply-length m levels _ 0 1 ws)
 
 -- PAST: no call touches a word past the capacity, whatever the words
-pub past-stands : (m levels : ℕ) (r : Request) (ws : List ℕ) (p : ℕ) → width * room m levels ≤ p → getD (called m levels r ws .words) p 0 ≡ getD ws p 0
-unfolding called carriedOut
-past-stands m levels r ws p h = go (shapeOk m levels (length ws)) refl (rootOk m levels ws) (wayOk m levels (verdict m levels r ws .op) ws) refl
-  where
-    done : Outcome
-    done = outcome (verdict m levels r ws .answer) (applyWords m levels (work (verdict m levels r ws .op) 0) 0 1 ws)
-
-    go : (a : Bool) → shapeOk m levels (length ws) ≡ a → (b c : Bool) → wayOk m levels (verdict m levels r ws .op) ws ≡ c
-        → getD (cond a (cond b (cond c done (outcome (Refused Damaged) ws)) (outcome (Refused Damaged) ws)) (outcome (Refused BadShape) ws) .words) p 0 ≡ getD ws p 0
-    go false s b c w = refl
-    go true s false c w = refl
-    go true s true false w = refl
-    go true s true true w =
-        let sh = shape-is m levels (length ws) s in
-        words-apply m (order-pos sh) levels (work (verdict m levels r ws .op) 0) 0 1 ws (omega (arith, sh .slice, size-room m levels 1)) w .1 p (omega (arith, size-room m levels 1))
+pub past-stands : (m levels : ℕ) (r : Request) (ws : List ℕ) (p : ℕ) → 3 * room m levels ≤ p → getD (called m levels r ws .words) p 0 ≡ getD ws p 0
+past-stands m levels r ws p h =
+    called-either m levels r ws (λ o. getD (o .words) p 0 ≡ getD ws p 0) (λ x. refl) (λ s o w.
+    let sh = shape-is m levels (length ws) s in
+    words-apply m (order-pos sh) levels _ 0 1 ws (omega (arith, sh .slice, size-room m levels 1)) w .1 p (omega (arith, size-room m levels 1)))
 
 -- ---- lists of requests
 module _ (m k : ℕ) where
@@ -194,45 +177,33 @@ module _ (m k : ℕ) where
         store = subst (λ (l : Levels (suc k)). Store m k l) (sym (kept-words m k ws kept r)) (answered m k (order-pos (kept .shape)) (levelsOf m (suc k) ws 0 1) (kept .store) r .store);
       }
 
-  pub leaves-kept : (rs : List Request) (ws : List ℕ) → Kept m k ws → Kept m k (leaves m (suc k) rs ws)
-  unfolding leaves
-  leaves-kept [] ws kept = kept
-  leaves-kept (r ∷ rs) ws kept = leaves-kept rs (called m (suc k) r ws .words) (called-kept r ws kept)
+  pub leaves-kept : (rs : List Request) (ws : List ℕ) → Kept m k ws → Kept m k (leaves (treeQueue m (suc k)) rs ws)
+  leaves-kept = leaves-keep (treeQueue m (suc k)) (Kept m k) called-kept
 
-  call-sum : (r : Request) (ws : List ℕ) → Kept m k ws → (f : Element → Bool)
-      → stored (room m (suc k)) (called m (suc k) r ws .words) f + given (called m (suc k) r ws .answer) f ≡ stored (room m (suc k)) ws f + brought r (called m (suc k) r ws .answer) f
+  pub call-sum : (r : Request) (ws : List ℕ) → Kept m k ws → (f : Element → Bool)
+      → stored (room m (suc k)) (called m (suc k) r ws .words) f + given r (called m (suc k) r ws .answer) f ≡ stored (room m (suc k)) ws f + brought r (called m (suc k) r ws .answer) f
   call-sum r ws kept f =
       rw (stored-holding m k (called m (suc k) r ws .words) f, stored-holding m k ws f, kept-words m k ws kept r, kept-answer m k ws kept r)
       (answered m k (order-pos (kept .shape)) (levelsOf m (suc k) ws 0 1) (kept .store) r .sum f)
 
-  list-sum : (rs : List Request) (ws : List ℕ) → Kept m k ws → (f : Element → Bool)
-      → stored (room m (suc k)) (leaves m (suc k) rs ws) f + allGiven (answers m (suc k) rs ws) f ≡ stored (room m (suc k)) ws f + allBrought rs (answers m (suc k) rs ws) f
-  unfolding leaves answers allGiven allBrought
-  list-sum [] ws kept f = refl
-  list-sum (r ∷ rs) ws kept f = omega (arith, call-sum r ws kept f, list-sum rs (called m (suc k) r ws .words) (called-kept r ws kept) f)
-
 -- ---- from a cleared store. The number of levels is any that passes the shape
-wipe-length : (n : ℕ) (ws : List ℕ) → n * width ≤ length ws → length (wipe n ws) ≡ length ws
-unfolding wipe
-wipe-length n ws h = rw (length-append, length-replicate, length-drop) (omega arith)
-
 module _ (m k : ℕ) (ws : List ℕ) (sh : Shape m (suc k) (length ws)) where
   start-is : start m (suc k) ws ≡ wipe (room m (suc k)) ws
-  start-is = ap (λ (o : Outcome). o .words) (exactly-clear m (suc k) ws .2 sh)
+  start-is = ap (λ (o : Outcome). o .words) (cleared-fine m (suc k) ws (is-shape m (suc k) (length ws) sh))
 
   start-bare : levelsOf m (suc k) (start m (suc k) ws) 0 1 ≡ bareLevels m (suc k) 1
   start-bare =
       ap (λ (v : List ℕ). levelsOf m (suc k) v 0 1) start-is
-      ∙ wiped-levels m (suc k) (room m (suc k)) ws 0 1 (omega (arith, size-room m (suc k) 1))
+      ∙ wiped-levels m (suc k) (room m (suc k)) ws (sh .slice) 0 1 (omega (arith, size-room m (suc k) 1))
 
   pub start-kept : Kept m k (start m (suc k) ws)
   start-kept =
       record {
-        shape = subst (λ (v : List ℕ). Shape m (suc k) (length v)) (sym start-is) (subst (λ (n : ℕ). Shape m (suc k) n) (sym (wipe-length (room m (suc k)) ws (omega (arith, sh .slice)))) sh);
+        shape = subst (λ (v : List ℕ). Shape m (suc k) (length v)) (sym start-is) (subst (λ (n : ℕ). Shape m (suc k) n) (sym (wiped (room m (suc k)) ws (sh .slice) .length)) sh);
         store = subst (λ (l : Levels (suc k)). Store m k l) (sym start-bare) (cleared-store m k);
       }
 
-  start-empty : (f : Element → Bool) → stored (room m (suc k)) (start m (suc k) ws) f ≡ 0
+  pub start-empty : (f : Element → Bool) → stored (room m (suc k)) (start m (suc k) ws) f ≡ 0
   start-empty f = stored-holding m k (start m (suc k) ws) f ∙ ap (λ (l : Levels (suc k)). holding m k l f) start-bare ∙ cleared-holds m k f
 
 -- the call held on a kept store
@@ -247,16 +218,18 @@ kept-sum m k ws kept = ap sumCounts (sym (root-node m ws)) ∙ root-sum m k (ord
 -- THE PROMISES. Any order and number of levels that pass the shape, any words to start with, any list of requests.
 
 module _ (m : ℕ) (ws : List ℕ) (rs : List Request) where
+  abbrev pub said : ℕ → List Answer
+  said levels = answers (treeQueue m levels) rs (start m levels ws)
+
   -- HOLDS: of every kind of element as many are stored as went in and have not come out
-  pub holds : (levels : ℕ) → Shape m levels (length ws) → (f : Element → Bool)
-      → stored (room m levels) (after m levels rs ws) f + allGiven (answers m levels rs (start m levels ws)) f ≡ allBrought rs (answers m levels rs (start m levels ws)) f
+  pub holds : (levels : ℕ) → Shape m levels (length ws) → Holds (stored (room m levels) (after m levels rs ws)) rs (said levels)
   holds zero sh f = absurd (not-suc-le-zero (sh .some))
-  holds (suc k) sh f = omega (arith, list-sum m k rs (start m (suc k) ws) (start-kept m k ws sh) f, start-empty m k ws sh f)
+  holds (suc k) sh f =
+      omega (arith, all-sum (treeQueue m (suc k)) (Kept m k) (called-kept m k) (stored (room m (suc k))) (call-sum m k) rs (start m (suc k) ws) (start-kept m k ws sh) f, start-empty m k ws sh f)
 
   -- .. so each pair as often
   pub pairs : (levels : ℕ) → Shape m levels (length ws) → (e : Element)
-      → stored (room m levels) (after m levels rs ws) (same e) + allGiven (answers m levels rs (start m levels ws)) (same e)
-      ≡ allBrought rs (answers m levels rs (start m levels ws)) (same e)
+      → stored (room m levels) (after m levels rs ws) (same e) + allGiven rs (said levels) (same e) ≡ allBrought rs (said levels) (same e)
   pairs levels sh e = holds levels sh (same e)
 
   -- LEAST: what comes out has the lowest rank of all stored and, in a replace, of the newcomer
@@ -269,11 +242,6 @@ module _ (m : ℕ) (ws : List ℕ) (rs : List Request) where
       subst (λ (a : Answer). Least (stored (room m (suc k)) now) r a) (sym (kept-answer m k now kept r))
       (least-same (holding m k (levelsOf m (suc k) now 0 1)) (stored (room m (suc k)) now) (λ f. sym (stored-holding m k now f)) r
       (ruled m k r (levelsOf m (suc k) now 0 1) .answer) (answered m k (order-pos sh) (levelsOf m (suc k) now 0 1) (kept .store) r .least))
-    where
-      least-same : (g h : (Element → Bool) → ℕ) → ((f : Element → Bool) → g f ≡ h f) → (r : Request) (a : Answer) → Least g r a → Least h r a
-      least-same g h p r Done l = tt
-      least-same g h p r (Out e) l = (sym (p (below (key e))) ∙ l .0, l .1)
-      least-same g h p r (Refused n) l = tt
 
   -- SOUND: every count is one plus what lies below, no rank lies above a lower one, and an empty slot is all zero with nothing below
   pub sound : (levels : ℕ) → Shape m levels (length ws) → Sound m levels (treeOf m levels (levelsOf m levels (after m levels rs ws) 0 1) 0)
@@ -288,19 +256,29 @@ module _ (m : ℕ) (ws : List ℕ) (rs : List Request) where
       let kept = leaves-kept m k rs (start m (suc k) ws) (start-kept m k ws sh) in
       no-damage m (suc k) r now (sound-root m k now kept) (sound-way m k now kept r) d
 
+  -- .. so that only 0, 5 and 6 are answered
+  pub numbers : (levels : ℕ) → Shape m levels (length ws) → (r : Request)
+      → let n = numberOf (called m levels r (after m levels rs ws) .answer) in (n ≡ 0) ⊎ (n ≡ 5) ⊎ (n ≡ 6)
+  numbers zero sh r = absurd (not-suc-le-zero (sh .some))
+  numbers (suc k) sh r =
+      let now : List ℕ = after m (suc k) rs ws in
+      let kept = leaves-kept m k rs (start m (suc k) ws) (start-kept m k ws sh) in
+      rw (kept-called m k now kept r) (comes-number (room m (suc k)) (rootOf m now) r _ (comes (room m (suc k)) r (rootOf m now)))
+
   pub shape-kept : (levels : ℕ) → Shape m levels (length ws) → Shape m levels (length (after m levels rs ws))
   shape-kept zero sh = absurd (not-suc-le-zero (sh .some))
   shape-kept (suc k) sh = leaves-kept m k rs (start m (suc k) ws) (start-kept m k ws sh) .shape
 
   -- the call held answers how many are stored
-  pub held-says : (levels : ℕ) → Shape m levels (length ws) → counted m levels (after m levels rs ws) ≡ Held (stored (room m levels) (after m levels rs ws) always)
+  pub held-says : (levels : ℕ) → Shape m levels (length ws)
+      → (countNumber (counted m levels (after m levels rs ws)) ≡ 0) × (countOf (counted m levels (after m levels rs ws)) ≡ stored (room m levels) (after m levels rs ws) always)
   held-says zero sh = absurd (not-suc-le-zero (sh .some))
   held-says (suc k) sh =
       let now : List ℕ = after m (suc k) rs ws in
       let kept = leaves-kept m k rs (start m (suc k) ws) (start-kept m k ws sh) in
-      counted-is m (suc k) now (is-shape m (suc k) (length now) (kept .shape)) (sound-root m k now kept)
-      ∙ ap Held (kept-sum m k now kept ∙ sym (stored-holding m k now always))
+      let e = counted-is m (suc k) now (is-shape m (suc k) (length now) (kept .shape)) (sound-root m k now kept) in
+      (ap countNumber e, ap countOf e ∙ kept-sum m k now kept ∙ sym (stored-holding m k now always))
 
--- PINNED: what a contract says of answer and words allows one outcome only
-pub pinned : (o : Outcome) (a b : Answer) (v w : List ℕ) → outcome a v ≡ o → outcome b w ≡ o → (a ≡ b) × (v ≡ w)
-pinned o a b v w p q = (ap (λ (o : Outcome). o .answer) (p ∙ sym q), ap (λ (o : Outcome). o .words) (p ∙ sym q))
+-- PINNED: every public call, for all inputs
+pub pinned : (m levels : ℕ) (ws : List ℕ) → Pinned m levels ws
+pinned m levels ws = record { clear = pins _; push = λ x. pins _; pop = pins _; replace = λ x. pins _; held = pins _ }

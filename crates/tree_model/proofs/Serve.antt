@@ -1,32 +1,31 @@
--- A request served on a sound store leaves it sound, holding what was brought in less what was given out; what is given has the least key.
+-- A request served on a sound store leaves it sound, holding what was brought in less what was given out; what is given has the lowest rank.
 -- Assumes nothing.
 use Prim.Native.Nat.{_*_, _+_, _<_, suc, zero, ℕ}
-use native.Mathlib.Nat.{le-of-lt, pos-of-ne-zero}
+use native.Mathlib.Nat.{le-of-lt}
 use native.Mathlib.Omega.{arith}
-use mathlib.Core.Bool.{_||_, Bool, cond, false, true}
+use mathlib.Core.Bool.{Bool, false, true}
 use mathlib.Core.List.{[], _∷_, List}
+use mathlib.Core.Logic.{_⊎_, inl, inr}
 use mathlib.Core.Path.{_∙_, _≡_, ap, refl, subst, sym}
-use lib.Dec.{eqb, ltb}
+use lib.Dec.{ltb}
 use lib.ListN.{getD, getD-replicate, length, length-replicate, replicate}
-use borrow.Author.Tests.{eqb-false, eqb-true, ltb-false, ltb-true}
+use borrow.Author.Tests.{ltb-false, ltb-true}
 use Rattle.laws.specs.Lists.{All, all-replicate, sum-zero}
-use Rattle.strip.specs.Answers.{key}
-use Rattle.strip.specs.declared.Answer.the-variants.{Done, Out, Refused}
+use Rattle.promise.specs.Served.{always, brought, given, Least, lower}
 use Rattle.strip.specs.declared.Element.{Element}
-use Rattle.strip.specs.declared.Refusal.the-variants.{Empty, Full}
 use Rattle.strip.specs.declared.Request.{Request}
-use Rattle.strip.specs.declared.Request.the-variants.{Idle, Pop, Push, Replace}
 use Rattle.tree_model.proofs.Acts.{acts}
 use Rattle.tree_model.proofs.Hang.{apply-shaped, below-less, root-commutes, slots-hang}
-use Rattle.tree_model.proofs.Many.{low-least, many-held, none-under, sum-counts}
-use Rattle.tree_model.specs.Calls.{rule, ruling, Ruling}
+use Rattle.tree_model.proofs.Many.{low-least, many-held, none-lower, sum-counts}
+use Rattle.tree_model.proofs.Rules.{comes}
+use Rattle.tree_model.specs.Calls.{Ruling}
 use Rattle.tree_model.specs.Damage.{room}
 use Rattle.tree_model.specs.Levels.{apply, Levels, Shaped, work}
 use Rattle.tree_model.specs.Node.{low, sumCounts, vacant}
-use Rattle.tree_model.specs.Serve.{bareLevels, brought, given, holding, Least, ruled, serve, Store}
-use Rattle.tree_model.specs.Tree.{always, below, Can, gain, hang, held, loss, lowOf, many, nothing, slots, Sound, Tree, treeOf}
+use Rattle.tree_model.specs.Rules.{Comes, empty, full, idles, puts, returns, swaps, takes}
+use Rattle.tree_model.specs.Serve.{bareLevels, holding, ruled, serve, Store}
+use Rattle.tree_model.specs.Tree.{Can, gain, hang, held, loss, lowOf, many, nothing, slots, Sound, Tree, treeOf}
 use Rattle.tree_model.specs.declared.Op.{Op}
-use Rattle.tree_model.specs.declared.Op.the-variants.{Nothing, Put, Swap, Take}
 use Rattle.tree_model.specs.declared.Slot.{Slot}
 
 module _ (m k : ℕ) (some : 0 < m) (ls : Levels (suc k)) (st : Store m k ls) where
@@ -63,51 +62,44 @@ module _ (m k : ℕ) (some : 0 < m) (ls : Levels (suc k)) (st : Store m k ls) wh
       }
 
   -- with a sum that is not 0 something is held, and the root's lowest is least
-  some-held : eqb (sumCounts root) 0 ≡ false → 0 < held (suc k) t
-  some-held e = subst (λ (n : ℕ). 0 < n) root-sum (pos-of-ne-zero (eqb-false (sumCounts root) 0 e))
+  some-held : 0 < sumCounts root → 0 < held (suc k) t
+  some-held h = subst (λ (n : ℕ). 0 < n) root-sum h
 
-  root-least : 0 < held (suc k) t → many (below (key (low root))) (suc k) t ≡ 0
-  root-least more = rw root-low (low-least m (suc k) t (st .sound) more)
+  root-least : 0 < sumCounts root → many (lower (low root .rank .0)) (suc k) t ≡ 0
+  root-least more = rw root-low (low-least m (suc k) t (st .sound) (some-held more))
 
   -- what a request comes to can be done, gives and brings in what its answer says, and gives the least
   record Ruled (r : Request) (g : Ruling) : Type 0 where
     can : Can m (suc k) (g .op) t
-    sum : (f : Element → Bool) → loss (suc k) (g .op) t f + brought r (g .answer) f ≡ gain (g .op) f + given (g .answer) f
+    sum : (f : Element → Bool) → loss (suc k) (g .op) t f + brought r (g .answer) f ≡ gain (g .op) f + given r (g .answer) f
     least : Least (holding m k ls) r (g .answer)
 
+  none-lower-than : (x : Element) → (sumCounts root ≡ 0) ⊎ (x .rank .0 < low root .rank .0) → many (lower (x .rank .0)) (suc k) t ≡ 0
+  none-lower-than x (inl e) = omega (arith, many-held (lower (x .rank .0)) (suc k) t, root-sum)
+  none-lower-than x (inr e) = go (ltb 0 (sumCounts root)) refl
+    where
+      go : (b : Bool) → ltb 0 (sumCounts root) ≡ b → many (lower (x .rank .0)) (suc k) t ≡ 0
+      go true p = none-lower (x .rank .0) (low root .rank .0) (suc k) t (le-of-lt e) (root-least (ltb-true 0 (sumCounts root) p))
+      go false p = omega (arith, many-held (lower (x .rank .0)) (suc k) t, root-sum, ltb-false 0 (sumCounts root) p)
+
   rules : (r : Request) → Ruled r (ruled m k r ls)
-  unfolding ruled rule holding
-  rules Idle = record { can = tt; sum = λ f. refl; least = tt }
-  rules (Push x) = go (ltb (sumCounts root) (room m (suc k))) refl
+  unfolding ruled holding
+  rules r = go r _ (comes (room m (suc k)) r root)
     where
-      go : (b : Bool) → ltb (sumCounts root) (room m (suc k)) ≡ b → Ruled (Push x) (cond b (ruling Done (Put x)) (ruling (Refused Full) Nothing))
-      go true e = record { can = omega (arith, root-sum, ltb-true (sumCounts root) (room m (suc k)) e); sum = λ f. omega arith; least = tt }
-      go false e = record { can = tt; sum = λ f. refl; least = tt }
-  rules Pop = go (eqb (sumCounts root) 0) refl
-    where
-      go : (b : Bool) → eqb (sumCounts root) 0 ≡ b → Ruled Pop (cond b (ruling (Refused Empty) Nothing) (ruling (Out (low root)) Take))
-      go true e = record { can = tt; sum = λ f. refl; least = tt }
-      go false e = record { can = some-held e; sum = λ f. rw root-low (omega arith); least = (root-least (some-held e), tt) }
-  rules (Replace x) = go (eqb (sumCounts root) 0) refl (ltb (key x) (key (low root))) refl
-    where
-      go : (a : Bool) → eqb (sumCounts root) 0 ≡ a → (b : Bool) → ltb (key x) (key (low root)) ≡ b
-          → Ruled (Replace x) (cond (a || b) (ruling (Out x) Nothing) (ruling (Out (low root)) (Swap x)))
-      go true e b e′ =
-          record { can = tt; sum = λ f. omega arith; least = (omega (arith, many-held (below (key x)) (suc k) t, root-sum, eqb-true (sumCounts root) 0 e), omega arith) }
-      go false e true e′ =
-          record {
-            can = tt;
-            sum = λ f. omega arith;
-            least = (none-under (key x) (key (low root)) (suc k) t (le-of-lt (ltb-true (key x) (key (low root)) e′)) (root-least (some-held e)), omega arith);
-          }
-      go false e false e′ =
-          record { can = some-held e; sum = λ f. rw root-low (omega arith); least = (root-least (some-held e), ltb-false (key x) (key (low root)) e′) }
+      go : (r : Request) (g : Ruling) → Comes (room m (suc k)) root r g → Ruled r g
+      go r g idles = record { can = tt; sum = λ f. refl; least = tt }
+      go r g (puts x h) = record { can = omega (arith, root-sum); sum = λ f. omega arith; least = tt }
+      go r g (full x h) = record { can = tt; sum = λ f. refl; least = tt }
+      go r g (takes h) = record { can = some-held h; sum = λ f. rw root-low (omega arith); least = λ z. root-least h }
+      go r g (empty h) = record { can = tt; sum = λ f. refl; least = λ z. absurd (omega arith) }
+      go r g (returns x h) = record { can = tt; sum = λ f. omega arith; least = λ z. (none-lower-than x h, omega arith) }
+      go r g (swaps x h l) = record { can = some-held h; sum = λ f. rw root-low (omega arith); least = λ z. (root-least h, l) }
 
   -- what a request does
   pub record Answered (r : Request) : Type 0 where
     pub can : Can m (suc k) (ruled m k r ls .op) t
     pub store : Store m k (serve m k r ls)
-    pub sum : (f : Element → Bool) → holding m k (serve m k r ls) f + given (ruled m k r ls .answer) f ≡ holding m k ls f + brought r (ruled m k r ls .answer) f
+    pub sum : (f : Element → Bool) → holding m k (serve m k r ls) f + given r (ruled m k r ls .answer) f ≡ holding m k ls f + brought r (ruled m k r ls .answer) f
     pub least : Least (holding m k ls) r (ruled m k r ls .answer)
 
   pub answered : (r : Request) → Answered r

@@ -3,26 +3,28 @@
 use Prim.Native.Nat.{_*_, _+_, _<_, _≤_, suc, zero, ℕ}
 use native.Mathlib.Nat.{le-of-suc-le-suc, mul-assoc, mul-suc, mul-zero, not-suc-le-zero}
 use native.Mathlib.Omega.{arith}
-use mathlib.Core.Bool.{_&&_, _||_, Bool, cond, false, not, true, true≢false}
+use mathlib.Core.Bool.{_&&_, Bool, cond, false, true, true≢false}
 use mathlib.Core.List.{[], _∷_, List}
 use mathlib.Core.Logic.{_≢_}
 use mathlib.Core.Path.{_∙_, _≡_, ap, ap₂, refl, subst, sym}
-use lib.Dec.{leb, ltb}
+use lib.Dec.{ltb}
 use lib.ListN.{getD, length, length-set, set}
-use lib.Seq.{getD-set-other, getD-set-same}
+use lib.Seq.{getD-set-other, getD-set-same, set-comm}
 use borrow.Author.Tests.{ltb-true, not-true}
 use Rattle.laws.specs.Lists.{All}
 use Rattle.laws.specs.Tests.{and-left, and-right, cond-path}
-use Rattle.strip.specs.Answers.{element, key}
+use Rattle.strip.specs.Answers.{element}
 use Rattle.strip.specs.declared.Element.{Element}
 use Rattle.tree_model.proofs.Choice.{filled, least-in, lowest-is}
 use Rattle.tree_model.proofs.Hang.{below-less, digits}
 use Rattle.tree_model.proofs.Nothing.{is-none, step-none}
+use Rattle.tree_model.proofs.Rules.{put-rule, swap-rule, take-rule}
 use Rattle.tree_model.specs.Damage.{fine, hasSome, nodeOk, pathOk, readOk, room, stepOk}
-use Rattle.tree_model.specs.Levels.{apply, Level, levelMove, Levels, Shaped, stepLevel, stepWork, top}
-use Rattle.tree_model.specs.Node.{every, firstEmpty, isEmpty, isNothing, lowest, opMove, putBy, putMove, slotAt, sumCounts, swapBy, swapMove, takeBy, takeMove, vacant}
+use Rattle.tree_model.specs.Levels.{apply, Level, levelMove, Levels, stepLevel, stepWork, top}
+use Rattle.tree_model.specs.Node.{every, isEmpty, isNothing, opMove, slotAt, sumCounts, vacant}
+use Rattle.tree_model.specs.Rules.{clears, ends, exchanges, goes, passes, Puts, receives, stays, Swaps, Takes}
 use Rattle.tree_model.specs.Tree.{at}
-use Rattle.tree_model.specs.Words.{applyWords, levelOf, levelsOf, nodeOf, size, slotOf, stepWords, tabulate, under, width, write}
+use Rattle.tree_model.specs.Words.{applyWords, levelOf, levelsOf, nodeOf, restWords, size, slotOf, stepWords, tabulate, under, width, write}
 use Rattle.tree_model.specs.declared.Move.{Move}
 use Rattle.tree_model.specs.declared.Op.{Op}
 use Rattle.tree_model.specs.declared.Op.the-variants.{Nothing, Put, Swap, Take}
@@ -91,6 +93,23 @@ write-other ws i i′ s h =
     slot-path (set₃-other ws (3 * i) (3 * i + 1) (3 * i + 2) _ _ _ (3 * i′) (omega arith) (omega arith) (omega arith))
     (set₃-other ws (3 * i) (3 * i + 1) (3 * i + 2) _ _ _ (3 * i′ + 1) (omega arith) (omega arith) (omega arith))
     (set₃-other ws (3 * i) (3 * i + 1) (3 * i + 2) _ _ _ (3 * i′ + 2) (omega arith) (omega arith) (omega arith))
+
+-- writes of different slots commute: first one word past three, then three past three
+set₃-past : (ws : List ℕ) (a b c x y z p v : ℕ) → a ≢ p → b ≢ p → c ≢ p → set (set (set (set ws a x) b y) c z) p v ≡ set (set (set (set ws p v) a x) b y) c z
+set₃-past ws a b c x y z p v ha hb hc =
+    set-comm (set (set ws a x) b y) c p z v hc
+    ∙ ap (λ (r : List ℕ). set r c z) (set-comm (set ws a x) b p y v hb)
+    ∙ ap (λ (r : List ℕ). set (set r b y) c z) (set-comm ws a p x v ha)
+
+pub write-comm : (ws : List ℕ) (i j : ℕ) (s t : Slot) → i ≢ j → write (write ws i s) j t ≡ write (write ws j t) i s
+unfolding write
+write-comm ws i j s t h =
+    let r : ℕ = t .element .rank .0 in
+    let g : ℕ = t .element .tag .0 in
+    let n : ℕ = t .count in
+    ap (λ (q : List ℕ). set (set q (3 * j + 1) g) (3 * j + 2) n) (set₃-past ws (3 * i) (3 * i + 1) (3 * i + 2) _ _ _ (3 * j) r (omega arith) (omega arith) (omega arith))
+    ∙ ap (λ (q : List ℕ). set q (3 * j + 2) n) (set₃-past (set ws (3 * j) r) (3 * i) (3 * i + 1) (3 * i + 2) _ _ _ (3 * j + 1) g (omega arith) (omega arith) (omega arith))
+    ∙ set₃-past (set (set ws (3 * j) r) (3 * j + 1) g) (3 * i) (3 * i + 1) (3 * i + 2) _ _ _ (3 * j + 2) n (omega arith) (omega arith) (omega arith)
 
 -- a write changes its own slot's words alone: past that slot every word stands
 write-past : (ws : List ℕ) (i p : ℕ) (s : Slot) → width * suc i ≤ p → getD (write ws i s) p 0 ≡ getD ws p 0
@@ -169,36 +188,25 @@ pub has-sum : (nd : List Slot) → hasSome nd ≡ true → 0 < sumCounts nd
 unfolding hasSome
 has-sum nd e = some-sum nd (not-true (every isEmpty nd) e)
 
-take-place : (nd : List Slot) (b : ℕ → Element) → 0 < sumCounts nd → takeMove nd b .place < length nd
-unfolding takeMove takeBy
-take-place nd b h = go (leb (slotAt nd (lowest nd) .count) 1)
-  where
-    go : (t : Bool) → takeBy t nd b .place < length nd
-    go true = lowest-is nd h .inside
-    go false = lowest-is nd h .inside
+take-place : (nd : List Slot) (b : ℕ → Element) (v : Move) → Takes nd b v → 0 < sumCounts nd → v .place < length nd
+take-place nd b v (clears e) h = lowest-is nd h .inside
+take-place nd b v (receives e) h = lowest-is nd h .inside
 
-swap-place : (x : Element) (nd : List Slot) (b : ℕ → Element) → 0 < sumCounts nd → swapMove x nd b .place < length nd
-unfolding swapMove swapBy
-swap-place x nd b h = go (leb (slotAt nd (lowest nd) .count) 1 || not (ltb (key (b (lowest nd))) (key x)))
-  where
-    go : (t : Bool) → swapBy t x nd b .place < length nd
-    go true = lowest-is nd h .inside
-    go false = lowest-is nd h .inside
+swap-place : (x : Element) (nd : List Slot) (b : ℕ → Element) (v : Move) → Swaps x nd b v → 0 < sumCounts nd → v .place < length nd
+swap-place x nd b v (stays e) h = lowest-is nd h .inside
+swap-place x nd b v (goes e l) h = lowest-is nd h .inside
 
-put-place : (x : Element) (nd : List Slot) → 0 < length nd → putMove x nd .place < length nd
-unfolding putMove putBy
-put-place x nd h = go (ltb (firstEmpty nd) (length nd)) refl
-  where
-    go : (t : Bool) → ltb (firstEmpty nd) (length nd) ≡ t → putBy t x nd .place < length nd
-    go true e = ltb-true (firstEmpty nd) (length nd) e
-    go false e = least-in nd h
+put-place : (x : Element) (nd : List Slot) (v : Move) → Puts x nd v → 0 < length nd → v .place < length nd
+put-place x nd v (ends e) h = e
+put-place x nd v (exchanges e l) h = least-in nd h
+put-place x nd v (passes e l) h = least-in nd h
 
 pub place-inside : (o : Op) (r : ℕ) (nd : List Slot) (b : ℕ → Element) → isNothing o ≡ false → 0 < length nd → readOk o r nd ≡ true → opMove o nd b .place < length nd
 unfolding readOk opMove isNothing
 place-inside Nothing r nd b n h e = absurd (true≢false n)
-place-inside (Put x) r nd b n h e = put-place x nd h
-place-inside Take r nd b n h e = take-place nd b (has-sum nd (and-right (nodeOk r nd) (hasSome nd) e))
-place-inside (Swap x) r nd b n h e = swap-place x nd b (has-sum nd (and-right (nodeOk r nd) (hasSome nd) e))
+place-inside (Put x) r nd b n h e = put-place x nd _ (put-rule x nd) h
+place-inside Take r nd b n h e = take-place nd b _ (take-rule nd b) (has-sum nd (and-right (nodeOk r nd) (hasSome nd) e))
+place-inside (Swap x) r nd b n h e = swap-place x nd b _ (swap-rule x nd b) (has-sum nd (and-right (nodeOk r nd) (hasSome nd) e))
 
 -- ---- the step of a level on the words
 module _ (m : ℕ) where
@@ -272,6 +280,35 @@ module _ (m : ℕ) where
   unfolding applyWords
   apply-before zero w b c ws i h = refl
   apply-before (suc k) w b c ws i h = apply-before k _ (b + c * m) (c * m) _ i (omega arith) ∙ step-before k w b c ws i h
+
+  -- a slot before the level: its write may come before the step or after it
+  level-before : (ws : List ℕ) (b c i : ℕ) (s : Slot) → i < b → levelOf m (write ws i s) b c ≡ levelOf m ws b c
+  level-before ws b c i s h = level-other m ws b c i s (λ n j hn hj. omega arith)
+
+  rest-write : (k : ℕ) (w : Work) (b c : ℕ) (ws : List ℕ) (i : ℕ) (s : Slot) → i < b → restWords m k w b c (write ws i s) ≡ restWords m k w b c ws
+  rest-write k w b c ws i s h =
+      ap₂ (λ (l : Level) (u : Levels k). stepWork m w l (top k u)) (level-before ws b c i s h) (levels-before m k ws (b + c * m) (c * m) i s (omega arith))
+
+  step-write : (k : ℕ) (w : Work) (b c : ℕ) (ws : List ℕ) (i : ℕ) (s : Slot) → i < b → stepWords m k w b c (write ws i s) ≡ write (stepWords m k w b c ws) i s
+  unfolding stepWords
+  step-write k w b c ws i s h =
+      ap₂ (λ (l : Level) (u : Levels k). at-move (isNothing (w .op)) (levelMove m (w .op) (w .node) l (top k u)) (write ws i s)) (level-before ws b c i s h) (levels-before m k ws (b + c * m) (c * m) i s (omega arith))
+      ∙ go (isNothing (w .op)) (levelMove m (w .op) (w .node) (levelOf m ws b c) (top k (under m k ws b c)))
+    where
+      at-move : Bool → Move → List ℕ → List ℕ
+      at-move t v r = cond t r (write r (b + w .node * m + v .place) (v .slot))
+
+      go : (t : Bool) (v : Move) → at-move t v (write ws i s) ≡ write (at-move t v ws) i s
+      go true v = refl
+      go false v = write-comm ws i (b + w .node * m + v .place) s (v .slot) (λ e. omega arith)
+
+  -- .. and before the whole operation or after it
+  pub apply-write : (k : ℕ) (w : Work) (b c : ℕ) (ws : List ℕ) (i : ℕ) (s : Slot) → i < b → applyWords m k w b c (write ws i s) ≡ write (applyWords m k w b c ws) i s
+  unfolding applyWords
+  apply-write zero w b c ws i s h = refl
+  apply-write (suc k) w b c ws i s h =
+      ap₂ (λ (w : Work) (r : List ℕ). applyWords m k w (b + c * m) (c * m) r) (rest-write k w b c ws i s h) (step-write k w b c ws i s h)
+      ∙ apply-write k (restWords m k w b c ws) (b + c * m) (c * m) (stepWords m k w b c ws) i s (omega arith)
 
   pub apply-length : (k : ℕ) (w : Work) (b c : ℕ) (ws : List ℕ) → length (applyWords m k w b c ws) ≡ length ws
   unfolding applyWords

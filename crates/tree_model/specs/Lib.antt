@@ -3,6 +3,7 @@ pub mod Levels
 pub mod Words
 pub mod Damage
 pub mod Calls
+pub mod Rules
 pub mod Tree
 pub mod Serve
 pub mod Promise

@@ -1,40 +1,42 @@
 -- What is promised of the tree is said in these words: 01's causes of refusal, and what a store holds over a list of requests.
 -- Assumes nothing: these are definitions.
 use Prim.Native.Nat.{_*_, _+_, _<_, _≤_, pred, suc, zero, ℕ}
-use mathlib.Core.Bool.{_&&_, Bool}
-use mathlib.Core.List.{[], _∷_, List}
+use mathlib.Core.Bool.{Bool}
+use mathlib.Core.List.{[], List}
 use mathlib.Core.Logic.{_⊎_}
 use mathlib.Core.Path.{_≡_}
-use lib.Dec.{eqb}
 use lib.ListN.{getD, length}
 use Rattle.laws.specs.Fails.{Any}
+use Rattle.laws.specs.Ladder.{fine, Ladder, rung, stop}
 use Rattle.laws.specs.Lists.{All}
 use Rattle.laws.specs.Sums.{sumTo}
+use Rattle.promise.specs.Queue.{leaves, Pins, step, Step}
+use Rattle.promise.specs.Refused.{limits}
+use Rattle.strip.specs.Answers.{element}
 use Rattle.strip.specs.declared.Answer.{Answer}
 use Rattle.strip.specs.declared.Element.{Element}
 use Rattle.strip.specs.declared.Refusal.{Refusal}
-use Rattle.strip.specs.declared.Refusal.the-variants.{BadRank, BadShape, Damaged, Empty, Full, TooSoon}
+use Rattle.strip.specs.declared.Refusal.the-variants.{BadShape, Damaged}
 use Rattle.strip.specs.declared.Request.{Request}
-use Rattle.strip.specs.declared.Request.the-variants.{Idle, Pop, Push, Replace}
-use Rattle.tree_model.specs.Calls.{called, cleared, rootOf, slotLimit, verdict}
+use Rattle.strip.specs.declared.Request.the-variants.{Pop, Push, Replace}
+use Rattle.tree_model.specs.Calls.{called, cleared, counted, rootOf, verdict}
 use Rattle.tree_model.specs.Damage.{room}
 use Rattle.tree_model.specs.Levels.{Level, Levels, stepWork, top, work}
 use Rattle.tree_model.specs.Node.{lowest, slotAt, sumCounts}
-use Rattle.tree_model.specs.Serve.{brought, given}
 use Rattle.tree_model.specs.Tree.{own}
-use Rattle.tree_model.specs.Words.{levelsOf, slotOf, width}
+use Rattle.tree_model.specs.Words.{levelsOf, slotOf}
 use Rattle.tree_model.specs.declared.Op.{Op}
 use Rattle.tree_model.specs.declared.Op.the-variants.{Nothing, Put, Swap, Take}
 use Rattle.tree_model.specs.declared.Slot.{Slot}
 use Rattle.tree_model.specs.declared.Work.{Work}
 
 -- ---- causes: column "Exactly when" of the table of refusals
--- what a shape must be; anything else is cause 1
+-- what a shape must be, in 01's numbers; anything else is cause 1
 pub record Shape (m levels len : ℕ) : Type 0 where
   pub order : (m ≡ 2) ⊎ (m ≡ 4) ⊎ (m ≡ 8)
   pub some : 1 ≤ levels
-  pub capacity : room m levels ≤ slotLimit
-  pub slice : width * room m levels ≤ len
+  pub capacity : room m levels ≤ 5460
+  pub slice : 3 * room m levels ≤ len
 
 -- "a count above one plus the room below it, or a slot with count 0 and another word not 0"
 abbrev pub SlotDamaged : ℕ → Slot → Type 0
@@ -90,67 +92,61 @@ module _ (m : ℕ) where
   Damage levels r ws =
       NodeDamaged (room m (pred levels)) (rootOf m ws) ⊎ PathDamaged levels (work (verdict m levels r ws .op) 0) (levelsOf m levels ws 0 1)
 
-abbrev pub IsPush : Request → Type 0
-IsPush Idle = ⊥
-IsPush (Push x) = Unit {0}
-IsPush Pop = ⊥
-IsPush (Replace x) = ⊥
+-- the table, in order: "Order for the tree: 1, 2, 3, then 5 or 6". 3 is the clocked tree's, and 4 the bucket queue's
+abbrev pub refusals : ℕ → ℕ → Request → List ℕ → Ladder Refusal
+refusals m levels r ws =
+    rung BadShape (Shape m levels (length ws))
+    (stop Damaged (Damage m levels r ws)
+    (limits r (sumCounts (rootOf m ws)) (room m levels) fine))
 
-abbrev pub IsPop : Request → Type 0
-IsPop Idle = ⊥
-IsPop (Push x) = ⊥
-IsPop Pop = Unit {0}
-IsPop (Replace x) = ⊥
+-- .. of clear, and of held: "the call held reads the root alone"
+abbrev pub clearRefusals : ℕ → ℕ → List ℕ → Ladder Refusal
+clearRefusals m levels ws = rung BadShape (Shape m levels (length ws)) fine
 
--- each refusal's cause, an earlier cause excluded. 3 and 4 are given by other queues
-abbrev pub Cause : ℕ → ℕ → Request → List ℕ → Refusal → Type 0
-Cause m levels r ws BadShape = Shape m levels (length ws) → ⊥
-Cause m levels r ws Damaged = Shape m levels (length ws) × Damage m levels r ws
-Cause m levels r ws TooSoon = ⊥
-Cause m levels r ws BadRank = ⊥
-Cause m levels r ws Full = Shape m levels (length ws) × (Damage m levels r ws → ⊥) × IsPush r × (sumCounts (rootOf m ws) ≡ room m levels)
-Cause m levels r ws Empty = Shape m levels (length ws) × (Damage m levels r ws → ⊥) × IsPop r × (sumCounts (rootOf m ws) ≡ 0)
+abbrev pub heldRefusals : ℕ → ℕ → List ℕ → Ladder Refusal
+heldRefusals m levels ws = rung BadShape (Shape m levels (length ws)) (stop Damaged (NodeDamaged (room m (pred levels)) (rootOf m ws)) fine)
 
--- .. and of a refused held
-abbrev pub HeldCause : ℕ → ℕ → List ℕ → Refusal → Type 0
-HeldCause m levels ws BadShape = Shape m levels (length ws) → ⊥
-HeldCause m levels ws Damaged = Shape m levels (length ws) × NodeDamaged (room m (pred levels)) (rootOf m ws)
-HeldCause m levels ws TooSoon = ⊥
-HeldCause m levels ws BadRank = ⊥
-HeldCause m levels ws Full = ⊥
-HeldCause m levels ws Empty = ⊥
+-- ---- where the words stand
+-- level i of a store, the topmost is 0
+unfoldable pub levelAt : (k : ℕ) → Levels k → ℕ → Level
+levelAt zero ls i = []
+levelAt (suc k) ls zero = ls .0
+levelAt (suc k) ls (suc i) = levelAt k (ls .1) i
+
+-- "three 32-bit words: rank, tag, count": slot i of the slice
+abbrev pub threeWords : List ℕ → ℕ → Slot
+threeWords ws i = record { element = element (getD ws (3 * i) 0) (getD ws (3 * i + 1) 0); count = getD ws (3 * i + 2) 0 }
+
+-- "Clear writes zeros. .. of a longer one the rest is never touched", word by word
+pub record Zeroed (n : ℕ) (ws vs : List ℕ) : Type 0 where
+  pub length : length vs ≡ length ws
+  pub zeros : (p d : ℕ) → p < 3 * n → getD vs p d ≡ 0
+  pub rest : (p d : ℕ) → 3 * n ≤ p → getD vs p d ≡ getD ws p d
+
+-- two slices that agree on the words of n slots
+abbrev pub Agree : ℕ → List ℕ → List ℕ → Type 0
+Agree n ws vs = (p : ℕ) → p < 3 * n → getD ws p 0 ≡ getD vs p 0
 
 -- ---- what a store holds
 -- how many of the first n slots hold an element that passes the test
 unfoldable pub stored : ℕ → List ℕ → (Element → Bool) → ℕ
 stored n ws f = sumTo n (λ i. own f (slotOf ws i))
 
--- ---- a list of requests, one call after the other: the words left, and the answers
-unfoldable pub leaves : ℕ → ℕ → List Request → List ℕ → List ℕ
-leaves m levels [] ws = ws
-leaves m levels (r ∷ rs) ws = leaves m levels rs (called m levels r ws .words)
+-- ---- the tree as a queue: push, pop and replace on its words
+abbrev pub treeQueue : ℕ → ℕ → Request → List ℕ → Step Answer (List ℕ)
+treeQueue m levels r ws = step (called m levels r ws .answer) (called m levels r ws .words)
 
-unfoldable pub answers : ℕ → ℕ → List Request → List ℕ → List Answer
-answers m levels [] ws = []
-answers m levels (r ∷ rs) ws = called m levels r ws .answer ∷ answers m levels rs (called m levels r ws .words)
-
--- a cleared store to begin with, whatever the words were, and the words that a list leaves from there
+-- a cleared store to begin with, whatever the words were, and the words that a list of requests leaves from there
 abbrev pub start : ℕ → ℕ → List ℕ → List ℕ
 start m levels ws = cleared m levels ws .words
 
 abbrev pub after : ℕ → ℕ → List Request → List ℕ → List ℕ
-after m levels rs ws = leaves m levels rs (start m levels ws)
+after m levels rs ws = leaves (treeQueue m levels) rs (start m levels ws)
 
--- all that came out, and all that went in
-unfoldable pub allGiven : List Answer → (Element → Bool) → ℕ
-allGiven [] f = 0
-allGiven (a ∷ rest) f = given a f + allGiven rest f
-
-unfoldable pub allBrought : List Request → List Answer → (Element → Bool) → ℕ
-allBrought [] rest f = 0
-allBrought (r ∷ rs) [] f = 0
-allBrought (r ∷ rs) (a ∷ rest) f = brought r a f + allBrought rs rest f
-
--- the test for one pair
-abbrev pub same : Element → Element → Bool
-same e x = eqb (e .rank .0) (x .rank .0) && eqb (e .tag .0) (x .tag .0)
+-- ---- each public call's outcome is one
+pub record Pinned (m levels : ℕ) (ws : List ℕ) : Type 0 where
+  pub clear : Pins (cleared m levels ws)
+  pub push : (x : Element) → Pins (called m levels (Push x) ws)
+  pub pop : Pins (called m levels Pop ws)
+  pub replace : (x : Element) → Pins (called m levels (Replace x) ws)
+  pub held : Pins (counted m levels ws)

@@ -1,19 +1,19 @@
 -- The tree that hangs at a node of a store, what it holds, and when it is sound. Assumes nothing: these are definitions.
 use Prim.Native.Nat.{ℕ, zero, suc, _+_, _*_, _<_}
 use mathlib.Core.Path.{_≡_}
-use mathlib.Core.Bool.{Bool, true, false}
+use mathlib.Core.Bool.{Bool}
 use mathlib.Core.List.{List, [], _∷_, map}
-use lib.Dec.{ltb}
 use lib.ListN.{length, getD, set}
 use Rattle.strip.specs.declared.Element.{Element}
-use Rattle.strip.specs.Answers.{blank, key}
+use Rattle.strip.specs.Answers.{blank}
 use Rattle.laws.specs.Lists.{sumOf, All}
+use Rattle.promise.specs.Served.{always, hit, lower}
 use Rattle.tree_model.specs.declared.Slot.{Slot}
 use Rattle.tree_model.specs.declared.Op.{Op}
 use Rattle.tree_model.specs.declared.Op.the-variants.{Nothing, Put, Take, Swap}
 use Rattle.tree_model.specs.declared.Move.{Move}
 use Rattle.tree_model.specs.Node.{vacant, opMove, low}
-use Rattle.tree_model.specs.Levels.{Level, Levels}
+use Rattle.tree_model.specs.Levels.{Levels}
 use Rattle.tree_model.specs.Damage.{room}
 
 -- k levels: a node's slots, each with the tree below it
@@ -58,10 +58,6 @@ act (suc k) o t =
     set t (v .place) (v .slot, act k (v .rest) (at k t (v .place) .1))
 
 -- ---- what a tree holds: how many of its elements pass a test
-abbrev pub hit : Bool → ℕ
-hit true = 1
-hit false = 0
-
 -- a slot holds its element where its count is not 0
 abbrev pub ownBy : ℕ → (Element → Bool) → Element → ℕ
 ownBy zero f e = 0
@@ -74,21 +70,14 @@ unfoldable pub many : (Element → Bool) → (k : ℕ) → Tree k → ℕ
 many f zero t = 0
 many f (suc k) t = sumOf (λ z. own f (z .0) + many f k (z .1)) t
 
--- the test that all pass, and the one that those of a key below r pass
-abbrev pub always : Element → Bool
-always e = true
-
-abbrev pub below : ℕ → Element → Bool
-below r e = ltb (key e) r
-
 abbrev pub held : (k : ℕ) → Tree k → ℕ
 held k t = many always k t
 
 -- ---- soundness
--- a slot and the tree below it: both empty; or "The count covers the slot's own element and all below it", none of which has a lower key
+-- a slot and the tree below it: both empty; or "The count covers the slot's own element and all below it", none of which has a lower rank
 pub data Fit (k : ℕ) (s : Slot) (t : Tree k) : Type 0 where
   nothing : s ≡ vacant → held k t ≡ 0 → Fit k s t
-  something : s .count ≡ suc (held k t) → many (below (key (s .element))) k t ≡ 0 → Fit k s t
+  something : s .count ≡ suc (held k t) → many (lower (s .element .rank .0)) k t ≡ 0 → Fit k s t
 
 -- every node has m slots, and every slot fits
 abbrev pub Sound : ℕ → (k : ℕ) → Tree k → Type 0

@@ -1,19 +1,18 @@
--- `tree::swap` meets its contract. Assumes nothing.
-use Prim.Native.Nat.{_+_, _<_, ℕ}
 use native.Mathlib.Omega.{arith}
 use mathlib.Core.Path.{_∙_, _≡_, refl}
 use borrow.Author.Needs.{needs}
+use Rattle.tree.proofs.Down.{level-of, not-zero}
+use Rattle.tree.proofs.Once.{below-ne, child-level, child-limit, child-node-in, lies-under, seen-under, swap-damaged, swap-empty, swap-fails, swap-keeps, swap-last, swap-passes, under-room}
+use Prim.Native.Nat.{ℕ, _<_}
 use borrow.Fn.Kinds.{In}
-use borrow.Fn.PlainCycle.{and, falls, is, Measures}
-use Rattle.node.proofs.Steps.{move-swap}
-use Rattle.tree_model.specs.Node.{isNothing}
-use Rattle.tree_model.specs.declared.Op.the-variants.{Swap}
-use Rattle.tree.proofs.Down.{apply-end, ends, goes, level-of, place-in, ready-below, ready-move, step-in}
-use Rattle.tree.proofs.Rest.{swap-stops}
+use borrow.Fn.PlainCycle.{Measures, is, falls, and}
 use Rattle.tree.proofs.swap.Reads as swap
 use Rattle.tree.proofs.swap.Kinds as swap-kinds
 use Rattle.tree.proofs.+swap.Lts-swap as swap-lts
-use Rattle.node.proofs.swap_move.Reads as swap-move-reads
+use Rattle.node.proofs.look_low.Reads as look-low-reads
+use Rattle.node.proofs.lower.Reads as lower-reads
+use Rattle.node.proofs.room_under.Reads as room-under-reads
+use Rattle.node.proofs.slot_at.Reads as slot-at-reads
 use Rattle.node.proofs.write_slot.Reads as write-slot-reads
 use Rattle.tree.proofs.+swap.{statement}
 use Rattle.tree.proofs.+swap.Tie.{close}
@@ -28,91 +27,133 @@ abbrev swap-below : ℕ → In 1 swap-kinds.ps
 swap-below t = and 1 swap-kinds.ps (falls 1 swap-kinds.ps _<_ μ-swap t) swap.Pre
 
 abbrev cs : ℕ → swap-lts.Claims
-cs t = (swap-move-reads.Asked, swap-move-reads.Learnt, write-slot-reads.Asked, write-slot-reads.Learnt, swap-below t, swap.Post)
-
-swap-returns : (t : ℕ) → swap-lts.Need-returns (cs t) (swap-at t) swap.Post
-swap-returns t c = apply-end _ _ _ _ _ _ _ (c .if1 .taken)
+cs t = (slot-at-reads.Asked, slot-at-reads.Learnt, write-slot-reads.Asked, write-slot-reads.Learnt, room-under-reads.Asked, room-under-reads.Learnt, look-low-reads.Asked, look-low-reads.Learnt, lower-reads.Asked, lower-reads.Learnt, swap-below t, swap.Post)
 
 swap-mul-first : (t : ℕ) → swap-lts.Need-mul-first (cs t) (swap-at t) swap.Post
-swap-mul-first t c = omega (arith, level-of (c .before .before .args .order) (c .before .before .args .left) (c .before .before .args .base) (c .before .before .args .width) (c .before .before .args .node) (c .before .before .args .s .now) (c .before .before .pre .1 .lies) (c .if1 .left))
+swap-mul-first t c = omega (arith, level-of (c .before .args .order) (c .before .args .left) (c .before .args .base) (c .before .args .width) (c .before .args .node) (c .before .args .s .now) (c .before .pre .1 .0) (not-zero (c .before .pre .1 .1 .some)), c .before .pre .1 .1 .inside)
 
-swap-add-at : (t : ℕ) → swap-lts.Need-add-at (cs t) (swap-at t) swap.Post
-swap-add-at t c = omega (arith, level-of (c .before .before .args .order) (c .before .before .args .left) (c .before .before .args .base) (c .before .before .args .width) (c .before .before .args .node) (c .before .before .args .s .now) (c .before .before .pre .1 .lies) (c .if1 .left))
+swap-add-i : (t : ℕ) → swap-lts.Need-add-i (cs t) (swap-at t) swap.Post
+swap-add-i t c = omega (arith, level-of (c .before .args .order) (c .before .args .left) (c .before .args .base) (c .before .args .width) (c .before .args .node) (c .before .args .s .now) (c .before .pre .1 .0) (not-zero (c .before .pre .1 .1 .some)), c .before .pre .1 .1 .inside)
 
-swap-mul-next : (t : ℕ) → swap-lts.Need-mul-next (cs t) (swap-at t) swap.Post
-swap-mul-next t c = omega (arith, level-of (c .before .before .args .order) (c .before .before .args .left) (c .before .before .args .base) (c .before .before .args .width) (c .before .before .args .node) (c .before .before .args .s .now) (c .before .before .pre .1 .lies) (c .if1 .left))
+swap-add-i-2 : (t : ℕ) → swap-lts.Need-add-i-2 (cs t) (swap-at t) swap.Post
+swap-add-i-2 t c = omega (arith, level-of (c .before .args .order) (c .before .args .left) (c .before .args .base) (c .before .args .width) (c .before .args .node) (c .before .args .s .now) (c .before .pre .1 .0) (not-zero (c .before .pre .1 .1 .some)), c .before .pre .1 .1 .inside)
 
-swap-add-next : (t : ℕ) → swap-lts.Need-add-next (cs t) (swap-at t) swap.Post
-swap-add-next t c = omega (arith, level-of (c .before .before .args .order) (c .before .before .args .left) (c .before .before .args .base) (c .before .before .args .width) (c .before .before .args .node) (c .before .before .args .s .now) (c .before .before .pre .1 .lies) (c .if1 .left))
-
-swap-mul-swap-move : (t : ℕ) → swap-lts.Need-mul-swap-move (cs t) (swap-at t) swap.Post
-swap-mul-swap-move t c = omega (arith, level-of (c .before .before .before .args .order) (c .before .before .before .args .left) (c .before .before .before .args .base) (c .before .before .before .args .width) (c .before .before .before .args .node) (c .before .before .before .args .s .now) (c .before .before .before .pre .1 .lies) (c .before .if1 .left))
-
-swap-add-swap-move : (t : ℕ) → swap-lts.Need-add-swap-move (cs t) (swap-at t) swap.Post
-swap-add-swap-move t c = omega (arith, level-of (c .before .before .before .args .order) (c .before .before .before .args .left) (c .before .before .before .args .base) (c .before .before .before .args .width) (c .before .before .before .args .node) (c .before .before .before .args .s .now) (c .before .before .before .pre .1 .lies) (c .before .if1 .left))
-
-swap-swap-move-requires : (t : ℕ) → swap-lts.Need-swap-move-requires (cs t) (swap-at t) swap.Post
-unfolding isNothing
-swap-swap-move-requires t c κs = (step-in (c .before .before .before .args .order) (c .before .before .before .args .base) (c .before .before .before .args .width) (c .before .before .before .args .node) (c .before .before .before .args .s .now) (c .before .before .before .args .left) (c .before .before .before .pre .1 .lies) (c .before .if1 .left) .node, ready-move (c .before .before .before .args .order) (c .before .before .before .args .base) (c .before .before .before .args .width) (c .before .before .before .args .node) (c .before .before .before .args .s .now) (c .before .before .before .args .left) (Swap (c .before .before .before .args .x)) refl (c .before .if1 .left) (c .before .before .before .pre .1))
-
-swap-add-write-slot : (t : ℕ) → swap-lts.Need-add-write-slot (cs t) (swap-at t) swap.Post
-unfolding isNothing
-swap-add-write-slot t c = omega (arith, level-of (c .before .before .before .before .before .before .args .order) (c .before .before .before .before .before .before .args .left) (c .before .before .before .before .before .before .args .base) (c .before .before .before .before .before .before .args .width) (c .before .before .before .before .before .before .args .node) (c .before .before .before .before .before .before .args .s .now) (c .before .before .before .before .before .before .pre .1 .lies) (c .before .before .before .before .if1 .left), place-in (c .before .before .before .before .before .before .args .order) (c .before .before .before .before .before .before .args .base) (c .before .before .before .before .before .before .args .width) (c .before .before .before .before .before .before .args .node) (c .before .before .before .before .before .before .args .s .now) (c .before .before .before .before .before .before .args .left) (Swap (c .before .before .before .before .before .before .args .x)) refl (c .before .before .before .before .if1 .left) (c .before .before .before .before .before .before .pre .1) (c .before .before .swap-move .result) (move-swap _ _ _ _ _ _ _ refl (c .before .before .swap-move .ensures)))
+swap-slot-at-requires : (t : ℕ) → swap-lts.Need-slot-at-requires (cs t) (swap-at t) swap.Post
+swap-slot-at-requires t c κs = omega (arith, level-of (c .before .before .args .order) (c .before .before .args .left) (c .before .before .args .base) (c .before .before .args .width) (c .before .before .args .node) (c .before .before .args .s .now) (c .before .before .pre .1 .0) (not-zero (c .before .before .pre .1 .1 .some)), c .before .before .pre .1 .1 .inside)
 
 swap-write-slot-requires : (t : ℕ) → swap-lts.Need-write-slot-requires (cs t) (swap-at t) swap.Post
-unfolding isNothing
-swap-write-slot-requires t c κs = omega (arith, level-of (c .before .before .before .before .before .before .args .order) (c .before .before .before .before .before .before .args .left) (c .before .before .before .before .before .before .args .base) (c .before .before .before .before .before .before .args .width) (c .before .before .before .before .before .before .args .node) (c .before .before .before .before .before .before .args .s .now) (c .before .before .before .before .before .before .pre .1 .lies) (c .before .before .before .before .if1 .left), place-in (c .before .before .before .before .before .before .args .order) (c .before .before .before .before .before .before .args .base) (c .before .before .before .before .before .before .args .width) (c .before .before .before .before .before .before .args .node) (c .before .before .before .before .before .before .args .s .now) (c .before .before .before .before .before .before .args .left) (Swap (c .before .before .before .before .before .before .args .x)) refl (c .before .before .before .before .if1 .left) (c .before .before .before .before .before .before .pre .1) (c .before .before .swap-move .result) (move-swap _ _ _ _ _ _ _ refl (c .before .before .swap-move .ensures)))
-
-swap-enum-known-rest : (t : ℕ) → swap-lts.Need-enum-known-rest (cs t) (swap-at t) swap.Post
-swap-enum-known-rest t c = search needs
-
-swap-sub-swap : (t : ℕ) → swap-lts.Need-sub-swap (cs t) (swap-at t) swap.Post
-swap-sub-swap t c = let h : c .before .before .before .before .before .before .before .before .before .before .before .before .before .args .left ≡ 0 → ⊥ = c .before .before .before .before .before .before .before .before .before .before .before .if1 .left in omega arith
-
-swap-mul-swap : (t : ℕ) → swap-lts.Need-mul-swap (cs t) (swap-at t) swap.Post
-swap-mul-swap t c = omega (arith, level-of (c .before .before .before .before .before .before .before .before .before .before .before .before .before .args .order) (c .before .before .before .before .before .before .before .before .before .before .before .before .before .args .left) (c .before .before .before .before .before .before .before .before .before .before .before .before .before .args .base) (c .before .before .before .before .before .before .before .before .before .before .before .before .before .args .width) (c .before .before .before .before .before .before .before .before .before .before .before .before .before .args .node) (c .before .before .before .before .before .before .before .before .before .before .before .before .before .args .s .now) (c .before .before .before .before .before .before .before .before .before .before .before .before .before .pre .1 .lies) (c .before .before .before .before .before .before .before .before .before .before .before .if1 .left))
-
-swap-add-swap : (t : ℕ) → swap-lts.Need-add-swap (cs t) (swap-at t) swap.Post
-unfolding isNothing
-swap-add-swap t c = omega (arith, level-of (c .before .before .before .before .before .before .before .before .before .before .before .before .before .before .args .order) (c .before .before .before .before .before .before .before .before .before .before .before .before .before .before .args .left) (c .before .before .before .before .before .before .before .before .before .before .before .before .before .before .args .base) (c .before .before .before .before .before .before .before .before .before .before .before .before .before .before .args .width) (c .before .before .before .before .before .before .before .before .before .before .before .before .before .before .args .node) (c .before .before .before .before .before .before .before .before .before .before .before .before .before .before .args .s .now) (c .before .before .before .before .before .before .before .before .before .before .before .before .before .before .pre .1 .lies) (c .before .before .before .before .before .before .before .before .before .before .before .before .if1 .left), place-in (c .before .before .before .before .before .before .before .before .before .before .before .before .before .before .args .order) (c .before .before .before .before .before .before .before .before .before .before .before .before .before .before .args .base) (c .before .before .before .before .before .before .before .before .before .before .before .before .before .before .args .width) (c .before .before .before .before .before .before .before .before .before .before .before .before .before .before .args .node) (c .before .before .before .before .before .before .before .before .before .before .before .before .before .before .args .s .now) (c .before .before .before .before .before .before .before .before .before .before .before .before .before .before .args .left) (Swap (c .before .before .before .before .before .before .before .before .before .before .before .before .before .before .args .x)) refl (c .before .before .before .before .before .before .before .before .before .before .before .before .if1 .left) (c .before .before .before .before .before .before .before .before .before .before .before .before .before .before .pre .1) (c .before .before .before .before .before .before .before .before .before .before .swap-move .result) (move-swap _ _ _ _ _ _ _ refl (c .before .before .before .before .before .before .before .before .before .before .swap-move .ensures)))
-
-swap-swap-requires : (t : ℕ) → swap-lts.Need-swap-requires (cs t) (swap-at t) swap.Post
-unfolding isNothing
-swap-swap-requires t c κs = (let h : c .before .before .before .before .before .before .before .before .before .before .before .before .before .before .args .left ≡ 0 → ⊥ = c .before .before .before .before .before .before .before .before .before .before .before .before .if1 .left in omega (arith, c .before .before .before .before .before .before .before .before .before .before .before .before .before .before .pre .0), ready-below (c .before .before .before .before .before .before .before .before .before .before .before .before .before .before .args .order) (c .before .before .before .before .before .before .before .before .before .before .before .before .before .before .args .base) (c .before .before .before .before .before .before .before .before .before .before .before .before .before .before .args .width) (c .before .before .before .before .before .before .before .before .before .before .before .before .before .before .args .node) (c .before .before .before .before .before .before .before .before .before .before .before .before .before .before .args .s .now) (c .before .before .before .before .before .before .before .before .before .before .before .before .before .before .args .left) (Swap (c .before .before .before .before .before .before .before .before .before .before .before .before .before .before .args .x)) refl (c .before .before .before .before .before .before .before .before .before .before .before .before .if1 .left) (c .before .before .before .before .before .before .before .before .before .before .before .before .before .before .pre .1) (c .before .before .before .before .before .before .before .before .before .before .swap-move .result) (move-swap _ _ _ _ _ _ _ refl (c .before .before .before .before .before .before .before .before .before .before .swap-move .ensures)) _ (c .before .before .before .before .before .before .before .write-slot .ensures) _ (c .before .before .before .rest .given .1))
+swap-write-slot-requires t c κs = omega (arith, level-of (c .before .before .before .before .before .args .order) (c .before .before .before .before .before .args .left) (c .before .before .before .before .before .args .base) (c .before .before .before .before .before .args .width) (c .before .before .before .before .before .args .node) (c .before .before .before .before .before .args .s .now) (c .before .before .before .before .before .pre .1 .0) (not-zero (c .before .before .before .before .before .pre .1 .1 .some)), c .before .before .before .before .before .pre .1 .1 .inside)
 
 swap-same-length : (t : ℕ) → swap-lts.Need-same-length (cs t) (swap-at t) swap.Post
-swap-same-length t c = c .before .before .swap .kept .0 ∙ c .before .before .before .before .before .before .before .before .before .before .write-slot .kept .0
+swap-same-length t c = c .before .before .write-slot .kept .0
 
-swap-returns-2 : (t : ℕ) → swap-lts.Need-returns-2 (cs t) (swap-at t) swap.Post
-unfolding isNothing
-swap-returns-2 t c = goes (c .before .before .before .before .before .before .before .before .before .before .before .before .before .before .before .before .before .args .order) (c .before .before .before .before .before .before .before .before .before .before .before .before .before .before .before .before .before .args .base) (c .before .before .before .before .before .before .before .before .before .before .before .before .before .before .before .before .before .args .width) (c .before .before .before .before .before .before .before .before .before .before .before .before .before .before .before .before .before .args .node) (c .before .before .before .before .before .before .before .before .before .before .before .before .before .before .before .before .before .args .s .now) (c .before .before .before .before .before .before .before .before .before .before .before .before .before .before .before .before .before .args .left) (Swap (c .before .before .before .before .before .before .before .before .before .before .before .before .before .before .before .before .before .args .x)) refl (c .before .before .before .before .before .before .before .before .before .before .before .before .before .before .before .if1 .left) (c .before .before .before .before .before .before .before .before .before .before .before .before .before .before .before .before .before .pre .1) (c .before .before .before .before .before .before .before .before .before .before .before .before .before .swap-move .result) (move-swap _ _ _ _ _ _ _ refl (c .before .before .before .before .before .before .before .before .before .before .before .before .before .swap-move .ensures)) _ (c .before .before .before .before .before .before .before .before .before .before .write-slot .ensures) _ _ (c .before .before .before .before .before .before .rest .given .1) (c .before .before .swap .ensures)
+swap-returns : (t : ℕ) → swap-lts.Need-returns (cs t) (swap-at t) swap.Post
+swap-returns t c = swap-last (c .before .before .before .before .before .before .before .before .args .order) (c .before .before .before .before .before .before .before .before .args .base) (c .before .before .before .before .before .before .before .before .args .width) (c .before .before .before .before .before .before .before .before .args .node) (c .before .before .before .before .before .before .before .before .args .s .now) (c .before .before .before .before .before .before .before .before .args .left) (not-zero (c .before .before .before .before .before .before .before .before .pre .1 .1 .some)) (c .before .before .before .before .before .before .before .before .pre .1 .0) (c .before .before .before .before .before .before .before .before .args .cap) (c .before .before .before .before .before .before .before .before .args .j) (c .before .before .before .before .before .before .before .before .pre .1 .1) _ (c .before .before .before .before .before .slot-at .ensures) (c .before .before .before .before .if1 .taken) _ (c .before .before .before .before .before .before .before .before .args .x) (c .before .before .write-slot .ensures)
+
+swap-mul-wide : (t : ℕ) → swap-lts.Need-mul-wide (cs t) (swap-at t) swap.Post
+swap-mul-wide t c = omega (arith, level-of (c .before .before .before .before .args .order) (c .before .before .before .before .args .left) (c .before .before .before .before .args .base) (c .before .before .before .before .args .width) (c .before .before .before .before .args .node) (c .before .before .before .before .args .s .now) (c .before .before .before .before .pre .1 .0) (not-zero (c .before .before .before .before .pre .1 .1 .some)), c .before .before .before .before .pre .1 .1 .inside)
+
+swap-add-next : (t : ℕ) → swap-lts.Need-add-next (cs t) (swap-at t) swap.Post
+swap-add-next t c = omega (arith, level-of (c .before .before .before .before .args .order) (c .before .before .before .before .args .left) (c .before .before .before .before .args .base) (c .before .before .before .before .args .width) (c .before .before .before .before .args .node) (c .before .before .before .before .args .s .now) (c .before .before .before .before .pre .1 .0) (not-zero (c .before .before .before .before .pre .1 .1 .some)), c .before .before .before .before .pre .1 .1 .inside)
+
+swap-add-child : (t : ℕ) → swap-lts.Need-add-child (cs t) (swap-at t) swap.Post
+swap-add-child t c = omega (arith, level-of (c .before .before .before .before .args .order) (c .before .before .before .before .args .left) (c .before .before .before .before .args .base) (c .before .before .before .before .args .width) (c .before .before .before .before .args .node) (c .before .before .before .before .args .s .now) (c .before .before .before .before .pre .1 .0) (not-zero (c .before .before .before .before .pre .1 .1 .some)), c .before .before .before .before .pre .1 .1 .inside)
+
+swap-mul-at : (t : ℕ) → swap-lts.Need-mul-at (cs t) (swap-at t) swap.Post
+swap-mul-at t c = omega (arith, level-of (c .before .before .before .before .args .order) (c .before .before .before .before .args .left) (c .before .before .before .before .args .base) (c .before .before .before .before .args .width) (c .before .before .before .before .args .node) (c .before .before .before .before .args .s .now) (c .before .before .before .before .pre .1 .0) (not-zero (c .before .before .before .before .pre .1 .1 .some)), c .before .before .before .before .pre .1 .1 .inside, child-level (c .before .before .before .before .args .order) (c .before .before .before .before .args .base) (c .before .before .before .before .args .width) (c .before .before .before .before .args .node) (c .before .before .before .before .args .s .now) (c .before .before .before .before .args .left) (not-zero (c .before .before .before .before .pre .1 .1 .some)) (c .before .before .before .before .pre .1 .0) (c .before .before .before .before .args .cap) (c .before .before .before .before .args .j) (c .before .before .before .before .pre .1 .1) _ (c .before .slot-at .ensures) (c .if1 .left))
+
+swap-add-at : (t : ℕ) → swap-lts.Need-add-at (cs t) (swap-at t) swap.Post
+swap-add-at t c = omega (arith, level-of (c .before .before .before .before .args .order) (c .before .before .before .before .args .left) (c .before .before .before .before .args .base) (c .before .before .before .before .args .width) (c .before .before .before .before .args .node) (c .before .before .before .before .args .s .now) (c .before .before .before .before .pre .1 .0) (not-zero (c .before .before .before .before .pre .1 .1 .some)), c .before .before .before .before .pre .1 .1 .inside, child-level (c .before .before .before .before .args .order) (c .before .before .before .before .args .base) (c .before .before .before .before .args .width) (c .before .before .before .before .args .node) (c .before .before .before .before .args .s .now) (c .before .before .before .before .args .left) (not-zero (c .before .before .before .before .pre .1 .1 .some)) (c .before .before .before .before .pre .1 .0) (c .before .before .before .before .args .cap) (c .before .before .before .before .args .j) (c .before .before .before .before .pre .1 .1) _ (c .before .slot-at .ensures) (c .if1 .left))
+
+swap-room-under-requires : (t : ℕ) → swap-lts.Need-room-under-requires (cs t) (swap-at t) swap.Post
+swap-room-under-requires t c κs = c .before .before .before .before .pre .1 .0 .order
+
+swap-look-low-requires : (t : ℕ) → swap-lts.Need-look-low-requires (cs t) (swap-at t) swap.Post
+swap-look-low-requires t c κs = (child-node-in (c .before .before .before .before .before .before .args .order) (c .before .before .before .before .before .before .args .base) (c .before .before .before .before .before .before .args .width) (c .before .before .before .before .before .before .args .node) (c .before .before .before .before .before .before .args .s .now) (c .before .before .before .before .before .before .args .left) (not-zero (c .before .before .before .before .before .before .pre .1 .1 .some)) (c .before .before .before .before .before .before .pre .1 .0) (c .before .before .before .before .before .before .args .cap) (c .before .before .before .before .before .before .args .j) (c .before .before .before .before .before .before .pre .1 .1) _ (c .before .before .before .slot-at .ensures) (c .before .before .if1 .left), child-limit (c .before .before .before .before .before .before .args .order) (c .before .before .before .before .before .before .args .base) (c .before .before .before .before .before .before .args .width) (c .before .before .before .before .before .before .args .node) (c .before .before .before .before .before .before .args .s .now) (c .before .before .before .before .before .before .args .left) (not-zero (c .before .before .before .before .before .before .pre .1 .1 .some)) (c .before .before .before .before .before .before .pre .1 .0) (c .before .before .before .before .before .before .args .cap) (c .before .before .before .before .before .before .args .j) (c .before .before .before .before .before .before .pre .1 .1) _ (c .before .before .before .slot-at .ensures) (c .before .before .if1 .left) _ (under-room (c .before .before .before .before .before .before .args .order) (c .before .before .before .before .before .before .args .left) (c .before .before .before .before .before .before .args .cap) (c .before .room-under .result) (c .before .before .before .before .before .before .pre .1 .1 .fits) (c .before .room-under .ensures)))
 
 swap-same-length-2 : (t : ℕ) → swap-lts.Need-same-length-2 (cs t) (swap-at t) swap.Post
-swap-same-length-2 t c = c .before .before .before .write-slot .kept .0
+swap-same-length-2 t c = search needs
+
+swap-returns-2 : (t : ℕ) → swap-lts.Need-returns-2 (cs t) (swap-at t) swap.Post
+swap-returns-2 t c = swap-damaged (c .before .before .before .before .before .before .before .before .before .args .order) (c .before .before .before .before .before .before .before .before .before .args .base) (c .before .before .before .before .before .before .before .before .before .args .width) (c .before .before .before .before .before .before .before .before .before .args .node) (c .before .before .before .before .before .before .before .before .before .args .s .now) (c .before .before .before .before .before .before .before .before .before .args .left) (not-zero (c .before .before .before .before .before .before .before .before .before .pre .1 .1 .some)) (c .before .before .before .before .before .before .before .before .before .pre .1 .0) (c .before .before .before .before .before .before .before .before .before .args .cap) (c .before .before .before .before .before .before .before .before .before .args .j) (c .before .before .before .before .before .before .before .before .before .pre .1 .1) _ (c .before .before .before .before .before .before .slot-at .ensures) (c .before .before .before .before .before .if1 .left) _ _ _ (under-room (c .before .before .before .before .before .before .before .before .before .args .order) (c .before .before .before .before .before .before .before .before .before .args .left) (c .before .before .before .before .before .before .before .before .before .args .cap) (c .before .before .before .before .room-under .result) (c .before .before .before .before .before .before .before .before .before .pre .1 .1 .fits) (c .before .before .before .before .room-under .ensures)) (c .before .before .look-low .ensures .0) (c .before .before .look-low .ensures .1 .0) (c .before .before .before .before .before .before .before .before .before .args .x) (c .if2 .taken)
+
+swap-same-length-3 : (t : ℕ) → swap-lts.Need-same-length-3 (cs t) (swap-at t) swap.Post
+swap-same-length-3 t c = search needs
 
 swap-returns-3 : (t : ℕ) → swap-lts.Need-returns-3 (cs t) (swap-at t) swap.Post
-unfolding isNothing
-swap-returns-3 t c = ends (c .before .before .before .before .before .before .before .before .before .before .args .order) (c .before .before .before .before .before .before .before .before .before .before .args .base) (c .before .before .before .before .before .before .before .before .before .before .args .width) (c .before .before .before .before .before .before .before .before .before .before .args .node) (c .before .before .before .before .before .before .before .before .before .before .args .s .now) (c .before .before .before .before .before .before .before .before .before .before .args .left) (Swap (c .before .before .before .before .before .before .before .before .before .before .args .x)) refl (c .before .before .before .before .before .before .before .before .if1 .left) (c .before .before .before .before .before .before .before .before .before .before .pre .1) (c .before .before .before .before .before .before .swap-move .result) (move-swap _ _ _ _ _ _ _ refl (c .before .before .before .before .before .before .swap-move .ensures)) _ (c .before .before .before .write-slot .ensures) (swap-stops _ _ _ _ (c .before .before .before .before .before .before .swap-move .ensures) (c .match .keys2))
+swap-returns-3 t c = swap-empty (c .before .before .before .before .before .before .before .before .before .before .args .order) (c .before .before .before .before .before .before .before .before .before .before .args .base) (c .before .before .before .before .before .before .before .before .before .before .args .width) (c .before .before .before .before .before .before .before .before .before .before .args .node) (c .before .before .before .before .before .before .before .before .before .before .args .s .now) (c .before .before .before .before .before .before .before .before .before .before .args .left) (not-zero (c .before .before .before .before .before .before .before .before .before .before .pre .1 .1 .some)) (c .before .before .before .before .before .before .before .before .before .before .pre .1 .0) (c .before .before .before .before .before .before .before .before .before .before .args .cap) (c .before .before .before .before .before .before .before .before .before .before .args .j) (c .before .before .before .before .before .before .before .before .before .before .pre .1 .1) _ (c .before .before .before .before .before .before .before .slot-at .ensures) (c .before .before .before .before .before .before .if1 .left) _ _ _ (under-room (c .before .before .before .before .before .before .before .before .before .before .args .order) (c .before .before .before .before .before .before .before .before .before .before .args .left) (c .before .before .before .before .before .before .before .before .before .before .args .cap) (c .before .before .before .before .before .room-under .result) (c .before .before .before .before .before .before .before .before .before .before .pre .1 .1 .fits) (c .before .before .before .before .before .room-under .ensures)) (c .before .before .before .look-low .ensures .0) (c .before .before .before .look-low .ensures .1 .0) (c .before .before .before .before .before .before .before .before .before .before .args .x) (c .if3 .taken)
+
+swap-add-slot-at : (t : ℕ) → swap-lts.Need-add-slot-at (cs t) (swap-at t) swap.Post
+swap-add-slot-at t c = omega (arith, level-of (c .before .before .before .before .before .before .before .before .before .before .before .args .order) (c .before .before .before .before .before .before .before .before .before .before .before .args .left) (c .before .before .before .before .before .before .before .before .before .before .before .args .base) (c .before .before .before .before .before .before .before .before .before .before .before .args .width) (c .before .before .before .before .before .before .before .before .before .before .before .args .node) (c .before .before .before .before .before .before .before .before .before .before .before .args .s .now) (c .before .before .before .before .before .before .before .before .before .before .before .pre .1 .0) (not-zero (c .before .before .before .before .before .before .before .before .before .before .before .pre .1 .1 .some)), c .before .before .before .before .before .before .before .before .before .before .before .pre .1 .1 .inside, child-level (c .before .before .before .before .before .before .before .before .before .before .before .args .order) (c .before .before .before .before .before .before .before .before .before .before .before .args .base) (c .before .before .before .before .before .before .before .before .before .before .before .args .width) (c .before .before .before .before .before .before .before .before .before .before .before .args .node) (c .before .before .before .before .before .before .before .before .before .before .before .args .s .now) (c .before .before .before .before .before .before .before .before .before .before .before .args .left) (not-zero (c .before .before .before .before .before .before .before .before .before .before .before .pre .1 .1 .some)) (c .before .before .before .before .before .before .before .before .before .before .before .pre .1 .0) (c .before .before .before .before .before .before .before .before .before .before .before .args .cap) (c .before .before .before .before .before .before .before .before .before .before .before .args .j) (c .before .before .before .before .before .before .before .before .before .before .before .pre .1 .1) _ (c .before .before .before .before .before .before .before .before .slot-at .ensures) (c .before .before .before .before .before .before .before .if1 .left), below-ne (c .before .before .before .before .look-low .result .place) (c .before .before .before .before .before .before .before .before .before .before .before .args .order) (c .before .if3 .left) (c .before .before .before .before .look-low .ensures .1 .1))
+
+swap-slot-at-requires-2 : (t : ℕ) → swap-lts.Need-slot-at-requires-2 (cs t) (swap-at t) swap.Post
+swap-slot-at-requires-2 t c κs = omega (arith, level-of (c .before .before .before .before .before .before .before .before .before .before .before .args .order) (c .before .before .before .before .before .before .before .before .before .before .before .args .left) (c .before .before .before .before .before .before .before .before .before .before .before .args .base) (c .before .before .before .before .before .before .before .before .before .before .before .args .width) (c .before .before .before .before .before .before .before .before .before .before .before .args .node) (c .before .before .before .before .before .before .before .before .before .before .before .args .s .now) (c .before .before .before .before .before .before .before .before .before .before .before .pre .1 .0) (not-zero (c .before .before .before .before .before .before .before .before .before .before .before .pre .1 .1 .some)), c .before .before .before .before .before .before .before .before .before .before .before .pre .1 .1 .inside, child-level (c .before .before .before .before .before .before .before .before .before .before .before .args .order) (c .before .before .before .before .before .before .before .before .before .before .before .args .base) (c .before .before .before .before .before .before .before .before .before .before .before .args .width) (c .before .before .before .before .before .before .before .before .before .before .before .args .node) (c .before .before .before .before .before .before .before .before .before .before .before .args .s .now) (c .before .before .before .before .before .before .before .before .before .before .before .args .left) (not-zero (c .before .before .before .before .before .before .before .before .before .before .before .pre .1 .1 .some)) (c .before .before .before .before .before .before .before .before .before .before .before .pre .1 .0) (c .before .before .before .before .before .before .before .before .before .before .before .args .cap) (c .before .before .before .before .before .before .before .before .before .before .before .args .j) (c .before .before .before .before .before .before .before .before .before .before .before .pre .1 .1) _ (c .before .before .before .before .before .before .before .before .slot-at .ensures) (c .before .before .before .before .before .before .before .if1 .left), below-ne (c .before .before .before .before .look-low .result .place) (c .before .before .before .before .before .before .before .before .before .before .before .args .order) (c .before .if3 .left) (c .before .before .before .before .look-low .ensures .1 .1))
+
+swap-lower-requires : (t : ℕ) → swap-lts.Need-lower-requires (cs t) (swap-at t) swap.Post
+swap-lower-requires t c κs = search needs
+
+swap-write-slot-requires-2 : (t : ℕ) → swap-lts.Need-write-slot-requires-2 (cs t) (swap-at t) swap.Post
+swap-write-slot-requires-2 t c κs = omega (arith, level-of (c .before .before .before .before .before .before .before .before .before .before .before .before .before .before .before .before .args .order) (c .before .before .before .before .before .before .before .before .before .before .before .before .before .before .before .before .args .left) (c .before .before .before .before .before .before .before .before .before .before .before .before .before .before .before .before .args .base) (c .before .before .before .before .before .before .before .before .before .before .before .before .before .before .before .before .args .width) (c .before .before .before .before .before .before .before .before .before .before .before .before .before .before .before .before .args .node) (c .before .before .before .before .before .before .before .before .before .before .before .before .before .before .before .before .args .s .now) (c .before .before .before .before .before .before .before .before .before .before .before .before .before .before .before .before .pre .1 .0) (not-zero (c .before .before .before .before .before .before .before .before .before .before .before .before .before .before .before .before .pre .1 .1 .some)), c .before .before .before .before .before .before .before .before .before .before .before .before .before .before .before .before .pre .1 .1 .inside)
+
+swap-same-length-4 : (t : ℕ) → swap-lts.Need-same-length-4 (cs t) (swap-at t) swap.Post
+swap-same-length-4 t c = c .before .before .write-slot2 .kept .0
+
+swap-returns-4 : (t : ℕ) → swap-lts.Need-returns-4 (cs t) (swap-at t) swap.Post
+swap-returns-4 t c = swap-keeps (c .before .before .before .before .before .before .before .before .before .before .before .before .before .before .before .before .before .before .before .args .order) (c .before .before .before .before .before .before .before .before .before .before .before .before .before .before .before .before .before .before .before .args .base) (c .before .before .before .before .before .before .before .before .before .before .before .before .before .before .before .before .before .before .before .args .width) (c .before .before .before .before .before .before .before .before .before .before .before .before .before .before .before .before .before .before .before .args .node) (c .before .before .before .before .before .before .before .before .before .before .before .before .before .before .before .before .before .before .before .args .s .now) (c .before .before .before .before .before .before .before .before .before .before .before .before .before .before .before .before .before .before .before .args .left) (not-zero (c .before .before .before .before .before .before .before .before .before .before .before .before .before .before .before .before .before .before .before .pre .1 .1 .some)) (c .before .before .before .before .before .before .before .before .before .before .before .before .before .before .before .before .before .before .before .pre .1 .0) (c .before .before .before .before .before .before .before .before .before .before .before .before .before .before .before .before .before .before .before .args .cap) (c .before .before .before .before .before .before .before .before .before .before .before .before .before .before .before .before .before .before .before .args .j) (c .before .before .before .before .before .before .before .before .before .before .before .before .before .before .before .before .before .before .before .pre .1 .1) _ (c .before .before .before .before .before .before .before .before .before .before .before .before .before .before .before .before .slot-at .ensures) (c .before .before .before .before .before .before .before .before .before .before .before .before .before .before .before .if1 .left) _ _ _ (under-room (c .before .before .before .before .before .before .before .before .before .before .before .before .before .before .before .before .before .before .before .args .order) (c .before .before .before .before .before .before .before .before .before .before .before .before .before .before .before .before .before .before .before .args .left) (c .before .before .before .before .before .before .before .before .before .before .before .before .before .before .before .before .before .before .before .args .cap) (c .before .before .before .before .before .before .before .before .before .before .before .before .before .before .room-under .result) (c .before .before .before .before .before .before .before .before .before .before .before .before .before .before .before .before .before .before .before .pre .1 .1 .fits) (c .before .before .before .before .before .before .before .before .before .before .before .before .before .before .room-under .ensures)) (c .before .before .before .before .before .before .before .before .before .before .before .before .look-low .ensures .0) (c .before .before .before .before .before .before .before .before .before .before .before .before .look-low .ensures .1 .0) (c .before .before .before .before .before .before .before .before .before .before .if2 .left) (below-ne _ _ (c .before .before .before .before .before .before .before .before .before .if3 .left) (c .before .before .before .before .before .before .before .before .before .before .before .before .look-low .ensures .1 .1)) _ (c .before .before .before .before .before .before .before .slot-at2 .ensures) (c .before .before .before .before .before .before .before .before .before .before .before .before .before .before .before .before .before .before .before .args .x) _ (c .before .before .before .before .before .lower .ensures) (c .before .before .before .before .if4 .taken) _ (c .before .before .write-slot2 .ensures)
+
+swap-sub-swap : (t : ℕ) → swap-lts.Need-sub-swap (cs t) (swap-at t) swap.Post
+swap-sub-swap t c = omega (arith, c .before .before .before .before .before .before .before .before .before .before .before .before .before .before .before .before .pre .1 .1 .some)
+
+swap-swap-requires : (t : ℕ) → swap-lts.Need-swap-requires (cs t) (swap-at t) swap.Post
+swap-swap-requires t c κs = (omega (arith, c .before .before .before .before .before .before .before .before .before .before .before .before .before .before .before .before .pre .0, c .before .before .before .before .before .before .before .before .before .before .before .before .before .before .before .before .pre .1 .1 .some), (lies-under (c .before .before .before .before .before .before .before .before .before .before .before .before .before .before .before .before .args .order) (c .before .before .before .before .before .before .before .before .before .before .before .before .before .before .before .before .args .base) (c .before .before .before .before .before .before .before .before .before .before .before .before .before .before .before .before .args .width) (c .before .before .before .before .before .before .before .before .before .before .before .before .before .before .before .before .args .node) (c .before .before .before .before .before .before .before .before .before .before .before .before .before .before .before .before .args .s .now) (c .before .before .before .before .before .before .before .before .before .before .before .before .before .before .before .before .args .left) (not-zero (c .before .before .before .before .before .before .before .before .before .before .before .before .before .before .before .before .pre .1 .1 .some)) (c .before .before .before .before .before .before .before .before .before .before .before .before .before .before .before .before .pre .1 .0) (c .before .before .before .before .before .before .before .before .before .before .before .before .before .before .before .before .args .cap) (c .before .before .before .before .before .before .before .before .before .before .before .before .before .before .before .before .args .j) (c .before .before .before .before .before .before .before .before .before .before .before .before .before .before .before .before .pre .1 .1), seen-under (c .before .before .before .before .before .before .before .before .before .before .before .before .before .before .before .before .args .order) (c .before .before .before .before .before .before .before .before .before .before .before .before .before .before .before .before .args .base) (c .before .before .before .before .before .before .before .before .before .before .before .before .before .before .before .before .args .width) (c .before .before .before .before .before .before .before .before .before .before .before .before .before .before .before .before .args .node) (c .before .before .before .before .before .before .before .before .before .before .before .before .before .before .before .before .args .s .now) (c .before .before .before .before .before .before .before .before .before .before .before .before .before .before .before .before .args .left) (not-zero (c .before .before .before .before .before .before .before .before .before .before .before .before .before .before .before .before .pre .1 .1 .some)) (c .before .before .before .before .before .before .before .before .before .before .before .before .before .before .before .before .pre .1 .0) (c .before .before .before .before .before .before .before .before .before .before .before .before .before .before .before .before .args .cap) (c .before .before .before .before .before .before .before .before .before .before .before .before .before .before .before .before .args .j) (c .before .before .before .before .before .before .before .before .before .before .before .before .before .before .before .before .pre .1 .1) _ (c .before .before .before .before .before .before .before .before .before .before .before .before .before .slot-at .ensures) (c .before .before .before .before .before .before .before .before .before .before .before .before .if1 .left) _ _ _ (under-room (c .before .before .before .before .before .before .before .before .before .before .before .before .before .before .before .before .args .order) (c .before .before .before .before .before .before .before .before .before .before .before .before .before .before .before .before .args .left) (c .before .before .before .before .before .before .before .before .before .before .before .before .before .before .before .before .args .cap) (c .before .before .before .before .before .before .before .before .before .before .before .room-under .result) (c .before .before .before .before .before .before .before .before .before .before .before .before .before .before .before .before .pre .1 .1 .fits) (c .before .before .before .before .before .before .before .before .before .before .before .room-under .ensures)) (c .before .before .before .before .before .before .before .before .before .look-low .ensures .0) (c .before .before .before .before .before .before .before .before .before .look-low .ensures .1 .0) (c .before .before .before .before .before .before .before .if2 .left) (below-ne _ _ (c .before .before .before .before .before .before .if3 .left) (c .before .before .before .before .before .before .before .before .before .look-low .ensures .1 .1))))
+
+swap-same-length-5 : (t : ℕ) → swap-lts.Need-same-length-5 (cs t) (swap-at t) swap.Post
+swap-same-length-5 t c = c .before .before .before .swap .kept .0
+
+swap-returns-5 : (t : ℕ) → swap-lts.Need-returns-5 (cs t) (swap-at t) swap.Post
+swap-returns-5 t c = swap-fails (c .before .before .before .before .before .before .before .before .before .before .before .before .before .before .before .before .before .before .before .before .args .order) (c .before .before .before .before .before .before .before .before .before .before .before .before .before .before .before .before .before .before .before .before .args .base) (c .before .before .before .before .before .before .before .before .before .before .before .before .before .before .before .before .before .before .before .before .args .width) (c .before .before .before .before .before .before .before .before .before .before .before .before .before .before .before .before .before .before .before .before .args .node) (c .before .before .before .before .before .before .before .before .before .before .before .before .before .before .before .before .before .before .before .before .args .s .now) (c .before .before .before .before .before .before .before .before .before .before .before .before .before .before .before .before .before .before .before .before .args .left) (not-zero (c .before .before .before .before .before .before .before .before .before .before .before .before .before .before .before .before .before .before .before .before .pre .1 .1 .some)) (c .before .before .before .before .before .before .before .before .before .before .before .before .before .before .before .before .before .before .before .before .pre .1 .0) (c .before .before .before .before .before .before .before .before .before .before .before .before .before .before .before .before .before .before .before .before .args .cap) (c .before .before .before .before .before .before .before .before .before .before .before .before .before .before .before .before .before .before .before .before .args .j) (c .before .before .before .before .before .before .before .before .before .before .before .before .before .before .before .before .before .before .before .before .pre .1 .1) _ (c .before .before .before .before .before .before .before .before .before .before .before .before .before .before .before .before .before .slot-at .ensures) (c .before .before .before .before .before .before .before .before .before .before .before .before .before .before .before .before .if1 .left) _ _ _ (under-room (c .before .before .before .before .before .before .before .before .before .before .before .before .before .before .before .before .before .before .before .before .args .order) (c .before .before .before .before .before .before .before .before .before .before .before .before .before .before .before .before .before .before .before .before .args .left) (c .before .before .before .before .before .before .before .before .before .before .before .before .before .before .before .before .before .before .before .before .args .cap) (c .before .before .before .before .before .before .before .before .before .before .before .before .before .before .before .room-under .result) (c .before .before .before .before .before .before .before .before .before .before .before .before .before .before .before .before .before .before .before .before .pre .1 .1 .fits) (c .before .before .before .before .before .before .before .before .before .before .before .before .before .before .before .room-under .ensures)) (c .before .before .before .before .before .before .before .before .before .before .before .before .before .look-low .ensures .0) (c .before .before .before .before .before .before .before .before .before .before .before .before .before .look-low .ensures .1 .0) (c .before .before .before .before .before .before .before .before .before .before .before .if2 .left) (below-ne _ _ (c .before .before .before .before .before .before .before .before .before .before .if3 .left) (c .before .before .before .before .before .before .before .before .before .before .before .before .before .look-low .ensures .1 .1)) _ (c .before .before .before .before .before .before .before .before .slot-at2 .ensures) (c .before .before .before .before .before .before .before .before .before .before .before .before .before .before .before .before .before .before .before .before .args .x) _ (c .before .before .before .before .before .before .lower .ensures) (c .before .before .before .before .before .if4 .left) _ _ (c .before .before .before .swap .ensures) (c .if5 .taken)
+
+swap-write-slot-requires-3 : (t : ℕ) → swap-lts.Need-write-slot-requires-3 (cs t) (swap-at t) swap.Post
+swap-write-slot-requires-3 t c κs = omega (arith, level-of (c .before .before .before .before .before .before .before .before .before .before .before .before .before .before .before .before .before .before .before .before .before .args .order) (c .before .before .before .before .before .before .before .before .before .before .before .before .before .before .before .before .before .before .before .before .before .args .left) (c .before .before .before .before .before .before .before .before .before .before .before .before .before .before .before .before .before .before .before .before .before .args .base) (c .before .before .before .before .before .before .before .before .before .before .before .before .before .before .before .before .before .before .before .before .before .args .width) (c .before .before .before .before .before .before .before .before .before .before .before .before .before .before .before .before .before .before .before .before .before .args .node) (c .before .before .before .before .before .before .before .before .before .before .before .before .before .before .before .before .before .before .before .before .before .args .s .now) (c .before .before .before .before .before .before .before .before .before .before .before .before .before .before .before .before .before .before .before .before .before .pre .1 .0) (not-zero (c .before .before .before .before .before .before .before .before .before .before .before .before .before .before .before .before .before .before .before .before .before .pre .1 .1 .some)), c .before .before .before .before .before .before .before .before .before .before .before .before .before .before .before .before .before .before .before .before .before .pre .1 .1 .inside, c .before .before .before .before .swap .kept .0)
+
+swap-same-length-6 : (t : ℕ) → swap-lts.Need-same-length-6 (cs t) (swap-at t) swap.Post
+swap-same-length-6 t c = c .before .before .write-slot3 .kept .0 ∙ c .before .before .before .before .before .before .before .swap .kept .0
+
+swap-returns-6 : (t : ℕ) → swap-lts.Need-returns-6 (cs t) (swap-at t) swap.Post
+swap-returns-6 t c = swap-passes (c .before .before .before .before .before .before .before .before .before .before .before .before .before .before .before .before .before .before .before .before .before .before .before .before .args .order) (c .before .before .before .before .before .before .before .before .before .before .before .before .before .before .before .before .before .before .before .before .before .before .before .before .args .base) (c .before .before .before .before .before .before .before .before .before .before .before .before .before .before .before .before .before .before .before .before .before .before .before .before .args .width) (c .before .before .before .before .before .before .before .before .before .before .before .before .before .before .before .before .before .before .before .before .before .before .before .before .args .node) (c .before .before .before .before .before .before .before .before .before .before .before .before .before .before .before .before .before .before .before .before .before .before .before .before .args .s .now) (c .before .before .before .before .before .before .before .before .before .before .before .before .before .before .before .before .before .before .before .before .before .before .before .before .args .left) (not-zero (c .before .before .before .before .before .before .before .before .before .before .before .before .before .before .before .before .before .before .before .before .before .before .before .before .pre .1 .1 .some)) (c .before .before .before .before .before .before .before .before .before .before .before .before .before .before .before .before .before .before .before .before .before .before .before .before .pre .1 .0) (c .before .before .before .before .before .before .before .before .before .before .before .before .before .before .before .before .before .before .before .before .before .before .before .before .args .cap) (c .before .before .before .before .before .before .before .before .before .before .before .before .before .before .before .before .before .before .before .before .before .before .before .before .args .j) (c .before .before .before .before .before .before .before .before .before .before .before .before .before .before .before .before .before .before .before .before .before .before .before .before .pre .1 .1) _ (c .before .before .before .before .before .before .before .before .before .before .before .before .before .before .before .before .before .before .before .before .before .slot-at .ensures) (c .before .before .before .before .before .before .before .before .before .before .before .before .before .before .before .before .before .before .before .before .if1 .left) _ _ _ (under-room (c .before .before .before .before .before .before .before .before .before .before .before .before .before .before .before .before .before .before .before .before .before .before .before .before .args .order) (c .before .before .before .before .before .before .before .before .before .before .before .before .before .before .before .before .before .before .before .before .before .before .before .before .args .left) (c .before .before .before .before .before .before .before .before .before .before .before .before .before .before .before .before .before .before .before .before .before .before .before .before .args .cap) (c .before .before .before .before .before .before .before .before .before .before .before .before .before .before .before .before .before .before .before .room-under .result) (c .before .before .before .before .before .before .before .before .before .before .before .before .before .before .before .before .before .before .before .before .before .before .before .before .pre .1 .1 .fits) (c .before .before .before .before .before .before .before .before .before .before .before .before .before .before .before .before .before .before .before .room-under .ensures)) (c .before .before .before .before .before .before .before .before .before .before .before .before .before .before .before .before .before .look-low .ensures .0) (c .before .before .before .before .before .before .before .before .before .before .before .before .before .before .before .before .before .look-low .ensures .1 .0) (c .before .before .before .before .before .before .before .before .before .before .before .before .before .before .before .if2 .left) (below-ne _ _ (c .before .before .before .before .before .before .before .before .before .before .before .before .before .before .if3 .left) (c .before .before .before .before .before .before .before .before .before .before .before .before .before .before .before .before .before .look-low .ensures .1 .1)) _ (c .before .before .before .before .before .before .before .before .before .before .before .before .slot-at2 .ensures) (c .before .before .before .before .before .before .before .before .before .before .before .before .before .before .before .before .before .before .before .before .before .before .before .before .args .x) _ (c .before .before .before .before .before .before .before .before .before .before .lower .ensures) (c .before .before .before .before .before .before .before .before .before .if4 .left) _ _ (c .before .before .before .before .before .before .before .swap .ensures) (c .before .before .before .before .if5 .left) _ (c .before .before .write-slot3 .ensures)
 
 pub +swap-spec : {M : Type 1} → statement M
-+swap-spec = close μ-swap λ t. swap-lts.spec (cs t) (swap-at t)
++swap-spec = close μ-swap λ t. swap-lts.spec (cs t)
+    (swap-at t)
     swap.Post
-    (swap-returns t)
     (swap-mul-first t)
-    (swap-add-at t)
-    (swap-mul-next t)
-    (swap-add-next t)
-    (swap-mul-swap-move t)
-    (swap-add-swap-move t)
-    (swap-swap-move-requires t)
-    (swap-add-write-slot t)
+    (swap-add-i t)
+    (swap-add-i-2 t)
+    (swap-slot-at-requires t)
     (swap-write-slot-requires t)
-    (swap-enum-known-rest t)
-    (swap-sub-swap t)
-    (swap-mul-swap t)
-    (swap-add-swap t)
-    (swap-swap-requires t)
     (swap-same-length t)
-    (swap-returns-2 t)
+    (swap-returns t)
+    (swap-mul-wide t)
+    (swap-add-next t)
+    (swap-add-child t)
+    (swap-mul-at t)
+    (swap-add-at t)
+    (swap-room-under-requires t)
+    (swap-look-low-requires t)
     (swap-same-length-2 t)
+    (swap-returns-2 t)
+    (swap-same-length-3 t)
     (swap-returns-3 t)
+    (swap-add-slot-at t)
+    (swap-slot-at-requires-2 t)
+    (swap-lower-requires t)
+    (swap-write-slot-requires-2 t)
+    (swap-same-length-4 t)
+    (swap-returns-4 t)
+    (swap-sub-swap t)
+    (swap-swap-requires t)
+    (swap-same-length-5 t)
+    (swap-returns-5 t)
+    (swap-write-slot-requires-3 t)
+    (swap-same-length-6 t)
+    (swap-returns-6 t)

@@ -1,74 +1,83 @@
 -- `tree::pop` meets its contract. Assumes nothing.
+use native.Mathlib.Omega.{arith}
 use mathlib.Core.Path.{refl}
-use borrow.Author.Needs.{needs}
 use Rattle.node.proofs.Rulings.{pop-empty, pop-takes}
-use Rattle.tree.proofs.Calls.{called-unknown, calls-damaged, calls-done, calls-ready, calls-still, opened, opened-lies, opened-root}
+use Rattle.tree_model.specs.Calls.{rootOf}
+use Rattle.tree_model.specs.Node.{sumCounts}
+use Rattle.tree.proofs.Once.{below-ne}
+use Rattle.tree.proofs.Calls.{called-looked, called-shape, calls-still, carried-damaged, carried-done, looked, looked-low, looked-none, looked-seen, looked-some, opened-lies, root-cap, shape-few, shape-here, shape-root}
+use borrow.Author.Needs.{needs}
 use Rattle.tree.proofs.pop.Statement.{statement}
 use Rattle.tree.proofs.pop.Tie as tie
 use Rattle.tree.proofs.pop.Reads as reads
 use Rattle.tree.proofs.pop.Lts as lts
-use Rattle.node.proofs.lowest_element.Reads as lowest-element-reads
-use Rattle.tree.proofs.held.Reads as held-reads
-use Rattle.tree.proofs.path_ok.Reads as path-ok-reads
+use Rattle.node.proofs.capacity.Reads as capacity-reads
+use Rattle.node.proofs.look_low.Reads as look-low-reads
+use Rattle.node.proofs.shape_ok.Reads as shape-ok-reads
+use Rattle.node.proofs.slot_at.Reads as slot-at-reads
 use Rattle.tree.proofs.take.Reads as take-reads
 
-held-requires : tie.Need-held-requires
-held-requires c κs = search needs
+shape-ok-requires : tie.Need-shape-ok-requires
+shape-ok-requires c κs = search needs
 
-enum-known-count : tie.Need-enum-known-count
-enum-known-count c = search needs
+returns : tie.Need-returns
+returns c = called-shape _ _ _ _ _ (c .before .shape-ok .ensures) (c .if1 .taken)
 
-enum-known-count-2 : tie.Need-enum-known-count-2
-enum-known-count-2 c = search needs
+sub-capacity : tie.Need-sub-capacity
+sub-capacity c = shape-here (c .before .before .before .args .order) (c .before .before .before .args .levels) (c .before .before .before .args .store .now) _ (c .before .shape-ok .ensures) (c .if1 .left) .some
+
+capacity-requires : tie.Need-capacity-requires
+capacity-requires c κs = shape-few (c .before .before .before .args .order) (c .before .before .before .args .levels) (c .before .before .before .args .store .now) _ (c .before .shape-ok .ensures) (c .if1 .left)
+
+look-low-requires : tie.Need-look-low-requires
+look-low-requires c κs = (shape-root (c .before .before .before .before .before .args .order) (c .before .before .before .before .before .args .levels) (c .before .before .before .before .before .args .store .now) _ (c .before .before .before .shape-ok .ensures) (c .before .before .if1 .left), root-cap (c .before .before .before .before .before .args .order) (c .before .before .before .before .before .args .levels) (c .before .before .before .before .before .args .store .now) _ (c .before .before .before .shape-ok .ensures) (c .before .before .if1 .left) _ (c .before .capacity .ensures))
 
 same-length : tie.Need-same-length
 same-length c = search needs
 
-returns : tie.Need-returns
-returns c = calls-still _ _ _ _ (opened _ _ _ _ _ (c .before .before .before .before .held .ensures) (c .before .before .count2 .given .1)) _ _ _ (pop-empty _ _ _ _ ((opened _ _ _ _ _ (c .before .before .before .before .held .ensures) (c .before .before .count2 .given .1)) .count) (c .if1 .taken)) refl
-
-lowest-element-requires : tie.Need-lowest-element-requires
-lowest-element-requires c κs = opened-root _ (c .before .before .before .before .before .before .before .before .args .levels) _ _ (opened _ _ _ _ _ (c .before .before .before .before .before .held .ensures) (c .before .before .before .count2 .given .1))
-
-path-ok-requires : tie.Need-path-ok-requires
-path-ok-requires c κs = opened-lies _ _ _ _ (opened _ _ _ _ _ (c .before .before .before .before .before .before .before .held .ensures) (c .before .before .before .before .before .count2 .given .1))
+returns-2 : tie.Need-returns-2
+returns-2 c = called-looked (c .before .before .before .before .before .before .before .before .args .order) (c .before .before .before .before .before .before .before .before .args .levels) (c .before .before .before .before .before .before .before .before .args .store .now) _ (c .before .before .before .before .before .before .shape-ok .ensures) (c .before .before .before .before .before .if1 .left) _ (c .before .before .before .before .capacity .ensures) _ _ (c .before .before .look-low .ensures .0) (c .if2 .taken)
 
 same-length-2 : tie.Need-same-length-2
 same-length-2 c = search needs
 
-returns-2 : tie.Need-returns-2
-returns-2 c = calls-damaged _ _ _ _ (opened _ _ _ _ _ (c .before .before .before .before .before .before .before .before .before .held .ensures) (c .before .before .before .before .before .before .before .count2 .given .1)) _ _ _ (pop-takes _ _ _ _ ((opened _ _ _ _ _ (c .before .before .before .before .before .before .before .before .before .held .ensures) (c .before .before .before .before .before .before .before .count2 .given .1)) .count) (c .before .before .before .before .before .if1 .left) _ (c .before .before .before .lowest-element .ensures)) _ (c .before .path-ok .ensures) (c .if2 .taken)
+returns-3 : tie.Need-returns-3
+returns-3 c = calls-still _ _ _ _ (looked (c .before .before .before .before .before .before .before .before .before .args .order) (c .before .before .before .before .before .before .before .before .before .args .levels) (c .before .before .before .before .before .before .before .before .before .args .store .now) _ (c .before .before .before .before .before .before .before .shape-ok .ensures) (c .before .before .before .before .before .before .if1 .left) _ (c .before .before .before .before .before .capacity .ensures) _ (c .before .before .before .look-low .ensures .0) (c .before .if2 .left)) _ _ _ (pop-empty (c .before .before .before .before .before .before .before .before .before .args .order) (c .before .before .before .before .before .before .before .before .before .args .levels) (c .before .before .before .before .before .before .before .before .before .args .store .now) (sumCounts (rootOf (c .before .before .before .before .before .before .before .before .before .args .order) (c .before .before .before .before .before .before .before .before .before .args .store .now))) refl (looked-none (c .before .before .before .before .before .before .before .before .before .args .order) (c .before .before .before .before .before .before .before .before .before .args .levels) (c .before .before .before .before .before .before .before .before .before .args .store .now) _ (c .before .before .before .before .before .before .before .shape-ok .ensures) (c .before .before .before .before .before .before .if1 .left) _ (c .before .before .before .before .before .capacity .ensures) _ (c .before .before .before .look-low .ensures .0) (c .before .if2 .left) _ (c .before .before .before .look-low .ensures .1 .0) (c .if3 .taken))) refl
+
+slot-at-requires : tie.Need-slot-at-requires
+slot-at-requires c κs = omega (arith, shape-root (c .before .before .before .before .before .before .before .before .before .before .args .order) (c .before .before .before .before .before .before .before .before .before .before .args .levels) (c .before .before .before .before .before .before .before .before .before .before .args .store .now) _ (c .before .before .before .before .before .before .before .before .shape-ok .ensures) (c .before .before .before .before .before .before .before .if1 .left) .words, (below-ne (c .before .before .before .before .look-low .result .place) (c .before .before .before .before .before .before .before .before .before .before .args .order) (c .before .if3 .left) (c .before .before .before .before .look-low .ensures .1 .1)))
 
 take-requires : tie.Need-take-requires
-take-requires c κs = calls-ready _ _ _ _ (opened _ _ _ _ _ (c .before .before .before .before .before .before .before .before .before .before .held .ensures) (c .before .before .before .before .before .before .before .before .count2 .given .1)) _ _ _ (pop-takes _ _ _ _ ((opened _ _ _ _ _ (c .before .before .before .before .before .before .before .before .before .before .held .ensures) (c .before .before .before .before .before .before .before .before .count2 .given .1)) .count) (c .before .before .before .before .before .before .if1 .left) _ (c .before .before .before .before .lowest-element .ensures)) _ (c .before .before .path-ok .ensures) (c .before .if2 .left)
+take-requires c κs = (opened-lies _ _ _ _ (looked (c .before .before .before .before .before .before .before .before .before .before .before .before .before .args .order) (c .before .before .before .before .before .before .before .before .before .before .before .before .before .args .levels) (c .before .before .before .before .before .before .before .before .before .before .before .before .before .args .store .now) _ (c .before .before .before .before .before .before .before .before .before .before .before .shape-ok .ensures) (c .before .before .before .before .before .before .before .before .before .before .if1 .left) _ (c .before .before .before .before .before .before .before .before .before .capacity .ensures) _ (c .before .before .before .before .before .before .before .look-low .ensures .0) (c .before .before .before .before .before .if2 .left)), looked-seen (c .before .before .before .before .before .before .before .before .before .before .before .before .before .args .order) (c .before .before .before .before .before .before .before .before .before .before .before .before .before .args .levels) (c .before .before .before .before .before .before .before .before .before .before .before .before .before .args .store .now) _ (c .before .before .before .before .before .before .before .before .before .before .before .shape-ok .ensures) (c .before .before .before .before .before .before .before .before .before .before .if1 .left) _ (c .before .before .before .before .before .before .before .before .before .capacity .ensures) _ (c .before .before .before .before .before .before .before .look-low .ensures .0) (c .before .before .before .before .before .if2 .left) _ (c .before .before .before .before .before .before .before .look-low .ensures .1 .0) (below-ne (c .before .before .before .before .before .before .before .look-low .result .place) (c .before .before .before .before .before .before .before .before .before .before .before .before .before .args .order) (c .before .before .before .before .if3 .left) (c .before .before .before .before .before .before .before .look-low .ensures .1 .1)))
 
 same-length-3 : tie.Need-same-length-3
-same-length-3 c = search needs
-
-returns-3 : tie.Need-returns-3
-returns-3 c = called-unknown _ _ _ _ _ _ (c .before .before .before .held .ensures) (c .before .count .given .1)
-
-same-length-4 : tie.Need-same-length-4
-same-length-4 c = c .before .before .take .kept .0
+same-length-3 c = c .before .before .before .take .kept .0
 
 returns-4 : tie.Need-returns-4
-returns-4 c = calls-done _ _ _ _ (opened _ _ _ _ _ (c .before .before .before .before .before .before .before .before .before .before .before .before .before .held .ensures) (c .before .before .before .before .before .before .before .before .before .before .before .count2 .given .1)) _ _ _ (pop-takes _ _ _ _ ((opened _ _ _ _ _ (c .before .before .before .before .before .before .before .before .before .before .before .before .before .held .ensures) (c .before .before .before .before .before .before .before .before .before .before .before .count2 .given .1)) .count) (c .before .before .before .before .before .before .before .before .before .if1 .left) _ (c .before .before .before .before .before .before .before .lowest-element .ensures)) _ (c .before .before .before .before .before .path-ok .ensures) (c .before .before .before .before .if2 .left) _ (c .before .before .take .ensures)
+returns-4 c = carried-damaged _ _ _ _ (looked (c .before .before .before .before .before .before .before .before .before .before .before .before .before .before .before .before .before .args .order) (c .before .before .before .before .before .before .before .before .before .before .before .before .before .before .before .before .before .args .levels) (c .before .before .before .before .before .before .before .before .before .before .before .before .before .before .before .before .before .args .store .now) _ (c .before .before .before .before .before .before .before .before .before .before .before .before .before .before .before .shape-ok .ensures) (c .before .before .before .before .before .before .before .before .before .before .before .before .before .before .if1 .left) _ (c .before .before .before .before .before .before .before .before .before .before .before .before .before .capacity .ensures) _ (c .before .before .before .before .before .before .before .before .before .before .before .look-low .ensures .0) (c .before .before .before .before .before .before .before .before .before .if2 .left)) _ _ _ (pop-takes (c .before .before .before .before .before .before .before .before .before .before .before .before .before .before .before .before .before .args .order) (c .before .before .before .before .before .before .before .before .before .before .before .before .before .before .before .before .before .args .levels) (c .before .before .before .before .before .before .before .before .before .before .before .before .before .before .before .before .before .args .store .now) (sumCounts (rootOf (c .before .before .before .before .before .before .before .before .before .before .before .before .before .before .before .before .before .args .order) (c .before .before .before .before .before .before .before .before .before .before .before .before .before .before .before .before .before .args .store .now))) refl (looked-some (c .before .before .before .before .before .before .before .before .before .before .before .before .before .before .before .before .before .args .order) (c .before .before .before .before .before .before .before .before .before .before .before .before .before .before .before .before .before .args .levels) (c .before .before .before .before .before .before .before .before .before .before .before .before .before .before .before .before .before .args .store .now) _ (c .before .before .before .before .before .before .before .before .before .before .before .before .before .before .before .shape-ok .ensures) (c .before .before .before .before .before .before .before .before .before .before .before .before .before .before .if1 .left) _ (c .before .before .before .before .before .before .before .before .before .before .before .before .before .capacity .ensures) _ (c .before .before .before .before .before .before .before .before .before .before .before .look-low .ensures .0) (c .before .before .before .before .before .before .before .before .before .if2 .left) _ (c .before .before .before .before .before .before .before .before .before .before .before .look-low .ensures .1 .0) (below-ne (c .before .before .before .before .before .before .before .before .before .before .before .look-low .result .place) (c .before .before .before .before .before .before .before .before .before .before .before .before .before .before .before .before .before .args .order) (c .before .before .before .before .before .before .before .before .if3 .left) (c .before .before .before .before .before .before .before .before .before .before .before .look-low .ensures .1 .1))) _ (looked-low (c .before .before .before .before .before .before .before .before .before .before .before .before .before .before .before .before .before .args .order) (c .before .before .before .before .before .before .before .before .before .before .before .before .before .before .before .before .before .args .levels) (c .before .before .before .before .before .before .before .before .before .before .before .before .before .before .before .before .before .args .store .now) _ (c .before .before .before .before .before .before .before .before .before .before .before .before .before .before .before .shape-ok .ensures) (c .before .before .before .before .before .before .before .before .before .before .before .before .before .before .if1 .left) _ (c .before .before .before .before .before .before .before .before .before .before .before .before .before .capacity .ensures) _ (c .before .before .before .before .before .before .before .before .before .before .before .look-low .ensures .0) (c .before .before .before .before .before .before .before .before .before .if2 .left) _ (c .before .before .before .before .before .before .before .before .before .before .before .look-low .ensures .1 .0) (below-ne (c .before .before .before .before .before .before .before .before .before .before .before .look-low .result .place) (c .before .before .before .before .before .before .before .before .before .before .before .before .before .before .before .before .before .args .order) (c .before .before .before .before .before .before .before .before .if3 .left) (c .before .before .before .before .before .before .before .before .before .before .before .look-low .ensures .1 .1)) _ (c .before .before .before .before .before .before .slot-at .ensures))) _ _ (c .before .before .before .take .ensures) (c .if4 .taken)
+
+same-length-4 : tie.Need-same-length-4
+same-length-4 c = c .before .before .before .take .kept .0
+
+returns-5 : tie.Need-returns-5
+returns-5 c = carried-done _ _ _ _ (looked (c .before .before .before .before .before .before .before .before .before .before .before .before .before .before .before .before .before .args .order) (c .before .before .before .before .before .before .before .before .before .before .before .before .before .before .before .before .before .args .levels) (c .before .before .before .before .before .before .before .before .before .before .before .before .before .before .before .before .before .args .store .now) _ (c .before .before .before .before .before .before .before .before .before .before .before .before .before .before .before .shape-ok .ensures) (c .before .before .before .before .before .before .before .before .before .before .before .before .before .before .if1 .left) _ (c .before .before .before .before .before .before .before .before .before .before .before .before .before .capacity .ensures) _ (c .before .before .before .before .before .before .before .before .before .before .before .look-low .ensures .0) (c .before .before .before .before .before .before .before .before .before .if2 .left)) _ _ _ (pop-takes (c .before .before .before .before .before .before .before .before .before .before .before .before .before .before .before .before .before .args .order) (c .before .before .before .before .before .before .before .before .before .before .before .before .before .before .before .before .before .args .levels) (c .before .before .before .before .before .before .before .before .before .before .before .before .before .before .before .before .before .args .store .now) (sumCounts (rootOf (c .before .before .before .before .before .before .before .before .before .before .before .before .before .before .before .before .before .args .order) (c .before .before .before .before .before .before .before .before .before .before .before .before .before .before .before .before .before .args .store .now))) refl (looked-some (c .before .before .before .before .before .before .before .before .before .before .before .before .before .before .before .before .before .args .order) (c .before .before .before .before .before .before .before .before .before .before .before .before .before .before .before .before .before .args .levels) (c .before .before .before .before .before .before .before .before .before .before .before .before .before .before .before .before .before .args .store .now) _ (c .before .before .before .before .before .before .before .before .before .before .before .before .before .before .before .shape-ok .ensures) (c .before .before .before .before .before .before .before .before .before .before .before .before .before .before .if1 .left) _ (c .before .before .before .before .before .before .before .before .before .before .before .before .before .capacity .ensures) _ (c .before .before .before .before .before .before .before .before .before .before .before .look-low .ensures .0) (c .before .before .before .before .before .before .before .before .before .if2 .left) _ (c .before .before .before .before .before .before .before .before .before .before .before .look-low .ensures .1 .0) (below-ne (c .before .before .before .before .before .before .before .before .before .before .before .look-low .result .place) (c .before .before .before .before .before .before .before .before .before .before .before .before .before .before .before .before .before .args .order) (c .before .before .before .before .before .before .before .before .if3 .left) (c .before .before .before .before .before .before .before .before .before .before .before .look-low .ensures .1 .1))) _ (looked-low (c .before .before .before .before .before .before .before .before .before .before .before .before .before .before .before .before .before .args .order) (c .before .before .before .before .before .before .before .before .before .before .before .before .before .before .before .before .before .args .levels) (c .before .before .before .before .before .before .before .before .before .before .before .before .before .before .before .before .before .args .store .now) _ (c .before .before .before .before .before .before .before .before .before .before .before .before .before .before .before .shape-ok .ensures) (c .before .before .before .before .before .before .before .before .before .before .before .before .before .before .if1 .left) _ (c .before .before .before .before .before .before .before .before .before .before .before .before .before .capacity .ensures) _ (c .before .before .before .before .before .before .before .before .before .before .before .look-low .ensures .0) (c .before .before .before .before .before .before .before .before .before .if2 .left) _ (c .before .before .before .before .before .before .before .before .before .before .before .look-low .ensures .1 .0) (below-ne (c .before .before .before .before .before .before .before .before .before .before .before .look-low .result .place) (c .before .before .before .before .before .before .before .before .before .before .before .before .before .before .before .before .before .args .order) (c .before .before .before .before .before .before .before .before .if3 .left) (c .before .before .before .before .before .before .before .before .before .before .before .look-low .ensures .1 .1)) _ (c .before .before .before .before .before .before .slot-at .ensures))) _ _ (c .before .before .before .take .ensures) (c .if4 .left)
 
 pub pop-spec : {M : Type 1} → statement M
 pop-spec =
     tie.close
     (tie.spec
-    held-requires
-    enum-known-count
-    enum-known-count-2
-    same-length
+    shape-ok-requires
     returns
-    lowest-element-requires
-    path-ok-requires
-    same-length-2
+    sub-capacity
+    capacity-requires
+    look-low-requires
+    same-length
     returns-2
+    same-length-2
+    returns-3
+    slot-at-requires
     take-requires
     same-length-3
-    returns-3
+    returns-4
     same-length-4
-    returns-4)
+    returns-5)

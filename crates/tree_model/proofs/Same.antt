@@ -1,31 +1,32 @@
--- Two lists of words are the same where their lengths, their levels and the words past the capacity are. Assumes nothing.
+-- Words and levels: the same levels are the same words as far as the capacity goes, and the same words the same levels. Assumes nothing.
 use Prim.Native.Nat.{_*_, _+_, _-_, _<_, _≤_, suc, zero, ℕ}
 use native.Mathlib.Nat.{add-zero, not-suc-le-zero, suc-mul, zero-add, zero-mul}
 use native.Mathlib.Omega.{arith}
 use mathlib.Core.Bool.{Bool, false, true}
 use mathlib.Core.List.{[], List}
-use mathlib.Core.Path.{_∙_, _≡_, ap, refl, subst, sym}
+use mathlib.Core.Path.{_∙_, _≡_, ap, ap₂, refl, subst, sym}
 use lib.Dec.{ltb}
 use lib.ListN.{getD, length}
 use lib.Seq.{ext-getD}
 use borrow.Author.Tests.{ltb-false, ltb-true}
 use Rattle.tree_model.proofs.Hang.{past}
-use Rattle.tree_model.proofs.Words.{level-node, node-slot, size-room}
+use Rattle.tree_model.proofs.Words.{level-ext, level-node, node-slot, size-room, tab-ext}
 use Rattle.tree_model.specs.Damage.{room}
 use Rattle.tree_model.specs.Levels.{Level, Levels}
 use Rattle.tree_model.specs.Node.{slotAt}
+use Rattle.tree_model.specs.Promise.{Agree}
 use Rattle.tree_model.specs.Words.{levelOf, levelsOf, nodeOf, size, slotOf, width}
 use Rattle.tree_model.specs.declared.Slot.{Slot}
 
 -- a number below c * m by its row and its place
-record Place (m c i : ℕ) : Type 0 where
-  row : ℕ
-  place : ℕ
-  in-rows : row < c
-  in-row : place < m
-  is : i ≡ row * m + place
+pub record Place (m c i : ℕ) : Type 0 where
+  pub row : ℕ
+  pub place : ℕ
+  pub in-rows : row < c
+  pub in-row : place < m
+  pub is : i ≡ row * m + place
 
-place-of : (m c i : ℕ) → i < c * m → Place m c i
+pub place-of : (m c i : ℕ) → i < c * m → Place m c i
 place-of m zero i h = absurd (not-suc-le-zero (rw zero-mul at h))
 place-of m (suc c) i h = go (ltb i m) refl (place-of m c (i - m))
   where
@@ -66,15 +67,37 @@ slot-word ws vs i (suc zero) h e = ap (λ (s : Slot). s .element .tag .0) e
 slot-word ws vs i (suc (suc zero)) h e = ap (λ (s : Slot). s .count) e
 slot-word ws vs i (suc (suc (suc j))) h e = absurd (omega arith)
 
+-- the same levels are the same words, as far as the capacity goes
+pub levels-words : (m k : ℕ) (ws vs : List ℕ) → levelsOf m k ws 0 1 ≡ levelsOf m k vs 0 1 → Agree (room m k) ws vs
+levels-words m k ws vs e a lt =
+    let d = place-of 3 (room m k) a (omega arith) in
+    let at : a ≡ 3 * d .row + d .place = omega (arith, d .is) in
+    let in-size : d .row < size m k 1 = omega (arith, d .in-rows, size-room m k 1) in
+    let slot : slotOf ws (d .row) ≡ slotOf vs (d .row) = subst (λ (n : ℕ). slotOf ws n ≡ slotOf vs n) (zero-add (d .row)) (levels-slots m k ws vs 0 1 e (d .row) in-size) in
+    rw at (slot-word ws vs (d .row) (d .place) (d .in-row) slot)
+
 pub same-words : (m k : ℕ) (ws vs : List ℕ) → length ws ≡ length vs → levelsOf m k ws 0 1 ≡ levelsOf m k vs 0 1
     → ((a : ℕ) → width * room m k ≤ a → getD ws a 0 ≡ getD vs a 0) → ws ≡ vs
-same-words m k ws vs len e past = ext-getD 0 ws vs len (λ a h. go a (ltb a (room m k * 3)) refl)
+same-words m k ws vs len e past = ext-getD 0 ws vs len (λ a h. go a (ltb a (3 * room m k)) refl)
   where
-    go : (a : ℕ) (t : Bool) → ltb a (room m k * 3) ≡ t → getD ws a 0 ≡ getD vs a 0
-    go a false q = past a (omega (arith, ltb-false a (room m k * 3) q))
-    go a true q =
-        let d = place-of 3 (room m k) a (ltb-true a (room m k * 3) q) in
-        let at : a ≡ 3 * d .row + d .place = omega (arith, d .is) in
-        let in-size : d .row < size m k 1 = omega (arith, d .in-rows, size-room m k 1) in
-        let slot : slotOf ws (d .row) ≡ slotOf vs (d .row) = subst (λ (n : ℕ). slotOf ws n ≡ slotOf vs n) (zero-add (d .row)) (levels-slots m k ws vs 0 1 e (d .row) in-size) in
-        rw at (slot-word ws vs (d .row) (d .place) (d .in-row) slot)
+    go : (a : ℕ) (t : Bool) → ltb a (3 * room m k) ≡ t → getD ws a 0 ≡ getD vs a 0
+    go a false q = past a (ltb-false a (3 * room m k) q)
+    go a true q = levels-words m k ws vs e a (ltb-true a (3 * room m k) q)
+
+-- .. and the same words are the same slots, nodes and levels
+words-slot : (n : ℕ) (ws vs : List ℕ) → Agree n ws vs → (i : ℕ) → i < n → slotOf ws i ≡ slotOf vs i
+unfolding slotOf
+words-slot n ws vs e i h = λ a. record {
+  element = record { rank = record { 0 = e (3 * i) (omega arith) a }; tag = record { 0 = e (3 * i + 1) (omega arith) a } };
+  count = e (3 * i + 2) (omega arith) a;
+}
+
+pub words-levels : (m k n : ℕ) (ws vs : List ℕ) → Agree n ws vs → (b c : ℕ) → b + size m k c ≤ n → levelsOf m k ws b c ≡ levelsOf m k vs b c
+unfolding levelsOf size
+words-levels m zero n ws vs e b c h = refl
+words-levels m (suc k) n ws vs e b c h =
+    ap₂ (λ (l : Level) (r : Levels k). (l, r)) (level-ext m ws vs b c (λ i l. words-slot n ws vs e i (omega arith))) (words-levels m k n ws vs e (b + c * m) (c * m) (omega arith))
+
+pub words-node : (m n : ℕ) (ws vs : List ℕ) → Agree n ws vs → (i : ℕ) → i + m ≤ n → nodeOf m ws i ≡ nodeOf m vs i
+unfolding nodeOf
+words-node m n ws vs e i h = tab-ext m _ _ (λ j l. words-slot n ws vs e (i + j) (omega arith))

@@ -1,0 +1,342 @@
+-- Each level does its one step in a cycle, from what stood at its start; and an operation's last write falls within as many cycles as there are
+-- levels. Assumes nothing.
+use Prim.Native.Nat.{_*_, _+_, _<_, _^_, _≤_, pred, suc, zero, ℕ}
+use native.Mathlib.Nat.{add-zero, not-suc-le-zero, pow-suc, zero-add}
+use native.Mathlib.Omega.{arith}
+use native.Mathlib.Decide.{ℕ-discrete}
+use mathlib.Core.Bool.{_&&_, _||_, Bool, false, true, true≢false}
+use mathlib.Core.List.{[], _∷_, List}
+use mathlib.Core.Path.{_∙_, _≡_, ap, ap₂, refl, subst, sym}
+use lib.Dec.{ltb}
+use lib.ListN.{getD, length, length-set, set}
+use lib.Seq.{getD-set-other, getD-set-same}
+use borrow.Author.Tests.{lt-leb}
+use Rattle.clocked_model.proofs.Demand.{ran-in-step}
+use Rattle.clocked_model.proofs.Exactly.{no-damage-sound, sound-no-damage, ticked-fine}
+use Rattle.clocked_model.proofs.Promises.{shape-kept, undamaged}
+use Rattle.clocked_model.proofs.Step.{in-step, InStep, root-fine, steps-fine}
+use Rattle.clocked_model.proofs.Turn.{none-idle, Plain, plain-rest, after-before, after-past, words-cycle}
+use Rattle.clocked_model.specs.Calls.{askedOk, CycleOutcome, cycleWork, hearing, stepsOk, ticked, turned}
+use Rattle.clocked_model.specs.Cycle.{cycleLevels, cycleOk, cycleWords, Works}
+use Rattle.clocked_model.specs.Promise.{clockedQueue, CycleDamage, firstSlot, flight, leaveBelow, levelNow, levelWork, Machine, OneStep, ran, Recorded}
+use Rattle.clocked_model.specs.Records.{landed, recordAt, recordsAfter, worksOf}
+use Rattle.clocked_model.specs.declared.State.{State}
+use Rattle.laws.specs.Lists.{All}
+use Rattle.laws.specs.Snoc.{all-map-both}
+use Rattle.laws.specs.Tests.{and-left, and-right, and-true}
+use Rattle.promise.specs.Queue.{leaves, Step}
+use Rattle.strip.specs.declared.Answer.{Answer}
+use Rattle.strip.specs.declared.Element.{Element}
+use Rattle.strip.specs.declared.Request.{Request}
+use Rattle.tree_model.proofs.Choice.{every-all, none-empty}
+use Rattle.tree_model.proofs.Exactly.{is-shape, nothing-fails, order-pos, room-fails, slot-limit}
+use Rattle.tree_model.proofs.Nothing.{is-none, op-work, step-none, work-none}
+use Rattle.tree_model.proofs.Place.{above-one}
+use Rattle.tree_model.proofs.Rules.{put-rule, swap-rule, take-rule}
+use Rattle.tree_model.proofs.Same.{place-of}
+use Rattle.tree_model.proofs.Slice.{level-wide, lies}
+use Rattle.tree_model.proofs.Words.{size-room}
+use Rattle.tree_model.specs.Calls.{Ruling}
+use Rattle.tree_model.specs.Damage.{fine, hasRoom, hasSome, nodeOk, readOk, room, slotOk, stepOk}
+use Rattle.tree_model.specs.Levels.{idle, Level, levelMove, Levels, stepLevel, stepWork, top, work}
+use Rattle.tree_model.specs.Node.{firstEmpty, isNothing, lowest, opMove, slotAt, vacant}
+use Rattle.tree_model.specs.Promise.{levelAt, Shape, threeWords}
+use Rattle.tree_model.specs.Rules.{clears, ends, exchanges, goes, passes, Puts, receives, stays, Swaps, Takes}
+use Rattle.tree_model.specs.Words.{levelOf, levelsOf, restWords, size, under}
+use Rattle.tree_model.specs.declared.Move.{Move}
+use Rattle.tree_model.specs.declared.Op.{Op}
+use Rattle.tree_model.specs.declared.Op.the-variants.{Nothing, Put, Swap, Take}
+use Rattle.tree_model.specs.declared.Slot.{Slot}
+use Rattle.tree_model.specs.declared.Work.{Work}
+
+-- ---- level by level
+top-at : (k : ℕ) (ls : Levels k) → top k ls ≡ levelAt k ls 0
+unfolding top levelAt
+top-at zero ls = refl
+top-at (suc k) ls = refl
+
+-- the work of level i
+workAt : (k : ℕ) → Works k → ℕ → Work
+workAt zero p i = idle
+workAt (suc k) p zero = p .0
+workAt (suc k) p (suc i) = workAt k (p .1) i
+
+works-at : (k : ℕ) (rs : List Work) (b i : ℕ) → i < k → workAt k (worksOf k rs b) i ≡ recordAt rs (b + i)
+unfolding worksOf workAt
+works-at zero rs b i h = absurd (not-suc-le-zero h)
+works-at (suc k) rs b zero h = ap (recordAt rs) (omega arith)
+works-at (suc k) rs b (suc i) h = works-at k rs (suc b) i (omega arith) ∙ ap (recordAt rs) (omega arith)
+
+module _ (m : ℕ) where
+  cycle-level : (k : ℕ) (p : Works k) (ls : Levels k) (i : ℕ) → i < k → levelAt k (cycleLevels m k p ls) i ≡ stepLevel m (workAt k p i) (levelAt k ls i) (levelAt k ls (suc i))
+  unfolding cycleLevels levelAt workAt
+  cycle-level zero p ls i h = absurd (not-suc-le-zero h)
+  cycle-level (suc k) p ls zero h = ap (stepLevel m (p .0) (ls .0)) (top-at k (ls .1))
+  cycle-level (suc k) p ls (suc i) h = cycle-level k (p .1) (ls .1) i (omega arith)
+
+  cycle-last : (k : ℕ) (p : Works (suc k)) (ls : Levels (suc k)) → cycleOk m (suc k) p ls ≡ true → fine m 0 (workAt (suc k) p k) (levelAt (suc k) ls k) (levelAt (suc k) ls (suc k)) ≡ true
+  unfolding cycleOk levelAt workAt top
+  cycle-last zero p ls e = and-left (fine m 0 (p .0) (ls .0) []) _ e
+  cycle-last (suc k) p ls e = cycle-last k (p .1) (ls .1) (and-right (fine m (suc k) (p .0) (ls .0) (top (suc k) (ls .1))) _ e)
+
+-- ---- the last level leaves nothing
+slots-ok : (nd : List Slot) → nodeOk 0 nd ≡ true → All (λ u. slotOk 0 u ≡ true) nd
+unfolding nodeOk
+slots-ok nd e = every-all (slotOk 0) nd e
+
+none-above : (nd : List Slot) → nodeOk 0 nd ≡ true → 1 < slotAt nd (lowest nd) .count → ⊥
+unfolding room
+none-above nd ok h = not-suc-le-zero (above-one 0 0 nd ok (lt-leb (slotAt nd (lowest nd) .count) 1 h) .0)
+
+rest-last : (o : Op) (nd : List Slot) (b : ℕ → Element) → readOk o 0 nd ≡ true → opMove o nd b .rest ≡ Nothing
+unfolding opMove readOk room
+rest-last Nothing nd b ok = refl
+rest-last (Put x) nd b ok = go _ (put-rule x nd)
+  where
+    full : length nd ≤ firstEmpty nd → ⊥
+    full h =
+        true≢false (sym (and-right (nodeOk 0 nd) (hasRoom 0 nd) ok)
+        ∙ room-fails 0 nd .shown (all-map-both (λ u. slotOk 0 u ≡ true) (λ u. 0 < u .count) _ (λ u p q. omega (arith, slot-limit 0 u p)) nd (slots-ok nd (and-left (nodeOk 0 nd) (hasRoom 0 nd) ok)) (none-empty nd h)))
+
+    go : (v : Move) → Puts x nd v → v .rest ≡ Nothing
+    go v (ends h) = refl
+    go v (exchanges h l) = absurd (full h)
+    go v (passes h l) = absurd (full h)
+rest-last Take nd b ok = go _ (take-rule nd b)
+  where
+    go : (v : Move) → Takes nd b v → v .rest ≡ Nothing
+    go v (clears h) = refl
+    go v (receives h) = absurd (none-above nd (and-left (nodeOk 0 nd) (hasSome nd) ok) h)
+rest-last (Swap x) nd b ok = go _ (swap-rule x nd b)
+  where
+    go : (v : Move) → Swaps x nd b v → v .rest ≡ Nothing
+    go v (stays h) = refl
+    go v (goes h l) = absurd (none-above nd (and-left (nodeOk 0 nd) (hasSome nd) ok) h)
+
+last-ends : (m : ℕ) (w : Work) (l below : Level) → fine m 0 w l below ≡ true → stepWork m w l below .op ≡ Nothing
+unfolding fine stepOk room stepWork levelMove
+last-ends m w l below f = go (isNothing (w .op)) refl f
+  where
+    go : (t : Bool) → isNothing (w .op) ≡ t → (t || (ltb (w .node) (length l) && stepOk m 0 (w .op) (getD l (w .node) []) (λ j. getD below (w .node * m + j) []))) ≡ true
+        → stepWork m w l below .op ≡ Nothing
+    go true e f = ap (λ (v : Work). v .op) (work-none m w l below (is-none (w .op) e))
+    go false e f =
+        op-work _ _ ∙ rest-last (w .op) (getD l (w .node) []) _
+        (and-left (readOk (w .op) 0 (getD l (w .node) [])) _ (and-right (ltb (w .node) (length l)) _ f))
+
+-- ---- one slot of a level
+step-slot : (m : ℕ) (w : Work) (l below : Level) (n j : ℕ) → n < length l → (n ≡ w .node → j ≡ levelMove m (w .op) (w .node) l below .place → ⊥)
+    → slotAt (getD (stepLevel m w l below) n []) j ≡ slotAt (getD l n []) j
+unfolding stepLevel slotAt
+step-slot m w l below n j h apart = elim (ℕ-discrete n (w .node)) [ yes e ↦ here e | no e ↦ ap (λ (nd : List Slot). getD nd j vacant) (getD-set-other l (w .node) n _ [] e) ]
+  where
+    v : Move
+    v = levelMove m (w .op) (w .node) l below
+
+    here : n ≡ w .node → getD (getD (set l (w .node) (set (getD l (w .node) []) (v .place) (v .slot))) n []) j vacant ≡ getD (getD l n []) j vacant
+    here e =
+        ap (λ (a : ℕ). getD (getD (set l (w .node) (set (getD l (w .node) []) (v .place) (v .slot))) a []) j vacant) e
+        ∙ ap (λ (nd : List Slot). getD nd j vacant) (getD-set-same l (w .node) _ [] (subst (λ (a : ℕ). a < length l) e h))
+        ∙ getD-set-other (getD l (w .node) []) (v .place) j _ vacant (λ q. apart e q) ∙ ap (λ (a : ℕ). getD (getD l a []) j vacant) (sym e)
+
+-- ---- the records
+left-for : ℕ → (k : ℕ) → Work → ℕ → List Work → Levels k → ℕ → Work
+left-for m k q i rs ls zero = q
+left-for m k q i rs ls (suc j) = stepWork m (recordAt rs (i + j)) (levelAt k ls j) (levelAt k ls (suc j))
+
+after-at : (m k : ℕ) (q : Work) (i : ℕ) (rs : List Work) (ls : Levels k) (j : ℕ) → j < k → i + k ≤ length rs
+    → getD (recordsAfter m k q i rs ls) (i + j) idle ≡ landed (left-for m k q i rs ls j) (getD rs (i + j) idle)
+unfolding recordsAfter left-for levelAt recordAt
+after-at m zero q i rs ls j h fits = absurd (not-suc-le-zero h)
+after-at m (suc k) q i rs ls zero h fits =
+    rw add-zero (after-before m k _ (suc i) _ (ls .1) i (omega arith) ∙ getD-set-same rs i (landed q (getD rs i idle)) idle (omega arith))
+after-at m (suc k) q i rs ls (suc j) h fits =
+    let at : i + suc j ≡ suc i + j = omega arith in
+    let rs₁ : List Work = set rs i (landed q (getD rs i idle)) in
+    let q₁ : Work = stepWork m (recordAt rs i) (ls .0) (top k (ls .1)) in
+    ap (λ (a : ℕ). getD (recordsAfter m k q₁ (suc i) rs₁ (ls .1)) a idle) at
+    ∙ after-at m k q₁ (suc i) rs₁ (ls .1) j (omega arith) (omega (arith, length-set rs i (landed q (getD rs i idle))))
+    ∙ ap₂ landed (before j) (getD-set-other rs i (suc i + j) _ idle (λ e. omega arith) ∙ ap (λ (a : ℕ). getD rs a idle) (sym at))
+  where
+    before : (j : ℕ) → left-for m k (stepWork m (recordAt rs i) (ls .0) (top k (ls .1))) (suc i) (set rs i (landed q (getD rs i idle))) (ls .1) j ≡ left-for m (suc k) q i rs ls (suc j)
+    before zero = ap₂ (λ (w : Work) (b : Level). stepWork m w (ls .0) b) (ap (recordAt rs) (sym (add-zero i))) (top-at k (ls .1))
+    before (suc j) =
+        let at : suc i + j ≡ i + suc j = omega arith in
+        ap (λ (v : Work). stepWork m (work (v .op) (v .node)) (levelAt k (ls .1) j) (levelAt k (ls .1) (suc j)))
+        (getD-set-other rs i (suc i + j) _ idle (λ e. omega arith) ∙ ap (λ (a : ℕ). getD rs a idle) at)
+
+landed-recorded : (q w : Work) → Recorded q w (landed q w)
+unfolding landed isNothing
+landed-recorded q w =
+    record {
+      loaded = λ s. rw (nothing-fails (q .op) .shown s);
+      finished = λ e s. rw (ap isNothing e, nothing-fails (w .op) .shown s);
+      stands = λ e f. rw (ap isNothing e, ap isNothing f);
+    }
+
+-- ---- ONE-STEP
+module _ (m k : ℕ) (r : Request) (s : State) (ws : List ℕ) (sh : Shape m (suc k) (length ws)) (len : k ≤ length (s .records)) (d : CycleDamage m (suc k) r s ws → ⊥) where
+  abbrev g : Ruling
+  g = hearing m (suc k) r s ws
+
+  abbrev p : Works (suc k)
+  p = cycleWork m (suc k) (g .op) s
+
+  abbrev now : List ℕ → ℕ → Level
+  now = levelNow m (suc k)
+
+  abbrev after : List ℕ
+  after = ticked m (suc k) r s ws .words
+
+  steps-ok : cycleOk m (suc k) p (levelsOf m (suc k) ws 0 1) ≡ true
+  steps-ok = and-right (askedOk m (suc k) r ws) (stepsOk m (suc k) (g .op) s ws) (no-damage-sound m (suc k) r s ws d)
+
+  here : ticked m (suc k) r s ws ≡ turned m (suc k) r g s ws
+  here = ticked-fine m (suc k) r s ws (is-shape m (suc k) (length ws) sh) (no-damage-sound m (suc k) r s ws d)
+
+  cycled : (levelsOf m (suc k) (cycleWords m (suc k) p 0 1 ws) 0 1 ≡ cycleLevels m (suc k) p (levelsOf m (suc k) ws 0 1))
+      × ((a : ℕ) → 3 * (0 + size m (suc k) 1) ≤ a → getD (cycleWords m (suc k) p 0 1 ws) a 0 ≡ getD ws a 0)
+  cycled = words-cycle m (order-pos sh) (suc k) p 0 1 ws (omega (arith, sh .slice, size-room m (suc k) 1)) steps-ok
+
+  work-is : (i : ℕ) → i < suc k → workAt (suc k) p i ≡ levelWork m (suc k) r s ws i
+  unfolding workAt
+  work-is zero h = refl
+  work-is (suc i) h = works-at k (s .records) 0 i (omega arith) ∙ ap (recordAt (s .records)) (zero-add i)
+
+  each : (i : ℕ) → i < suc k → now after i ≡ stepLevel m (levelWork m (suc k) r s ws i) (now ws i) (now ws (suc i))
+  unfolding turned
+  each i h =
+      ap (λ (c : CycleOutcome). now (c .words) i) here ∙ ap (λ (ls : Levels (suc k)). levelAt (suc k) ls i) (cycled .0)
+      ∙ cycle-level m (suc k) p (levelsOf m (suc k) ws 0 1) i h ∙ ap (λ (w : Work). stepLevel m w (now ws i) (now ws (suc i))) (work-is i h)
+
+  -- the one slot
+  abbrev place-in : ℕ → ℕ
+  place-in i = levelMove m (levelWork m (suc k) r s ws i .op) (levelWork m (suc k) r s ws i .node) (now ws i) (now ws (suc i)) .place
+
+  abbrev slot-of : ℕ → ℕ
+  slot-of i = levelWork m (suc k) r s ws i .node * m + place-in i
+
+  -- a slot of level i, by its node and its place
+  by-place : (P : ℕ → Type 0) (i q : ℕ) → q < m ^ suc i → ((n j : ℕ) → n < m ^ i → j < m → P (n * m + j)) → P q
+  by-place P i q h f = let d = place-of m (m ^ i) q (subst (λ (c : ℕ). q < c) (pow-suc m i) h) in subst P (sym (d .is)) (f (d .row) (d .place) (d .in-rows) (d .in-row))
+
+  same-there : (i n j : ℕ) → i < suc k → n < m ^ i → j < m → slotAt (getD (now after i) n []) j ≡ slotAt (getD (now ws i) n []) j
+      → threeWords after (firstSlot m i + (n * m + j)) ≡ threeWords ws (firstSlot m i + (n * m + j))
+  same-there i n j hi hn hj e =
+      let at : firstSlot m i + (n * m + j) ≡ firstSlot m i + n * m + j = omega arith in
+      rw at (sym (lies m (suc k) after i n j hi hn hj) ∙ e ∙ lies m (suc k) ws i n j hi hn hj)
+
+  others : (i q : ℕ) → i < suc k → q < m ^ suc i → (q ≡ slot-of i → ⊥) → threeWords after (firstSlot m i + q) ≡ threeWords ws (firstSlot m i + q)
+  others i q hi hq =
+      by-place (λ q. (q ≡ slot-of i → ⊥) → threeWords after (firstSlot m i + q) ≡ threeWords ws (firstSlot m i + q)) i q hq (λ n j hn hj apart.
+      same-there i n j hi hn hj (ap (λ (l : Level). slotAt (getD l n []) j) (each i hi)
+      ∙ step-slot m (levelWork m (suc k) r s ws i) (now ws i) (now ws (suc i)) n j (omega (arith, level-wide m (suc k) ws i hi)) (λ a b. apart (ap₂ (λ (n j : ℕ). n * m + j) a b))))
+
+  still : (i q : ℕ) → i < suc k → q < m ^ suc i → levelWork m (suc k) r s ws i .op ≡ Nothing → threeWords after (firstSlot m i + q) ≡ threeWords ws (firstSlot m i + q)
+  still i q hi hq e =
+      by-place (λ q. threeWords after (firstSlot m i + q) ≡ threeWords ws (firstSlot m i + q)) i q hq (λ n j hn hj.
+      same-there i n j hi hn hj (ap (λ (l : Level). slotAt (getD l n []) j) (each i hi ∙ step-none m (levelWork m (suc k) r s ws i) (now ws i) (now ws (suc i)) e)))
+
+  left-is : (i : ℕ) → left-for m k (restWords m k (work (g .op) 0) 0 1 ws) 0 (s .records) (under m k ws 0 1) i ≡ leaveBelow m (suc k) ws i (levelWork m (suc k) r s ws i)
+  unfolding left-for levelAt levelsOf
+  left-is zero = ap (stepWork m (work (g .op) 0) (levelOf m ws 0 1)) (top-at k (under m k ws 0 1))
+  left-is (suc i) = ap (λ (a : ℕ). stepWork m (recordAt (s .records) a) (levelAt k (under m k ws 0 1) i) (levelAt k (under m k ws 0 1) (suc i))) (zero-add i)
+
+  records : (i : ℕ) → suc i < suc k → Recorded (leaveBelow m (suc k) ws i (levelWork m (suc k) r s ws i)) (getD (s .records) i idle) (getD (ticked m (suc k) r s ws .state .records) i idle)
+  unfolding turned
+  records i h =
+      subst (λ (v : Work). Recorded (leaveBelow m (suc k) ws i (levelWork m (suc k) r s ws i)) (getD (s .records) i idle) v)
+      (sym (ap (λ (c : CycleOutcome). getD (c .state .records) i idle) here
+      ∙ ap (λ (a : ℕ). getD (recordsAfter m k (restWords m k (work (g .op) 0) 0 1 ws) 0 (s .records) (under m k ws 0 1)) a idle) (sym (zero-add i)) ∙ after-at m k _ 0 (s .records) (under m k ws 0 1) i (omega arith) (omega arith)
+      ∙ ap₂ landed (left-is i) (ap (λ (a : ℕ). getD (s .records) a idle) (zero-add i)))) (landed-recorded _ _)
+
+  last : leaveBelow m (suc k) ws k (levelWork m (suc k) r s ws k) .op ≡ Nothing
+  last = last-ends m _ _ _ (subst (λ (w : Work). fine m 0 w (now ws k) (now ws (suc k)) ≡ true) (work-is k (omega arith)) (cycle-last m k p (levelsOf m (suc k) ws 0 1) steps-ok))
+
+pub one-step : (m levels : ℕ) (r : Request) (s : State) (ws : List ℕ) → Shape m levels (length ws) → pred levels ≤ length (s .records) → (CycleDamage m levels r s ws → ⊥) → OneStep m levels r s ws
+unfolding turned
+one-step m zero r s ws sh len d = absurd (not-suc-le-zero (sh .some))
+one-step m (suc k) r s ws sh len d =
+    record {
+      each = each m k r s ws sh len d;
+      slot = slot-of m k r s ws sh len d;
+      others = others m k r s ws sh len d;
+      still = still m k r s ws sh len d;
+      past = λ a h. ap (λ (c : CycleOutcome). getD (c .words) a 0) (here m k r s ws sh len d) ∙ cycled m k r s ws sh len d .1 a (omega (arith, size-room m (suc k) 1));
+      records = records m k r s ws sh len d;
+      last = last m k r s ws sh len d;
+      spare = λ j h. ap (λ (c : CycleOutcome). getD (c .state .records) j idle) (here m k r s ws sh len d) ∙ after-past m k _ 0 (s .records) (under m k ws 0 1) j (omega arith);
+    }
+
+-- .. so in every cycle of any list of cycles from the cleared machine
+pub one-step-run : (m levels : ℕ) (ws : List ℕ) (rs : List Request) → Shape m levels (length ws) → (r : Request) → OneStep m levels r (ran m levels rs ws .state) (ran m levels rs ws .words)
+one-step-run m zero ws rs sh r = absurd (not-suc-le-zero (sh .some))
+one-step-run m (suc k) ws rs sh r = one-step m (suc k) r _ _ (shape-kept m ws rs (suc k) sh) (ran-in-step m ws rs k sh .records) (undamaged m ws rs (suc k) sh r)
+
+-- ---- LAST WRITE: "its last write falls within L cycles, its own included", whatever is asked after it
+-- a record read as work is what was left for it
+recorded-work : (q w v : Work) → Plain q → Recorded q w v → work (v .op) (v .node) ≡ q
+recorded-work q w v pl rec = go (isNothing (q .op)) refl (isNothing (w .op)) refl
+  where
+    none : isNothing (q .op) ≡ true → q ≡ idle
+    none e = sym pl ∙ none-idle q (is-none (q .op) e)
+
+    go : (a : Bool) → isNothing (q .op) ≡ a → (b : Bool) → isNothing (w .op) ≡ b → work (v .op) (v .node) ≡ q
+    go false e b f = ap (λ (u : Work). work (u .op) (u .node)) (rec .loaded (nothing-fails (q .op) .found e)) ∙ pl
+    go true e true f = ap (λ (u : Work). work (u .op) (u .node)) (rec .stands (is-none (q .op) e) (is-none (w .op) f)) ∙ none-idle w (is-none (w .op) f) ∙ sym (none e)
+    go true e false f = ap (λ (u : Work). work (u .op) (u .node)) (rec .finished (is-none (q .op) e) (nothing-fails (w .op) .found f)) ∙ none-idle idle refl ∙ sym (none e)
+
+module _ (m k : ℕ) where
+  abbrev queue : Request → Machine → Step Answer Machine
+  queue = clockedQueue m (suc k)
+
+  -- what keeps the cycles going: some tree beside is in step
+  abbrev Going : Machine → Type 0
+  Going x = (vs : List ℕ) × InStep m k (x .state) (x .words) vs
+
+  going-on : (r : Request) (x : Machine) → Going x → Going (queue r x .next)
+  going-on r x (vs, i) = (_, in-step m k (x .state) (x .words) vs i r)
+
+  going-step : (r : Request) (x : Machine) → Going x → OneStep m (suc k) r (x .state) (x .words)
+  going-step r x (vs, i) =
+      one-step m (suc k) r (x .state) (x .words) (subst (Shape m (suc k)) (sym (i .same-length)) (i .kept .shape)) (i .records)
+      (sound-no-damage m (suc k) r _ _ (and-true (askedOk m (suc k) r (x .words)) _ (root-fine m k _ _ _ i r) (steps-fine m k _ _ _ i r)))
+
+  -- what level i leaves is the work of level i + 1 in the next cycle
+  handed-down : (r : Request) (x : Machine) (i : ℕ) → Going x → suc i < suc k
+      → recordAt (queue r x .next .state .records) i ≡ leaveBelow m (suc k) (x .words) i (levelWork m (suc k) r (x .state) (x .words) i)
+  unfolding recordAt
+  handed-down r x i go h = recorded-work _ _ _ (plain-rest m _ _ _) (going-step r x go .records i h)
+
+  flies : (rs : List Request) (r : Request) (x : Machine) (i : ℕ) → Going x → suc (i + length rs) < suc k
+      → recordAt (leaves queue (r ∷ rs) x .state .records) (i + length rs) ≡ flight m (suc k) i (levelWork m (suc k) r (x .state) (x .words) i) (r ∷ rs) x
+  unfolding leaves flight
+  flies [] r x i go h = ap (recordAt (queue r x .next .state .records)) (add-zero i) ∙ handed-down r x i go (omega arith)
+  flies (r₁ ∷ rs) r x i go h =
+      let at : i + suc (length rs) ≡ suc i + length rs = omega arith in
+      ap (recordAt (leaves queue rs (queue r₁ (queue r x .next) .next) .state .records)) at ∙ flies rs r₁ (queue r x .next) (suc i) (going-on r x go) (omega arith)
+      ∙ ap (λ (w : Work). flight m (suc k) (suc i) w (r₁ ∷ rs) (queue r x .next)) (handed-down r x i go (omega arith))
+
+  ends-in : (rs : List Request) (r : Request) (x : Machine) (i : ℕ) → Going x → suc (i + length rs) ≡ suc k → flight m (suc k) i (levelWork m (suc k) r (x .state) (x .words) i) (r ∷ rs) x .op ≡ Nothing
+  unfolding flight
+  ends-in [] r x i go h =
+      let e : i ≡ k = omega arith in
+      ap (λ (i : ℕ). leaveBelow m (suc k) (x .words) i (levelWork m (suc k) r (x .state) (x .words) i) .op) e ∙ going-step r x go .last
+  ends-in (r₁ ∷ rs) r x i go h =
+      ap (λ (w : Work). flight m (suc k) (suc i) w (r₁ ∷ rs) (queue r x .next) .op) (sym (handed-down r x i go (omega arith)))
+      ∙ ends-in rs r₁ (queue r x .next) (suc i) (going-on r x go) (omega arith)
+
+-- an operation asked after any list of cycles is done at level n + 1 in the n-th cycle after its own, whatever is asked in between ..
+pub in-flight : (m levels : ℕ) (ws : List ℕ) (before : List Request) → Shape m levels (length ws) → (r : Request) (after : List Request) → suc (length after) < levels
+    → let x = ran m levels before ws in
+    recordAt (leaves (clockedQueue m levels) (r ∷ after) x .state .records) (length after) ≡ flight m levels 0 (levelWork m levels r (x .state) (x .words) 0) (r ∷ after) x
+in-flight m zero ws before sh r after h = absurd (not-suc-le-zero (sh .some))
+in-flight m (suc k) ws before sh r after h =
+    ap (recordAt (leaves (clockedQueue m (suc k)) (r ∷ after) (ran m (suc k) before ws) .state .records)) (sym (zero-add (length after)))
+    ∙ flies m k after r (ran m (suc k) before ws) 0 (_, ran-in-step m ws before k sh) (omega arith)
+
+-- .. and after as many cycles as there are levels nothing of it is left to do
+pub last-write : (m levels : ℕ) (ws : List ℕ) (before : List Request) → Shape m levels (length ws) → (r : Request) (after : List Request) → length (r ∷ after) ≡ levels
+    → let x = ran m levels before ws in flight m levels 0 (levelWork m levels r (x .state) (x .words) 0) (r ∷ after) x .op ≡ Nothing
+last-write m zero ws before sh r after h = absurd (not-suc-le-zero (sh .some))
+last-write m (suc k) ws before sh r after h = ends-in m k after r (ran m (suc k) before ws) 0 (_, ran-in-step m ws before k sh) (omega arith)

@@ -1,0 +1,51 @@
+-- A test and the fact that it stands for: the test answers yes exactly if the fact holds.
+use Prim.Native.Nat.{ℕ, _≤_, _<_}
+use native.Mathlib.Omega.{arith}
+use mathlib.Core.Bool.{Bool, true, false, not, _&&_, Bool·beq, false≢true, true≢false}
+use mathlib.Core.Path.{_≡_, refl, sym}
+use lib.Dec.{leb, ltb, eqb}
+use borrow.Author.Tests.{leb-true, le-leb, ltb-true, lt-ltb, eqb-true, eq-eqb, eqb-false, ne-eqb}
+
+pub record Means (t : Bool) (P : Type 0) : Type 0 where
+  pub says : t ≡ true → P
+  pub holds : P → t ≡ true
+
+-- the one holds exactly if the other does
+pub record Iff (A B : Type 0) : Type 0 where
+  pub to : A → B
+  pub from : B → A
+
+pub means-leb : (a b : ℕ) → Means (leb a b) (a ≤ b)
+means-leb a b = record { says = leb-true a b; holds = le-leb a b }
+
+pub means-ltb : (a b : ℕ) → Means (ltb a b) (a < b)
+means-ltb a b = record { says = ltb-true a b; holds = lt-ltb a b }
+
+pub means-eqb : (a b : ℕ) → Means (eqb a b) (a ≡ b)
+means-eqb a b = record { says = eqb-true a b; holds = eq-eqb a b }
+
+-- the same fact in other words
+pub means-by : (t : Bool) (P Q : Type 0) → (P → Q) → (Q → P) → Means t P → Means t Q
+means-by t P Q f g m = record { says = λ e. f (m .says e); holds = λ q. m .holds (g q) }
+
+pub means-not : (t : Bool) (P : Type 0) → Means t P → Means (not t) (P → ⊥)
+means-not true P m = record { says = λ e. absurd (false≢true e); holds = λ n. absurd (n (m .says refl)) }
+means-not false P m = record { says = λ e p. false≢true (m .holds p); holds = λ n. refl }
+
+pub means-and : (a b : Bool) (A B : Type 0) → Means a A → Means b B → Means (a && b) (A × B)
+means-and true b A B p q = record { says = λ e. (p .says refl, q .says e); holds = λ x. q .holds (x .1) }
+means-and false b A B p q = record { says = λ e. absurd (false≢true e); holds = λ x. p .holds (x .0) }
+
+-- two tests that agree
+pub means-beq : (a b : Bool) (A B : Type 0) → Means a A → Means b B → Means (Bool·beq a b) (Iff A B)
+means-beq true true A B p q = record { says = λ e. record { to = λ x. q .says refl; from = λ y. p .says refl }; holds = λ i. refl }
+means-beq true false A B p q = record { says = λ e. absurd (false≢true e); holds = λ i. q .holds (i .to (p .says refl)) }
+means-beq false true A B p q = record { says = λ e. absurd (false≢true e); holds = λ i. p .holds (i .from (q .says refl)) }
+means-beq false false A B p q = record { says = λ e. record { to = λ x. absurd (false≢true (p .holds x)); from = λ y. absurd (false≢true (q .holds y)) }; holds = λ i. refl }
+
+-- .. and two of which one answers yes where the other answers no
+pub means-differ : (a b : Bool) (A B : Type 0) → Means a A → Means (not b) B → Means (not (Bool·beq a b)) (Iff A B)
+means-differ true true A B p q = record { says = λ e. absurd (false≢true e); holds = λ i. q .holds (i .to (p .says refl)) }
+means-differ true false A B p q = record { says = λ e. record { to = λ x. q .says refl; from = λ y. p .says refl }; holds = λ i. refl }
+means-differ false true A B p q = record { says = λ e. record { to = λ x. absurd (false≢true (p .holds x)); from = λ y. absurd (false≢true (q .holds y)) }; holds = λ i. refl }
+means-differ false false A B p q = record { says = λ e. absurd (false≢true e); holds = λ i. p .holds (i .from (q .says refl)) }

@@ -1,0 +1,50 @@
+-- What the tables of refusals share: 01's numbers tell the refusals apart, and 5 and 6. A table is a ladder, `Exactly` of `laws` says that a call
+-- goes by it: by the number that it says, and with all that is left behind. Assumes nothing.
+use Prim.Native.Nat.{pred, ℕ}
+use native.Mathlib.Omega.{arith}
+use mathlib.Core.List.{[], _∷_}
+use mathlib.Core.Path.{_∙_, _≡_, ap, refl, sym}
+use lib.ListN.{getD}
+use Rattle.laws.specs.Ladder.{Ladder, stop}
+use Rattle.strip.specs.Answers.{refusalNumber}
+use Rattle.strip.specs.declared.Refusal.{Refusal}
+use Rattle.strip.specs.declared.Refusal.the-variants.{BadRank, BadShape, Damaged, Empty, Full, TooSoon}
+use Rattle.strip.specs.declared.Request.{Request}
+use Rattle.strip.specs.declared.Request.the-variants.{Idle, Pop, Push, Replace}
+
+-- the refusal of a number
+abbrev refusalOf : ℕ → Refusal
+refusalOf n = getD (BadShape ∷ Damaged ∷ TooSoon ∷ BadRank ∷ Full ∷ Empty ∷ []) (pred n) BadShape
+
+numbered : (r : Refusal) → refusalOf (refusalNumber r) ≡ r
+numbered BadShape = refl
+numbered Damaged = refl
+numbered TooSoon = refl
+numbered BadRank = refl
+numbered Full = refl
+numbered Empty = refl
+
+-- no two refusals have one number, and none has 0
+pub refusal-told : (x y : Refusal) → refusalNumber x ≡ refusalNumber y → x ≡ y
+refusal-told x y e = sym (numbered x) ∙ ap refusalOf e ∙ numbered y
+
+pub zero-told : (r : Refusal) → 0 ≡ refusalNumber r → ⊥
+zero-told BadShape e = omega arith
+zero-told Damaged e = omega arith
+zero-told TooSoon e = omega arith
+zero-told BadRank e = omega arith
+zero-told Full e = omega arith
+zero-told Empty e = omega arith
+
+-- 5 and 6, of a queue that holds n and has room for c: "full: push, held = capacity or N"; "empty: pop, held = 0". What is asked after is l
+abbrev pub limits : Request → ℕ → ℕ → Ladder Refusal → Ladder Refusal
+limits Idle n c l = l
+limits (Push x) n c l = stop Full (n ≡ c) l
+limits Pop n c l = stop Empty (n ≡ 0) l
+limits (Replace x) n c l = l
+
+abbrev pub IsPush : Request → Type 0
+IsPush Idle = ⊥
+IsPush (Push x) = Unit {0}
+IsPush Pop = ⊥
+IsPush (Replace x) = ⊥

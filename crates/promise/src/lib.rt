@@ -1,0 +1,1 @@
+// The words in which every queue's promises are said: see specs/. No code.

@@ -1,0 +1,85 @@
+-- The definitions are 01's rules, in 01's own words. What comes after goes by these laws. Assumes nothing.
+use Prim.Native.Nat.{_<_, _≤_, suc, ℕ}
+use native.Mathlib.Nat.{pos-of-ne-zero}
+use mathlib.Core.Bool.{_||_, Bool, cond, false, not, true}
+use mathlib.Core.List.{List}
+use mathlib.Core.Logic.{inl, inr}
+use mathlib.Core.Path.{_≡_, refl}
+use lib.Dec.{eqb, leb, ltb}
+use lib.ListN.{length}
+use borrow.Author.Tests.{eqb-false, eqb-true, leb-false, leb-true, ltb-false, ltb-true}
+use Rattle.laws.specs.Tests.{cond-both}
+use Rattle.strip.specs.Answers.{blank, key}
+use Rattle.strip.specs.declared.Answer.the-variants.{Out}
+use Rattle.strip.specs.declared.Element.{Element}
+use Rattle.strip.specs.declared.Request.{Request}
+use Rattle.strip.specs.declared.Request.the-variants.{Idle, Pop, Push, Replace}
+use Rattle.tree_model.proofs.Choice.{all-slotAt, least-in, least-le, least-left, lowest-is, lowest-left}
+use Rattle.tree_model.specs.Calls.{rule, ruling}
+use Rattle.tree_model.specs.Node.{firstEmpty, keep, leastCount, low, lowest, move, pass, putBy, putMove, slotAt, sumCounts, swapBy, swapMove, takeBy, takeMove}
+use Rattle.tree_model.specs.Rules.{clears, Comes, empty, ends, exchanges, full, goes, idles, IsLeast, IsLowest, passes, puts, Puts, receives, returns, stays, swaps, Swaps, takes, Takes}
+use Rattle.tree_model.specs.declared.Op.the-variants.{Nothing, Put, Swap}
+use Rattle.tree_model.specs.declared.Slot.{Slot}
+
+-- ---- the choices
+pub least-is : (nd : List Slot) → 0 < length nd → IsLeast nd (leastCount nd)
+least-is nd h = record { inside = least-in nd h; smallest = λ i l. all-slotAt (λ u. slotAt nd (leastCount nd) .count ≤ u .count) nd i (least-le nd) l; leftmost = least-left nd }
+
+pub lowest-rank : (nd : List Slot) → 0 < sumCounts nd → IsLowest nd (lowest nd)
+unfolding key
+lowest-rank nd h =
+    let i = lowest-is nd h in
+    record {
+      inside = i .inside;
+      occupied = i .occupied;
+      least = λ j l o. all-slotAt (λ u. 0 < u .count → slotAt nd (lowest nd) .element .rank .0 ≤ u .element .rank .0) nd j (i .least) l o;
+      leftmost = lowest-left nd h;
+    }
+
+-- ---- the steps
+pub put-rule : (x : Element) (nd : List Slot) → Puts x nd (putMove x nd)
+unfolding putMove putBy keep pass key
+put-rule x nd = go (ltb (firstEmpty nd) (length nd)) refl
+  where
+    s : Slot
+    s = slotAt nd (leastCount nd)
+
+    over : length nd ≤ firstEmpty nd → (b : Bool) → ltb (x .rank .0) (s .element .rank .0) ≡ b
+        → Puts x nd (move (leastCount nd) (cond b x (s .element)) (suc (s .count)) (Put (cond b (s .element) x)))
+    over h true f = exchanges h (ltb-true (x .rank .0) (s .element .rank .0) f)
+    over h false f = passes h (ltb-false (x .rank .0) (s .element .rank .0) f)
+
+    go : (a : Bool) → ltb (firstEmpty nd) (length nd) ≡ a → Puts x nd (putBy a x nd)
+    go true e = ends (ltb-true (firstEmpty nd) (length nd) e)
+    go false e = over (ltb-false (firstEmpty nd) (length nd) e) (ltb (x .rank .0) (s .element .rank .0)) refl
+
+pub take-rule : (nd : List Slot) (below : ℕ → Element) → Takes nd below (takeMove nd below)
+unfolding takeMove takeBy blank
+take-rule nd below = go (leb (slotAt nd (lowest nd) .count) 1) refl
+  where
+    go : (t : Bool) → leb (slotAt nd (lowest nd) .count) 1 ≡ t → Takes nd below (takeBy t nd below)
+    go true e = clears (leb-true (slotAt nd (lowest nd) .count) 1 e)
+    go false e = receives (leb-false (slotAt nd (lowest nd) .count) 1 e)
+
+pub swap-rule : (x : Element) (nd : List Slot) (below : ℕ → Element) → Swaps x nd below (swapMove x nd below)
+unfolding swapMove swapBy key
+swap-rule x nd below = go (leb (slotAt nd (lowest nd) .count) 1) refl (ltb (below (lowest nd) .rank .0) (x .rank .0)) refl
+  where
+    go : (a : Bool) → leb (slotAt nd (lowest nd) .count) 1 ≡ a → (b : Bool) → ltb (below (lowest nd) .rank .0) (x .rank .0) ≡ b → Swaps x nd below (swapBy (a || not b) x nd below)
+    go true e b f = stays (inl (leb-true (slotAt nd (lowest nd) .count) 1 e))
+    go false e true f = goes (leb-false (slotAt nd (lowest nd) .count) 1 e) (ltb-true (below (lowest nd) .rank .0) (x .rank .0) f)
+    go false e false f = stays (inr (ltb-false (below (lowest nd) .rank .0) (x .rank .0) f))
+
+-- ---- the request
+pub comes : (c : ℕ) (r : Request) (nd : List Slot) → Comes c nd r (rule c r nd)
+unfolding rule key
+comes c Idle nd = idles
+comes c (Push x) nd = cond-both (Comes c nd (Push x)) (ltb (sumCounts nd) c) _ _ (λ e. puts x (ltb-true (sumCounts nd) c e)) (λ e. full x (ltb-false (sumCounts nd) c e))
+comes c Pop nd = cond-both (Comes c nd Pop) (eqb (sumCounts nd) 0) _ _ (λ e. empty (eqb-true (sumCounts nd) 0 e)) (λ e. takes (pos-of-ne-zero (eqb-false (sumCounts nd) 0 e)))
+comes c (Replace x) nd = go (eqb (sumCounts nd) 0) refl (ltb (x .rank .0) (low nd .rank .0)) refl
+  where
+    go : (a : Bool) → eqb (sumCounts nd) 0 ≡ a → (b : Bool) → ltb (x .rank .0) (low nd .rank .0) ≡ b
+        → Comes c nd (Replace x) (cond (a || b) (ruling (Out x) Nothing) (ruling (Out (low nd)) (Swap x)))
+    go true e b f = returns x (inl (eqb-true (sumCounts nd) 0 e))
+    go false e true f = returns x (inr (ltb-true (x .rank .0) (low nd .rank .0) f))
+    go false e false f = swaps x (pos-of-ne-zero (eqb-false (sumCounts nd) 0 e)) (ltb-false (x .rank .0) (low nd .rank .0) f)

@@ -1,0 +1,74 @@
+-- "of a longer one the rest is never touched": not read either. Two stores that agree on the words of the shape are answered the same and left the
+-- same there, whatever stands behind. Assumes nothing.
+use Prim.Native.Nat.{_≤_, pred, suc, zero, ℕ}
+use native.Mathlib.Nat.{not-suc-le-zero}
+use native.Mathlib.Omega.{arith}
+use mathlib.Core.Bool.{Bool, false, true}
+use mathlib.Core.List.{List}
+use mathlib.Core.Path.{_∙_, _≡_, ap, ap₂, refl, sym}
+use lib.ListN.{length}
+use Rattle.strip.specs.declared.Request.{Request}
+use Rattle.tree_model.proofs.Exactly.{called-fine, called-root, called-way, is-shape, order-pos}
+use Rattle.tree_model.proofs.Same.{levels-words, words-levels, words-node}
+use Rattle.tree_model.proofs.Words.{size-room, words-apply}
+use Rattle.tree_model.specs.Calls.{called, counted, Outcome, rootOf, rootOk, rule, Ruling, shapeOk, verdict, wayOk}
+use Rattle.tree_model.specs.Damage.{nodeOk, pathOk, room}
+use Rattle.tree_model.specs.Levels.{apply, Levels, work}
+use Rattle.tree_model.specs.Promise.{Agree, Shape}
+use Rattle.tree_model.specs.Words.{applyWords, levelsOf}
+use Rattle.tree_model.specs.declared.Op.{Op}
+
+module _ (m levels : ℕ) (ws vs : List ℕ) (sh : Shape m levels (length ws)) (zh : Shape m levels (length vs)) (same : Agree (room m levels) ws vs) where
+  pub same-levels : levelsOf m levels ws 0 1 ≡ levelsOf m levels vs 0 1
+  same-levels = words-levels m levels (room m levels) ws vs same 0 1 (omega (arith, size-room m levels 1))
+
+  root-fits : (l : ℕ) → 1 ≤ l → m ≤ room m l
+  unfolding room
+  root-fits zero h = absurd (not-suc-le-zero h)
+  root-fits (suc k) h = omega arith
+
+  pub same-root : rootOf m ws ≡ rootOf m vs
+  same-root = words-node m (room m levels) ws vs same 0 (omega (arith, root-fits levels (sh .some)))
+
+  same-ok : rootOk m levels ws ≡ rootOk m levels vs
+  same-ok = ap (nodeOk (room m (pred levels))) same-root
+
+  module _ (r : Request) where
+    same-verdict : verdict m levels r ws ≡ verdict m levels r vs
+    same-verdict = ap (rule (room m levels) r) same-root
+
+    same-way : wayOk m levels (verdict m levels r ws .op) ws ≡ wayOk m levels (verdict m levels r vs .op) vs
+    same-way = ap₂ (λ (o : Op) (ls : Levels levels). pathOk m levels (work o 0) ls) (ap (λ (g : Ruling). g .op) same-verdict) same-levels
+
+    -- UNREAD
+    pub unread : (called m levels r ws .answer ≡ called m levels r vs .answer) × Agree (room m levels) (called m levels r ws .words) (called m levels r vs .words)
+    unread = go (rootOk m levels ws) refl (wayOk m levels (verdict m levels r ws .op) ws) refl
+      where
+        s : shapeOk m levels (length ws) ≡ true
+        s = is-shape m levels (length ws) sh
+
+        z : shapeOk m levels (length vs) ≡ true
+        z = is-shape m levels (length vs) zh
+
+        both : (a b : Outcome) → called m levels r ws ≡ a → called m levels r vs ≡ b → (a .answer ≡ b .answer) × Agree (room m levels) (a .words) (b .words)
+            → (called m levels r ws .answer ≡ called m levels r vs .answer) × Agree (room m levels) (called m levels r ws .words) (called m levels r vs .words)
+        both a b p q i = rw (p, q) i
+
+        after : (ws : List ℕ) → Shape m levels (length ws) → (o : Op) → wayOk m levels o ws ≡ true
+            → levelsOf m levels (applyWords m levels (work o 0) 0 1 ws) 0 1 ≡ apply m levels (work o 0) (levelsOf m levels ws 0 1)
+        after ws sh o w = words-apply m (order-pos sh) levels (work o 0) 0 1 ws (omega (arith, sh .slice, size-room m levels 1)) w .0
+
+        go : (a : Bool) → rootOk m levels ws ≡ a → (b : Bool) → wayOk m levels (verdict m levels r ws .op) ws ≡ b
+            → (called m levels r ws .answer ≡ called m levels r vs .answer) × Agree (room m levels) (called m levels r ws .words) (called m levels r vs .words)
+        go false o b w = both _ _ (called-root m levels r ws s o) (called-root m levels r vs z (sym same-ok ∙ o)) (refl, same)
+        go true o false w = both _ _ (called-way m levels r ws s o w) (called-way m levels r vs z (sym same-ok ∙ o) (sym same-way ∙ w)) (refl, same)
+        go true o true w =
+            both _ _ (called-fine m levels r ws s o w) (called-fine m levels r vs z (sym same-ok ∙ o) (sym same-way ∙ w)) (
+              ap (λ (g : Ruling). g .answer) same-verdict,
+              levels-words m levels _ _ (after ws sh _ w
+                  ∙ ap₂ (λ (o : Op) (ls : Levels levels). apply m levels (work o 0) ls) (ap (λ (g : Ruling). g .op) same-verdict) same-levels ∙ sym (after vs zh _ (sym same-way ∙ w))),
+            )
+
+  pub unread-held : counted m levels ws ≡ counted m levels vs
+  unfolding counted
+  unread-held = rw (is-shape m levels (length ws) sh, is-shape m levels (length vs) zh, same-root)

@@ -1,0 +1,64 @@
+-- 01's rules in 01's own words, over ranks and counts: what each step at a node does, and what a request comes to at the root. `proofs/Rules.antt`
+-- shows that the definitions are these. Assumes nothing: these are definitions.
+use Prim.Native.Nat.{_<_, _≤_, pred, suc, ℕ}
+use mathlib.Core.List.{List}
+use mathlib.Core.Logic.{_⊎_}
+use mathlib.Core.Path.{_≡_}
+use lib.ListN.{length}
+use Rattle.strip.specs.Answers.{element}
+use Rattle.strip.specs.declared.Answer.the-variants.{Done, Out, Refused}
+use Rattle.strip.specs.declared.Element.{Element}
+use Rattle.strip.specs.declared.Refusal.the-variants.{Empty, Full}
+use Rattle.strip.specs.declared.Request.{Request}
+use Rattle.strip.specs.declared.Request.the-variants.{Idle, Pop, Push, Replace}
+use Rattle.tree_model.specs.Calls.{Ruling, ruling}
+use Rattle.tree_model.specs.Node.{firstEmpty, leastCount, low, lowest, move, slotAt, sumCounts}
+use Rattle.tree_model.specs.declared.Move.{Move}
+use Rattle.tree_model.specs.declared.Op.the-variants.{Nothing, Put, Swap, Take}
+use Rattle.tree_model.specs.declared.Slot.{Slot}
+
+-- "the slot with the smallest count, leftmost on a tie"
+pub record IsLeast (nd : List Slot) (j : ℕ) : Type 0 where
+  pub inside : j < length nd
+  pub smallest : (i : ℕ) → i < length nd → slotAt nd j .count ≤ slotAt nd i .count
+  pub leftmost : (i : ℕ) → i < j → slotAt nd j .count < slotAt nd i .count
+
+-- "the occupied slot of lowest rank, leftmost on a tie"
+pub record IsLowest (nd : List Slot) (j : ℕ) : Type 0 where
+  pub inside : j < length nd
+  pub occupied : 0 < slotAt nd j .count
+  pub least : (i : ℕ) → i < length nd → 0 < slotAt nd i .count → slotAt nd j .element .rank .0 ≤ slotAt nd i .element .rank .0
+  pub leftmost : (i : ℕ) → i < j → 0 < slotAt nd i .count → slotAt nd j .element .rank .0 < slotAt nd i .element .rank .0
+
+-- "Put x: with an empty slot, the first one becomes x with count 1, and that ends it. Otherwise the slot with the smallest count .. has its count
+-- raised by one; if x's rank is strictly lower, x and the slot's element change places; what is left over is put into the node below"
+pub data Puts (x : Element) (nd : List Slot) : Move → Type 0 where
+  ends : firstEmpty nd < length nd → Puts x nd (move (firstEmpty nd) x 1 Nothing)
+  exchanges : length nd ≤ firstEmpty nd → x .rank .0 < slotAt nd (leastCount nd) .element .rank .0
+      → Puts x nd (move (leastCount nd) x (suc (slotAt nd (leastCount nd) .count)) (Put (slotAt nd (leastCount nd) .element)))
+  passes : length nd ≤ firstEmpty nd → slotAt nd (leastCount nd) .element .rank .0 ≤ x .rank .0
+      → Puts x nd (move (leastCount nd) (slotAt nd (leastCount nd) .element) (suc (slotAt nd (leastCount nd) .count)) (Put x))
+
+-- "Take: the occupied slot of lowest rank .. gives its element; its count falls by one. At count 0 the slot is cleared. Otherwise it receives what
+-- a take gives at the node below"
+pub data Takes (nd : List Slot) (below : ℕ → Element) : Move → Type 0 where
+  clears : slotAt nd (lowest nd) .count ≤ 1 → Takes nd below (move (lowest nd) (element 0 0) 0 Nothing)
+  receives : 1 < slotAt nd (lowest nd) .count → Takes nd below (move (lowest nd) (below (lowest nd)) (pred (slotAt nd (lowest nd) .count)) Take)
+
+-- "Swap x: the slot that a take would choose gives its element, count unchanged. At count 1, or if the lowest rank in the node below is not strictly
+-- lower than x's, x stays in the slot. Otherwise the slot receives that lowest element, and the node below is swapped with x"
+pub data Swaps (x : Element) (nd : List Slot) (below : ℕ → Element) : Move → Type 0 where
+  stays : (slotAt nd (lowest nd) .count ≤ 1) ⊎ (x .rank .0 ≤ below (lowest nd) .rank .0) → Swaps x nd below (move (lowest nd) x (slotAt nd (lowest nd) .count) Nothing)
+  goes : 1 < slotAt nd (lowest nd) .count → below (lowest nd) .rank .0 < x .rank .0
+      → Swaps x nd below (move (lowest nd) (below (lowest nd)) (slotAt nd (lowest nd) .count) (Swap x))
+
+-- "Push puts at the root, pop takes there. Replace takes a new element in and gives back the lowest of all .. So on an empty queue, or with a rank
+-- strictly below every held one, the new element is answered and the store stands; otherwise a swap at the root". c is the capacity
+pub data Comes (c : ℕ) (nd : List Slot) : Request → Ruling → Type 0 where
+  idles : Comes c nd Idle (ruling Done Nothing)
+  puts : (x : Element) → sumCounts nd < c → Comes c nd (Push x) (ruling Done (Put x))
+  full : (x : Element) → c ≤ sumCounts nd → Comes c nd (Push x) (ruling (Refused Full) Nothing)
+  takes : 0 < sumCounts nd → Comes c nd Pop (ruling (Out (low nd)) Take)
+  empty : sumCounts nd ≡ 0 → Comes c nd Pop (ruling (Refused Empty) Nothing)
+  returns : (x : Element) → (sumCounts nd ≡ 0) ⊎ (x .rank .0 < low nd .rank .0) → Comes c nd (Replace x) (ruling (Out x) Nothing)
+  swaps : (x : Element) → 0 < sumCounts nd → low nd .rank .0 ≤ x .rank .0 → Comes c nd (Replace x) (ruling (Out (low nd)) (Swap x))
