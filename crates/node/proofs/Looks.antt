@@ -9,11 +9,12 @@ use mathlib.Core.Path.{_∙_, _≡_, ap, ap₂, refl, subst, sym}
 use lib.Dec.{eqb, leb, ltb}
 use lib.ListN.{length}
 use borrow.Author.Tests.{eq-eqb, le-leb, le-ltb, leb-false, leb-true, lt-leb, lt-ltb, ltb-false, ltb-true, ne-eqb}
-use Rattle.node.specs.Scan.{beats, bestKey, fewest, keyOr, most, RoomUnder, scanLeast, scanLow}
+use Rattle.node.proofs.Scan.{low-end, node-ok-end, scan-least}
+use Rattle.node.specs.Scan.{beats, bestKey, everyTo, fewest, keyOr, most, RoomUnder, scanLeast, scanLow}
 use Rattle.strip.specs.Answers.{key}
 use Rattle.tree_model.proofs.Words.{node-length, node-slot}
-use Rattle.tree_model.specs.Damage.{room}
-use Rattle.tree_model.specs.Node.{isEmpty, slotAt}
+use Rattle.tree_model.specs.Damage.{nodeOk, room, slotOk}
+use Rattle.tree_model.specs.Node.{isEmpty, leastCount, lowest, slotAt}
 use Rattle.tree_model.specs.Words.{nodeOf, slotOf}
 use Rattle.tree_model.specs.declared.Slot.{Slot}
 
@@ -99,8 +100,19 @@ module _ (m : ℕ) (ws : List ℕ) (i : ℕ) where
   unfolding bestKey
   low-key-start = sym (ap (λ (t : Bool). cond t most (key (slotAt nd m .element))) (le-leb (length nd) m (omega (arith, node-length m ws i))))
 
+  -- ---- where the scan has come to the end
+  module _ (r j best : ℕ) (ok : Bool) (end : j ≡ m) (tested : ok ≡ everyTo (slotOk r) nd j) where
+    pub least-looked : 0 < m → best ≡ scanLeast nd j → (ok ≡ nodeOk r nd) × ((best ≡ leastCount nd) × (best < m))
+    least-looked h e =
+        let p = scan-least m ws i h in
+        let b : best ≡ scanLeast nd m = e ∙ ap (scanLeast nd) end in
+        (node-ok-end m ws i r j ok end tested, (b ∙ p .0, omega (arith, p .1)))
+
+    pub low-looked : best ≡ scanLow nd j → best ≤ m → (ok ≡ nodeOk r nd) × ((best ≡ lowest nd) × (best ≤ m))
+    low-looked e h = (node-ok-end m ws i r j ok end tested, (low-end m ws i j best end e, h))
+
 -- ---- the room below the next level's slots
-under-div : (m r q : ℕ) → 0 < m → r ≡ m * suc q → (r - 1) / m ≡ q
+pub under-div : (m r q : ℕ) → 0 < m → r ≡ m * suc q → (r - 1) / m ≡ q
 under-div m r q h e =
     let s : r - 1 ≡ (m - 1) + q * m = omega (arith, mul-suc m q, mul-comm m q) in
     ap (λ (n : ℕ). n / m) s ∙ add-mul-div-right (m - 1) q h ∙ ap (λ (n : ℕ). n + q) (div-eq-of-lt (omega arith)) ∙ zero-add q

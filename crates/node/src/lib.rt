@@ -21,6 +21,9 @@ use tree_model::Slot;
 // The largest capacity of a tree.
 pub const SLOT_LIMIT: usize = 5460;
 
+// The largest order. A scan that says so is laid out flat by the compiler, with no loop left.
+const ORDER_LIMIT: usize = 8;
+
 // ---- words
 
 pub fn slot_at(s: &[u32], i: usize) -> Slot
@@ -196,7 +199,7 @@ pub struct Look {
 
 // .. for the smallest count
 pub fn look_least(s: &[u32], at: usize, order: usize, room: usize) -> Look
-    requires { ⌜ NodeIn order at (now s) × (room ≤ slotLimit) ⌝ }
+    requires { ⌜ NodeIn order at (now s) × (order ≤ 8) × (room ≤ slotLimit) ⌝ }
     ensures whole { λ r. ⌜ r .ok ≡ nodeOk room (nodeOf order (now (s .entry)) at) ⌝ }
     ensures place { λ r. ⌜ r .place ≡ leastCount (nodeOf order (now (s .entry)) at) ⌝ }
     ensures within { λ r. ⌜ r .place < order ⌝ }
@@ -205,7 +208,7 @@ pub fn look_least(s: &[u32], at: usize, order: usize, room: usize) -> Look
     let mut best = 0;
     let mut few: u64 = 4294967296;
     let mut j = 0;
-    while j < order {
+    while j < order && j < ORDER_LIMIT {
         let a = slot_at(s, at + j);
         ok = ok & slot_ok(a, room);
         let c = a.count as u64;
@@ -233,7 +236,7 @@ fn key_or(a: Slot) -> u64
 
 // .. for the occupied slot of lowest rank; the order where all are empty
 pub fn look_low(s: &[u32], at: usize, order: usize, room: usize) -> Look
-    requires { ⌜ NodeIn order at (now s) × (room ≤ slotLimit) ⌝ }
+    requires { ⌜ NodeIn order at (now s) × (order ≤ 8) × (room ≤ slotLimit) ⌝ }
     ensures whole { λ r. ⌜ r .ok ≡ nodeOk room (nodeOf order (now (s .entry)) at) ⌝ }
     ensures place { λ r. ⌜ r .place ≡ lowest (nodeOf order (now (s .entry)) at) ⌝ }
     ensures within { λ r. ⌜ r .place ≤ order ⌝ }
@@ -242,7 +245,7 @@ pub fn look_low(s: &[u32], at: usize, order: usize, room: usize) -> Look
     let mut best = order;
     let mut low: u64 = 4294967296;
     let mut j = 0;
-    while j < order {
+    while j < order && j < ORDER_LIMIT {
         let a = slot_at(s, at + j);
         ok = ok & slot_ok(a, room);
         let k = key_or(a);

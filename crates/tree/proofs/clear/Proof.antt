@@ -14,31 +14,44 @@ shape-ok-requires : tie.Need-shape-ok-requires
 shape-ok-requires c κs = search needs
 
 returns : tie.Need-returns
-returns c = clear-shape _ _ _ _ (c .before .shape-ok .ensures) (c .if1 .taken)
+returns c =
+    let shape = c .before .shape-ok in
+    let if1 = c .if1 in
+    clear-shape _ _ _ _ (shape .ensures) (if1 .taken)
 
 capacity-requires : tie.Need-capacity-requires
-capacity-requires c κs = shape-few (c .before .before .before .before .args .order) (c .before .before .before .before .args .levels) (c .before .before .before .before .args .store .now) _ (c .before .before .shape-ok .ensures) (c .before .if1 .left)
+capacity-requires c κs =
+    let start = c .before .before .before .before in
+    let shape = c .before .before .shape-ok in
+    let if1 = c .before .if1 in
+    shape-few (start .args .order) (start .args .levels) (start .args .store .now) _ (shape .ensures) (if1 .left)
 
 mul-zero-words : tie.Need-mul-zero-words
-mul-zero-words c = omega (arith, clear-fits (c .before .before .before .before .before .args .order) (c .before .before .before .before .before .args .levels) (c .before .before .before .before .before .args .store .now) _ (c .before .before .before .shape-ok .ensures) (c .before .before .if1 .left) _ (c .capacity .ensures))
+mul-zero-words c =
+    let start = c .before .before .before .before .before in
+    let shape = c .before .before .before .shape-ok in
+    let if1 = c .before .before .if1 in
+    let cap = c .capacity in
+    omega (arith, clear-fits (start .args .order) (start .args .levels) (start .args .store .now) _ (shape .ensures) (if1 .left) (cap .result) (cap .ensures))
 
 zero-words-requires : tie.Need-zero-words-requires
-zero-words-requires c κs = clear-fits (c .before .before .before .before .before .args .order) (c .before .before .before .before .before .args .levels) (c .before .before .before .before .before .args .store .now) _ (c .before .before .before .shape-ok .ensures) (c .before .before .if1 .left) _ (c .capacity .ensures) .0
+zero-words-requires c κs =
+    let start = c .before .before .before .before .before in
+    let shape = c .before .before .before .shape-ok in
+    let if1 = c .before .before .if1 in
+    let cap = c .capacity in
+    clear-fits (start .args .order) (start .args .levels) (start .args .store .now) _ (shape .ensures) (if1 .left) _ (cap .ensures) .0
 
 same-length : tie.Need-same-length
-same-length c = c .before .before .zero-words .kept .0
+same-length c = search needs
 
 returns-2 : tie.Need-returns-2
-returns-2 c = clear-done _ _ _ _ (c .before .before .before .before .before .before .shape-ok .ensures) (c .before .before .before .before .before .if1 .left) _ (c .before .before .before .capacity .ensures) _ (c .before .before .zero-words .ensures)
+returns-2 c =
+    let shape = c .before .before .before .before .before .before .shape-ok in
+    let if1 = c .before .before .before .before .before .if1 in
+    let cap = c .before .before .before .capacity in
+    let zero-words = c .before .before .zero-words in
+    clear-done _ _ _ _ (shape .ensures) (if1 .left) _ (cap .ensures) _ (zero-words .ensures)
 
 pub clear-spec : {M : Type 1} → statement M
-clear-spec =
-    tie.close
-    (tie.spec
-    shape-ok-requires
-    returns
-    capacity-requires
-    mul-zero-words
-    zero-words-requires
-    same-length
-    returns-2)
+clear-spec = tie.close (tie.spec shape-ok-requires returns capacity-requires mul-zero-words zero-words-requires same-length returns-2)

@@ -1,12 +1,8 @@
 -- `tree::replace` meets its contract. Assumes nothing.
 use native.Mathlib.Omega.{arith}
-use mathlib.Core.Path.{refl}
-use Rattle.node.proofs.Rulings.{replace-back, replace-empty, replace-swaps}
-use Rattle.tree_model.specs.Calls.{rootOf}
-use Rattle.tree_model.specs.Node.{sumCounts}
-use Rattle.tree.proofs.Once.{below-ne}
-use Rattle.tree.proofs.Calls.{called-looked, called-shape, calls-still, carried-damaged, carried-done, looked, looked-low, looked-none, looked-seen, looked-some, opened-lies, root-cap, shape-few, shape-here, shape-root}
 use borrow.Author.Needs.{needs}
+use Rattle.tree.proofs.Calls.{called-damaged, called-shape, fit, replace-broken, replace-done, replace-first, replace-none, root-seen, root-stands, shape-few, shape-here}
+use Rattle.tree.proofs.Once.{look-in, numbers}
 use Rattle.tree.proofs.replace.Statement.{statement}
 use Rattle.tree.proofs.replace.Tie as tie
 use Rattle.tree.proofs.replace.Reads as reads
@@ -22,31 +18,70 @@ shape-ok-requires : tie.Need-shape-ok-requires
 shape-ok-requires c κs = search needs
 
 returns : tie.Need-returns
-returns c = called-shape _ _ _ _ _ (c .before .shape-ok .ensures) (c .if1 .taken)
+returns c =
+    let shape = c .before .shape-ok in
+    let if1 = c .if1 in
+    called-shape _ _ _ _ _ (shape .ensures) (if1 .taken)
 
 sub-capacity : tie.Need-sub-capacity
-sub-capacity c = shape-here (c .before .before .before .args .order) (c .before .before .before .args .levels) (c .before .before .before .args .store .now) _ (c .before .shape-ok .ensures) (c .if1 .left) .some
+sub-capacity c =
+    let start = c .before .before .before in
+    let shape = c .before .shape-ok in
+    let if1 = c .if1 in
+    omega (arith, shape-here (start .args .order) (start .args .levels) (start .args .store .now) _ (shape .ensures) (if1 .left))
 
 capacity-requires : tie.Need-capacity-requires
-capacity-requires c κs = shape-few (c .before .before .before .args .order) (c .before .before .before .args .levels) (c .before .before .before .args .store .now) _ (c .before .shape-ok .ensures) (c .if1 .left)
+capacity-requires c κs =
+    let start = c .before .before .before in
+    let shape = c .before .shape-ok in
+    let if1 = c .if1 in
+    shape-few (start .args .order) (start .args .levels) (start .args .store .now) _ (shape .ensures) (if1 .left)
 
 look-low-requires : tie.Need-look-low-requires
-look-low-requires c κs = (shape-root (c .before .before .before .before .before .args .order) (c .before .before .before .before .before .args .levels) (c .before .before .before .before .before .args .store .now) _ (c .before .before .before .shape-ok .ensures) (c .before .before .if1 .left), root-cap (c .before .before .before .before .before .args .order) (c .before .before .before .before .before .args .levels) (c .before .before .before .before .before .args .store .now) _ (c .before .before .before .shape-ok .ensures) (c .before .before .if1 .left) _ (c .before .capacity .ensures))
+look-low-requires c κs =
+    let start = c .before .before .before .before .before in
+    let shape = c .before .before .before .shape-ok in
+    let if1 = c .before .before .if1 in
+    let cap = c .before .capacity in
+    look-in (root-stands (fit (start .args .order) (start .args .levels) (start .args .store .now) _ (shape .ensures) (if1 .left) _ (cap .ensures)))
 
 same-length : tie.Need-same-length
 same-length c = search needs
 
 returns-2 : tie.Need-returns-2
-returns-2 c = called-looked (c .before .before .before .before .before .before .before .before .args .order) (c .before .before .before .before .before .before .before .before .args .levels) (c .before .before .before .before .before .before .before .before .args .store .now) _ (c .before .before .before .before .before .before .shape-ok .ensures) (c .before .before .before .before .before .if1 .left) _ (c .before .before .before .before .capacity .ensures) _ _ (c .before .before .look-low .ensures .0) (c .if2 .taken)
+returns-2 c =
+    let start = c .before .before .before .before .before .before .before .before in
+    let shape = c .before .before .before .before .before .before .shape-ok in
+    let if1 = c .before .before .before .before .before .if1 in
+    let cap = c .before .before .before .before .capacity in
+    let look = c .before .before .look-low in
+    let if2 = c .if2 in
+    called-damaged (fit (start .args .order) (start .args .levels) (start .args .store .now) _ (shape .ensures) (if1 .left) _ (cap .ensures)) _ _ (look .ensures .0) (if2 .taken)
 
 same-length-2 : tie.Need-same-length-2
 same-length-2 c = search needs
 
 returns-3 : tie.Need-returns-3
-returns-3 c = calls-still _ _ _ _ (looked (c .before .before .before .before .before .before .before .before .before .args .order) (c .before .before .before .before .before .before .before .before .before .args .levels) (c .before .before .before .before .before .before .before .before .before .args .store .now) _ (c .before .before .before .before .before .before .before .shape-ok .ensures) (c .before .before .before .before .before .before .if1 .left) _ (c .before .before .before .before .before .capacity .ensures) _ (c .before .before .before .look-low .ensures .0) (c .before .if2 .left)) _ _ _ (replace-empty (c .before .before .before .before .before .before .before .before .before .args .order) (c .before .before .before .before .before .before .before .before .before .args .levels) (c .before .before .before .before .before .before .before .before .before .args .store .now) (sumCounts (rootOf (c .before .before .before .before .before .before .before .before .before .args .order) (c .before .before .before .before .before .before .before .before .before .args .store .now))) refl _ (looked-none (c .before .before .before .before .before .before .before .before .before .args .order) (c .before .before .before .before .before .before .before .before .before .args .levels) (c .before .before .before .before .before .before .before .before .before .args .store .now) _ (c .before .before .before .before .before .before .before .shape-ok .ensures) (c .before .before .before .before .before .before .if1 .left) _ (c .before .before .before .before .before .capacity .ensures) _ (c .before .before .before .look-low .ensures .0) (c .before .if2 .left) _ (c .before .before .before .look-low .ensures .1 .0) (c .if3 .taken))) refl
+returns-3 c =
+    let start = c .before .before .before .before .before .before .before .before .before in
+    let shape = c .before .before .before .before .before .before .before .shape-ok in
+    let if1 = c .before .before .before .before .before .before .if1 in
+    let cap = c .before .before .before .before .before .capacity in
+    let look = c .before .before .before .look-low in
+    let if2 = c .before .if2 in
+    let if3 = c .if3 in
+    replace-none (fit (start .args .order) (start .args .levels) (start .args .store .now) _ (shape .ensures) (if1 .left) _ (cap .ensures)) _ _ (look .ensures .0) (look .ensures .1 .0) (if2 .left) (start .args .x) (if3 .taken)
 
 slot-at-requires : tie.Need-slot-at-requires
-slot-at-requires c κs = omega (arith, shape-root (c .before .before .before .before .before .before .before .before .before .before .args .order) (c .before .before .before .before .before .before .before .before .before .before .args .levels) (c .before .before .before .before .before .before .before .before .before .before .args .store .now) _ (c .before .before .before .before .before .before .before .before .shape-ok .ensures) (c .before .before .before .before .before .before .before .if1 .left) .words, (below-ne (c .before .before .before .before .look-low .result .place) (c .before .before .before .before .before .before .before .before .before .before .args .order) (c .before .if3 .left) (c .before .before .before .before .look-low .ensures .1 .1)))
+slot-at-requires c κs =
+    let start = c .before .before .before .before .before .before .before .before .before .before in
+    let shape = c .before .before .before .before .before .before .before .before .shape-ok in
+    let if1 = c .before .before .before .before .before .before .before .if1 in
+    let cap = c .before .before .before .before .before .before .capacity in
+    let look = c .before .before .before .before .look-low in
+    let if2 = c .before .before .if2 in
+    let if3 = c .before .if3 in
+    omega (arith, numbers (root-stands (fit (start .args .order) (start .args .levels) (start .args .store .now) _ (shape .ensures) (if1 .left) _ (cap .ensures))), root-seen (fit (start .args .order) (start .args .levels) (start .args .store .now) _ (shape .ensures) (if1 .left) _ (cap .ensures)) (look .result .place) (look .result .ok) (look .ensures .0) (look .ensures .1 .0) (if2 .left) (if3 .left) (look .ensures .1 .1))
 
 lower-requires : tie.Need-lower-requires
 lower-requires c κs = search needs
@@ -55,42 +90,67 @@ same-length-3 : tie.Need-same-length-3
 same-length-3 c = search needs
 
 returns-4 : tie.Need-returns-4
-returns-4 c = calls-still _ _ _ _ (looked (c .before .before .before .before .before .before .before .before .before .before .before .before .before .before .args .order) (c .before .before .before .before .before .before .before .before .before .before .before .before .before .before .args .levels) (c .before .before .before .before .before .before .before .before .before .before .before .before .before .before .args .store .now) _ (c .before .before .before .before .before .before .before .before .before .before .before .before .shape-ok .ensures) (c .before .before .before .before .before .before .before .before .before .before .before .if1 .left) _ (c .before .before .before .before .before .before .before .before .before .before .capacity .ensures) _ (c .before .before .before .before .before .before .before .before .look-low .ensures .0) (c .before .before .before .before .before .before .if2 .left)) _ _ _ (replace-back (c .before .before .before .before .before .before .before .before .before .before .before .before .before .before .args .order) (c .before .before .before .before .before .before .before .before .before .before .before .before .before .before .args .levels) (c .before .before .before .before .before .before .before .before .before .before .before .before .before .before .args .store .now) (sumCounts (rootOf (c .before .before .before .before .before .before .before .before .before .before .before .before .before .before .args .order) (c .before .before .before .before .before .before .before .before .before .before .before .before .before .before .args .store .now))) refl (looked-some (c .before .before .before .before .before .before .before .before .before .before .before .before .before .before .args .order) (c .before .before .before .before .before .before .before .before .before .before .before .before .before .before .args .levels) (c .before .before .before .before .before .before .before .before .before .before .before .before .before .before .args .store .now) _ (c .before .before .before .before .before .before .before .before .before .before .before .before .shape-ok .ensures) (c .before .before .before .before .before .before .before .before .before .before .before .if1 .left) _ (c .before .before .before .before .before .before .before .before .before .before .capacity .ensures) _ (c .before .before .before .before .before .before .before .before .look-low .ensures .0) (c .before .before .before .before .before .before .if2 .left) _ (c .before .before .before .before .before .before .before .before .look-low .ensures .1 .0) (below-ne (c .before .before .before .before .before .before .before .before .look-low .result .place) (c .before .before .before .before .before .before .before .before .before .before .before .before .before .before .args .order) (c .before .before .before .before .before .if3 .left) (c .before .before .before .before .before .before .before .before .look-low .ensures .1 .1))) _ (looked-low (c .before .before .before .before .before .before .before .before .before .before .before .before .before .before .args .order) (c .before .before .before .before .before .before .before .before .before .before .before .before .before .before .args .levels) (c .before .before .before .before .before .before .before .before .before .before .before .before .before .before .args .store .now) _ (c .before .before .before .before .before .before .before .before .before .before .before .before .shape-ok .ensures) (c .before .before .before .before .before .before .before .before .before .before .before .if1 .left) _ (c .before .before .before .before .before .before .before .before .before .before .capacity .ensures) _ (c .before .before .before .before .before .before .before .before .look-low .ensures .0) (c .before .before .before .before .before .before .if2 .left) _ (c .before .before .before .before .before .before .before .before .look-low .ensures .1 .0) (below-ne (c .before .before .before .before .before .before .before .before .look-low .result .place) (c .before .before .before .before .before .before .before .before .before .before .before .before .before .before .args .order) (c .before .before .before .before .before .if3 .left) (c .before .before .before .before .before .before .before .before .look-low .ensures .1 .1)) _ (c .before .before .before .slot-at .ensures)) _ _ (c .before .lower .ensures) (c .if4 .taken)) refl
+returns-4 c =
+    let start = c .before .before .before .before .before .before .before .before .before .before .before .before .before .before in
+    let shape = c .before .before .before .before .before .before .before .before .before .before .before .before .shape-ok in
+    let if1 = c .before .before .before .before .before .before .before .before .before .before .before .if1 in
+    let cap = c .before .before .before .before .before .before .before .before .before .before .capacity in
+    let look = c .before .before .before .before .before .before .before .before .look-low in
+    let if2 = c .before .before .before .before .before .before .if2 in
+    let if3 = c .before .before .before .before .before .if3 in
+    let slot = c .before .before .before .slot-at in
+    let lower = c .before .lower in
+    let if4 = c .if4 in
+    replace-first (fit (start .args .order) (start .args .levels) (start .args .store .now) _ (shape .ensures) (if1 .left) _ (cap .ensures)) _ _ (look .ensures .0) (look .ensures .1 .0) (if2 .left) (if3 .left) (look .ensures .1 .1) _ (slot .ensures) (start .args .x) _ (lower .ensures) (if4 .taken)
 
 swap-requires : tie.Need-swap-requires
-swap-requires c κs = (opened-lies _ _ _ _ (looked (c .before .before .before .before .before .before .before .before .before .before .before .before .before .before .before .args .order) (c .before .before .before .before .before .before .before .before .before .before .before .before .before .before .before .args .levels) (c .before .before .before .before .before .before .before .before .before .before .before .before .before .before .before .args .store .now) _ (c .before .before .before .before .before .before .before .before .before .before .before .before .before .shape-ok .ensures) (c .before .before .before .before .before .before .before .before .before .before .before .before .if1 .left) _ (c .before .before .before .before .before .before .before .before .before .before .before .capacity .ensures) _ (c .before .before .before .before .before .before .before .before .before .look-low .ensures .0) (c .before .before .before .before .before .before .before .if2 .left)), looked-seen (c .before .before .before .before .before .before .before .before .before .before .before .before .before .before .before .args .order) (c .before .before .before .before .before .before .before .before .before .before .before .before .before .before .before .args .levels) (c .before .before .before .before .before .before .before .before .before .before .before .before .before .before .before .args .store .now) _ (c .before .before .before .before .before .before .before .before .before .before .before .before .before .shape-ok .ensures) (c .before .before .before .before .before .before .before .before .before .before .before .before .if1 .left) _ (c .before .before .before .before .before .before .before .before .before .before .before .capacity .ensures) _ (c .before .before .before .before .before .before .before .before .before .look-low .ensures .0) (c .before .before .before .before .before .before .before .if2 .left) _ (c .before .before .before .before .before .before .before .before .before .look-low .ensures .1 .0) (below-ne (c .before .before .before .before .before .before .before .before .before .look-low .result .place) (c .before .before .before .before .before .before .before .before .before .before .before .before .before .before .before .args .order) (c .before .before .before .before .before .before .if3 .left) (c .before .before .before .before .before .before .before .before .before .look-low .ensures .1 .1)))
+swap-requires c κs =
+    let start = c .before .before .before .before .before .before .before .before .before .before .before .before .before .before .before in
+    let shape = c .before .before .before .before .before .before .before .before .before .before .before .before .before .shape-ok in
+    let if1 = c .before .before .before .before .before .before .before .before .before .before .before .before .if1 in
+    let cap = c .before .before .before .before .before .before .before .before .before .before .before .capacity in
+    let look = c .before .before .before .before .before .before .before .before .before .look-low in
+    let if2 = c .before .before .before .before .before .before .before .if2 in
+    let if3 = c .before .before .before .before .before .before .if3 in
+    (root-stands (fit (start .args .order) (start .args .levels) (start .args .store .now) _ (shape .ensures) (if1 .left) _ (cap .ensures)), root-seen (fit (start .args .order) (start .args .levels) (start .args .store .now) _ (shape .ensures) (if1 .left) _ (cap .ensures)) _ _ (look .ensures .0) (look .ensures .1 .0) (if2 .left) (if3 .left) (look .ensures .1 .1))
 
 same-length-4 : tie.Need-same-length-4
-same-length-4 c = c .before .before .before .swap .kept .0
+same-length-4 c = search needs
 
 returns-5 : tie.Need-returns-5
-returns-5 c = carried-damaged _ _ _ _ (looked (c .before .before .before .before .before .before .before .before .before .before .before .before .before .before .before .before .before .before .before .args .order) (c .before .before .before .before .before .before .before .before .before .before .before .before .before .before .before .before .before .before .before .args .levels) (c .before .before .before .before .before .before .before .before .before .before .before .before .before .before .before .before .before .before .before .args .store .now) _ (c .before .before .before .before .before .before .before .before .before .before .before .before .before .before .before .before .before .shape-ok .ensures) (c .before .before .before .before .before .before .before .before .before .before .before .before .before .before .before .before .if1 .left) _ (c .before .before .before .before .before .before .before .before .before .before .before .before .before .before .before .capacity .ensures) _ (c .before .before .before .before .before .before .before .before .before .before .before .before .before .look-low .ensures .0) (c .before .before .before .before .before .before .before .before .before .before .before .if2 .left)) _ _ _ (replace-swaps (c .before .before .before .before .before .before .before .before .before .before .before .before .before .before .before .before .before .before .before .args .order) (c .before .before .before .before .before .before .before .before .before .before .before .before .before .before .before .before .before .before .before .args .levels) (c .before .before .before .before .before .before .before .before .before .before .before .before .before .before .before .before .before .before .before .args .store .now) (sumCounts (rootOf (c .before .before .before .before .before .before .before .before .before .before .before .before .before .before .before .before .before .before .before .args .order) (c .before .before .before .before .before .before .before .before .before .before .before .before .before .before .before .before .before .before .before .args .store .now))) refl (looked-some (c .before .before .before .before .before .before .before .before .before .before .before .before .before .before .before .before .before .before .before .args .order) (c .before .before .before .before .before .before .before .before .before .before .before .before .before .before .before .before .before .before .before .args .levels) (c .before .before .before .before .before .before .before .before .before .before .before .before .before .before .before .before .before .before .before .args .store .now) _ (c .before .before .before .before .before .before .before .before .before .before .before .before .before .before .before .before .before .shape-ok .ensures) (c .before .before .before .before .before .before .before .before .before .before .before .before .before .before .before .before .if1 .left) _ (c .before .before .before .before .before .before .before .before .before .before .before .before .before .before .before .capacity .ensures) _ (c .before .before .before .before .before .before .before .before .before .before .before .before .before .look-low .ensures .0) (c .before .before .before .before .before .before .before .before .before .before .before .if2 .left) _ (c .before .before .before .before .before .before .before .before .before .before .before .before .before .look-low .ensures .1 .0) (below-ne (c .before .before .before .before .before .before .before .before .before .before .before .before .before .look-low .result .place) (c .before .before .before .before .before .before .before .before .before .before .before .before .before .before .before .before .before .before .before .args .order) (c .before .before .before .before .before .before .before .before .before .before .if3 .left) (c .before .before .before .before .before .before .before .before .before .before .before .before .before .look-low .ensures .1 .1))) _ (looked-low (c .before .before .before .before .before .before .before .before .before .before .before .before .before .before .before .before .before .before .before .args .order) (c .before .before .before .before .before .before .before .before .before .before .before .before .before .before .before .before .before .before .before .args .levels) (c .before .before .before .before .before .before .before .before .before .before .before .before .before .before .before .before .before .before .before .args .store .now) _ (c .before .before .before .before .before .before .before .before .before .before .before .before .before .before .before .before .before .shape-ok .ensures) (c .before .before .before .before .before .before .before .before .before .before .before .before .before .before .before .before .if1 .left) _ (c .before .before .before .before .before .before .before .before .before .before .before .before .before .before .before .capacity .ensures) _ (c .before .before .before .before .before .before .before .before .before .before .before .before .before .look-low .ensures .0) (c .before .before .before .before .before .before .before .before .before .before .before .if2 .left) _ (c .before .before .before .before .before .before .before .before .before .before .before .before .before .look-low .ensures .1 .0) (below-ne (c .before .before .before .before .before .before .before .before .before .before .before .before .before .look-low .result .place) (c .before .before .before .before .before .before .before .before .before .before .before .before .before .before .before .before .before .before .before .args .order) (c .before .before .before .before .before .before .before .before .before .before .if3 .left) (c .before .before .before .before .before .before .before .before .before .before .before .before .before .look-low .ensures .1 .1)) _ (c .before .before .before .before .before .before .before .before .slot-at .ensures)) _ _ (c .before .before .before .before .before .before .lower .ensures) (c .before .before .before .before .before .if4 .left)) _ _ (c .before .before .before .swap .ensures) (c .if5 .taken)
+returns-5 c =
+    let start = c .before .before .before .before .before .before .before .before .before .before .before .before .before .before .before .before .before .before .before in
+    let shape = c .before .before .before .before .before .before .before .before .before .before .before .before .before .before .before .before .before .shape-ok in
+    let if1 = c .before .before .before .before .before .before .before .before .before .before .before .before .before .before .before .before .if1 in
+    let cap = c .before .before .before .before .before .before .before .before .before .before .before .before .before .before .before .capacity in
+    let look = c .before .before .before .before .before .before .before .before .before .before .before .before .before .look-low in
+    let if2 = c .before .before .before .before .before .before .before .before .before .before .before .if2 in
+    let if3 = c .before .before .before .before .before .before .before .before .before .before .if3 in
+    let slot = c .before .before .before .before .before .before .before .before .slot-at in
+    let lower = c .before .before .before .before .before .before .lower in
+    let if4 = c .before .before .before .before .before .if4 in
+    let done = c .before .before .before .swap in
+    let if5 = c .if5 in
+    replace-broken (fit (start .args .order) (start .args .levels) (start .args .store .now) _ (shape .ensures) (if1 .left) _ (cap .ensures)) _ _ (look .ensures .0) (look .ensures .1 .0) (if2 .left) (if3 .left) (look .ensures .1 .1) _ (slot .ensures) (start .args .x) _ (lower .ensures) (if4 .left) _ _ (done .ensures) (if5 .taken)
 
 same-length-5 : tie.Need-same-length-5
-same-length-5 c = c .before .before .before .swap .kept .0
+same-length-5 c = search needs
 
 returns-6 : tie.Need-returns-6
-returns-6 c = carried-done _ _ _ _ (looked (c .before .before .before .before .before .before .before .before .before .before .before .before .before .before .before .before .before .before .before .args .order) (c .before .before .before .before .before .before .before .before .before .before .before .before .before .before .before .before .before .before .before .args .levels) (c .before .before .before .before .before .before .before .before .before .before .before .before .before .before .before .before .before .before .before .args .store .now) _ (c .before .before .before .before .before .before .before .before .before .before .before .before .before .before .before .before .before .shape-ok .ensures) (c .before .before .before .before .before .before .before .before .before .before .before .before .before .before .before .before .if1 .left) _ (c .before .before .before .before .before .before .before .before .before .before .before .before .before .before .before .capacity .ensures) _ (c .before .before .before .before .before .before .before .before .before .before .before .before .before .look-low .ensures .0) (c .before .before .before .before .before .before .before .before .before .before .before .if2 .left)) _ _ _ (replace-swaps (c .before .before .before .before .before .before .before .before .before .before .before .before .before .before .before .before .before .before .before .args .order) (c .before .before .before .before .before .before .before .before .before .before .before .before .before .before .before .before .before .before .before .args .levels) (c .before .before .before .before .before .before .before .before .before .before .before .before .before .before .before .before .before .before .before .args .store .now) (sumCounts (rootOf (c .before .before .before .before .before .before .before .before .before .before .before .before .before .before .before .before .before .before .before .args .order) (c .before .before .before .before .before .before .before .before .before .before .before .before .before .before .before .before .before .before .before .args .store .now))) refl (looked-some (c .before .before .before .before .before .before .before .before .before .before .before .before .before .before .before .before .before .before .before .args .order) (c .before .before .before .before .before .before .before .before .before .before .before .before .before .before .before .before .before .before .before .args .levels) (c .before .before .before .before .before .before .before .before .before .before .before .before .before .before .before .before .before .before .before .args .store .now) _ (c .before .before .before .before .before .before .before .before .before .before .before .before .before .before .before .before .before .shape-ok .ensures) (c .before .before .before .before .before .before .before .before .before .before .before .before .before .before .before .before .if1 .left) _ (c .before .before .before .before .before .before .before .before .before .before .before .before .before .before .before .capacity .ensures) _ (c .before .before .before .before .before .before .before .before .before .before .before .before .before .look-low .ensures .0) (c .before .before .before .before .before .before .before .before .before .before .before .if2 .left) _ (c .before .before .before .before .before .before .before .before .before .before .before .before .before .look-low .ensures .1 .0) (below-ne (c .before .before .before .before .before .before .before .before .before .before .before .before .before .look-low .result .place) (c .before .before .before .before .before .before .before .before .before .before .before .before .before .before .before .before .before .before .before .args .order) (c .before .before .before .before .before .before .before .before .before .before .if3 .left) (c .before .before .before .before .before .before .before .before .before .before .before .before .before .look-low .ensures .1 .1))) _ (looked-low (c .before .before .before .before .before .before .before .before .before .before .before .before .before .before .before .before .before .before .before .args .order) (c .before .before .before .before .before .before .before .before .before .before .before .before .before .before .before .before .before .before .before .args .levels) (c .before .before .before .before .before .before .before .before .before .before .before .before .before .before .before .before .before .before .before .args .store .now) _ (c .before .before .before .before .before .before .before .before .before .before .before .before .before .before .before .before .before .shape-ok .ensures) (c .before .before .before .before .before .before .before .before .before .before .before .before .before .before .before .before .if1 .left) _ (c .before .before .before .before .before .before .before .before .before .before .before .before .before .before .before .capacity .ensures) _ (c .before .before .before .before .before .before .before .before .before .before .before .before .before .look-low .ensures .0) (c .before .before .before .before .before .before .before .before .before .before .before .if2 .left) _ (c .before .before .before .before .before .before .before .before .before .before .before .before .before .look-low .ensures .1 .0) (below-ne (c .before .before .before .before .before .before .before .before .before .before .before .before .before .look-low .result .place) (c .before .before .before .before .before .before .before .before .before .before .before .before .before .before .before .before .before .before .before .args .order) (c .before .before .before .before .before .before .before .before .before .before .if3 .left) (c .before .before .before .before .before .before .before .before .before .before .before .before .before .look-low .ensures .1 .1)) _ (c .before .before .before .before .before .before .before .before .slot-at .ensures)) _ _ (c .before .before .before .before .before .before .lower .ensures) (c .before .before .before .before .before .if4 .left)) _ _ (c .before .before .before .swap .ensures) (c .if5 .left)
+returns-6 c =
+    let start = c .before .before .before .before .before .before .before .before .before .before .before .before .before .before .before .before .before .before .before in
+    let shape = c .before .before .before .before .before .before .before .before .before .before .before .before .before .before .before .before .before .shape-ok in
+    let if1 = c .before .before .before .before .before .before .before .before .before .before .before .before .before .before .before .before .if1 in
+    let cap = c .before .before .before .before .before .before .before .before .before .before .before .before .before .before .before .capacity in
+    let look = c .before .before .before .before .before .before .before .before .before .before .before .before .before .look-low in
+    let if2 = c .before .before .before .before .before .before .before .before .before .before .before .if2 in
+    let if3 = c .before .before .before .before .before .before .before .before .before .before .if3 in
+    let slot = c .before .before .before .before .before .before .before .before .slot-at in
+    let lower = c .before .before .before .before .before .before .lower in
+    let if4 = c .before .before .before .before .before .if4 in
+    let done = c .before .before .before .swap in
+    let if5 = c .if5 in
+    replace-done (fit (start .args .order) (start .args .levels) (start .args .store .now) _ (shape .ensures) (if1 .left) _ (cap .ensures)) _ _ (look .ensures .0) (look .ensures .1 .0) (if2 .left) (if3 .left) (look .ensures .1 .1) _ (slot .ensures) (start .args .x) _ (lower .ensures) (if4 .left) _ _ (done .ensures) (if5 .left)
 
 pub replace-spec : {M : Type 1} → statement M
-replace-spec =
-    tie.close
-    (tie.spec
-    shape-ok-requires
-    returns
-    sub-capacity
-    capacity-requires
-    look-low-requires
-    same-length
-    returns-2
-    same-length-2
-    returns-3
-    slot-at-requires
-    lower-requires
-    same-length-3
-    returns-4
-    swap-requires
-    same-length-4
-    returns-5
-    same-length-5
-    returns-6)
+replace-spec = tie.close (tie.spec shape-ok-requires returns sub-capacity capacity-requires look-low-requires same-length returns-2 same-length-2 returns-3 slot-at-requires lower-requires same-length-3 returns-4 swap-requires same-length-4 returns-5 same-length-5 returns-6)
