@@ -38,7 +38,7 @@ use Rattle.tree_model.specs.Words.{applyWords, levelsOf, nodeOf, slotOf, wipe}
 use Rattle.tree_model.specs.declared.Op.{Op}
 use Rattle.tree_model.specs.declared.Op.the-variants.{Nothing, Put, Swap, Take}
 use Rattle.tree_model.specs.declared.Slot.{Slot}
-use Rattle.tree.specs.Down.{Carried, Placed, Seen, Stands}
+use Rattle.tree.specs.Down.{Carried, Looked, Placed, Stands}
 use Rattle.tree.proofs.Once.{below-ne, on-path, tested}
 
 -- ---- the shape
@@ -162,18 +162,18 @@ module _ {m levels cap : ℕ} {ws : List ℕ} (f : Fit m levels cap ws) where
     replace-none x e = still root-fine (Replace x) (Out x) Nothing (replace-empty m levels ws _ refl x (root-none e)) refl
 
     module _ (some : j ≡ m → ⊥) (most : j ≤ m) where
-      pub root-seen : Seen m 0 j cap ws
-      root-seen = record { whole = cap-fine; place = place; inside = below-ne j m some most }
+      pub root-looked : Looked m levels 0 j cap ws
+      root-looked = record { stands = root-stands; whole = cap-fine; place = place; inside = below-ne j m some most }
 
       root-some : sumCounts (rootOf m ws) ≡ 0 → ⊥
       root-some z =
           let s : hasSome (nodeOf m ws 0) ≡ true =
-          and-right (nodeOk cap (nodeOf m ws 0)) (hasSome (nodeOf m ws 0)) (sym (some-test m ws 0 j cap true place (sym cap-fine)) ∙ lt-ltb j m (root-seen .inside)) in
+          and-right (nodeOk cap (nodeOf m ws 0)) (hasSome (nodeOf m ws 0)) (sym (some-test m ws 0 j cap true place (sym cap-fine)) ∙ lt-ltb j m (root-looked .inside)) in
           omega (arith, has-sum (nodeOf m ws 0) s)
 
       module _ (a : Slot) (read : a ≡ slotOf ws j) where
         low-is : a .element ≡ low (rootOf m ws)
-        low-is = low-found m ws 0 j a place (root-seen .inside) (read ∙ ap (slotOf ws) (sym (zero-add j)))
+        low-is = low-found m ws 0 j a place (root-looked .inside) (read ∙ ap (slotOf ws) (sym (zero-add j)))
 
         module _ (t : Bool) (q : List ℕ) (d : Carried m levels 0 Take ws t q) where
           pub pop-broken : not t ≡ true → outcome (Refused Damaged) q ≡ called m levels Pop ws
@@ -212,7 +212,7 @@ module _ {m levels cap : ℕ} {ws : List ℕ} (f : Fit m levels cap ws) where
     push-done e =
         let nd : List Slot = nodeOf m ws 0 in
         let r : ℕ = room m (levels - 1) in
-        let here : tested m 0 ws (Put x) (levels - 1) ≡ true = on-path m levels 0 cap ws root-stands (Put x) refl p q d e in
+        let here : tested m 0 ws (Put x) (levels - 1) ≡ true = on-path root-stands (Put x) refl p q d e in
         let read : (nodeOk r nd && hasRoom r nd) ≡ true = and-left (nodeOk r nd && hasRoom r nd) _ here in
         let ok : nodeOk r nd ≡ true = and-left (nodeOk r nd) (hasRoom r nd) read in
         let less : sumCounts nd < length nd * suc r = room-less r nd ok (and-right (nodeOk r nd) (hasRoom r nd) read) in

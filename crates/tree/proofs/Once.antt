@@ -3,12 +3,12 @@ use Prim.Native.Nat.{_*_, _+_, _-_, _/_, _<_, _≤_, pred, suc, zero, ℕ}
 use native.Mathlib.Nat.{mul-le-mul, mul-le-mul-right}
 use native.Mathlib.Numerals.{add-one}
 use native.Mathlib.Omega.{arith}
-use mathlib.Core.Bool.{_&&_, Bool, cond, false, not, true}
+use mathlib.Core.Bool.{_&&_, _||_, Bool, cond, false, not, true, true≢false}
 use mathlib.Core.List.{List}
 use mathlib.Core.Path.{_∙_, _≡_, ap, ap₂, refl, subst, sym}
-use lib.Dec.{leb, ltb}
+use lib.Dec.{eqb, leb, ltb}
 use lib.ListN.{length}
-use borrow.Author.Tests.{le-leb, le-ltb, lt-leb, lt-ltb, not-false, not-true}
+use borrow.Author.Tests.{eqb-false, eqb-true, le-leb, le-ltb, lt-leb, lt-ltb, ltb-false, ltb-true, not-false, not-true}
 use Rattle.node.proofs.Looks.{under-div}
 use Rattle.node.proofs.Scan.{low-found}
 use Rattle.node.proofs.Steps.{below-some, lift-ends, lift-reads, move-put, move-swap, move-take, put-first, put-full, put-test, some-test, step-put, step-swap, step-take, swap-ends, swap-lifts, swap-stays, take-ends, take-lifts}
@@ -31,7 +31,15 @@ use Rattle.tree_model.specs.declared.Op.the-variants.{Nothing, Put, Swap, Take}
 use Rattle.tree_model.specs.declared.Slot.{Slot}
 use Rattle.tree_model.specs.declared.Work.{Work}
 use Rattle.tree.proofs.Down.{Level, level-of, not-zero, size-step, step-in}
-use Rattle.tree.specs.Down.{Carried, Lies, Placed, Seen, Stands}
+use Rattle.tree.specs.Down.{Carried, Looked, Placed, Stands}
+
+left-off : (a b : Bool) → (a || b) ≡ false → a ≡ false
+left-off true b e = e
+left-off false b e = refl
+
+right-off : (a b : Bool) → (a || b) ≡ false → b ≡ false
+right-off true b e = absurd (true≢false e)
+right-off false b e = e
 
 pub below-ne : (p m : ℕ) → (p ≡ m → ⊥) → p ≤ m → p < m
 below-ne p m h l = omega arith
@@ -107,7 +115,7 @@ module _ (m k b c n at : ℕ) (ws : List ℕ) (p : Placed m (suc k) at b c n ws)
             ∙ apply-write m k (work (v .rest) (n * m + v .place)) (b + c * m) (c * m) ws (at + v .place) (v .slot) (omega (arith, own-level .own, place-in, here))
 
 -- ---- any operation at a node
-module _ (m k at cap : ℕ) (ws : List ℕ) (st : Stands m k at cap ws) where
+module _ {m k at cap : ℕ} {ws : List ℕ} (st : Stands m k at cap ws) where
   left-is : suc (k - 1) ≡ k
   left-is = omega (arith, st .some)
 
@@ -181,7 +189,7 @@ pub record Numbers (m at cap len : ℕ) : Type 0 where
 module _ {m k at cap : ℕ} {ws : List ℕ} (st : Stands m k at cap ws) where
   pub numbers : Numbers m at cap (length ws)
   numbers =
-      let l = own-level m (k - 1) (st .base) (st .nodes) (st .node) at ws (this-level m k at cap ws st) in
+      let l = own-level m (k - 1) (st .base) (st .nodes) (st .node) at ws (this-level st) in
       let s = step-in m (st .base) (st .nodes) (st .node) ws k (st .placed .lies) (not-zero (st .some)) in
       record {
         order = st .placed .lies .order;
@@ -210,7 +218,7 @@ module _ {m k at cap : ℕ} {ws : List ℕ} (st : Stands m k at cap ws) where
           base = st .base + st .nodes * m;
           nodes = st .nodes * m;
           node = st .node * m + j;
-          placed = placed-below m (k - 1) (st .base) (st .nodes) (st .node) at ws (this-level m k at cap ws st) j h;
+          placed = placed-below m (k - 1) (st .base) (st .nodes) (st .node) at ws (this-level st) j h;
           some = deep;
           fits = under-div m cap (room m (k - 1 - 1)) (numbers .order) cap-is;
         }
@@ -218,36 +226,47 @@ module _ {m k at cap : ℕ} {ws : List ℕ} (st : Stands m k at cap ws) where
   -- ---- put
   module _ (x : Element) (j : ℕ) (t : Bool) (whole : t ≡ nodeOk cap (nodeOf m ws at)) (least : j ≡ leastCount (nodeOf m ws at)) (inside : j < m)
       (a : Slot) (read : a ≡ slotOf ws (at + j)) where
-    put-tested : (t && leb (a .count) cap) ≡ tested m at ws (Put x) (k - 1)
+    -- what the code refuses by
+    abbrev crowded : Bool
+    crowded = not t || ltb cap (a .count)
+
+    put-tested : tested m at ws (Put x) (k - 1) ≡ not crowded
     put-tested =
-        step-put m (k - 1) (Put x) (nodeOf m ws at) (childOf m ((at + 1) * m) ws) x cap (t && leb (a .count) cap) refl
-        (record { within = λ h. st .fits; above = λ h. omega (arith, st .fits) }) (omega (arith, st .fits, numbers .limit)) (put-test m ws at j a inside read least cap t whole)
-
-    pub put-damaged : not t ≡ true → Carried m k at (Put x) ws false ws
-    unfolding isNothing
-    put-damaged e = off m k at cap ws st (Put x) refl (sym put-tested ∙ ap (λ (t : Bool). t && leb (a .count) cap) (not-true t e))
-
-    pub put-crowded : cap < a .count → Carried m k at (Put x) ws false ws
-    unfolding isNothing
-    put-crowded h = off m k at cap ws st (Put x) refl (sym put-tested ∙ ap (λ (s : Bool). t && s) (lt-leb (a .count) cap h) ∙ go t)
+        sym (step-put m (k - 1) (Put x) (nodeOf m ws at) (childOf m ((at + 1) * m) ws) x cap (t && leb (a .count) cap) refl
+        (record { within = λ h. st .fits; above = λ h. omega (arith, st .fits) }) (omega (arith, st .fits, numbers .limit)) (put-test m ws at j a inside read least cap t whole))
+        ∙ go t (ltb cap (a .count)) refl
       where
-        go : (t : Bool) → (t && false) ≡ false
-        go true = refl
-        go false = refl
+        go : (t s : Bool) → ltb cap (a .count) ≡ s → (t && leb (a .count) cap) ≡ not (not t || s)
+        go false s e = refl
+        go true true e = lt-leb (a .count) cap (ltb-true cap (a .count) e)
+        go true false e = le-leb (a .count) cap (ltb-false cap (a .count) e)
 
-    module _ (yes : not t ≡ false) (h : a .count ≤ cap) where
+    pub put-off : crowded ≡ true → Carried m k at (Put x) ws false ws
+    unfolding isNothing
+    put-off e = off st (Put x) refl (put-tested ∙ ap not e)
+
+    module _ (no : crowded ≡ false) where
       put-fine : tested m at ws (Put x) (k - 1) ≡ true
-      put-fine = sym put-tested ∙ ap₂ (λ (t s : Bool). t && s) (not-false t yes) (le-leb (a .count) cap h)
+      put-fine = put-tested ∙ ap not no
+
+      pub put-room : a .count ≤ cap
+      put-room = ltb-false cap (a .count) (right-off (not t) (ltb cap (a .count)) no)
 
       pub put-ends : a .count ≡ 0 → (r : List ℕ) → r ≡ write ws (at + j) (record { element = x; count = 1 }) → Carried m k at (Put x) ws true r
       unfolding isNothing
       put-ends z r w =
-          stops m k at cap ws st (Put x) refl put-fine (move j x 1 Nothing)
+          stops st (Put x) refl put-fine (move j x 1 Nothing)
           (move-put m (Put x) at ((at + 1) * m) ws _ x refl (put-first m ws at j a inside read least x _ z refl)) refl r w
 
       module _ (z : a .count ≡ 0 → ⊥) where
-        pub put-deep : 1 ≤ k - 1
-        put-deep = room-deep m (k - 1) (omega (arith, st .fits))
+        put-deep : 1 ≤ k - 1
+        put-deep = room-deep m (k - 1) (omega (arith, st .fits, put-room))
+
+        pub put-cap : 1 ≤ cap
+        put-cap = cap-some put-deep
+
+        pub put-stands : Stands m (k - 1) ((at + j + 1) * m) ((cap - 1) / m) ws
+        put-stands = stands-below put-deep j inside
 
         module _ (up down : Element) (eu : up ≡ keep x (a .element)) (ed : down ≡ pass x (a .element)) (q : Bool) (r : List ℕ)
             (d : Carried m (k - 1) ((at + j + 1) * m) (Put down) ws q r) where
@@ -259,141 +278,142 @@ module _ {m k at cap : ℕ} {ws : List ℕ} (st : Stands m k at cap ws) where
 
           pub put-fails : not q ≡ true → Carried m k at (Put x) ws false r
           unfolding isNothing
-          put-fails e = fails m k at cap ws st (Put x) refl put-fine (move j up (a .count + 1) (Put down)) put-moved q r d e
+          put-fails e = fails st (Put x) refl put-fine (move j up (a .count + 1) (Put down)) put-moved q r d e
 
           pub put-passes : not q ≡ false → (r′ : List ℕ) → r′ ≡ write r (at + j) (record { element = up; count = a .count + 1 }) → Carried m k at (Put x) ws true r′
           unfolding isNothing
-          put-passes e r′ w = passes m k at cap ws st (Put x) refl put-fine (move j up (a .count + 1) (Put down)) put-moved q r d e r′ w
+          put-passes e r′ w = passes st (Put x) refl put-fine (move j up (a .count + 1) (Put down)) put-moved q r d e r′ w
 
-  -- ---- take and swap, at a node that has been looked at
-  module _ {j : ℕ} (seen : Seen m at j cap ws) where
-    own-whole : nodeOk (room m (k - 1)) (nodeOf m ws at) ≡ true
-    own-whole = ap (λ (r : ℕ). nodeOk r (nodeOf m ws at)) (sym (st .fits)) ∙ seen .whole
+-- ---- take and swap, at a node that has been looked at
+module _ {m k at j cap : ℕ} {ws : List ℕ} (seen : Looked m k at j cap ws) where
+  st : Stands m k at cap ws
+  st = seen .stands
 
-    own-some : (nodeOk (room m (k - 1)) (nodeOf m ws at) && hasSome (nodeOf m ws at)) ≡ true
-    own-some = sym (some-test m ws at j (room m (k - 1)) true (seen .place) (sym own-whole)) ∙ lt-ltb j m (seen .inside)
+  own-whole : nodeOk (room m (k - 1)) (nodeOf m ws at) ≡ true
+  own-whole = ap (λ (r : ℕ). nodeOk r (nodeOf m ws at)) (sym (st .fits)) ∙ seen .whole
 
-    -- the first slot of the node below the first place, and of that below place j
-    abbrev f : ℕ
-    f = (at + 1) * m
+  own-some : (nodeOk (room m (k - 1)) (nodeOf m ws at) && hasSome (nodeOf m ws at)) ≡ true
+  own-some = sym (some-test m ws at j (room m (k - 1)) true (seen .place) (sym own-whole)) ∙ lt-ltb j m (seen .inside)
 
-    abbrev g : ℕ
-    g = (at + j + 1) * m
+  -- the first slot of the node below the first place, and of that below place j
+  abbrev f : ℕ
+  f = (at + 1) * m
 
-    child-at : g ≡ f + j * m
-    child-at = omega arith
+  abbrev g : ℕ
+  g = (at + j + 1) * m
 
-    abbrev lifted : Bool
-    lifted = liftOk m (k - 1) (nodeOf m ws at) (childOf m f ws)
+  child-at : g ≡ f + j * m
+  child-at = omega arith
 
-    via-take : (q : Bool) → q ≡ lifted → tested m at ws Take (k - 1) ≡ q
-    via-take q e = sym (step-take m (k - 1) Take (nodeOf m ws at) (childOf m f ws) q refl e)
+  abbrev lifted : Bool
+  lifted = liftOk m (k - 1) (nodeOf m ws at) (childOf m f ws)
 
-    via-swap : (x : Element) (q : Bool) → q ≡ lifted → tested m at ws (Swap x) (k - 1) ≡ q
-    via-swap x q e = sym (step-swap m (k - 1) (Swap x) (nodeOf m ws at) (childOf m f ws) x q refl e)
+  via-take : (q : Bool) → q ≡ lifted → tested m at ws Take (k - 1) ≡ q
+  via-take q e = sym (step-take m (k - 1) Take (nodeOf m ws at) (childOf m f ws) q refl e)
 
-    module _ (a : Slot) (read : a ≡ slotOf ws (at + j)) where
-      -- nothing below
-      module _ (h : a .count ≤ 1) (r : List ℕ) where
-        last-fine : true ≡ lifted
-        last-fine = lift-ends m ws at j a (seen .inside) read f (seen .place) (k - 1) own-some h
+  via-swap : (x : Element) (q : Bool) → q ≡ lifted → tested m at ws (Swap x) (k - 1) ≡ q
+  via-swap x q e = sym (step-swap m (k - 1) (Swap x) (nodeOf m ws at) (childOf m f ws) x q refl e)
 
-        pub take-last : (e : Element) → e ≡ blank → r ≡ write ws (at + j) (record { element = e; count = 0 }) → Carried m k at Take ws true r
+  module _ (a : Slot) (read : a ≡ slotOf ws (at + j)) where
+    -- nothing below
+    module _ (h : a .count ≤ 1) (r : List ℕ) where
+      last-fine : true ≡ lifted
+      last-fine = lift-ends m ws at j a (seen .inside) read f (seen .place) (k - 1) own-some h
+
+      pub take-last : (e : Element) → e ≡ blank → r ≡ write ws (at + j) (record { element = e; count = 0 }) → Carried m k at Take ws true r
+      unfolding isNothing
+      take-last e eb w =
+          stops st Take refl (via-take true last-fine) (move j e 0 Nothing)
+          (move-take m Take at f ws _ refl (take-ends m ws at j a (seen .inside) read f (seen .place) e _ h eb refl)) refl r w
+
+      pub swap-last : (x : Element) → r ≡ write ws (at + j) (record { element = x; count = a .count }) → Carried m k at (Swap x) ws true r
+      unfolding isNothing
+      swap-last x w =
+          stops st (Swap x) refl (via-swap x true last-fine) (move j x (a .count) Nothing)
+          (move-swap m (Swap x) at f ws _ x refl (swap-ends m ws at j a (seen .inside) read f (seen .place) x _ h refl)) refl r w
+
+    -- something below
+    module _ (h : 1 < a .count) where
+      lift-deep : 1 ≤ k - 1
+      lift-deep = below-some m ws at j a (seen .inside) read f (seen .place) (k - 1) own-whole h
+
+      pub lift-cap : 1 ≤ cap
+      lift-cap = cap-some st lift-deep
+
+      abbrev cap′ : ℕ
+      cap′ = (cap - 1) / m
+
+      pub lift-stands : Stands m (k - 1) g cap′ ws
+      lift-stands = stands-below st lift-deep j (seen .inside)
+
+      module _ (p : ℕ) (t : Bool) (whole : t ≡ nodeOk cap′ (nodeOf m ws g)) (lowest-is : p ≡ lowest (nodeOf m ws g)) (most : p ≤ m) where
+        -- what the code refuses by
+        abbrev unfit : Bool
+        unfit = not t || eqb p m
+
+        lift-tested : not unfit ≡ lifted
+        lift-tested =
+            go t (eqb p m) refl
+            ∙ lift-reads m ws at j a (seen .inside) read f (seen .place) (k - 1) (t && ltb p m) own-some h
+            (some-test m ws g p cap′ t lowest-is whole
+            ∙ ap₂ (λ (u i : ℕ). nodeOk u (nodeOf m ws i) && hasSome (nodeOf m ws i)) (lift-stands .fits) child-at)
+          where
+            go : (t s : Bool) → eqb p m ≡ s → not (not t || s) ≡ (t && ltb p m)
+            go false s e = refl
+            go true true e = sym (le-ltb p m (omega (arith, eqb-true p m e)))
+            go true false e = sym (lt-ltb p m (below-ne p m (eqb-false p m e) most))
+
+        pub take-off : unfit ≡ true → Carried m k at Take ws false ws
         unfolding isNothing
-        take-last e eb w =
-            stops m k at cap ws st Take refl (via-take true last-fine) (move j e 0 Nothing)
-            (move-take m Take at f ws _ refl (take-ends m ws at j a (seen .inside) read f (seen .place) e _ h eb refl)) refl r w
+        take-off e = off st Take refl (via-take false (ap not (sym e) ∙ lift-tested))
 
-        pub swap-last : (x : Element) → r ≡ write ws (at + j) (record { element = x; count = a .count }) → Carried m k at (Swap x) ws true r
+        pub swap-off : (x : Element) → unfit ≡ true → Carried m k at (Swap x) ws false ws
         unfolding isNothing
-        swap-last x w =
-            stops m k at cap ws st (Swap x) refl (via-swap x true last-fine) (move j x (a .count) Nothing)
-            (move-swap m (Swap x) at f ws _ x refl (swap-ends m ws at j a (seen .inside) read f (seen .place) x _ h refl)) refl r w
+        swap-off x e = off st (Swap x) refl (via-swap x false (ap not (sym e) ∙ lift-tested))
 
-      -- something below
-      module _ (h : 1 < a .count) where
-        pub lift-deep : 1 ≤ k - 1
-        lift-deep = below-some m ws at j a (seen .inside) read f (seen .place) (k - 1) own-whole h
+        module _ (no : unfit ≡ false) where
+          tests-on : true ≡ lifted
+          tests-on = ap not (sym no) ∙ lift-tested
 
-        abbrev cap′ : ℕ
-        cap′ = (cap - 1) / m
+          inside : p < m
+          inside = below-ne p m (eqb-false p m (right-off (not t) (eqb p m) no)) most
 
-        module _ (p : ℕ) (t : Bool) (whole : t ≡ nodeOk cap′ (nodeOf m ws g)) (lowest-is : p ≡ lowest (nodeOf m ws g)) where
-          lift-tested : (t && ltb p m) ≡ lifted
-          lift-tested =
-              lift-reads m ws at j a (seen .inside) read f (seen .place) (k - 1) (t && ltb p m) own-some h
-              (some-test m ws g p cap′ t lowest-is whole
-              ∙ ap₂ (λ (u i : ℕ). nodeOk u (nodeOf m ws i) && hasSome (nodeOf m ws i)) (stands-below lift-deep j (seen .inside) .fits) child-at)
+          pub lift-looked : Looked m (k - 1) g p cap′ ws
+          lift-looked = record { stands = lift-stands; whole = sym whole ∙ not-false t (left-off (not t) (eqb p m) no); place = lowest-is; inside = inside }
 
-          tests-off : not t ≡ true → false ≡ lifted
-          tests-off e = sym (ap (λ (t : Bool). t && ltb p m) (not-true t e)) ∙ lift-tested
+          module _ (e : Slot) (read-low : e ≡ slotOf ws (g + p)) where
+            up-is : e .element ≡ low (childOf m f ws j)
+            up-is = low-found m ws g p e lowest-is inside read-low ∙ ap (λ (i : ℕ). low (nodeOf m ws i)) child-at
 
-          tests-none : p ≡ m → false ≡ lifted
-          tests-none e = go t ∙ ap (λ (s : Bool). t && s) (sym (le-ltb p m (omega arith))) ∙ lift-tested
-            where
-              go : (t : Bool) → false ≡ (t && false)
-              go true = refl
-              go false = refl
+            module _ (q : Bool) (r : List ℕ) (d : Carried m (k - 1) g Take ws q r) where
+              take-moved : move j (e .element) (a .count - 1) Take ≡ moved m at ws Take
+              take-moved = move-take m Take at f ws _ refl (take-lifts m ws at j a (seen .inside) read f (seen .place) (e .element) _ h up-is refl)
 
-          pub take-damaged : not t ≡ true → Carried m k at Take ws false ws
-          unfolding isNothing
-          take-damaged e = off m k at cap ws st Take refl (via-take false (tests-off e))
+              pub take-fails : not q ≡ true → Carried m k at Take ws false r
+              unfolding isNothing
+              take-fails n = fails st Take refl (via-take true tests-on) (move j (e .element) (a .count - 1) Take) take-moved q r d n
 
-          pub take-empty : p ≡ m → Carried m k at Take ws false ws
-          unfolding isNothing
-          take-empty e = off m k at cap ws st Take refl (via-take false (tests-none e))
+              pub take-passes : not q ≡ false → (r′ : List ℕ) → r′ ≡ write r (at + j) (record { element = e .element; count = a .count - 1 }) → Carried m k at Take ws true r′
+              unfolding isNothing
+              take-passes n r′ w = passes st Take refl (via-take true tests-on) (move j (e .element) (a .count - 1) Take) take-moved q r d n r′ w
 
-          pub swap-damaged : (x : Element) → not t ≡ true → Carried m k at (Swap x) ws false ws
-          unfolding isNothing
-          swap-damaged x e = off m k at cap ws st (Swap x) refl (via-swap x false (tests-off e))
+            module _ (x : Element) (s : Bool) (is-lower : s ≡ ltb (key (e .element)) (key x)) where
+              pub swap-keeps : not s ≡ true → (r : List ℕ) → r ≡ write ws (at + j) (record { element = x; count = a .count }) → Carried m k at (Swap x) ws true r
+              unfolding isNothing
+              swap-keeps n r w =
+                  stops st (Swap x) refl (via-swap x true tests-on) (move j x (a .count) Nothing)
+                  (move-swap m (Swap x) at f ws _ x refl (swap-stays m ws at j a (seen .inside) read f (seen .place) x (e .element) s _ h up-is is-lower (not-true s n) refl)) refl r w
 
-          pub swap-empty : (x : Element) → p ≡ m → Carried m k at (Swap x) ws false ws
-          unfolding isNothing
-          swap-empty x e = off m k at cap ws st (Swap x) refl (via-swap x false (tests-none e))
+              module _ (yes′ : not s ≡ false) (q : Bool) (r : List ℕ) (d : Carried m (k - 1) g (Swap x) ws q r) where
+                swap-moved : move j (e .element) (a .count) (Swap x) ≡ moved m at ws (Swap x)
+                swap-moved =
+                    move-swap m (Swap x) at f ws _ x refl
+                    (swap-lifts m ws at j a (seen .inside) read f (seen .place) x (e .element) s _ h up-is is-lower (not-false s yes′) refl)
 
-          module _ (yes : not t ≡ false) (some : p ≡ m → ⊥) (most : p ≤ m) where
-            inside : p < m
-            inside = below-ne p m some most
-
-            tests-on : true ≡ lifted
-            tests-on = sym (ap₂ (λ (t s : Bool). t && s) (not-false t yes) (lt-ltb p m inside)) ∙ lift-tested
-
-            pub seen-below : Seen m g p cap′ ws
-            seen-below = record { whole = sym whole ∙ not-false t yes; place = lowest-is; inside = inside }
-
-            module _ (e : Slot) (read-low : e ≡ slotOf ws (g + p)) where
-              up-is : e .element ≡ low (childOf m f ws j)
-              up-is = low-found m ws g p e lowest-is inside read-low ∙ ap (λ (i : ℕ). low (nodeOf m ws i)) child-at
-
-              module _ (q : Bool) (r : List ℕ) (d : Carried m (k - 1) g Take ws q r) where
-                take-moved : move j (e .element) (a .count - 1) Take ≡ moved m at ws Take
-                take-moved = move-take m Take at f ws _ refl (take-lifts m ws at j a (seen .inside) read f (seen .place) (e .element) _ h up-is refl)
-
-                pub take-fails : not q ≡ true → Carried m k at Take ws false r
+                pub swap-fails : not q ≡ true → Carried m k at (Swap x) ws false r
                 unfolding isNothing
-                take-fails n = fails m k at cap ws st Take refl (via-take true tests-on) (move j (e .element) (a .count - 1) Take) take-moved q r d n
+                swap-fails n = fails st (Swap x) refl (via-swap x true tests-on) (move j (e .element) (a .count) (Swap x)) swap-moved q r d n
 
-                pub take-passes : not q ≡ false → (r′ : List ℕ) → r′ ≡ write r (at + j) (record { element = e .element; count = a .count - 1 }) → Carried m k at Take ws true r′
+                pub swap-passes : not q ≡ false → (r′ : List ℕ) → r′ ≡ write r (at + j) (record { element = e .element; count = a .count }) → Carried m k at (Swap x) ws true r′
                 unfolding isNothing
-                take-passes n r′ w = passes m k at cap ws st Take refl (via-take true tests-on) (move j (e .element) (a .count - 1) Take) take-moved q r d n r′ w
-
-              module _ (x : Element) (s : Bool) (is-lower : s ≡ ltb (key (e .element)) (key x)) where
-                pub swap-keeps : not s ≡ true → (r : List ℕ) → r ≡ write ws (at + j) (record { element = x; count = a .count }) → Carried m k at (Swap x) ws true r
-                unfolding isNothing
-                swap-keeps n r w =
-                    stops m k at cap ws st (Swap x) refl (via-swap x true tests-on) (move j x (a .count) Nothing)
-                    (move-swap m (Swap x) at f ws _ x refl (swap-stays m ws at j a (seen .inside) read f (seen .place) x (e .element) s _ h up-is is-lower (not-true s n) refl)) refl r w
-
-                module _ (yes′ : not s ≡ false) (q : Bool) (r : List ℕ) (d : Carried m (k - 1) g (Swap x) ws q r) where
-                  swap-moved : move j (e .element) (a .count) (Swap x) ≡ moved m at ws (Swap x)
-                  swap-moved =
-                      move-swap m (Swap x) at f ws _ x refl
-                      (swap-lifts m ws at j a (seen .inside) read f (seen .place) x (e .element) s _ h up-is is-lower (not-false s yes′) refl)
-
-                  pub swap-fails : not q ≡ true → Carried m k at (Swap x) ws false r
-                  unfolding isNothing
-                  swap-fails n = fails m k at cap ws st (Swap x) refl (via-swap x true tests-on) (move j (e .element) (a .count) (Swap x)) swap-moved q r d n
-
-                  pub swap-passes : not q ≡ false → (r′ : List ℕ) → r′ ≡ write r (at + j) (record { element = e .element; count = a .count }) → Carried m k at (Swap x) ws true r′
-                  unfolding isNothing
-                  swap-passes n r′ w = passes m k at cap ws st (Swap x) refl (via-swap x true tests-on) (move j (e .element) (a .count) (Swap x)) swap-moved q r d n r′ w
+                swap-passes n r′ w = passes st (Swap x) refl (via-swap x true tests-on) (move j (e .element) (a .count) (Swap x)) swap-moved q r d n r′ w

@@ -38,7 +38,8 @@ pub record Stands (m k at cap : ℕ) (ws : List ℕ) : Type 0 where
   pub fits : cap ≡ room m (k - 1)
 
 -- .. and it has been looked at: it is whole, and j is its lowest place
-pub record Seen (m at j cap : ℕ) (ws : List ℕ) : Type 0 where
+pub record Looked (m k at j cap : ℕ) (ws : List ℕ) : Type 0 where
+  pub stands : Stands m k at cap ws
   pub whole : nodeOk cap (nodeOf m ws at) ≡ true
   pub place : j ≡ lowest (nodeOf m ws at)
   pub inside : j < m

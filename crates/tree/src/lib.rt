@@ -4,13 +4,12 @@ ghost use mathlib.Core.List.{_++_};
 ghost use Prim.Native.Nat.{_≤_};
 ghost use lib.ListN.{length, drop, replicate};
 ghost use Rattle.tree_model.specs.Calls.{outcome, called, cleared, counted};
-ghost use Rattle.tree.specs.Down.{Carried, Seen, Stands};
+ghost use Rattle.tree.specs.Down.{Carried, Looked, Stands};
 use node::capacity;
 use node::goes_down;
 use node::look_least;
 use node::look_low;
 use node::lower;
-use node::node_ok;
 use node::shape_ok;
 use node::slot_at;
 use node::stays;
@@ -36,13 +35,10 @@ fn put(s: &mut [u32], order: usize, left: usize, at: usize, cap: usize, x: Eleme
     ensures { λ r. ⌜ Carried order left at (Op.Put x) (now (s .entry)) r (now (s .exit)) ⌝ }
 {
     let v = look_least(s, at, order, cap);
-    if !v.ok {
-        return false;
-    }
     let i = at + v.place;
     let a = slot_at(s, i);
     let count = a.count;
-    if cap < count as usize {
+    if !v.ok | (cap < count as usize) {
         return false;
     }
     if count == 0 {
@@ -72,7 +68,7 @@ fn put(s: &mut [u32], order: usize, left: usize, at: usize, cap: usize, x: Eleme
 
 // The node has been looked at, and j is the place to take from: the node below is looked at before the work goes there.
 fn take(s: &mut [u32], order: usize, left: usize, at: usize, j: usize, cap: usize) -> bool
-    requires { ⌜ Stands order left at cap (now s) × Seen order at j cap (now s) ⌝ }
+    requires { ⌜ Looked order left at j cap (now s) ⌝ }
     ensures { λ r. ⌜ Carried order left at Op.Take (now (s .entry)) r (now (s .exit)) ⌝ }
 {
     let i = at + j;
@@ -90,11 +86,8 @@ fn take(s: &mut [u32], order: usize, left: usize, at: usize, j: usize, cap: usiz
     let below = (i + 1) * order;
     let under = (cap - 1) / order;
     let v = look_low(s, below, order, under);
-    if !v.ok {
-        return false;
-    }
     let p = v.place;
-    if p == order {
+    if !v.ok | (p == order) {
         return false;
     }
     let k = slot_at(s, below + p);
@@ -120,7 +113,7 @@ fn swap(
     cap: usize,
     x: Element,
 ) -> bool
-    requires { ⌜ Stands order left at cap (now s) × Seen order at j cap (now s) ⌝ }
+    requires { ⌜ Looked order left at j cap (now s) ⌝ }
     ensures { λ r. ⌜ Carried order left at (Op.Swap x) (now (s .entry)) r (now (s .exit)) ⌝ }
 {
     let i = at + j;
@@ -134,11 +127,8 @@ fn swap(
     let below = (i + 1) * order;
     let under = (cap - 1) / order;
     let v = look_low(s, below, order, under);
-    if !v.ok {
-        return false;
-    }
     let p = v.place;
-    if p == order {
+    if !v.ok | (p == order) {
         return false;
     }
     let k = slot_at(s, below + p);
@@ -165,7 +155,8 @@ pub fn held(store: &[u32], order: usize, levels: usize) -> Count
     if !shape_ok(order, levels, store.len()) {
         return Count::Unknown(Refusal::BadShape);
     }
-    if !node_ok(store, 0, order, capacity(order, levels - 1)) {
+    let v = look_low(store, 0, order, capacity(order, levels - 1));
+    if !v.ok {
         return Count::Unknown(Refusal::Damaged);
     }
     Count::Held(sum_counts(store, 0, order) as u32)

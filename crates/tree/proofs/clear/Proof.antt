@@ -15,43 +15,40 @@ shape-ok-requires c κs = search needs
 
 returns : tie.Need-returns
 returns c =
-    let shape = c .before .shape-ok in
-    let if1 = c .if1 in
-    clear-shape _ _ _ _ (shape .ensures) (if1 .taken)
+    let at-shape = c .before in
+    clear-shape _ _ _ _ (at-shape .shape-ok .ensures) (c .if1 .taken)
 
 capacity-requires : tie.Need-capacity-requires
 capacity-requires c κs =
-    let start = c .before .before .before .before in
-    let shape = c .before .before .shape-ok in
-    let if1 = c .before .if1 in
-    shape-few (start .args .order) (start .args .levels) (start .args .store .now) _ (shape .ensures) (if1 .left)
+    let at-if1 = c .before in
+    let at-shape = at-if1 .before in
+    let start = at-shape .before .before in
+    shape-few (start .args .order) (start .args .levels) (start .args .store .now) _ (at-shape .shape-ok .ensures) (at-if1 .if1 .left)
 
 mul-zero-words : tie.Need-mul-zero-words
 mul-zero-words c =
-    let start = c .before .before .before .before .before in
-    let shape = c .before .before .before .shape-ok in
-    let if1 = c .before .before .if1 in
-    let cap = c .capacity in
-    omega (arith, clear-fits (start .args .order) (start .args .levels) (start .args .store .now) _ (shape .ensures) (if1 .left) (cap .result) (cap .ensures))
+    let at-if1 = c .before .before in
+    let at-shape = at-if1 .before in
+    let start = at-shape .before .before in
+    omega (arith, clear-fits (start .args .order) (start .args .levels) (start .args .store .now) _ (at-shape .shape-ok .ensures) (at-if1 .if1 .left) (c .capacity .result) (c .capacity .ensures))
 
 zero-words-requires : tie.Need-zero-words-requires
 zero-words-requires c κs =
-    let start = c .before .before .before .before .before in
-    let shape = c .before .before .before .shape-ok in
-    let if1 = c .before .before .if1 in
-    let cap = c .capacity in
-    clear-fits (start .args .order) (start .args .levels) (start .args .store .now) _ (shape .ensures) (if1 .left) _ (cap .ensures) .0
+    let at-if1 = c .before .before in
+    let at-shape = at-if1 .before in
+    let start = at-shape .before .before in
+    clear-fits (start .args .order) (start .args .levels) (start .args .store .now) _ (at-shape .shape-ok .ensures) (at-if1 .if1 .left) _ (c .capacity .ensures) .0
 
 same-length : tie.Need-same-length
 same-length c = search needs
 
 returns-2 : tie.Need-returns-2
 returns-2 c =
-    let shape = c .before .before .before .before .before .before .shape-ok in
-    let if1 = c .before .before .before .before .before .if1 in
-    let cap = c .before .before .before .capacity in
-    let zero-words = c .before .before .zero-words in
-    clear-done _ _ _ _ (shape .ensures) (if1 .left) _ (cap .ensures) _ (zero-words .ensures)
+    let at-zero-words = c .before .before in
+    let at-cap = at-zero-words .before in
+    let at-if1 = at-cap .before .before in
+    let at-shape = at-if1 .before in
+    clear-done _ _ _ _ (at-shape .shape-ok .ensures) (at-if1 .if1 .left) _ (at-cap .capacity .ensures) _ (at-zero-words .zero-words .ensures)
 
 pub clear-spec : {M : Type 1} → statement M
 clear-spec = tie.close (tie.spec shape-ok-requires returns capacity-requires mul-zero-words zero-words-requires same-length returns-2)

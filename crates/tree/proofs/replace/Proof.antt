@@ -1,7 +1,7 @@
 -- `tree::replace` meets its contract. Assumes nothing.
 use native.Mathlib.Omega.{arith}
 use borrow.Author.Needs.{needs}
-use Rattle.tree.proofs.Calls.{called-damaged, called-shape, fit, replace-broken, replace-done, replace-first, replace-none, root-seen, root-stands, shape-few, shape-here}
+use Rattle.tree.proofs.Calls.{called-damaged, called-shape, fit, replace-broken, replace-done, replace-first, replace-none, root-looked, root-stands, shape-few, shape-here}
 use Rattle.tree.proofs.Once.{look-in, numbers}
 use Rattle.tree.proofs.replace.Statement.{statement}
 use Rattle.tree.proofs.replace.Tie as tie
@@ -19,69 +19,64 @@ shape-ok-requires c κs = search needs
 
 returns : tie.Need-returns
 returns c =
-    let shape = c .before .shape-ok in
-    let if1 = c .if1 in
-    called-shape _ _ _ _ _ (shape .ensures) (if1 .taken)
+    let at-shape = c .before in
+    called-shape _ _ _ _ _ (at-shape .shape-ok .ensures) (c .if1 .taken)
 
 sub-capacity : tie.Need-sub-capacity
 sub-capacity c =
-    let start = c .before .before .before in
-    let shape = c .before .shape-ok in
-    let if1 = c .if1 in
-    omega (arith, shape-here (start .args .order) (start .args .levels) (start .args .store .now) _ (shape .ensures) (if1 .left))
+    let at-shape = c .before in
+    let start = at-shape .before .before in
+    omega (arith, shape-here (start .args .order) (start .args .levels) (start .args .store .now) _ (at-shape .shape-ok .ensures) (c .if1 .left))
 
 capacity-requires : tie.Need-capacity-requires
 capacity-requires c κs =
-    let start = c .before .before .before in
-    let shape = c .before .shape-ok in
-    let if1 = c .if1 in
-    shape-few (start .args .order) (start .args .levels) (start .args .store .now) _ (shape .ensures) (if1 .left)
+    let at-shape = c .before in
+    let start = at-shape .before .before in
+    shape-few (start .args .order) (start .args .levels) (start .args .store .now) _ (at-shape .shape-ok .ensures) (c .if1 .left)
 
 look-low-requires : tie.Need-look-low-requires
 look-low-requires c κs =
-    let start = c .before .before .before .before .before in
-    let shape = c .before .before .before .shape-ok in
-    let if1 = c .before .before .if1 in
-    let cap = c .before .capacity in
-    look-in (root-stands (fit (start .args .order) (start .args .levels) (start .args .store .now) _ (shape .ensures) (if1 .left) _ (cap .ensures)))
+    let at-cap = c .before in
+    let at-if1 = at-cap .before in
+    let at-shape = at-if1 .before in
+    let start = at-shape .before .before in
+    look-in (root-stands (fit (start .args .order) (start .args .levels) (start .args .store .now) _ (at-shape .shape-ok .ensures) (at-if1 .if1 .left) _ (at-cap .capacity .ensures)))
 
 same-length : tie.Need-same-length
 same-length c = search needs
 
 returns-2 : tie.Need-returns-2
 returns-2 c =
-    let start = c .before .before .before .before .before .before .before .before in
-    let shape = c .before .before .before .before .before .before .shape-ok in
-    let if1 = c .before .before .before .before .before .if1 in
-    let cap = c .before .before .before .before .capacity in
-    let look = c .before .before .look-low in
-    let if2 = c .if2 in
-    called-damaged (fit (start .args .order) (start .args .levels) (start .args .store .now) _ (shape .ensures) (if1 .left) _ (cap .ensures)) _ _ (look .ensures .0) (if2 .taken)
+    let at-look = c .before .before in
+    let at-cap = at-look .before .before in
+    let at-if1 = at-cap .before in
+    let at-shape = at-if1 .before in
+    let start = at-shape .before .before in
+    called-damaged (fit (start .args .order) (start .args .levels) (start .args .store .now) _ (at-shape .shape-ok .ensures) (at-if1 .if1 .left) _ (at-cap .capacity .ensures)) _ _ (at-look .look-low .ensures .0) (c .if2 .taken)
 
 same-length-2 : tie.Need-same-length-2
 same-length-2 c = search needs
 
 returns-3 : tie.Need-returns-3
 returns-3 c =
-    let start = c .before .before .before .before .before .before .before .before .before in
-    let shape = c .before .before .before .before .before .before .before .shape-ok in
-    let if1 = c .before .before .before .before .before .before .if1 in
-    let cap = c .before .before .before .before .before .capacity in
-    let look = c .before .before .before .look-low in
-    let if2 = c .before .if2 in
-    let if3 = c .if3 in
-    replace-none (fit (start .args .order) (start .args .levels) (start .args .store .now) _ (shape .ensures) (if1 .left) _ (cap .ensures)) _ _ (look .ensures .0) (look .ensures .1 .0) (if2 .left) (start .args .x) (if3 .taken)
+    let at-if2 = c .before in
+    let at-look = at-if2 .before .before in
+    let at-cap = at-look .before .before in
+    let at-if1 = at-cap .before in
+    let at-shape = at-if1 .before in
+    let start = at-shape .before .before in
+    replace-none (fit (start .args .order) (start .args .levels) (start .args .store .now) _ (at-shape .shape-ok .ensures) (at-if1 .if1 .left) _ (at-cap .capacity .ensures)) _ _ (at-look .look-low .ensures .0) (at-look .look-low .ensures .1 .0) (at-if2 .if2 .left) (start .args .x) (c .if3 .taken)
 
 slot-at-requires : tie.Need-slot-at-requires
 slot-at-requires c κs =
-    let start = c .before .before .before .before .before .before .before .before .before .before in
-    let shape = c .before .before .before .before .before .before .before .before .shape-ok in
-    let if1 = c .before .before .before .before .before .before .before .if1 in
-    let cap = c .before .before .before .before .before .before .capacity in
-    let look = c .before .before .before .before .look-low in
-    let if2 = c .before .before .if2 in
-    let if3 = c .before .if3 in
-    omega (arith, numbers (root-stands (fit (start .args .order) (start .args .levels) (start .args .store .now) _ (shape .ensures) (if1 .left) _ (cap .ensures))), root-seen (fit (start .args .order) (start .args .levels) (start .args .store .now) _ (shape .ensures) (if1 .left) _ (cap .ensures)) (look .result .place) (look .result .ok) (look .ensures .0) (look .ensures .1 .0) (if2 .left) (if3 .left) (look .ensures .1 .1))
+    let at-if3 = c .before in
+    let at-if2 = at-if3 .before in
+    let at-look = at-if2 .before .before in
+    let at-cap = at-look .before .before in
+    let at-if1 = at-cap .before in
+    let at-shape = at-if1 .before in
+    let start = at-shape .before .before in
+    omega (arith, numbers (root-stands (fit (start .args .order) (start .args .levels) (start .args .store .now) _ (at-shape .shape-ok .ensures) (at-if1 .if1 .left) _ (at-cap .capacity .ensures))), root-looked (fit (start .args .order) (start .args .levels) (start .args .store .now) _ (at-shape .shape-ok .ensures) (at-if1 .if1 .left) _ (at-cap .capacity .ensures)) (at-look .look-low .result .place) (at-look .look-low .result .ok) (at-look .look-low .ensures .0) (at-look .look-low .ensures .1 .0) (at-if2 .if2 .left) (at-if3 .if3 .left) (at-look .look-low .ensures .1 .1))
 
 lower-requires : tie.Need-lower-requires
 lower-requires c κs = search needs
@@ -91,66 +86,63 @@ same-length-3 c = search needs
 
 returns-4 : tie.Need-returns-4
 returns-4 c =
-    let start = c .before .before .before .before .before .before .before .before .before .before .before .before .before .before in
-    let shape = c .before .before .before .before .before .before .before .before .before .before .before .before .shape-ok in
-    let if1 = c .before .before .before .before .before .before .before .before .before .before .before .if1 in
-    let cap = c .before .before .before .before .before .before .before .before .before .before .capacity in
-    let look = c .before .before .before .before .before .before .before .before .look-low in
-    let if2 = c .before .before .before .before .before .before .if2 in
-    let if3 = c .before .before .before .before .before .if3 in
-    let slot = c .before .before .before .slot-at in
-    let lower = c .before .lower in
-    let if4 = c .if4 in
-    replace-first (fit (start .args .order) (start .args .levels) (start .args .store .now) _ (shape .ensures) (if1 .left) _ (cap .ensures)) _ _ (look .ensures .0) (look .ensures .1 .0) (if2 .left) (if3 .left) (look .ensures .1 .1) _ (slot .ensures) (start .args .x) _ (lower .ensures) (if4 .taken)
+    let at-lower = c .before in
+    let at-slot = at-lower .before .before in
+    let at-if3 = at-slot .before .before in
+    let at-if2 = at-if3 .before in
+    let at-look = at-if2 .before .before in
+    let at-cap = at-look .before .before in
+    let at-if1 = at-cap .before in
+    let at-shape = at-if1 .before in
+    let start = at-shape .before .before in
+    replace-first (fit (start .args .order) (start .args .levels) (start .args .store .now) _ (at-shape .shape-ok .ensures) (at-if1 .if1 .left) _ (at-cap .capacity .ensures)) _ _ (at-look .look-low .ensures .0) (at-look .look-low .ensures .1 .0) (at-if2 .if2 .left) (at-if3 .if3 .left) (at-look .look-low .ensures .1 .1) _ (at-slot .slot-at .ensures) (start .args .x) _ (at-lower .lower .ensures) (c .if4 .taken)
 
 swap-requires : tie.Need-swap-requires
 swap-requires c κs =
-    let start = c .before .before .before .before .before .before .before .before .before .before .before .before .before .before .before in
-    let shape = c .before .before .before .before .before .before .before .before .before .before .before .before .before .shape-ok in
-    let if1 = c .before .before .before .before .before .before .before .before .before .before .before .before .if1 in
-    let cap = c .before .before .before .before .before .before .before .before .before .before .before .capacity in
-    let look = c .before .before .before .before .before .before .before .before .before .look-low in
-    let if2 = c .before .before .before .before .before .before .before .if2 in
-    let if3 = c .before .before .before .before .before .before .if3 in
-    (root-stands (fit (start .args .order) (start .args .levels) (start .args .store .now) _ (shape .ensures) (if1 .left) _ (cap .ensures)), root-seen (fit (start .args .order) (start .args .levels) (start .args .store .now) _ (shape .ensures) (if1 .left) _ (cap .ensures)) _ _ (look .ensures .0) (look .ensures .1 .0) (if2 .left) (if3 .left) (look .ensures .1 .1))
+    let at-if3 = c .before .before .before .before .before .before in
+    let at-if2 = at-if3 .before in
+    let at-look = at-if2 .before .before in
+    let at-cap = at-look .before .before in
+    let at-if1 = at-cap .before in
+    let at-shape = at-if1 .before in
+    let start = at-shape .before .before in
+    root-looked (fit (start .args .order) (start .args .levels) (start .args .store .now) _ (at-shape .shape-ok .ensures) (at-if1 .if1 .left) _ (at-cap .capacity .ensures)) _ _ (at-look .look-low .ensures .0) (at-look .look-low .ensures .1 .0) (at-if2 .if2 .left) (at-if3 .if3 .left) (at-look .look-low .ensures .1 .1)
 
 same-length-4 : tie.Need-same-length-4
 same-length-4 c = search needs
 
 returns-5 : tie.Need-returns-5
 returns-5 c =
-    let start = c .before .before .before .before .before .before .before .before .before .before .before .before .before .before .before .before .before .before .before in
-    let shape = c .before .before .before .before .before .before .before .before .before .before .before .before .before .before .before .before .before .shape-ok in
-    let if1 = c .before .before .before .before .before .before .before .before .before .before .before .before .before .before .before .before .if1 in
-    let cap = c .before .before .before .before .before .before .before .before .before .before .before .before .before .before .before .capacity in
-    let look = c .before .before .before .before .before .before .before .before .before .before .before .before .before .look-low in
-    let if2 = c .before .before .before .before .before .before .before .before .before .before .before .if2 in
-    let if3 = c .before .before .before .before .before .before .before .before .before .before .if3 in
-    let slot = c .before .before .before .before .before .before .before .before .slot-at in
-    let lower = c .before .before .before .before .before .before .lower in
-    let if4 = c .before .before .before .before .before .if4 in
-    let done = c .before .before .before .swap in
-    let if5 = c .if5 in
-    replace-broken (fit (start .args .order) (start .args .levels) (start .args .store .now) _ (shape .ensures) (if1 .left) _ (cap .ensures)) _ _ (look .ensures .0) (look .ensures .1 .0) (if2 .left) (if3 .left) (look .ensures .1 .1) _ (slot .ensures) (start .args .x) _ (lower .ensures) (if4 .left) _ _ (done .ensures) (if5 .taken)
+    let at-done = c .before .before .before in
+    let at-if4 = at-done .before .before in
+    let at-lower = at-if4 .before in
+    let at-slot = at-lower .before .before in
+    let at-if3 = at-slot .before .before in
+    let at-if2 = at-if3 .before in
+    let at-look = at-if2 .before .before in
+    let at-cap = at-look .before .before in
+    let at-if1 = at-cap .before in
+    let at-shape = at-if1 .before in
+    let start = at-shape .before .before in
+    replace-broken (fit (start .args .order) (start .args .levels) (start .args .store .now) _ (at-shape .shape-ok .ensures) (at-if1 .if1 .left) _ (at-cap .capacity .ensures)) _ _ (at-look .look-low .ensures .0) (at-look .look-low .ensures .1 .0) (at-if2 .if2 .left) (at-if3 .if3 .left) (at-look .look-low .ensures .1 .1) _ (at-slot .slot-at .ensures) (start .args .x) _ (at-lower .lower .ensures) (at-if4 .if4 .left) _ _ (at-done .swap .ensures) (c .if5 .taken)
 
 same-length-5 : tie.Need-same-length-5
 same-length-5 c = search needs
 
 returns-6 : tie.Need-returns-6
 returns-6 c =
-    let start = c .before .before .before .before .before .before .before .before .before .before .before .before .before .before .before .before .before .before .before in
-    let shape = c .before .before .before .before .before .before .before .before .before .before .before .before .before .before .before .before .before .shape-ok in
-    let if1 = c .before .before .before .before .before .before .before .before .before .before .before .before .before .before .before .before .if1 in
-    let cap = c .before .before .before .before .before .before .before .before .before .before .before .before .before .before .before .capacity in
-    let look = c .before .before .before .before .before .before .before .before .before .before .before .before .before .look-low in
-    let if2 = c .before .before .before .before .before .before .before .before .before .before .before .if2 in
-    let if3 = c .before .before .before .before .before .before .before .before .before .before .if3 in
-    let slot = c .before .before .before .before .before .before .before .before .slot-at in
-    let lower = c .before .before .before .before .before .before .lower in
-    let if4 = c .before .before .before .before .before .if4 in
-    let done = c .before .before .before .swap in
-    let if5 = c .if5 in
-    replace-done (fit (start .args .order) (start .args .levels) (start .args .store .now) _ (shape .ensures) (if1 .left) _ (cap .ensures)) _ _ (look .ensures .0) (look .ensures .1 .0) (if2 .left) (if3 .left) (look .ensures .1 .1) _ (slot .ensures) (start .args .x) _ (lower .ensures) (if4 .left) _ _ (done .ensures) (if5 .left)
+    let at-done = c .before .before .before in
+    let at-if4 = at-done .before .before in
+    let at-lower = at-if4 .before in
+    let at-slot = at-lower .before .before in
+    let at-if3 = at-slot .before .before in
+    let at-if2 = at-if3 .before in
+    let at-look = at-if2 .before .before in
+    let at-cap = at-look .before .before in
+    let at-if1 = at-cap .before in
+    let at-shape = at-if1 .before in
+    let start = at-shape .before .before in
+    replace-done (fit (start .args .order) (start .args .levels) (start .args .store .now) _ (at-shape .shape-ok .ensures) (at-if1 .if1 .left) _ (at-cap .capacity .ensures)) _ _ (at-look .look-low .ensures .0) (at-look .look-low .ensures .1 .0) (at-if2 .if2 .left) (at-if3 .if3 .left) (at-look .look-low .ensures .1 .1) _ (at-slot .slot-at .ensures) (start .args .x) _ (at-lower .lower .ensures) (at-if4 .if4 .left) _ _ (at-done .swap .ensures) (c .if5 .left)
 
 pub replace-spec : {M : Type 1} → statement M
 replace-spec = tie.close (tie.spec shape-ok-requires returns sub-capacity capacity-requires look-low-requires same-length returns-2 same-length-2 returns-3 slot-at-requires lower-requires same-length-3 returns-4 swap-requires same-length-4 returns-5 same-length-5 returns-6)
