@@ -6,7 +6,7 @@ use native.Mathlib.Omega.{arith}
 use mathlib.Core.Bool.{_&&_, Bool, cond, false, not, true}
 use mathlib.Core.List.{_++_, List}
 use mathlib.Core.Logic.{⊎-elim}
-use mathlib.Core.Path.{_∙_, _≡_, ap, ap₂, refl, subst, sym}
+use mathlib.Core.Path.{_∙_, _≡_, ap, ap₂, refl, sym}
 use lib.Dec.{ltb}
 use lib.ListN.{drop, length, replicate}
 use borrow.Author.Tests.{lt-ltb, not-false, not-true}
@@ -30,7 +30,7 @@ use Rattle.tree_model.proofs.Nothing.{op-work}
 use Rattle.tree_model.proofs.Path.{path-none}
 use Rattle.tree_model.proofs.Words.{has-sum, node-length, size-room}
 use Rattle.tree_model.specs.Calls.{called, cleared, counted, outcome, rootOf, rootOk, ruling, Ruling, shapeOk, slotLimit, verdict, wayOk}
-use Rattle.tree_model.specs.Damage.{hasRoom, hasSome, nodeOk, pathOk, readOk, room, stepOk}
+use Rattle.tree_model.specs.Damage.{hasRoom, hasSome, nodeOk, readOk, room, stepOk}
 use Rattle.tree_model.specs.Levels.{work}
 use Rattle.tree_model.specs.Node.{isNothing, low, lowest, sumCounts}
 use Rattle.tree_model.specs.Promise.{Shape}

@@ -2,28 +2,22 @@
 use Prim.Native.Nat.{_*_, _+_, _-_, _<_, _≤_, suc, zero, ℕ}
 use native.Mathlib.Nat.{add-mul, mul-le-mul-left, mul-le-mul-right, not-suc-le-zero, suc-mul}
 use native.Mathlib.Omega.{arith}
-use mathlib.Core.Bool.{_&&_, Bool, false, not, true}
+use mathlib.Core.Bool.{_&&_, Bool, not, true}
 use mathlib.Core.List.{List}
-use mathlib.Core.Path.{_∙_, _≡_, ap, ap₂, refl, subst, sym}
+use mathlib.Core.Path.{_≡_, ap, refl, subst}
 use lib.ListN.{length}
-use borrow.Author.Tests.{lt-leb, not-true}
+use borrow.Author.Tests.{lt-leb}
 use Rattle.laws.specs.Tests.{and-left, and-right}
 use Rattle.node.specs.Scan.{childOf, ChildrenIn, Doable, StepIn}
-use Rattle.tree_model.proofs.Exactly.{words-none}
-use Rattle.tree_model.proofs.Nothing.{op-work}
-use Rattle.tree_model.proofs.Path.{path-none}
-use Rattle.tree_model.proofs.Place.{above-one, fine-here, least-room, place-here, rest-here, write-here}
-use Rattle.tree_model.proofs.Words.{has-sum, levels-before, node-length, size-room, write-length}
+use Rattle.tree_model.proofs.Place.{above-one, least-room}
+use Rattle.tree_model.proofs.Words.{has-sum, node-length, size-room}
 use Rattle.tree_model.specs.Calls.{slotLimit}
-use Rattle.tree_model.specs.Damage.{fine, hasRoom, hasSome, lifts, nodeOk, pathOk, readOk, room, stepOk}
-use Rattle.tree_model.specs.Levels.{top, work}
-use Rattle.tree_model.specs.Node.{isNothing, lowest, slotAt}
-use Rattle.tree_model.specs.Words.{applyWords, levelOf, levelsOf, nodeMove, nodeOf, restWords, size, stepWords, under, width, write}
-use Rattle.tree_model.specs.declared.Move.{Move}
+use Rattle.tree_model.specs.Damage.{hasRoom, hasSome, lifts, nodeOk, readOk, room, stepOk}
+use Rattle.tree_model.specs.Node.{lowest, slotAt}
+use Rattle.tree_model.specs.Words.{nodeOf, size, width}
 use Rattle.tree_model.specs.declared.Op.{Op}
 use Rattle.tree_model.specs.declared.Op.the-variants.{Nothing, Put, Swap, Take}
 use Rattle.tree_model.specs.declared.Slot.{Slot}
-use Rattle.tree_model.specs.declared.Work.{Work}
 use Rattle.tree.specs.Down.{Lies}
 
 pub not-zero : {n : ℕ} → 1 ≤ n → n ≡ 0 → ⊥

@@ -1,5 +1,5 @@
 -- A level tested on the way down and written on the way back. Assumes nothing.
-use Prim.Native.Nat.{_*_, _+_, _-_, _/_, _<_, _≤_, pred, suc, zero, ℕ}
+use Prim.Native.Nat.{_*_, _+_, _-_, _/_, _<_, _≤_, suc, zero, ℕ}
 use native.Mathlib.Nat.{mul-le-mul, mul-le-mul-right}
 use native.Mathlib.Numerals.{add-one}
 use native.Mathlib.Omega.{arith}
@@ -12,7 +12,7 @@ use borrow.Author.Tests.{eqb-false, eqb-true, le-leb, le-ltb, lt-leb, lt-ltb, lt
 use Rattle.node.proofs.Looks.{under-div}
 use Rattle.node.proofs.Scan.{low-found}
 use Rattle.node.proofs.Steps.{below-some, lift-ends, lift-reads, move-put, move-swap, move-take, put-first, put-full, put-test, some-test, step-put, step-swap, step-take, swap-ends, swap-lifts, swap-stays, take-ends, take-lifts}
-use Rattle.node.specs.Scan.{Capacity, childOf, liftOk, NodeIn}
+use Rattle.node.specs.Scan.{childOf, liftOk, NodeIn}
 use Rattle.strip.specs.Answers.{blank, key}
 use Rattle.strip.specs.declared.Element.{Element}
 use Rattle.tree_model.proofs.Exactly.{words-none}

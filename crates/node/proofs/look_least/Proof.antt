@@ -1,21 +1,16 @@
 -- `node::look_least` meets its contract. Assumes nothing.
-use Prim.Native.Nat.{_-_, _<_, _≤_, ℕ}
+use Prim.Native.Nat.{_-_, _≤_}
 use native.Mathlib.Omega.{arith}
 use mathlib.Core.Logic.{⊎-elim}
-use mathlib.Core.Path.{_∙_, _≡_, ap, refl}
+use mathlib.Core.Path.{_≡_}
 use borrow.Author.Needs.{needs}
 use borrow.Author.Tests.{ltb-false}
 use Rattle.tree_model.specs.Damage.{slotOk}
 use Rattle.tree_model.specs.Words.{nodeOf}
 use Rattle.node.proofs.Looks.{few-stays, few-taken, least-looked}
-use Rattle.node.proofs.Scan.{every-next}
-use Rattle.node.specs.Scan.{everyTo, fewest, scanLeast}
+use Rattle.node.proofs.Scan.{every-next, everyTo, fewest, scanLeast}
 use Rattle.node.proofs.look_least.Statement.{statement}
 use Rattle.node.proofs.look_least.Tie as tie
-use Rattle.node.proofs.look_least.Reads as reads
-use Rattle.node.proofs.look_least.Lts as lts
-use Rattle.node.proofs.slot_at.Reads as slot-at-reads
-use Rattle.node.proofs.slot_ok.Reads as slot-ok-reads
 
 abbrev Inv-loop : tie.InvT-loop
 Inv-loop s at order room ok₀ best₀ few₀ j₀ ok best few j = (j ≤ order) × (ok ≡ everyTo (slotOk room) (nodeOf order s at) j) × (best ≡ scanLeast (nodeOf order s at) j) × (few ≡ fewest (nodeOf order s at) j)

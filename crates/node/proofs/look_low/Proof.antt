@@ -1,23 +1,17 @@
 -- `node::look_low` meets its contract. Assumes nothing.
-use Prim.Native.Nat.{_-_, _<_, _≤_, ℕ}
+use Prim.Native.Nat.{_-_, _≤_}
 use native.Mathlib.Omega.{arith}
 use mathlib.Core.Logic.{⊎-elim}
-use mathlib.Core.Path.{_∙_, _≡_, ap, refl}
+use mathlib.Core.Path.{_≡_, refl}
 use borrow.Author.Needs.{needs}
 use borrow.Author.Tests.{ltb-false}
 use Rattle.strip.specs.Answers.{key}
 use Rattle.tree_model.specs.Damage.{slotOk}
 use Rattle.tree_model.specs.Words.{nodeOf}
 use Rattle.node.proofs.Looks.{key-stays, key-taken, low-key-start, low-looked}
-use Rattle.node.proofs.Scan.{every-next, low-start}
-use Rattle.node.specs.Scan.{bestKey, everyTo, scanLow}
+use Rattle.node.proofs.Scan.{bestKey, every-next, everyTo, low-start, scanLow}
 use Rattle.node.proofs.look_low.Statement.{statement}
 use Rattle.node.proofs.look_low.Tie as tie
-use Rattle.node.proofs.look_low.Reads as reads
-use Rattle.node.proofs.look_low.Lts as lts
-use Rattle.node.proofs.key_or.Reads as key-or-reads
-use Rattle.node.proofs.slot_at.Reads as slot-at-reads
-use Rattle.node.proofs.slot_ok.Reads as slot-ok-reads
 
 abbrev Inv-loop : tie.InvT-loop
 Inv-loop s at order room ok₀ best₀ low₀ j₀ ok best low j = (j ≤ order) × (ok ≡ everyTo (slotOk room) (nodeOf order s at) j) × (best ≡ scanLow (nodeOf order s at) j) × (low ≡ bestKey (nodeOf order s at) best) × (low ≤ 4294967296) × (best ≤ order)

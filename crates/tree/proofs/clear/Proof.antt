@@ -4,11 +4,6 @@ use borrow.Author.Needs.{needs}
 use Rattle.tree.proofs.Calls.{clear-done, clear-fits, clear-shape, shape-few}
 use Rattle.tree.proofs.clear.Statement.{statement}
 use Rattle.tree.proofs.clear.Tie as tie
-use Rattle.tree.proofs.clear.Reads as reads
-use Rattle.tree.proofs.clear.Lts as lts
-use Rattle.node.proofs.capacity.Reads as capacity-reads
-use Rattle.node.proofs.shape_ok.Reads as shape-ok-reads
-use Rattle.tree.proofs.zero_words.Reads as zero-words-reads
 
 shape-ok-requires : tie.Need-shape-ok-requires
 shape-ok-requires c κs = search needs

@@ -5,12 +5,6 @@ use Rattle.tree.proofs.Calls.{counted-root, counted-shape, counted-sum,
 use Rattle.tree.proofs.Once.{look-in}
 use Rattle.tree.proofs.held.Statement.{statement}
 use Rattle.tree.proofs.held.Tie as tie
-use Rattle.tree.proofs.held.Reads as reads
-use Rattle.tree.proofs.held.Lts as lts
-use Rattle.node.proofs.capacity.Reads as capacity-reads
-use Rattle.node.proofs.look_low.Reads as look-low-reads
-use Rattle.node.proofs.shape_ok.Reads as shape-ok-reads
-use Rattle.node.proofs.sum_counts.Reads as sum-counts-reads
 
 shape-ok-requires : tie.Need-shape-ok-requires
 shape-ok-requires c κs = search needs

@@ -5,12 +5,6 @@ use borrow.Author.Needs.{needs}
 use Rattle.tree.proofs.Calls.{called-shape, fit, push-below, push-done, push-over, push-root, root-stands, shape-few, shape-here}
 use Rattle.tree.proofs.push.Statement.{statement}
 use Rattle.tree.proofs.push.Tie as tie
-use Rattle.tree.proofs.push.Reads as reads
-use Rattle.tree.proofs.push.Lts as lts
-use Rattle.node.proofs.capacity.Reads as capacity-reads
-use Rattle.node.proofs.shape_ok.Reads as shape-ok-reads
-use Rattle.tree.proofs.held.Reads as held-reads
-use Rattle.tree.proofs.put.Reads as put-reads
 
 shape-ok-requires : tie.Need-shape-ok-requires
 shape-ok-requires c κs = search needs

@@ -5,14 +5,6 @@ use Rattle.tree.proofs.Calls.{called-damaged, called-shape, fit, replac
 use Rattle.tree.proofs.Once.{look-in, numbers}
 use Rattle.tree.proofs.replace.Statement.{statement}
 use Rattle.tree.proofs.replace.Tie as tie
-use Rattle.tree.proofs.replace.Reads as reads
-use Rattle.tree.proofs.replace.Lts as lts
-use Rattle.node.proofs.capacity.Reads as capacity-reads
-use Rattle.node.proofs.look_low.Reads as look-low-reads
-use Rattle.node.proofs.lower.Reads as lower-reads
-use Rattle.node.proofs.shape_ok.Reads as shape-ok-reads
-use Rattle.node.proofs.slot_at.Reads as slot-at-reads
-use Rattle.tree.proofs.swap.Reads as swap-reads
 
 shape-ok-requires : tie.Need-shape-ok-requires
 shape-ok-requires c κs = search needs
