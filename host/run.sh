@@ -135,7 +135,7 @@ must "trace program" program
 must "models" $RUSTC --crate-type rlib --crate-name models host/models/lib.rs -o "$out/libmodels.rlib"
 must "models for this machine" $NATIVE --crate-type rlib --crate-name models_here host/models/lib.rs -o "$out/libmodels_here.rlib"
 must "wrapper" $RUSTC --crate-type rlib --crate-name card_host -L native="$out" -l static=card \
-    host/card/lib.rs -o "$out/libcard_host.rlib"
+    host/card/src/lib.rs -o "$out/libcard_host.rlib"
 must "comparison" $RUSTC --cfg library --extern models="$out/libmodels.rlib" \
     --extern card_host="$out/libcard_host.rlib" host/compare.rs -o "$out/compare"
 must "comparison of traces" $NATIVE --extern models="$out/libmodels_here.rlib" host/play_compare.rs -o "$out/play_compare"
@@ -146,7 +146,7 @@ must "example in C" $CC -std=c99 -Wall -Wextra -Werror -pedantic -O2 -Ihost host
 # ---- the parts
 if [ -n "${CARD_SOURCE:-}" ]; then say "the library's source is taken from CARD_SOURCE: $CARD_SOURCE"; fi
 part "header, Rust declarations and exported functions" \
-    "$out/header_check" host/card.h host/card/raw.rs ${CARD_SOURCE:-crates/card/src/*.rt}
+    "$out/header_check" host/card.h host/card/src/raw.rs ${CARD_SOURCE:-crates/card/src/*.rt}
 # the page's examples are the ones that are compiled and run here
 block() { sed -n "/^\`\`\`$1\$/,/^\`\`\`\$/p" README.md | sed '1d;$d'; }
 check "the page's example in C" host/examples/pops.c block c

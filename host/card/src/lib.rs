@@ -49,6 +49,7 @@ pub enum Refusal {
 
 impl Refusal {
     /// The paper's number.
+    #[inline]
     pub fn number(self) -> u32 {
         self as u32
     }
@@ -70,6 +71,7 @@ impl fmt::Display for Refusal {
 impl std::error::Error for Refusal {}
 
 /// The library's number as a result: 0 is an answer, 1 to 6 are refusals, and there are no others.
+#[inline]
 fn checked(number: u32) -> Result<(), Refusal> {
     match number {
         0 => Ok(()),
@@ -83,6 +85,7 @@ fn checked(number: u32) -> Result<(), Refusal> {
     }
 }
 
+#[inline]
 fn element(out: [u32; 2]) -> Element {
     Element { rank: Rank(out[0]), tag: Tag(out[1]) }
 }
@@ -130,17 +133,20 @@ impl TreeQueue {
         &self.store
     }
 
+    #[inline]
     pub fn clear(&mut self) -> Result<(), Refusal> {
         let s = &mut self.store;
         checked(unsafe { raw::card_tree_clear(s.as_mut_ptr(), s.len(), self.order, self.levels) })
     }
 
+    #[inline]
     pub fn push(&mut self, rank: Rank, tag: Tag) -> Result<(), Refusal> {
         let s = &mut self.store;
         checked(unsafe { raw::card_tree_push(s.as_mut_ptr(), s.len(), self.order, self.levels, rank.0, tag.0) })
     }
 
     /// The element of lowest rank.
+    #[inline]
     pub fn pop(&mut self) -> Result<Element, Refusal> {
         let (s, mut out) = (&mut self.store, [0; 2]);
         checked(unsafe {
@@ -150,6 +156,7 @@ impl TreeQueue {
     }
 
     /// The lowest of all, the new one included, a held one before the new one on equal rank.
+    #[inline]
     pub fn replace(&mut self, rank: Rank, tag: Tag) -> Result<Element, Refusal> {
         let (s, mut out) = (&mut self.store, [0; 2]);
         checked(unsafe {
@@ -167,6 +174,7 @@ impl TreeQueue {
         Ok(element(out))
     }
 
+    #[inline]
     pub fn held(&self) -> Result<u32, Refusal> {
         let (s, mut out) = (&self.store, [0; 1]);
         checked(unsafe {
@@ -211,11 +219,13 @@ impl BucketQueue {
         &self.words
     }
 
+    #[inline]
     pub fn clear(&mut self) -> Result<(), Refusal> {
         let (b, w) = (&mut self.bits, &mut self.words);
         checked(unsafe { raw::card_bucket_clear(b.as_mut_ptr(), b.len(), w.as_mut_ptr(), w.len(), self.nodes) })
     }
 
+    #[inline]
     pub fn push(&mut self, rank: Rank, tag: Tag) -> Result<(), Refusal> {
         let (b, w) = (&mut self.bits, &mut self.words);
         checked(unsafe {
@@ -224,6 +234,7 @@ impl BucketQueue {
     }
 
     /// The element of lowest rank that came first.
+    #[inline]
     pub fn pop(&mut self) -> Result<Element, Refusal> {
         let (b, w, mut out) = (&mut self.bits, &mut self.words, [0; 2]);
         checked(unsafe {
@@ -241,6 +252,7 @@ impl BucketQueue {
     }
 
     /// The lowest of all, the new one included, a held one before the new one on equal rank.
+    #[inline]
     pub fn replace(&mut self, rank: Rank, tag: Tag) -> Result<Element, Refusal> {
         let (b, w, mut out) = (&mut self.bits, &mut self.words, [0; 2]);
         checked(unsafe {
@@ -259,6 +271,7 @@ impl BucketQueue {
         Ok(element(out))
     }
 
+    #[inline]
     pub fn held(&self) -> Result<u32, Refusal> {
         let (b, w, mut out) = (&self.bits, &self.words, [0; 1]);
         checked(unsafe {
@@ -319,6 +332,7 @@ impl ClockedTree {
         self.mark[0] != 0
     }
 
+    #[inline]
     pub fn clear(&mut self) -> Result<(), Refusal> {
         let (s, r, m) = (&mut self.store, &mut self.records, &mut self.mark);
         checked(unsafe {
@@ -336,6 +350,7 @@ impl ClockedTree {
     }
 
     /// One cycle. An idle cycle or a push answers rank 0, tag 0.
+    #[inline]
     pub fn cycle(&mut self, request: Request) -> Result<Element, Refusal> {
         let (number, rank, tag) = match request {
             Request::Idle => (0, Rank(0), Tag(0)),
@@ -365,24 +380,29 @@ impl ClockedTree {
         Ok(element(out))
     }
 
+    #[inline]
     pub fn push(&mut self, rank: Rank, tag: Tag) -> Result<(), Refusal> {
         self.cycle(Request::Push(rank, tag)).map(|_| ())
     }
 
+    #[inline]
     pub fn pop(&mut self) -> Result<Element, Refusal> {
         self.cycle(Request::Pop)
     }
 
+    #[inline]
     pub fn replace(&mut self, rank: Rank, tag: Tag) -> Result<Element, Refusal> {
         self.cycle(Request::Replace(rank, tag))
     }
 
+    #[inline]
     pub fn idle(&mut self) -> Result<(), Refusal> {
         self.cycle(Request::Idle).map(|_| ())
     }
 
     /// Idle cycles until nothing is pending or the budget is spent. With a refusal the report
     /// says what was run before it.
+    #[inline]
     pub fn drain(&mut self, budget: u32) -> (Drained, Result<(), Refusal>) {
         let (s, r, m) = (&mut self.store, &mut self.records, &mut self.mark);
         let mut out = [0; 2];
@@ -404,6 +424,7 @@ impl ClockedTree {
         (Drained { cycles: out[0], work_left: out[1] != 0 }, checked(number))
     }
 
+    #[inline]
     pub fn held(&self) -> Result<u32, Refusal> {
         let (s, mut out) = (&self.store, [0; 1]);
         checked(unsafe {
