@@ -7,18 +7,18 @@
 # program are proved and built first, if that was not done yet. CARD_LIB and PLAY name a libcard.a and a trace program that are there
 # already.
 set -u
-here=$(cd "$(dirname "$0")" && pwd) || exit 2
-cd "$here/.." || exit 2
-say() { printf 'bench: %s\n' "$*" >&2; }
-
+cd "$(dirname "$0")/.." || exit 2
+. host/tools.sh
+tools || exit 1
 if [ -n "${CARD_LIB:-}" ]; then
-    say "the static library is taken from CARD_LIB: $CARD_LIB"
+    printf 'bench: the static library is taken from CARD_LIB: %s\n' "$CARD_LIB" >&2
 else
-    say "building; where the library's sources have changed it is proved first, which takes some minutes"
+    made target/staticlib/libcard.a bench staticlib card || exit 1
 fi
-cargo build --release --offline --quiet --manifest-path host/Cargo.toml -p bench || exit 1
 if [ -z "${PLAY:-}" ]; then
-    log=$(rt check play 2>&1) || { printf '%s\n' "$log" >&2; exit 1; }
-    PLAY=$(pwd)/target/bin/play
+    made target/bin/play bench check play || exit 1
+    PLAY=target/bin/play
 fi
-exec host/target/release/bench --play "$PLAY" "$@"
+emulated=
+[ -z "$RUNNER" ] || emulated=--emulated
+exec $CARGO run --release --offline --quiet --manifest-path host/Cargo.toml ${CARD_TARGET:+--target "$CARD_TARGET"} -p bench -- $emulated --play "$PLAY" "$@"

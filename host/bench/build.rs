@@ -9,9 +9,12 @@ fn main() {
     let version = String::from_utf8_lossy(&answer).trim().to_string();
     println!("cargo:rustc-env=BENCH_RUSTC={version}");
     println!("cargo:rustc-env=BENCH_OPT={}", std::env::var("OPT_LEVEL").unwrap_or_default());
-    println!("cargo:rustc-check-cfg=cfg(first_entry)");
-    // rustc 1.66 has `BTreeMap::first_entry`; before it the map has to be searched twice
     let minor = version.split('.').nth(1).and_then(|m| m.parse::<u32>().ok()).unwrap_or(0);
+    // rustc 1.80 asks which names there are
+    if minor >= 80 {
+        println!("cargo:rustc-check-cfg=cfg(first_entry)");
+    }
+    // rustc 1.66 has `BTreeMap::first_entry`; before it the map has to be searched twice
     if minor >= 66 {
         println!("cargo:rustc-cfg=first_entry");
     }

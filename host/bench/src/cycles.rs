@@ -4,7 +4,7 @@ use crate::count::bytes_of;
 use crate::measure::{race, Contestant, Rng, Work};
 use crate::plain::{Ask, Plain};
 use crate::table::{Plan, Row};
-use card_host::{ClockedTree, Rank, Refusal, Request, Tag};
+use card_host::{ClockedTree, Element, Rank, Request, Tag};
 
 /// A machine that runs cycles: its number, rank and tag.
 trait Machine {
@@ -30,13 +30,13 @@ impl Machine for ClockedTree {
     fn cycle(&mut self, ask: Ask) -> (u32, u32, u32) {
         let request = match ask {
             Ask::Idle => Request::Idle,
-            Ask::Push(rank, tag) => Request::Push(Rank(rank), Tag(tag)),
+            Ask::Push(rank, tag) => Request::Push(Element::new(Rank(rank), Tag(tag))),
             Ask::Pop => Request::Pop,
-            Ask::Replace(rank, tag) => Request::Replace(Rank(rank), Tag(tag)),
+            Ask::Replace(rank, tag) => Request::Replace(Element::new(Rank(rank), Tag(tag))),
         };
         match ClockedTree::cycle(self, request) {
             Ok(x) => (0, x.rank.0, x.tag.0),
-            Err(refusal) => (Refusal::number(refusal), 0, 0),
+            Err(refusal) => (refusal.number(), 0, 0),
         }
     }
 }

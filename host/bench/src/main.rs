@@ -58,23 +58,35 @@ fn main() {
     let (rounds, operations, records) = if brief { (3, 400, 2000) } else { (201, 4000, 200_000) };
     let plan = table::Plan { rounds, operations, only };
 
-    println!("{} ({}), {}, optimised {}", processor(), std::env::consts::ARCH, env!("BENCH_RUSTC"), env!("BENCH_OPT"));
-    println!("medians of {rounds} rounds, {operations} operations a round, nanoseconds for one operation");
-    if emulated {
-        println!("THIS RUNS ON AN EMULATOR: its times mean nothing");
-    }
-    if brief {
-        println!("brief: too few rounds for times that mean anything");
-    }
-    table::print("bucket queue (N = 4096) beside BTreeMap<u32, VecDeque<u32>>, 4,000 held", &traces::buckets(&plan));
-    table::print("tree beside std's BinaryHeap, 4,000 held", &traces::trees(&plan));
-    table::print(
-        "clocked tree beside a plain machine without damage tests, 4,000 held or three quarters",
-        &cycles::rows(&plan),
-    );
+    let title = || {
+        let (arch, rustc, level) = (std::env::consts::ARCH, env!("BENCH_RUSTC"), env!("BENCH_OPT"));
+        println!("{} ({arch}), {rustc}, optimised {level}", processor());
+        println!("medians of {rounds} rounds, {operations} operations a round, nanoseconds for one operation");
+        if emulated {
+            println!("THIS RUNS ON AN EMULATOR: its times mean nothing");
+        }
+        if brief {
+            println!("brief: too few rounds for times that mean anything");
+        }
+    };
+    let mut shown = 0;
+    let mut show = |beside: &str, rows: Vec<table::Row>| {
+        if shown == 0 && !rows.is_empty() {
+            title();
+        }
+        shown += rows.len();
+        table::print(beside, &rows);
+        rows
+    };
+    show("bucket queue (N = 4096) beside BTreeMap<u32, VecDeque<u32>>, 4,000 held", traces::buckets(&plan));
+    show("tree beside std's BinaryHeap, 4,000 held", traces::trees(&plan));
+    show("clocked tree beside a plain machine without damage tests, 4,000 held or three quarters", cycles::rows(&plan));
     let played = playing::rows(&plan, program.as_deref(), records);
-    table::print("trace program beside the plain machine that writes its lines to memory", &played);
-    for row in &played {
+    for row in show("trace program beside the plain machine that writes its lines to memory", played) {
         println!("play: {:.0} records a second, its start included", 1e9 / row.pair.card);
+    }
+    if shown == 0 {
+        eprintln!("bench: no row has `{}` in its name", plan.only.unwrap_or_default());
+        std::process::exit(2);
     }
 }

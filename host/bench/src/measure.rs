@@ -16,11 +16,12 @@ pub trait Contestant<T> {
     fn run(&mut self, trace: &[T]) -> u64;
 }
 
-/// Nanoseconds for one operation, each the median of its rounds.
+/// Nanoseconds for one operation, each the median of its rounds, and the median of the rounds' ratios.
 #[derive(Clone, Copy)]
 pub struct Pair {
     pub card: f64,
     pub other: f64,
+    pub ratio: f64,
 }
 
 fn timed<T>(contestant: &mut dyn Contestant<T>, work: &Work<T>) -> (f64, u64) {
@@ -43,7 +44,7 @@ pub fn race<T>(
     other: &mut dyn Contestant<T>,
     mut work: impl FnMut() -> Work<T>,
 ) -> Pair {
-    let (mut cards, mut others) = (Vec::new(), Vec::new());
+    let (mut cards, mut others, mut ratios) = (Vec::new(), Vec::new(), Vec::new());
     // the first round warms the caches and is not counted
     for round in 0..=rounds {
         let work = work();
@@ -58,9 +59,10 @@ pub fn race<T>(
         if round > 0 {
             cards.push(a.0);
             others.push(b.0);
+            ratios.push(a.0 / b.0);
         }
     }
-    Pair { card: median(cards), other: median(others) }
+    Pair { card: median(cards), other: median(others), ratio: median(ratios) }
 }
 
 /// A small generator: the same numbers each time.

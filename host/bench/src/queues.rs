@@ -1,7 +1,7 @@
 //! Queues that take the same trace: the card's, and the plain ones beside them.
 
 use crate::measure::Contestant;
-use card_host::{BucketQueue, Rank, Tag, TreeQueue};
+use card_host::{BucketQueue, Element, Rank, Tag, TreeQueue};
 use std::cmp::{Ordering, Reverse};
 use std::collections::{BTreeMap, BinaryHeap, VecDeque};
 
@@ -27,7 +27,7 @@ impl Queue for BucketQueue {
     }
     #[inline]
     fn push(&mut self, rank: u32, tag: u32) {
-        BucketQueue::push(self, Rank(rank), Tag(tag)).expect("push");
+        BucketQueue::push(self, Element::new(Rank(rank), Tag(tag))).expect("push");
     }
     #[inline]
     fn pop(&mut self) -> (u32, u32) {
@@ -36,7 +36,7 @@ impl Queue for BucketQueue {
     }
     #[inline]
     fn replace(&mut self, rank: u32, tag: u32) -> (u32, u32) {
-        let x = BucketQueue::replace(self, Rank(rank), Tag(tag)).expect("replace");
+        let x = BucketQueue::replace(self, Element::new(Rank(rank), Tag(tag))).expect("replace");
         (x.rank.0, x.tag.0)
     }
 }
@@ -47,7 +47,7 @@ impl Queue for TreeQueue {
     }
     #[inline]
     fn push(&mut self, rank: u32, tag: u32) {
-        TreeQueue::push(self, Rank(rank), Tag(tag)).expect("push");
+        TreeQueue::push(self, Element::new(Rank(rank), Tag(tag))).expect("push");
     }
     #[inline]
     fn pop(&mut self) -> (u32, u32) {
@@ -56,7 +56,7 @@ impl Queue for TreeQueue {
     }
     #[inline]
     fn replace(&mut self, rank: u32, tag: u32) -> (u32, u32) {
-        let x = TreeQueue::replace(self, Rank(rank), Tag(tag)).expect("replace");
+        let x = TreeQueue::replace(self, Element::new(Rank(rank), Tag(tag))).expect("replace");
         (x.rank.0, x.tag.0)
     }
 }

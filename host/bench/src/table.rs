@@ -24,6 +24,15 @@ pub struct Row {
     pub other_bytes: usize,
 }
 
+/// A store's size; a program's is not counted.
+fn bytes(count: usize) -> String {
+    if count == 0 {
+        String::from("-")
+    } else {
+        count.to_string()
+    }
+}
+
 /// A table under a line that says what stands beside what.
 pub fn print(beside: &str, rows: &[Row]) {
     if rows.is_empty() {
@@ -38,9 +47,9 @@ pub fn print(beside: &str, rows: &[Row]) {
             r.name,
             r.pair.card,
             r.pair.other,
-            r.pair.card / r.pair.other,
-            r.card_bytes,
-            r.other_bytes
+            r.pair.ratio,
+            bytes(r.card_bytes),
+            bytes(r.other_bytes)
         );
     }
 }

@@ -1,8 +1,7 @@
 //! The library's functions as C sees them. A slice is a pointer and then a length in words.
 //!
-//! `host/card.h` has the same declarations with a comment for each; `header_check` holds the two
-//! and the library's own source to each other. Each function is safe for any numbers and for any
-//! slices that are really there; nothing here tests them.
+//! `host/card.h` has the same declarations with a comment for each; a test holds the two and the library's own source to each other.
+//! Each function is safe for any numbers and for any slices that are really there; nothing here tests them.
 
 extern "C" {
     pub fn card_tree_clear(store: *mut u32, store_len: usize, order: u32, levels: u32) -> u32;
@@ -120,4 +119,8 @@ extern "C" {
         out: *mut u32,
         out_len: usize,
     ) -> u32;
+
+    pub fn card_tree_words(order: u32, levels: u32) -> u32;
+    pub fn card_bucket_bits() -> u32;
+    pub fn card_bucket_words(nodes: u32) -> u32;
 }

@@ -1,6 +1,7 @@
 //! Makes each call on both sides, counts it, and keeps the first difference.
 
-use crate::side::{difference, Call, Card, Model, Op, Side, OPS};
+use crate::side::{difference, Card, Model, Side};
+use models::call::{Call, Op, OPS};
 use models::{bucket, shape_cause, tree, No};
 
 /// Things that a single call's number does not show, each to be met at least once.
@@ -70,7 +71,7 @@ impl<C: Card> Harness<C> {
     pub fn new(library: C) -> Harness<C> {
         Harness {
             library,
-            model: Model::new(),
+            model: Model::default(),
             a: Side::new(0, 0, 0),
             b: Side::new(0, 0, 0),
             calls: 0,

@@ -2,8 +2,8 @@
 //! damaged, alone, and each cause of refusal 1, alone. A call that gave anything else fails too.
 
 use crate::harness::{Tally, EVENTS};
-use crate::side::{Op, OPS};
 use models::bucket::cause as b;
+use models::call::{Op, OPS};
 use models::tree::cause as t;
 use models::{shape_cause as s, Causes};
 

@@ -1,9 +1,10 @@
 //! The calls as the C library offers them: slices of numbers in, a refusal number out.
 //!
 //! What is the boundary's own, and not the paper's, stands here and nowhere else: which faults it
-//! has (`faults`), what a refusal leaves in `out` (`refuse`), and how a record is read and written
-//! (`read_record`, `normalise`).
+//! has (`faults`), what a refusal leaves in `out` (`clears_out`), and how a record is read and
+//! written (`read_record`, `normalise`).
 
+use crate::call::{Call, Op, Slices};
 use crate::clocked::{self, Request, Work};
 use crate::tree::{self, Shape};
 use crate::{bucket, element, shape_cause, Causes, Element, No};
@@ -60,7 +61,7 @@ fn faults(order: u32, levels: u32, records: &[u32], mark: &[u32], request: u32) 
     c
 }
 
-/// The faults of a call that writes `need` words of answer.
+/// The fault of an `out` that has less than the `need` words of an answer.
 fn out_fault(out: &[u32], need: usize) -> Causes {
     if out.len() < need {
         shape_cause::OUT
@@ -69,38 +70,54 @@ fn out_fault(out: &[u32], need: usize) -> Causes {
     }
 }
 
-/// What a refusal leaves in `out`: zeros, but nothing is written where the boundary itself
-/// refuses. A call with both a fault of the boundary and a bad shape leaves `out` alone.
-fn refuse(no: No, out: &mut [u32]) -> No {
-    if let No::BadShape(c) = no {
-        if c & shape_cause::BOUNDARY != 0 {
-            return no;
-        }
+/// Whether a refusal writes zeros to an `out` that is long enough: every one but those that the boundary itself gives, and those
+/// that have a fault of the boundary beside a bad shape.
+fn clears_out(no: No) -> bool {
+    !matches!(no, No::BadShape(c) if c & shape_cause::BOUNDARY != 0)
+}
+
+/// What a call leaves in `out`: the words of its answer, or what a refusal leaves there. An `out` that is too short is not touched.
+fn tell<const NEED: usize>(result: Result<[u32; NEED], No>, out: &mut [u32]) -> Result<(), No> {
+    let told = match result {
+        Ok(answer) => Some(answer),
+        Err(no) if clears_out(no) => Some([0; NEED]),
+        Err(_) => None,
+    };
+    if let (Some(words), true) = (told, out.len() >= NEED) {
+        out[..NEED].copy_from_slice(&words);
     }
-    for word in out.iter_mut().take(2) {
-        *word = 0;
-    }
-    no
+    result.map(|_| ())
 }
 
 fn answer(result: Result<Element, No>, out: &mut [u32]) -> Result<(), No> {
-    match result {
-        Ok(x) => {
-            out[0] = x.rank;
-            out[1] = x.tag;
-            Ok(())
-        }
-        Err(no) => Err(refuse(no, &mut out[..2])),
-    }
+    tell(result.map(|x| [x.rank, x.tag]), out)
 }
 
 fn count(result: Result<u32, No>, out: &mut [u32]) -> Result<(), No> {
-    match result {
-        Ok(n) => {
-            out[0] = n;
-            Ok(())
+    tell(result.map(|n| [n]), out)
+}
+
+/// A call of the library.
+pub fn call(k: &Call, s: Slices<'_>) -> Result<(), No> {
+    let Slices { words, bits, records, mark, out } = s;
+    let (order, levels, nodes, rank, tag) = (k.order, k.levels, k.nodes, k.rank, k.tag);
+    match k.op {
+        Op::TreeClear => tree_clear(words, order, levels),
+        Op::TreePush => tree_push(words, order, levels, rank, tag),
+        Op::TreePop => tree_pop(words, order, levels, out),
+        Op::TreeReplace => tree_replace(words, order, levels, rank, tag, out),
+        Op::TreeHeld => tree_held(words, order, levels, out),
+        Op::BucketClear => bucket_clear(bits, words, nodes),
+        Op::BucketPush => bucket_push(bits, words, nodes, rank, tag),
+        Op::BucketPop => bucket_pop(bits, words, nodes, out),
+        Op::BucketReplace => bucket_replace(bits, words, nodes, rank, tag, out),
+        Op::BucketHeld => bucket_held(bits, words, nodes, out),
+        Op::ClockedClear => clocked_clear(words, order, levels, records, mark),
+        Op::CycleIdle | Op::CyclePush | Op::CyclePop | Op::CycleReplace | Op::CycleOther => {
+            clocked_cycle(words, order, levels, records, mark, k.request, rank, tag, out)
         }
-        Err(no) => Err(refuse(no, &mut out[..1])),
+        Op::ClockedDrain => clocked_drain(words, order, levels, records, mark, k.budget, out),
+        Op::ClockedHeld => clocked_held(words, order, levels, out),
     }
 }
 
@@ -113,9 +130,9 @@ pub fn tree_push(store: &mut [u32], order: u32, levels: u32, rank: u32, tag: u32
 }
 
 pub fn tree_pop(store: &mut [u32], order: u32, levels: u32, out: &mut [u32]) -> Result<(), No> {
-    let c = out_fault(out, 2);
-    if c != 0 {
-        return Err(No::BadShape(c));
+    let fault = out_fault(out, 2);
+    if fault != 0 {
+        return answer(Err(No::BadShape(fault)), out);
     }
     answer(tree::pop(store, order, levels), out)
 }
@@ -128,17 +145,17 @@ pub fn tree_replace(
     tag: u32,
     out: &mut [u32],
 ) -> Result<(), No> {
-    let c = out_fault(out, 2);
-    if c != 0 {
-        return Err(No::BadShape(c));
+    let fault = out_fault(out, 2);
+    if fault != 0 {
+        return answer(Err(No::BadShape(fault)), out);
     }
     answer(tree::replace(store, order, levels, element(rank, tag)), out)
 }
 
 pub fn tree_held(store: &[u32], order: u32, levels: u32, out: &mut [u32]) -> Result<(), No> {
-    let c = out_fault(out, 1);
-    if c != 0 {
-        return Err(No::BadShape(c));
+    let fault = out_fault(out, 1);
+    if fault != 0 {
+        return count(Err(No::BadShape(fault)), out);
     }
     count(tree::held(store, order, levels), out)
 }
@@ -152,9 +169,9 @@ pub fn bucket_push(bits: &mut [u64], words: &mut [u32], nodes: u32, rank: u32, t
 }
 
 pub fn bucket_pop(bits: &mut [u64], words: &mut [u32], nodes: u32, out: &mut [u32]) -> Result<(), No> {
-    let c = out_fault(out, 2);
-    if c != 0 {
-        return Err(No::BadShape(c));
+    let fault = out_fault(out, 2);
+    if fault != 0 {
+        return answer(Err(No::BadShape(fault)), out);
     }
     answer(bucket::pop(bits, words, nodes), out)
 }
@@ -167,17 +184,17 @@ pub fn bucket_replace(
     tag: u32,
     out: &mut [u32],
 ) -> Result<(), No> {
-    let c = out_fault(out, 2);
-    if c != 0 {
-        return Err(No::BadShape(c));
+    let fault = out_fault(out, 2);
+    if fault != 0 {
+        return answer(Err(No::BadShape(fault)), out);
     }
     answer(bucket::replace(bits, words, nodes, element(rank, tag)), out)
 }
 
 pub fn bucket_held(bits: &[u64], words: &[u32], nodes: u32, out: &mut [u32]) -> Result<(), No> {
-    let c = out_fault(out, 1);
-    if c != 0 {
-        return Err(No::BadShape(c));
+    let fault = out_fault(out, 1);
+    if fault != 0 {
+        return count(Err(No::BadShape(fault)), out);
     }
     count(bucket::held(bits, words, nodes), out)
 }
@@ -231,7 +248,7 @@ pub fn clocked_cycle(
     let shape = tree::shape(store, order, levels);
     let c = faults(order, levels, records, mark, request) | out_fault(out, 2) | causes(shape.err());
     if c != 0 {
-        return Err(refuse(No::BadShape(c), out));
+        return answer(Err(No::BadShape(c)), out);
     }
     let asked = match request {
         0 => Request::Idle,
@@ -262,7 +279,7 @@ pub fn clocked_drain(
     let shape = tree::shape(store, order, levels);
     let c = faults(order, levels, records, mark, 0) | out_fault(out, 2) | causes(shape.err());
     if c != 0 {
-        return Err(refuse(No::BadShape(c), out));
+        return answer(Err(No::BadShape(c)), out);
     }
     let mut work = pending(levels, records);
     let mut on = mark[0] == 1;
@@ -271,18 +288,14 @@ pub fn clocked_drain(
         normalise(records, &work);
         mark[0] = on as u32;
     }
-    out[0] = drained.cycles;
-    out[1] = drained.work_left as u32;
-    match drained.refused {
-        None => Ok(()),
-        Some(no) => Err(no),
-    }
+    tell(Ok([drained.cycles, drained.work_left as u32]), out)?;
+    drained.refused.map_or(Ok(()), Err)
 }
 
 pub fn clocked_held(store: &[u32], order: u32, levels: u32, out: &mut [u32]) -> Result<(), No> {
-    let c = out_fault(out, 1);
-    if c != 0 {
-        return Err(No::BadShape(c));
+    let fault = out_fault(out, 1);
+    if fault != 0 {
+        return count(Err(No::BadShape(fault)), out);
     }
     count(clocked::held(store, order, levels), out)
 }

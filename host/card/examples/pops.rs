@@ -1,11 +1,10 @@
 //! Pushes four elements into a tree of order 2 and pops them: 1, 3, 5, 8, then refusal 6.
-extern crate card_host;
-use card_host::{Rank, Refusal, Tag, TreeQueue};
+use card_host::{Element, Rank, Refusal, Tag, TreeQueue};
 
 fn main() -> Result<(), Refusal> {
     let mut queue = TreeQueue::new(2, 2)?;
     for rank in [5, 3, 8, 1] {
-        queue.push(Rank(rank), Tag(10 * rank))?;
+        queue.push(Element::new(Rank(rank), Tag(10 * rank)))?;
     }
     let refusal = loop {
         match queue.pop() {
@@ -13,6 +12,6 @@ fn main() -> Result<(), Refusal> {
             Err(refusal) => break refusal,
         }
     };
-    println!("refusal {}", refusal.number());
+    println!("refusal {}, {refusal}", refusal.number());
     Ok(())
 }

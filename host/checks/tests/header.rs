@@ -1,13 +1,10 @@
-//! Holds the three descriptions of the library's functions to each other: the C header, the Rust
-//! declarations, and the exported functions of the library's own source.
+//! Holds the three descriptions of the library's functions to each other: the C header, the Rust declarations, and the exported
+//! functions of the library's own source.
 //!
-//!     header_check CARD_H RAW_RS SOURCE...
-//!
-//! The sources are the library's files; what they export is taken together.
-//!
-//! Each function's parameters must have the same names, types and order in all three, a slice
-//! being a pointer and then a length in the first two. The last line is `N passed, M failed`.
+//! Each function's parameters must have the same names, types and order in all three, a slice being a pointer and then a length in the
+//! first two.
 
+use checks::{root, text};
 use std::collections::{BTreeMap, BTreeSet};
 
 /// A function: its parameters as `name: type`, and what it answers.
@@ -168,16 +165,21 @@ fn of_rust(text: &str) -> Result<Functions, String> {
     Ok(found)
 }
 
+/// The text without the header's own small functions: each from its first word to the brace that closes it.
+fn without_inlines(text: &str) -> String {
+    let mut parts = text.split("static inline");
+    let mut out = parts.next().unwrap_or("").to_string();
+    for part in parts {
+        out.push_str(part.split_once("\n}").map_or("", |(_, rest)| rest));
+    }
+    out
+}
+
 /// The C declarations.
 fn of_header(text: &str) -> Result<Functions, String> {
-    let text: String = without_comments(text).lines().filter(|l| !l.trim_start().starts_with('#')).fold(
-        String::new(),
-        |mut all, line| {
-            all.push_str(line);
-            all.push('\n');
-            all
-        },
-    );
+    let text = without_inlines(&without_comments(text));
+    let lines: Vec<&str> = text.lines().filter(|l| !l.trim_start().starts_with('#')).collect();
+    let text = lines.join("\n");
     let mut found = Functions::new();
     for declaration in text.split(';') {
         let declaration = squeezed(declaration);
@@ -196,7 +198,7 @@ fn of_header(text: &str) -> Result<Functions, String> {
             other => other.to_string(),
         };
         let mut flat = Vec::new();
-        for p in split(parameters) {
+        for p in split(parameters).into_iter().filter(|p| p != "void") {
             let at = p.rfind(|c: char| !(c.is_alphanumeric() || c == '_')).ok_or(format!("no type in {p}"))?;
             let (kind, n) = (squeezed(&p[..at + 1]), p[at + 1..].to_string());
             let kind = match kind.as_str() {
@@ -218,59 +220,73 @@ fn of_header(text: &str) -> Result<Functions, String> {
     Ok(found)
 }
 
-fn read(path: &str) -> String {
-    match std::fs::read_to_string(path) {
-        Ok(text) => text,
-        Err(e) => {
-            println!("FAIL  {path}: {e}");
-            println!("0 passed, 1 failed");
-            std::process::exit(1);
+#[test]
+fn header_declarations_and_source_agree() {
+    let paths = ["host/card.h", "host/card/src/raw.rs", "crates/card/src/lib.rt"];
+    let texts = paths.map(|path| text(&root().join(path)));
+    let tables = [of_header(&texts[0]), of_rust(&texts[1]), of_source(&texts[2])];
+    let tables: Vec<Functions> =
+        tables.into_iter().zip(paths).map(|(t, path)| t.unwrap_or_else(|e| panic!("{path}: {e}"))).collect();
+    let names: BTreeSet<&String> = tables.iter().flat_map(|t| t.keys()).collect();
+    assert!(names.len() >= 17, "{} functions found", names.len());
+    let mut wrong = String::new();
+    for name in names {
+        let said: Vec<Option<&Function>> = tables.iter().map(|t| t.get(name)).collect();
+        if !said.iter().all(|f| f.is_some() && *f == said[0]) {
+            for (f, path) in said.iter().zip(paths) {
+                wrong += &format!("\n{name} in {path}: {}", f.map_or("not there".to_string(), |f| f.text()));
+            }
         }
+    }
+    assert!(wrong.is_empty(), "{wrong}");
+}
+
+/// The safe layer has each function once, under the name without its first word.
+#[test]
+fn the_safe_layer_has_every_call() {
+    let declared = of_rust(&text(&root().join("host/card/src/raw.rs"))).unwrap();
+    let calls = text(&root().join("host/card/src/calls.rs"));
+    for name in declared.keys() {
+        let short = name.trim_start_matches("card_");
+        assert_eq!(calls.matches(&format!("pub fn {short}(")).count(), 1, "{name}");
+        assert_eq!(calls.matches(&format!("raw::{name}(")).count(), 1, "{name}");
     }
 }
 
-fn main() {
-    let args: Vec<String> = std::env::args().skip(1).collect();
-    if args.len() < 3 {
-        println!("FAIL  header_check CARD_H RAW_RS SOURCE...");
-        println!("0 passed, 1 failed");
-        std::process::exit(1);
-    }
-    let sources: Vec<String> = args[2..].iter().map(|path| read(path)).collect();
-    let parsed = [of_header(&read(&args[0])), of_rust(&read(&args[1])), of_source(&sources.join("\n"))];
-    let mut tables = Vec::new();
-    for (table, path) in parsed.into_iter().zip(&args) {
-        match table {
-            Ok(table) if table.is_empty() => {
-                println!("FAIL  {path}: no function found");
-                println!("0 passed, 1 failed");
-                std::process::exit(1);
-            }
-            Ok(table) => tables.push(table),
-            Err(what) => {
-                println!("FAIL  {path}: {what}");
-                println!("0 passed, 1 failed");
-                std::process::exit(1);
+/// Every unsafe block of the folder says why it is safe, and none stands outside the safe layer and the bench's allocator.
+#[test]
+fn every_unsafe_block_says_why() {
+    fn walk(folder: &std::path::Path, found: &mut Vec<std::path::PathBuf>) {
+        for entry in std::fs::read_dir(folder).unwrap().map(|entry| entry.unwrap().path()) {
+            if entry.is_dir() && !entry.ends_with("target") {
+                walk(&entry, found);
+            } else if entry.extension().map_or(false, |e| e == "rs") && !entry.ends_with("header.rs") {
+                found.push(entry);
             }
         }
     }
-    let names: BTreeSet<&String> = tables.iter().flat_map(|t| t.keys()).collect();
-    let (mut passed, mut failed) = (0, 0);
-    for name in names {
-        let said: Vec<Option<&Function>> = tables.iter().map(|t| t.get(name)).collect();
-        if said.iter().all(|f| f.is_some() && *f == said[0]) {
-            passed += 1;
-            println!("ok    {name}");
-        } else {
-            failed += 1;
-            println!("FAIL  {name}");
-            for (f, path) in said.iter().zip(&args) {
-                println!("      {path}: {}", f.map_or("not there".to_string(), |f| f.text()));
+    let mut files = Vec::new();
+    walk(&root().join("host"), &mut files);
+    let mut blocks = 0;
+    for file in files {
+        let text = text(&file);
+        let lines: Vec<&str> = text.lines().collect();
+        for (i, line) in lines.iter().enumerate() {
+            let code = line.split("//").next().unwrap_or("");
+            if code.contains("unsafe {") || code.contains("unsafe impl") {
+                let said = lines[..i].iter().rev().take(3).any(|l| l.contains("// SAFETY: "));
+                assert!(said, "{}:{}: an unsafe block without a word", file.display(), i + 1);
+                let at = file.strip_prefix(root()).unwrap();
+                assert!(
+                    ["host/card/src/calls.rs", "host/bench/src/count.rs", "host/bench/src/main.rs"]
+                        .contains(&at.to_str().unwrap()),
+                    "{}:{}: an unsafe block outside the safe layer",
+                    file.display(),
+                    i + 1
+                );
+                blocks += 1;
             }
         }
     }
-    println!("{passed} passed, {failed} failed");
-    if failed != 0 {
-        std::process::exit(1);
-    }
+    assert!(blocks >= 17);
 }

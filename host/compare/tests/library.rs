@@ -1,38 +1,15 @@
 //! Compares the card's library with the plain models, call by call and word by word.
 //!
-//!     compare [--self] [--verbose] [--times N] [SEED]
+//!     cargo test -p compare --test library -- [--self] [--verbose] [--times N] [SEED]
 //!
-//! `--self` puts the models in the library's place (the harness tests itself), `--verbose` prints
-//! how often each clause was met, `--times N` makes N times as many calls. The same seed makes the
-//! same calls. The last line is `N passed, M failed`.
-#![allow(unknown_lints, unexpected_cfgs, clippy::too_many_arguments)]
+//! `--self` puts the models in the library's place (the harness tests itself), `--verbose` prints how often each clause was met,
+//! `--times N` makes N times as many calls. The same seed makes the same calls. Its parts share one tally of what was met, so it is one
+//! program with a main of its own; it closes with a count as every test of cargo's does.
 
-extern crate models;
-
-#[cfg(library)]
-extern crate card_host;
-
-#[path = "compare/cases.rs"]
-mod cases;
-#[path = "compare/coverage.rs"]
-mod coverage;
-#[path = "compare/harness.rs"]
-mod harness;
-#[path = "compare/histories.rs"]
-mod histories;
-#[path = "compare/hostile.rs"]
-mod hostile;
-#[path = "compare/rng.rs"]
-mod rng;
-#[path = "compare/side.rs"]
-mod side;
-#[cfg(library)]
-#[path = "compare/wrapper.rs"]
-mod wrapper;
-
-use harness::Harness;
-use rng::Rng;
-use side::{Card, Model};
+use compare::harness::Harness;
+use compare::side::{Card, Linked, Model};
+use compare::{cases, coverage, histories, hostile};
+use models::rng::Rng;
 use std::time::Instant;
 
 const SEED: u64 = 20_240_607;
@@ -47,11 +24,11 @@ impl Score {
         match result {
             Ok(text) => {
                 self.passed += 1;
-                println!("ok    {name}{text}");
+                println!("test {name} ... ok{text}");
             }
             Err(what) => {
                 self.failed += 1;
-                println!("FAIL  {name}");
+                println!("test {name} ... FAILED");
                 println!("      {what}");
             }
         }
@@ -83,7 +60,7 @@ fn run<C: Card>(library: C, seed: u64, times: u64, verbose: bool) -> Score {
     let mut score = Score { passed: 0, failed: 0 };
     let mut h = Harness::new(library);
 
-    for (name, result) in cases::all(&mut Model::new()) {
+    for (name, result) in cases::all(&mut Model::default()) {
         score.note(&format!("model, {name}"), result.map(|()| String::new()));
     }
     score.note("model, the worked trace by the trace program", cases::trace().map(|()| String::new()));
@@ -169,6 +146,11 @@ fn run<C: Card>(library: C, seed: u64, times: u64, verbose: bool) -> Score {
     score
 }
 
+fn usage() -> ! {
+    eprintln!("library [--self] [--verbose] [--times N] [SEED]");
+    std::process::exit(2)
+}
+
 fn main() {
     let (mut seed, mut times, mut own, mut verbose) = (SEED, 1, false, false);
     let mut args = std::env::args().skip(1);
@@ -176,29 +158,18 @@ fn main() {
         match arg.as_str() {
             "--self" => own = true,
             "--verbose" => verbose = true,
-            "--times" => times = args.next().and_then(|n| n.parse().ok()).expect("--times N"),
-            other => seed = other.parse().expect("compare [--self] [--verbose] [--times N] [SEED]"),
+            "--times" => times = args.next().and_then(|n| n.parse().ok()).unwrap_or_else(|| usage()),
+            // what cargo hands to every test
+            "--nocapture" | "--quiet" | "-q" => {}
+            other => seed = other.parse().unwrap_or_else(|_| usage()),
         }
     }
     println!("seed {seed}");
-    let score = if own { run(Model::new(), seed, times, verbose) } else { linked(seed, times, verbose) };
-    println!("{} passed, {} failed", score.passed, score.failed);
+    let start = Instant::now();
+    let score = if own { run(Model::default(), seed, times, verbose) } else { run(Linked, seed, times, verbose) };
+    let (result, seconds) = (if score.failed == 0 { "ok" } else { "FAILED" }, start.elapsed().as_secs_f32());
+    println!("\ntest result: {result}. {} passed; {} failed; finished in {seconds:.2}s\n", score.passed, score.failed);
     if score.failed != 0 {
         std::process::exit(1);
     }
-}
-
-#[cfg(library)]
-fn linked(seed: u64, times: u64, verbose: bool) -> Score {
-    let mut score = run(side::Linked, seed, times, verbose);
-    for (name, result) in wrapper::all(seed) {
-        score.note(name, result.map(|()| String::new()));
-    }
-    score
-}
-
-#[cfg(not(library))]
-fn linked(_: u64, _: u64, _: bool) -> Score {
-    println!("FAIL  this program was built without the library: only --self can be run");
-    Score { passed: 0, failed: 1 }
 }

@@ -3,8 +3,9 @@
 
 use crate::harness::Harness;
 use crate::histories::{shapes, shapes_up_to};
-use crate::rng::Rng;
-use crate::side::{Call, Card, Op, Side};
+use crate::side::{Card, Side};
+use models::call::{Call, Op};
+use models::rng::Rng;
 use models::tree::{Node, Shape};
 use models::{boundary, bucket};
 

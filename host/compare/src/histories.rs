@@ -2,9 +2,10 @@
 //! answers against the plain sorted list.
 
 use crate::harness::Harness;
-use crate::rng::Rng;
-use crate::side::{Call, Card, Op, Side};
+use crate::side::{Card, Side};
+use models::call::{Call, Op};
 use models::list::SortedList;
+use models::rng::Rng;
 use models::tree::Shape;
 use models::{boundary, bucket, element, Element};
 
