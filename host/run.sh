@@ -11,6 +11,14 @@ set -u
 cd "$(dirname "$0")/.." || exit 2
 . host/tools.sh
 
+# a seed is a number, and there is one at most
+case $#$* in
+0 | 1[0-9]*) ;;
+*)
+    echo 'run.sh [SEED]' >&2
+    exit 2
+    ;;
+esac
 tools || {
     echo 'host: FAILED: compilers and, where one is needed, an emulator'
     exit 1

@@ -61,7 +61,7 @@ runner() {
 # Whether what `rt` made is there and no source is newer.
 fresh() { [ -e "$1" ] && [ -z "$(find crates crates.txt -newer "$1" -print -quit)" ]; }
 
-# Proves and builds with `rt`, if that was not done yet, and shows on standard error how far it is: fresh FILE, then rt's words.
+# Proves and builds FILE with `rt WORDS`, if that was not done yet, and shows on standard error how far it is: made FILE NAME WORDS..
 made() {
     made_file=$1
     made_name=$2
@@ -69,7 +69,7 @@ made() {
     if fresh "$made_file"; then return 0; fi
     printf '%s: proving and building first: `rt %s`. From nothing this takes some minutes; a line is shown for each crate.\n' "$made_name" "$*" >&2
     made_log=$(mktemp) || return 1
-    { rt "$@" 2>&1 || echo "$made_log failed"; } | tee "$made_log" | grep '^rt: ' >&2
+    { rt "$@" 2>&1 || echo "$made_log failed"; } | tee "$made_log" | grep --line-buffered '^rt: ' >&2
     if grep -q "^$made_log failed\$" "$made_log" || [ ! -e "$made_file" ]; then
         grep -v '^rt: ' "$made_log" >&2
         rm -f "$made_log"

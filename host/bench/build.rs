@@ -1,4 +1,4 @@
-//! Tells the program which compiler made it, and whether that compiler's ordered map can give its first entry.
+//! Tells the program which compiler and which library made it, and whether that compiler's ordered map can give its first entry.
 
 use std::process::Command;
 
@@ -8,6 +8,7 @@ fn main() {
     let answer = Command::new(rustc).arg("--version").output().map(|o| o.stdout).unwrap_or_default();
     let version = String::from_utf8_lossy(&answer).trim().to_string();
     println!("cargo:rustc-env=BENCH_RUSTC={version}");
+    println!("cargo:rustc-env=BENCH_LIBRARY={}", std::env::var("DEP_CARD_LIBRARY").unwrap_or_default());
     println!("cargo:rustc-env=BENCH_OPT={}", std::env::var("OPT_LEVEL").unwrap_or_default());
     let minor = version.split('.').nth(1).and_then(|m| m.parse::<u32>().ok()).unwrap_or(0);
     // rustc 1.80 asks which names there are

@@ -69,6 +69,8 @@ fn main() {
     if library.file_name() != Some("libcard.a".as_ref()) {
         missing(&format!("{} is not named libcard.a", library.display()));
     }
+    // crates that depend on this one are told which library it is
+    println!("cargo:library={}", library.display());
     println!("cargo:rustc-link-search=native={}", folder.display());
     println!("cargo:rustc-link-lib=static=card");
 }

@@ -79,8 +79,8 @@ fn any(rng: &mut Rng, n: usize) -> Ask {
     let (rank, tag) = (rng.below(1 << 21), n as u32);
     match rng.below(10) {
         0 | 1 => Ask::Idle,
-        2 | 3 | 4 => Ask::Push(rank, tag),
-        5 | 6 | 7 => Ask::Pop,
+        2..=4 => Ask::Push(rank, tag),
+        5..=7 => Ask::Pop,
         _ => Ask::Replace(rank, tag),
     }
 }

@@ -61,6 +61,7 @@ fn main() {
     let title = || {
         let (arch, rustc, level) = (std::env::consts::ARCH, env!("BENCH_RUSTC"), env!("BENCH_OPT"));
         println!("{} ({arch}), {rustc}, optimised {level}", processor());
+        println!("library: {}", env!("BENCH_LIBRARY"));
         println!("medians of {rounds} rounds, {operations} operations a round, nanoseconds for one operation");
         if emulated {
             println!("THIS RUNS ON AN EMULATOR: its times mean nothing");

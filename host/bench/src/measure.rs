@@ -76,6 +76,6 @@ impl Rng {
         self.0 ^= self.0 << 13;
         self.0 ^= self.0 >> 7;
         self.0 ^= self.0 << 17;
-        ((self.0 >> 32) * bound as u64 >> 32) as u32
+        (((self.0 >> 32) * bound as u64) >> 32) as u32
     }
 }

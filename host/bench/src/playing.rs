@@ -67,8 +67,8 @@ fn records(count: usize) -> (Vec<Ask>, Vec<u8>) {
         let (rank, tag) = (rng.below(1 << 20), n as u32);
         let (ask, code, rank, tag) = match rng.below(10) {
             0 | 1 => (Ask::Idle, 0, 0, 0),
-            2 | 3 | 4 | 5 => (Ask::Push(rank, tag), 1, rank, tag),
-            6 | 7 | 8 => (Ask::Pop, 2, 0, 0),
+            2..=5 => (Ask::Push(rank, tag), 1, rank, tag),
+            6..=8 => (Ask::Pop, 2, 0, 0),
             _ => (Ask::Replace(rank, tag), 3, rank, tag),
         };
         asks.push(ask);

@@ -75,6 +75,7 @@ impl Queue for MapQueue {
     }
     #[inline]
     #[cfg(first_entry)]
+    #[allow(clippy::incompatible_msrv)]
     fn pop(&mut self) -> (u32, u32) {
         let mut first = self.0.first_entry().expect("pop");
         let rank = *first.key();

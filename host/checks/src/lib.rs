@@ -97,8 +97,3 @@ pub fn done(command: &mut Command) -> String {
 pub fn text(path: &Path) -> String {
     std::fs::read_to_string(path).unwrap_or_else(|error| panic!("{}: {error}", path.display()))
 }
-
-/// The seed of this run.
-pub fn seed() -> u64 {
-    std::env::var("CARD_SEED").map_or(20_240_607, |seed| seed.parse().expect("CARD_SEED is a number"))
-}

@@ -1,7 +1,7 @@
 //! Runs the trace program on good and bad traces and compares what it writes with the model.
 
-use checks::{play, seed, x86};
-use models::rng::Rng;
+use checks::{play, x86};
+use models::rng::{seed, Rng};
 use models::tree::Shape;
 use std::io::{Read, Write};
 use std::process::Stdio;

@@ -85,7 +85,8 @@ fn how(command: &str) -> Run {
 #[test]
 fn each_of_its_commands_is_run() {
     // what the commands need is there
-    (library(), play());
+    library();
+    play();
     let page = readme();
     let commands: Vec<&str> =
         page.lines().filter_map(|line| line.strip_prefix("    ")).filter(|line| !line.starts_with(' ')).collect();

@@ -167,18 +167,17 @@ pub fn tree<C: Card>(h: &mut Harness<C>, rng: &mut Rng, order: u32, levels: u32,
         }
     }
     // what is left comes out in order, and nothing else
-    while calls < 5000 {
+    let mut left = calls < 5000;
+    while left {
         let number = match h.call(&Call::tree(Op::TreePop, order, levels, words)) {
             Some(number) => number,
             None => return,
         };
-        if let Err(what) = held_to_list(&mut list, Op::TreePop, element(0, 0), capacity, number, h.answer(), h.b.out[0])
-        {
+        let none = element(0, 0);
+        if let Err(what) = held_to_list(&mut list, Op::TreePop, none, capacity, number, h.answer(), h.b.out[0]) {
             return h.fail(format!("order {order}, levels {levels}, emptying: {what}"));
         }
-        if number == 6 {
-            break;
-        }
+        left = number != 6;
     }
 }
 

@@ -666,7 +666,7 @@ pub fn edges<C: Card>(h: &mut Harness<C>, rng: &mut Rng) {
                         Some(number) => number,
                         None => return,
                     };
-                    let taken = n >= 1 && n <= 4096 && words >= need && bits >= 65;
+                    let taken = (1..=4096).contains(&n) && words >= need && bits >= 65;
                     if (number == 1) == taken {
                         return h.fail(format!("{} answered {number}", k.text()));
                     }

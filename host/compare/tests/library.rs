@@ -9,10 +9,8 @@
 use compare::harness::Harness;
 use compare::side::{Card, Linked, Model};
 use compare::{cases, coverage, histories, hostile};
-use models::rng::Rng;
+use models::rng::{self, Rng};
 use std::time::Instant;
-
-const SEED: u64 = 20_240_607;
 
 struct Score {
     passed: u64,
@@ -152,7 +150,7 @@ fn usage() -> ! {
 }
 
 fn main() {
-    let (mut seed, mut times, mut own, mut verbose) = (SEED, 1, false, false);
+    let (mut seed, mut times, mut own, mut verbose) = (rng::seed(), 1, false, false);
     let mut args = std::env::args().skip(1);
     while let Some(arg) = args.next() {
         match arg.as_str() {

@@ -80,7 +80,7 @@ pub mod cause {
 
     pub fn name(bit: u32) -> String {
         if bit < SECOND {
-            format!("{}", NAMES[bit as usize])
+            NAMES[bit as usize].to_string()
         } else {
             format!("after the pop: {}", NAMES[(bit - SECOND) as usize])
         }
@@ -360,7 +360,7 @@ fn push_writes(p: &mut Pool, x: Element) {
 
 fn shape(bits: usize, have: usize, nodes: u32) -> Result<(), No> {
     let mut c = 0;
-    if nodes < 1 || nodes > 4096 {
+    if !(1..=4096).contains(&nodes) {
         c |= shape_cause::NUMBERS;
     } else if (have as u64) < words(nodes as u64) {
         c |= shape_cause::STORE;
