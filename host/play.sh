@@ -3,8 +3,8 @@
 #
 #   host/play.sh [TRACE]
 #
-# The program is proved and built first, if that was not done yet. It is for x86-64; on an Arm machine an emulator runs it, from Debian's
-# packages where it is missing (as root).
+# The program is proved and built first, if that was not done yet; PLAY names one that is there already. It is for x86-64; on an Arm
+# machine an emulator runs it, from Debian's packages where it is missing (as root).
 set -u
 here=$(cd "$(dirname "$0")" && pwd) || exit 2
 fail() {
@@ -27,7 +27,10 @@ if [ "$trace" != - ]; then
 fi
 cd "$here/.." || exit 2
 . host/tools.sh
-made target/bin/play play check play || exit 1
+if [ -z "${PLAY:-}" ]; then
+    made target/bin/play play check play || exit 1
+    PLAY=target/bin/play
+fi
 runner || fail "there is no emulator for an x86-64 program"
-if [ "$trace" = - ]; then exec $RUNNER target/bin/play; fi
-exec $RUNNER target/bin/play <"$trace"
+if [ "$trace" = - ]; then exec $RUNNER "$PLAY"; fi
+exec $RUNNER "$PLAY" <"$trace"

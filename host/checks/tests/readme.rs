@@ -61,7 +61,10 @@ fn how(command: &str) -> Run {
         "host/trace.sh to-text target/worked.pft" => Run::Here(shell(command), Some("host/examples/worked.txt")),
         "gcc -std=c99 -Ihost host/examples/pops.c target/staticlib/libcard.a -o target/pops" => {
             let mut gcc = compiler("CARD_CC", "gcc");
-            gcc.args(command.split(' ').skip(1)).current_dir(root());
+            let library = library().display().to_string();
+            let words =
+                command.split(' ').skip(1).map(|word| if word.ends_with("libcard.a") { &library } else { word });
+            gcc.args(words).current_dir(root());
             Run::Here(gcc, None)
         }
         "target/pops" => {
