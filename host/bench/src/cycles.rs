@@ -1,5 +1,6 @@
 //! The clocked tree beside the plain machine.
 
+use crate::clock::Clock;
 use crate::count::bytes_of;
 use crate::measure::{race, Contestant, Rng, Work};
 use crate::plain::{Ask, Plain};
@@ -97,7 +98,7 @@ fn row(plan: &Plan, all: &mut Vec<Row>, kind: &str, shape: (u32, u32), ask: impl
     let mut rng = Rng::new(3);
     let mut card = Runner(ClockedTree::new(order, levels).expect("a good shape"));
     let mut other = Runner(Plain::new(order, levels));
-    let pair = race(plan.rounds, &mut card, &mut other, || Work {
+    let pair = race(plan.rounds, Clock::Own, &mut card, &mut other, || Work {
         fill: fill(&mut rng, held),
         trace: (0..plan.operations).map(|n| ask(&mut rng, n)).collect(),
     });

@@ -1,10 +1,11 @@
-//! Times the card's queues beside plain Rust, in one process, contestants in turn, medians of many short rounds.
+//! Times the card's queues beside plain Rust, in one process, contestants in turn, medians of many short rounds of processor time.
 //!
 //!     bench [--brief] [--play PROGRAM] [--emulated] [PART]
 //!
 //! PART is part of a row's name: only such rows are measured. `--brief` makes a few small rounds: it shows that everything runs, and
 //! its times mean nothing. `--play` names the trace program. Both of a pair work on the same trace and must give the same answers.
 
+mod clock;
 mod count;
 mod cycles;
 mod measure;
@@ -62,7 +63,7 @@ fn main() {
         let (arch, rustc, level) = (std::env::consts::ARCH, env!("BENCH_RUSTC"), env!("BENCH_OPT"));
         println!("{} ({arch}), {rustc}, optimised {level}", processor());
         println!("library: {}", env!("BENCH_LIBRARY"));
-        println!("medians of {rounds} rounds, {operations} operations a round, nanoseconds for one operation");
+        println!("medians of {rounds} rounds of {operations} operations; nanoseconds of processor time for one (play: of time as it passes)");
         if emulated {
             println!("THIS RUNS ON AN EMULATOR: its times mean nothing");
         }

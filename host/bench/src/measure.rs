@@ -1,6 +1,6 @@
 //! Rounds, interleaved, and their medians.
 
-use std::time::Instant;
+use crate::clock::Clock;
 
 /// One round's work: what brings a contestant to the state that is wanted, and what is timed.
 pub struct Work<T> {
@@ -24,11 +24,11 @@ pub struct Pair {
     pub ratio: f64,
 }
 
-fn timed<T>(contestant: &mut dyn Contestant<T>, work: &Work<T>) -> (f64, u64) {
+fn timed<T>(clock: Clock, contestant: &mut dyn Contestant<T>, work: &Work<T>) -> (f64, u64) {
     contestant.ready(&work.fill);
-    let start = Instant::now();
+    let start = clock.now();
     let answers = contestant.run(&work.trace);
-    (start.elapsed().as_nanos() as f64 / work.trace.len() as f64, answers)
+    ((clock.now() - start) / work.trace.len() as f64, answers)
 }
 
 fn median(mut times: Vec<f64>) -> f64 {
@@ -40,6 +40,7 @@ fn median(mut times: Vec<f64>) -> f64 {
 /// work of its own: a trace that comes again is one that a processor's branch predictor learns by heart.
 pub fn race<T>(
     rounds: usize,
+    clock: Clock,
     card: &mut dyn Contestant<T>,
     other: &mut dyn Contestant<T>,
     mut work: impl FnMut() -> Work<T>,
@@ -49,11 +50,11 @@ pub fn race<T>(
     for round in 0..=rounds {
         let work = work();
         let (a, b) = if round % 2 == 0 {
-            let a = timed(card, &work);
-            (a, timed(other, &work))
+            let a = timed(clock, card, &work);
+            (a, timed(clock, other, &work))
         } else {
-            let b = timed(other, &work);
-            (timed(card, &work), b)
+            let b = timed(clock, other, &work);
+            (timed(clock, card, &work), b)
         };
         assert_eq!(a.1, b.1, "the two answered differently");
         if round > 0 {

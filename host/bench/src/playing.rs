@@ -1,5 +1,6 @@
 //! The trace program, in records a second, beside the plain machine that writes the same lines.
 
+use crate::clock::Clock;
 use crate::measure::{race, Contestant, Rng, Work};
 use crate::plain::{Ask, Plain};
 use crate::table::{Plan, Row};
@@ -94,7 +95,7 @@ pub fn rows(plan: &Plan, program: Option<&str>, count: usize) -> Vec<Row> {
     command.push(program.to_string());
     let rounds = (plan.rounds / 10).max(3);
     let work = || Work { fill: Vec::new(), trace: asks.clone() };
-    let pair = race(rounds, &mut Program { command, file: &file }, &mut Writer, work);
+    let pair = race(rounds, Clock::Wall, &mut Program { command, file: &file }, &mut Writer, work);
     std::fs::remove_file(&file).expect("the trace goes");
     vec![Row { name, pair, card_bytes: 0, other_bytes: 0 }]
 }

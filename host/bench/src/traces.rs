@@ -1,5 +1,6 @@
 //! What the one-at-a-time queues are timed on.
 
+use crate::clock::Clock;
 use crate::count::bytes_of;
 use crate::measure::{race, Rng, Work};
 use crate::queues::{filled, HeapQueue, MapQueue, Op, Player, Queue, RankHeap};
@@ -50,7 +51,7 @@ fn bucket(plan: &Plan, all: &mut Vec<Row>, name: &str, mut work: impl FnMut(&mut
     let mut rng = Rng::new(1);
     let mut card = Player { queue: BucketQueue::new(NODES).expect("a good shape"), tags: true };
     let mut other = Player { queue: MapQueue::default(), tags: true };
-    let pair = race(plan.rounds, &mut card, &mut other, || work(&mut rng));
+    let pair = race(plan.rounds, Clock::Own, &mut card, &mut other, || work(&mut rng));
     let Work { fill, trace } = work(&mut rng);
     // where nothing is filled before, the trace fills: its first half is what is held at most
     let most = if fill.is_empty() { &trace[..trace.len() / 2] } else { &fill };
@@ -75,7 +76,7 @@ fn tree<Q: Queue + Default>(
     let mut rng = Rng::new(2);
     let mut card = Player { queue: TreeQueue::new(shape.0, shape.1).expect("a good shape"), tags: false };
     let mut other = Player { queue: Q::default(), tags: false };
-    let pair = race(plan.rounds, &mut card, &mut other, || work(&mut rng));
+    let pair = race(plan.rounds, Clock::Own, &mut card, &mut other, || work(&mut rng));
     let fill = work(&mut rng).fill;
     all.push(Row {
         name: name.to_string(),

@@ -253,7 +253,7 @@ fn the_safe_layer_has_every_call() {
     }
 }
 
-/// Every unsafe block of the folder says why it is safe, and none stands outside the safe layer and the bench's allocator.
+/// Every unsafe block of the folder says why it is safe, and none stands outside the safe layer and the bench.
 #[test]
 fn every_unsafe_block_says_why() {
     fn walk(folder: &std::path::Path, found: &mut Vec<std::path::PathBuf>) {
@@ -277,13 +277,8 @@ fn every_unsafe_block_says_why() {
                 let said = lines[..i].iter().rev().take(3).any(|l| l.contains("// SAFETY: "));
                 assert!(said, "{}:{}: an unsafe block without a word", file.display(), i + 1);
                 let at = file.strip_prefix(root()).unwrap();
-                assert!(
-                    ["host/card/src/calls.rs", "host/bench/src/count.rs", "host/bench/src/main.rs"]
-                        .contains(&at.to_str().unwrap()),
-                    "{}:{}: an unsafe block outside the safe layer",
-                    file.display(),
-                    i + 1
-                );
+                let safe = at.ends_with("card/src/calls.rs") || at.starts_with("host/bench/src");
+                assert!(safe, "{}:{}: an unsafe block outside the safe layer", at.display(), i + 1);
                 blocks += 1;
             }
         }
