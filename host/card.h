@@ -1,7 +1,7 @@
 /*
- * Priority queues for a network card: the C side of the library (libcard.a).
+ * Priority queues for a network card: the C side of the library (libcard.a). For C99 and C++.
  *
- * Every call answers a number: 0 where it is not refused, else
+ * Every call but the sizes answers a number: 0 where it is not refused, else
  *
  *   1 bad shape   order, levels, nodes or a slice's length outside the rules
  *   2 damaged     a store or a pending record does not hold together
@@ -11,9 +11,9 @@
  *   6 empty       a pop on an empty queue
  *
  * A slice is a pointer and then its length in words. The pointer must really have so many words,
- * aligned as usual, and must not be NULL even for length 0; the slices of one call must not
- * overlap. Everything else is tested: no store's content and no number makes a call unsafe.
- * Longer slices are taken; what lies behind the words in use is neither read nor written.
+ * aligned as usual; it may be NULL where the length is 0. The slices of one call must not overlap.
+ * Everything else is tested: no store's content and no number makes a call unsafe. Longer slices
+ * are taken; what lies behind the words in use is neither read nor written.
  *
  * A call keeps nothing. All of a queue's state lies in the slices that the caller lends.
  *
@@ -46,10 +46,42 @@ extern "C" {
 #define CARD_POP 2u
 #define CARD_REPLACE 3u
 
+/* The name of a number that a call answered. */
+static inline const char *card_name(uint32_t number) {
+    static const char *const names[7] = {"ok", "bad shape", "damaged", "too soon", "bad rank", "full", "empty"};
+    return number < 7 ? names[number] : "no such number";
+}
+
+/*
+ * How many words a store needs, and 0 for a bad shape: the least length that the calls take.
+ */
+
+/* A tree's store. */
+uint32_t card_tree_words(uint32_t order, uint32_t levels);
+
+/* A bucket queue's words of 64 bits. */
+uint32_t card_bucket_bits(void);
+
+/* A bucket queue's words of 32 bits. */
+uint32_t card_bucket_words(uint32_t nodes);
+
+/*
+ * The same as constants, for arrays. They test nothing: order, levels and nodes must be good.
+ */
+#define CARD_TREE_WORDS(order, levels) (3u * ((((order) << (CARD_SHIFT(order) * (levels))) - (order)) / ((order)-1u)))
+#define CARD_BUCKET_BITS 65u
+#define CARD_BUCKET_WORDS(nodes) (8194u + 2u * (nodes))
+/* The records of a clocked tree, four words for each level from 2: none where there is one level. */
+#define CARD_RECORD_WORDS(levels) (4u * ((levels)-1u))
+#define CARD_MARK_WORDS 1u
+#define CARD_OUT_WORDS 2u
+/* order is 2 to this power */
+#define CARD_SHIFT(order) ((order) == 8u ? 3u : (order) / 2u)
+
 /*
  * The multi-way tree, one operation at a time. Order M is 2, 4 or 8, levels L at least 1, and the
  * capacity M + M^2 + ... + M^L at most 5460. The store has three words for each slot: rank, tag,
- * count; it must be cleared before its first use.
+ * count (card_tree_words in all); it must be cleared before its first use.
  */
 
 /* Empties the tree: 3 * capacity words of zero. Never refused 2. */
@@ -74,8 +106,8 @@ uint32_t card_tree_held(const uint32_t *store, size_t store_len, uint32_t order,
 
 /*
  * The bucket queue: ranks 0 to 4095, first in first out within a rank, a pool of 1 to 4096 nodes.
- * The store is 65 words of 64 bits (bits) and 8192 + 2 * nodes + 2 words of 32 bits (words); it
- * must be cleared before its first use.
+ * The store is 65 words of 64 bits (bits) and 8192 + 2 * nodes + 2 words of 32 bits (words), as
+ * card_bucket_bits and card_bucket_words say; it must be cleared before its first use.
  */
 
 /* Empties the queue and makes the chain of free nodes. Never refused 2. */

@@ -8,11 +8,14 @@ ghost use Rattle.card.specs.Out.{answerOut, tally};
 ghost use Rattle.card.specs.Tree.{treeStored, treeTold, treeClear, treePush, treePop, treeReplace, treeHeld};
 ghost use Rattle.card.specs.Bucket.{pooled, drawn, bucketClear, bucketPush, bucketPop, bucketReplace, bucketHeld};
 ghost use Rattle.card.specs.Clocked.{restart, beat, requestOf, ran, taken, drainOut, clockedClear, clockedCycle, clockedDrain, clockedHeld};
+ghost use Rattle.card.specs.Sizes.{treeWords, bucketBits, bucketWords};
 use card_records::bit;
 use card_records::hand_back;
 use card_records::is_readable;
 use card_records::is_roomy;
 use card_records::read_state;
+use node::SLOT_LIMIT;
+use node::capacity;
 use node::shape_ok;
 use strip::Answer;
 use strip::Count;
@@ -337,4 +340,40 @@ pub extern "C" fn card_clocked_held(store: &[u32], order: u32, levels: u32, out:
     }
     let count = clocked::held(store, order as usize, levels as usize);
     tell_count(out, count)
+}
+
+// ---- how many words a store needs: the least length that the calls take, and 0 for a bad shape
+
+#[no_mangle]
+pub extern "C" fn card_tree_words(order: u32, levels: u32) -> u32
+    ensures { λ r. ⌜ r ≡ treeWords order levels ⌝ }
+{
+    let m = order as usize;
+    let l = levels as usize;
+    if !shape_ok(m, l, 3 * SLOT_LIMIT) {
+        return 0;
+    }
+    (3 * capacity(m, l)) as u32
+}
+
+// The words of 64 bits.
+#[no_mangle]
+pub extern "C" fn card_bucket_bits() -> u32
+    ensures { λ r. ⌜ r ≡ bucketBits ⌝ }
+{
+    65
+}
+
+// The words of 32 bits.
+#[no_mangle]
+pub extern "C" fn card_bucket_words(nodes: u32) -> u32
+    ensures { λ r. ⌜ r ≡ bucketWords nodes ⌝ }
+{
+    if nodes < 1 {
+        return 0;
+    }
+    if 4096 < nodes {
+        return 0;
+    }
+    8194 + 2 * nodes
 }

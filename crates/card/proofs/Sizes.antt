@@ -1,0 +1,104 @@
+-- The sizes are the calls' own: a shape is taken exactly if its size is not 0 and the slices are as long. Assumes nothing.
+use Prim.Native.Nat.{_*_, _<_, _≤_, suc, zero, ℕ}
+use native.Mathlib.Nat.{mul-le-mul-right}
+use native.Mathlib.Omega.{arith}
+use mathlib.Core.Bool.{_&&_, Bool, cond, false, false≢true, not, true}
+use mathlib.Core.Path.{_∙_, _≡_, ap, refl, sym}
+use lib.Dec.{eqb, leb}
+use borrow.Author.Tests.{le-leb, leb-false, leb-true, lt-leb, ne-eqb, not-false, not-true}
+use Rattle.bucket_model.specs.Checks as bucket
+use Rattle.bucket_model.specs.Layout.{pool, storeWords}
+use Rattle.card.specs.Sizes.{bucketBits, bucketWords, treeWords}
+use Rattle.laws.specs.Tests.{and-left, and-right}
+use Rattle.node.proofs.Steps.{order-range}
+use Rattle.node.specs.Scan.{Capacity}
+use Rattle.tree_model.specs.Calls as tree
+use Rattle.tree_model.specs.Damage.{room}
+use Rattle.tree_model.specs.Words.{width}
+
+-- ---- the tree
+module _ (m levels : ℕ) where
+  -- a store for the largest tree is long enough for any, so what is left of its test is the shape's own
+  tree-any : tree.shapeOk m levels (width * tree.slotLimit) ≡ tree.shapeOk m levels (width * room m levels)
+  unfolding tree.shapeOk
+  tree-any = ap (λ (b : Bool). tree.orderOk m && (leb 1 levels && b)) (go (leb (room m levels) tree.slotLimit) refl)
+    where
+      go : (b : Bool) → leb (room m levels) tree.slotLimit ≡ b → (b && leb (width * room m levels) (width * tree.slotLimit)) ≡ (b && leb (width * room m levels) (width * room m levels))
+      go true e =
+          le-leb (width * room m levels) (width * tree.slotLimit) (omega (arith, leb-true (room m levels) tree.slotLimit e)) ∙ sym (le-leb (width * room m levels) (width * room m levels) (omega arith))
+      go false e = refl
+
+  module _ (ok : Bool) (shape : ok ≡ tree.shapeOk m levels (width * tree.slotLimit)) where
+    pub tree-none : not ok ≡ true → 0 ≡ treeWords m levels
+    unfolding treeWords
+    tree-none e = rw (← tree-any, ← shape, not-true ok e)
+
+    module _ (e : not ok ≡ false) where
+      taken : (tree.orderOk m && (leb 1 levels && (leb (room m levels) tree.slotLimit && leb (width * room m levels) (width * tree.slotLimit)))) ≡ true
+      unfolding tree.shapeOk
+      taken = sym shape ∙ not-false ok e
+
+      pub tree-order : (0 < m) × (m ≤ 8)
+      tree-order =
+          order-range m (and-left (tree.orderOk m) (leb 1 levels && (leb (room m levels) tree.slotLimit && leb (width * room m levels) (width * tree.slotLimit))) taken)
+
+      tree-room : room m levels ≤ tree.slotLimit
+      tree-room =
+          leb-true (room m levels) tree.slotLimit (and-left (leb (room m levels) tree.slotLimit) (leb (width * room m levels) (width * tree.slotLimit)) (and-right (leb 1 levels) (leb (room m levels) tree.slotLimit && leb (width * room m levels) (width * tree.slotLimit)) (and-right (tree.orderOk m) (leb 1 levels && (leb (room m levels) tree.slotLimit && leb (width * room m levels) (width * tree.slotLimit))) taken)))
+
+      module _ (slots : ℕ) (c : Capacity m levels slots) where
+        pub tree-most : slots ≤ tree.slotLimit
+        tree-most = omega (arith, c .within tree-room, tree-room)
+
+        pub tree-some : 3 * slots ≡ treeWords m levels
+        unfolding treeWords
+        tree-some = rw (← tree-any, ← shape, not-false ok e) (ap (λ (n : ℕ). 3 * n) (c .within tree-room))
+
+-- a tree that is taken has a slot at least
+some-room : (m levels : ℕ) → tree.orderOk m ≡ true → 1 ≤ levels → 0 < room m levels
+unfolding room
+some-room m zero e h = absurd (omega arith)
+some-room m (suc k) e h = omega (arith, mul-le-mul-right (suc (room m k)) (order-range m e .0))
+
+-- "A shorter slice is refused": a call takes the shape exactly if the size is not 0 and the slice is as long
+pub tree-size : (m levels len : ℕ) → tree.shapeOk m levels len ≡ (not (eqb (treeWords m levels) 0) && leb (treeWords m levels) len)
+unfolding treeWords tree.shapeOk
+tree-size m levels len = go (tree.orderOk m) refl (leb 1 levels) refl (leb (room m levels) tree.slotLimit)
+  where
+    go : (a : Bool) → tree.orderOk m ≡ a → (b : Bool) → leb 1 levels ≡ b → (c : Bool) → (a && (b && (c && leb (width * room m levels) len))) ≡ (not (eqb (cond (a && (b && (c && leb (width * room m levels) (width * room m levels)))) (width * room m levels) 0) 0) && leb (cond (a && (b && (c && leb (width * room m levels) (width * room m levels)))) (width * room m levels) 0) len)
+    go true p true q true =
+        let some : 0 < room m levels = some-room m levels p (leb-true 1 levels q) in
+        let more : width * room m levels ≡ 0 → ⊥ = λ z. omega arith in
+        rw (le-leb (width * room m levels) (width * room m levels) (omega arith), ne-eqb (width * room m levels) 0 more)
+    go true p true q false = refl
+    go true p false q c = refl
+    go false p b q c = refl
+
+-- ---- the bucket queue
+module _ (n : ℕ) where
+  pub bucket-none : n < 1 → 0 ≡ bucketWords n
+  unfolding bucketWords bucket.shapeOk
+  bucket-none h = rw (lt-leb 1 n h)
+
+  pub bucket-above : pool < n → 0 ≡ bucketWords n
+  unfolding bucketWords bucket.shapeOk
+  bucket-above h = rw (lt-leb n pool h) (go (leb 1 n))
+    where
+      go : (b : Bool) → 0 ≡ cond (((b && false) && leb bucketBits bucketBits) && leb (storeWords n) (storeWords n)) (storeWords n) 0
+      go true = refl
+      go false = refl
+
+  pub bucket-some : 1 ≤ n → n ≤ pool → storeWords n ≡ bucketWords n
+  unfolding bucketWords bucket.shapeOk
+  bucket-some h k = rw (le-leb 1 n h, le-leb n pool k, le-leb (storeWords n) (storeWords n) (omega arith))
+
+pub bucket-size : (bits words n : ℕ) → bucket.shapeOk bits words n ≡ ((not (eqb (bucketWords n) 0) && leb bucketBits bits) && leb (bucketWords n) words)
+unfolding bucketWords bucket.shapeOk
+bucket-size bits words n = go (leb 1 n) (leb n pool)
+  where
+    go : (a b : Bool) → (((a && b) && leb bucketBits bits) && leb (storeWords n) words) ≡ ((not (eqb (cond (((a && b) && leb bucketBits bucketBits) && leb (storeWords n) (storeWords n)) (storeWords n) 0) 0) && leb bucketBits bits) && leb (cond (((a && b) && leb bucketBits bucketBits) && leb (storeWords n) (storeWords n)) (storeWords n) 0) words)
+    go true true =
+        let more : storeWords n ≡ 0 → ⊥ = λ z. omega arith in
+        rw (le-leb (storeWords n) (storeWords n) (omega arith), ne-eqb (storeWords n) 0 more)
+    go true false = refl
+    go false b = refl

@@ -1,0 +1,123 @@
+//! The clocked tree beside the plain machine.
+
+use crate::clock::Clock;
+use crate::count::bytes_of;
+use crate::measure::{race, Contestant, Rng, Work};
+use crate::plain::{Ask, Plain};
+use crate::table::{Plan, Row};
+use card_host::{ClockedTree, Element, Rank, Request, Tag};
+
+/// A machine that runs cycles: its number, rank and tag.
+trait Machine {
+    fn clear(&mut self);
+    fn cycle(&mut self, ask: Ask) -> (u32, u32, u32);
+}
+
+impl Machine for Plain {
+    fn clear(&mut self) {
+        Plain::clear(self);
+    }
+    #[inline]
+    fn cycle(&mut self, ask: Ask) -> (u32, u32, u32) {
+        Plain::cycle(self, ask)
+    }
+}
+
+impl Machine for ClockedTree {
+    fn clear(&mut self) {
+        ClockedTree::clear(self).expect("clear");
+    }
+    #[inline]
+    fn cycle(&mut self, ask: Ask) -> (u32, u32, u32) {
+        let request = match ask {
+            Ask::Idle => Request::Idle,
+            Ask::Push(rank, tag) => Request::Push(Element::new(Rank(rank), Tag(tag))),
+            Ask::Pop => Request::Pop,
+            Ask::Replace(rank, tag) => Request::Replace(Element::new(Rank(rank), Tag(tag))),
+        };
+        match ClockedTree::cycle(self, request) {
+            Ok(x) => (0, x.rank.0, x.tag.0),
+            Err(refusal) => (refusal.number(), 0, 0),
+        }
+    }
+}
+
+/// A machine that takes part.
+struct Runner<M>(M);
+
+#[inline]
+fn run<M: Machine>(machine: &mut M, trace: &[Ask]) -> u64 {
+    let mut answers = 0u64;
+    for ask in trace {
+        let (number, rank, tag) = machine.cycle(*ask);
+        answers = answers.rotate_left(7) ^ ((rank as u64) << 32 | tag as u64) ^ (number as u64) << 20;
+    }
+    answers
+}
+
+impl<M: Machine> Contestant<Ask> for Runner<M> {
+    fn ready(&mut self, fill: &[Ask]) {
+        self.0.clear();
+        run(&mut self.0, fill);
+    }
+    fn run(&mut self, trace: &[Ask]) -> u64 {
+        run(&mut self.0, trace)
+    }
+}
+
+/// Pushes with one idle cycle after each, and enough of them to end all work.
+fn fill(rng: &mut Rng, held: usize) -> Vec<Ask> {
+    let mut all = Vec::new();
+    for tag in 0..held {
+        all.extend([Ask::Push(rng.below(1 << 20), tag as u32), Ask::Idle]);
+    }
+    all.extend([Ask::Idle; 16]);
+    all
+}
+
+/// Any of the four requests; pops and replaces that come too soon are refused, as they are on a card.
+fn any(rng: &mut Rng, n: usize) -> Ask {
+    let (rank, tag) = (rng.below(1 << 21), n as u32);
+    match rng.below(10) {
+        0 | 1 => Ask::Idle,
+        2..=4 => Ask::Push(rank, tag),
+        5..=7 => Ask::Pop,
+        _ => Ask::Replace(rank, tag),
+    }
+}
+
+/// A row: `ask` chooses the request of each timed cycle.
+fn row(plan: &Plan, all: &mut Vec<Row>, kind: &str, shape: (u32, u32), ask: impl Fn(&mut Rng, usize) -> Ask) {
+    let (order, levels) = shape;
+    let name = format!("cycle, order {order} x {levels}, {kind}");
+    if !plan.wants(&name) {
+        return;
+    }
+    let capacity: usize = (1..=levels).map(|k| (order as usize).pow(k)).sum();
+    let held = (capacity * 3 / 4).min(4000);
+    let mut rng = Rng::new(3);
+    let mut card = Runner(ClockedTree::new(order, levels).expect("a good shape"));
+    let mut other = Runner(Plain::new(order, levels));
+    let pair = race(plan.rounds, Clock::Own, &mut card, &mut other, || Work {
+        fill: fill(&mut rng, held),
+        trace: (0..plan.operations).map(|n| ask(&mut rng, n)).collect(),
+    });
+    all.push(Row {
+        name,
+        pair,
+        card_bytes: 4 * (card.0.words().len() + card.0.records().len() + 1),
+        other_bytes: bytes_of(|| Plain::new(order, levels)),
+    });
+}
+
+/// Random cycles, idle cycles, and growth by levels.
+pub fn rows(plan: &Plan) -> Vec<Row> {
+    let mut all = Vec::new();
+    row(plan, &mut all, "random", (4, 6), any);
+    row(plan, &mut all, "idle", (4, 6), |_, _| Ask::Idle);
+    row(plan, &mut all, "each second idle", (4, 6), |rng, n| if n % 2 == 0 { any(rng, n) } else { Ask::Idle });
+    for shape in [(8, 4), (2, 11), (4, 2), (4, 3), (4, 4), (4, 5)] {
+        row(plan, &mut all, "random", shape, any);
+    }
+    all
+}

@@ -1,0 +1,94 @@
+//! Times the card's queues beside plain Rust, in one process, contestants in turn, medians of many short rounds of processor time.
+//!
+//!     bench [--brief] [--play PROGRAM] [--emulated] [PART]
+//!
+//! PART is part of a row's name: only such rows are measured. `--brief` makes a few small rounds: it shows that everything runs, and
+//! its times mean nothing. `--play` names the trace program. Both of a pair work on the same trace and must give the same answers.
+
+mod clock;
+mod count;
+mod cycles;
+mod measure;
+mod plain;
+mod playing;
+mod queues;
+mod table;
+mod traces;
+
+#[global_allocator]
+static ALLOCATOR: count::Counting = count::Counting;
+
+/// The processor's name, as Linux tells it.
+fn processor() -> String {
+    let text = std::fs::read_to_string("/proc/cpuinfo").unwrap_or_default();
+    let name = text.lines().find(|l| l.starts_with("model name")).and_then(|l| l.split(':').nth(1));
+    name.map_or_else(|| String::from("a processor without a name"), |n| n.trim().to_string())
+}
+
+/// Whether the processor says of itself that it is QEMU's translator.
+#[cfg(target_arch = "x86_64")]
+fn translated() -> bool {
+    // SAFETY: every x86-64 processor has this instruction, and it only reads.
+    #[allow(unused_unsafe)]
+    let leaf = unsafe { std::arch::x86_64::__cpuid(0x4000_0000) };
+    leaf.ebx == u32::from_le_bytes(*b"TCGT")
+}
+
+#[cfg(not(target_arch = "x86_64"))]
+fn translated() -> bool {
+    false
+}
+
+fn usage() -> ! {
+    eprintln!("bench [--brief] [--play PROGRAM] [--emulated] [PART]");
+    std::process::exit(2)
+}
+
+fn main() {
+    let (mut brief, mut emulated, mut program, mut only) = (false, translated(), None, None);
+    let mut words = std::env::args().skip(1);
+    while let Some(word) = words.next() {
+        match word.as_str() {
+            "--brief" => brief = true,
+            "--emulated" => emulated = true,
+            "--play" => program = Some(words.next().unwrap_or_else(|| usage())),
+            other if other.starts_with('-') || only.is_some() => usage(),
+            other => only = Some(other.to_string()),
+        }
+    }
+    let (rounds, operations, records) = if brief { (3, 400, 2000) } else { (201, 4000, 200_000) };
+    let plan = table::Plan { rounds, operations, only };
+
+    let title = || {
+        let (arch, rustc, level) = (std::env::consts::ARCH, env!("BENCH_RUSTC"), env!("BENCH_OPT"));
+        println!("{} ({arch}), {rustc}, optimised {level}", processor());
+        println!("library: {}", env!("BENCH_LIBRARY"));
+        println!("medians of {rounds} rounds of {operations} operations; nanoseconds of processor time for one (play: of time as it passes)");
+        if emulated {
+            println!("THIS RUNS ON AN EMULATOR: its times mean nothing");
+        }
+        if brief {
+            println!("brief: too few rounds for times that mean anything");
+        }
+    };
+    let mut shown = 0;
+    let mut show = |beside: &str, rows: Vec<table::Row>| {
+        if shown == 0 && !rows.is_empty() {
+            title();
+        }
+        shown += rows.len();
+        table::print(beside, &rows);
+        rows
+    };
+    show("bucket queue (N = 4096) beside BTreeMap<u32, VecDeque<u32>>, 4,000 held", traces::buckets(&plan));
+    show("tree beside std's BinaryHeap, 4,000 held", traces::trees(&plan));
+    show("clocked tree beside a plain machine without damage tests, 4,000 held or three quarters", cycles::rows(&plan));
+    let played = playing::rows(&plan, program.as_deref(), records);
+    for row in show("trace program beside the plain machine that writes its lines to memory", played) {
+        println!("play: {:.0} records a second, its start included", 1e9 / row.pair.card);
+    }
+    if shown == 0 {
+        eprintln!("bench: no row has `{}` in its name", plan.only.unwrap_or_default());
+        std::process::exit(2);
+    }
+}

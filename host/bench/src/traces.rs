@@ -1,0 +1,164 @@
+//! What the one-at-a-time queues are timed on.
+
+use crate::clock::Clock;
+use crate::count::bytes_of;
+use crate::measure::{race, Rng, Work};
+use crate::queues::{filled, HeapQueue, MapQueue, Op, Player, Queue, RankHeap};
+use crate::table::{Plan, Row};
+use card_host::{BucketQueue, TreeQueue};
+
+/// The bucket queue's pool in every row.
+const NODES: u32 = 4096;
+
+/// Ranks of the trees' rows lie below this, or so far behind what came out before where they rise.
+const RANKS: u32 = 1 << 20;
+
+/// Pushes at ranks that `rank` chooses.
+fn pushes(held: usize, mut rank: impl FnMut() -> u32) -> Vec<Op> {
+    (0..held).map(|tag| Op::Push(rank(), tag as u32)).collect()
+}
+
+/// Pops, each with a push after it whose rank `rank` chooses from what came out.
+fn refilled(fill: Vec<Op>, operations: usize, mut rank: impl FnMut(u32) -> u32) -> Work<Op> {
+    let mut queue = filled(MapQueue::default(), &fill);
+    let mut trace = Vec::new();
+    for n in 0..operations / 2 {
+        let given = queue.pop().0;
+        let (rank, tag) = (rank(given), n as u32);
+        queue.push(rank, tag);
+        trace.extend([Op::Pop, Op::Push(rank, tag)]);
+    }
+    Work { fill, trace }
+}
+
+/// Replaces whose rank `rank` chooses from what came out before.
+fn replaced(fill: Vec<Op>, operations: usize, mut rank: impl FnMut(u32) -> u32) -> Work<Op> {
+    let mut queue = filled(MapQueue::default(), &fill);
+    let mut given = 0;
+    let mut trace = Vec::new();
+    for n in 0..operations {
+        let (rank, tag) = (rank(given), n as u32);
+        given = queue.replace(rank, tag).0;
+        trace.push(Op::Replace(rank, tag));
+    }
+    Work { fill, trace }
+}
+
+fn bucket(plan: &Plan, all: &mut Vec<Row>, name: &str, mut work: impl FnMut(&mut Rng) -> Work<Op>) {
+    if !plan.wants(name) {
+        return;
+    }
+    let mut rng = Rng::new(1);
+    let mut card = Player { queue: BucketQueue::new(NODES).expect("a good shape"), tags: true };
+    let mut other = Player { queue: MapQueue::default(), tags: true };
+    let pair = race(plan.rounds, Clock::Own, &mut card, &mut other, || work(&mut rng));
+    let Work { fill, trace } = work(&mut rng);
+    // where nothing is filled before, the trace fills: its first half is what is held at most
+    let most = if fill.is_empty() { &trace[..trace.len() / 2] } else { &fill };
+    all.push(Row {
+        name: name.to_string(),
+        pair,
+        card_bytes: 8 * card.queue.bits().len() + 4 * card.queue.words().len(),
+        other_bytes: bytes_of(|| filled(MapQueue::default(), most)),
+    });
+}
+
+fn tree<Q: Queue + Default>(
+    plan: &Plan,
+    all: &mut Vec<Row>,
+    name: &str,
+    shape: (u32, u32),
+    mut work: impl FnMut(&mut Rng) -> Work<Op>,
+) {
+    if !plan.wants(name) {
+        return;
+    }
+    let mut rng = Rng::new(2);
+    let mut card = Player { queue: TreeQueue::new(shape.0, shape.1).expect("a good shape"), tags: false };
+    let mut other = Player { queue: Q::default(), tags: false };
+    let pair = race(plan.rounds, Clock::Own, &mut card, &mut other, || work(&mut rng));
+    let fill = work(&mut rng).fill;
+    all.push(Row {
+        name: name.to_string(),
+        pair,
+        card_bytes: 4 * card.queue.words().len(),
+        other_bytes: bytes_of(|| filled(Q::default(), &fill)),
+    });
+}
+
+/// The bucket queue beside the map: each input at 4,000 held, then growth.
+pub fn buckets(plan: &Plan) -> Vec<Row> {
+    let mut all = Vec::new();
+    let operations = plan.operations;
+    bucket(plan, &mut all, "bucket, spread ranks refilled", |rng| {
+        let fill = pushes(4000, || rng.below(4096));
+        refilled(fill, operations, |_| rng.below(4096))
+    });
+    // one rank of each group
+    bucket(plan, &mut all, "bucket, 64 ranks", |rng| {
+        let fill = pushes(4000, || 65 * rng.below(64));
+        refilled(fill, operations, |_| 65 * rng.below(64))
+    });
+    bucket(plan, &mut all, "bucket, a moving window of 512 ranks", |rng| {
+        let fill = pushes(4000, || rng.below(512));
+        refilled(fill, operations, |given| (given + rng.below(512)).min(4095))
+    });
+    bucket(plan, &mut all, "bucket, replace at spread ranks", |rng| {
+        let fill = pushes(4000, || rng.below(4096));
+        replaced(fill, operations / 2, |given| given + rng.below(4096 - given))
+    });
+    bucket(plan, &mut all, "bucket, fill and drain", |rng| {
+        let mut trace = pushes(4000, || rng.below(4096));
+        trace.extend([Op::Pop; 4000]);
+        Work { fill: Vec::new(), trace }
+    });
+    bucket(plan, &mut all, "bucket, one rank only", |_| refilled(pushes(4000, || 7), operations, |_| 7));
+    bucket(plan, &mut all, "bucket, replaces that come straight back", |rng| {
+        let fill = pushes(4000, || 100 + rng.below(3996));
+        replaced(fill, operations / 2, |_| rng.below(100))
+    });
+    for held in [64, 256, 1024] {
+        bucket(plan, &mut all, &format!("bucket, spread ranks refilled, {held} held"), |rng| {
+            let fill = pushes(held, || rng.below(4096));
+            refilled(fill, operations.min(4 * held), |_| rng.below(4096))
+        });
+    }
+    all
+}
+
+/// The tree beside the heap: each order at 4,000 held, then growth by what is held and by levels.
+pub fn trees(plan: &Plan) -> Vec<Row> {
+    let mut all = Vec::new();
+    let operations = plan.operations;
+    let any = |rng: &mut Rng, held| {
+        let fill = pushes(held, || rng.below(RANKS));
+        refilled(fill, operations, |_| rng.below(RANKS))
+    };
+    let rising = |rng: &mut Rng| {
+        let fill = pushes(4000, || rng.below(RANKS));
+        refilled(fill, operations, |given| given + rng.below(RANKS))
+    };
+    let swap = |rng: &mut Rng| {
+        let fill = pushes(4000, || rng.below(RANKS));
+        replaced(fill, operations / 2, |given| given + rng.below(RANKS))
+    };
+    let shapes = [(4, 6), (8, 4), (2, 11)];
+    for (order, levels) in shapes {
+        let name = format!("tree, order {order} x {levels}, push and pop");
+        tree::<HeapQueue>(plan, &mut all, &name, (order, levels), |rng| any(rng, 4000));
+    }
+    for (order, levels) in shapes {
+        tree::<HeapQueue>(plan, &mut all, &format!("tree, order {order} x {levels}, replace"), (order, levels), swap);
+    }
+    tree::<HeapQueue>(plan, &mut all, "tree, order 4 x 6, rising ranks", (4, 6), rising);
+    tree::<RankHeap>(plan, &mut all, "tree, order 4 x 6, a heap by rank alone", (4, 6), |rng| any(rng, 4000));
+    for held in [64, 256, 1024] {
+        let name = format!("tree, order 4 x 6, push and pop, {held} held");
+        tree::<HeapQueue>(plan, &mut all, &name, (4, 6), |rng| any(rng, held));
+    }
+    for (levels, held) in [(2, 15), (3, 63), (4, 255), (5, 1023)] {
+        let name = format!("tree, order 4 x {levels}, push and pop, {held} held");
+        tree::<HeapQueue>(plan, &mut all, &name, (4, levels), |rng| any(rng, held));
+    }
+    all
+}

@@ -1,0 +1,103 @@
+//! The bucket queue.
+
+use crate::{calls, refused, Element, Refusal};
+
+/// A bucket queue over words of any kind: lent slices, arrays, or (with feature `std`) vectors of its own, see
+/// [`BucketQueue`](crate::BucketQueue).
+///
+/// Ranks are 0 to 4,095; within a rank the first in is the first out. Up to N elements are held, N from 1 to 4,096.
+///
+/// ```
+/// use card_host::{bucket_words, Bucket, Element, Rank, Refusal, Tag, BUCKET_BITS};
+///
+/// # fn main() -> Result<(), Refusal> {
+/// let (mut bits, mut words) = ([0; BUCKET_BITS], [0; bucket_words(3)]);
+/// let mut queue = Bucket::cleared(3, &mut bits[..], &mut words[..])?;
+/// queue.push(Element::new(Rank(7), Tag(1)))?;
+/// queue.push(Element::new(Rank(7), Tag(2)))?;
+/// assert_eq!(queue.pop()?, Element::new(Rank(7), Tag(1)));
+/// assert_eq!(queue.push(Element::new(Rank(4096), Tag(3))), Err(Refusal::BadRank));
+/// # Ok(())
+/// # }
+/// ```
+#[derive(Clone, Copy, PartialEq, Eq, Debug)]
+pub struct Bucket<B, W> {
+    nodes: u32,
+    bits: B,
+    words: W,
+}
+
+impl<B: AsRef<[u64]> + AsMut<[u64]>, W: AsRef<[u32]> + AsMut<[u32]>> Bucket<B, W> {
+    /// An empty queue with a pool of so many nodes: the words that it needs are cleared and chained, those behind them are never
+    /// touched. Refused [`Refusal::BadShape`] where the number of nodes or of words ([`BUCKET_BITS`](crate::BUCKET_BITS),
+    /// [`bucket_words`](crate::bucket_words)) is not that of a queue; then nothing is written.
+    #[inline]
+    pub fn cleared(nodes: u32, bits: B, words: W) -> Result<Bucket<B, W>, Refusal> {
+        let mut queue = Bucket { nodes, bits, words };
+        queue.clear()?;
+        Ok(queue)
+    }
+
+    /// A queue over words as they stand, from [`into_words`](Bucket::into_words) or from elsewhere. Nothing is tested here: each call
+    /// tests what it reads, and refuses what is damaged.
+    #[inline]
+    pub fn from_words(nodes: u32, bits: B, words: W) -> Bucket<B, W> {
+        Bucket { nodes, bits, words }
+    }
+
+    /// The words of 64 and of 32 bits, handed back.
+    #[inline]
+    pub fn into_words(self) -> (B, W) {
+        (self.bits, self.words)
+    }
+
+    /// The words of 64 bits, top first.
+    #[inline]
+    pub fn bits(&self) -> &[u64] {
+        self.bits.as_ref()
+    }
+
+    /// The words of 32 bits: heads, tails, tag and next of each node, free link, held.
+    #[inline]
+    pub fn words(&self) -> &[u32] {
+        self.words.as_ref()
+    }
+
+    /// Empties the queue.
+    #[inline]
+    pub fn clear(&mut self) -> Result<(), Refusal> {
+        refused(calls::bucket_clear(self.bits.as_mut(), self.words.as_mut(), self.nodes))
+    }
+
+    /// Takes an element in, behind those of its rank. Refused [`Refusal::BadRank`] above 4,095, [`Refusal::Full`] where no node is
+    /// free.
+    #[inline]
+    pub fn push(&mut self, x: Element) -> Result<(), Refusal> {
+        refused(calls::bucket_push(self.bits.as_mut(), self.words.as_mut(), self.nodes, x.rank.0, x.tag.0))
+    }
+
+    /// Gives the first element of the lowest rank. Refused [`Refusal::Empty`] where nothing is held.
+    #[inline]
+    pub fn pop(&mut self) -> Result<Element, Refusal> {
+        let mut out = [0; 2];
+        refused(calls::bucket_pop(self.bits.as_mut(), self.words.as_mut(), self.nodes, &mut out))?;
+        Ok(Element::from(out))
+    }
+
+    /// Takes a new element in and gives the lowest of all, the new one included, a held one before the new one on equal rank. Works
+    /// on an empty and on a full queue.
+    #[inline]
+    pub fn replace(&mut self, x: Element) -> Result<Element, Refusal> {
+        let (bits, words, mut out) = (self.bits.as_mut(), self.words.as_mut(), [0; 2]);
+        refused(calls::bucket_replace(bits, words, self.nodes, x.rank.0, x.tag.0, &mut out))?;
+        Ok(Element::from(out))
+    }
+
+    /// How many elements are held.
+    #[inline]
+    pub fn held(&self) -> Result<u32, Refusal> {
+        let mut out = [0; 1];
+        refused(calls::bucket_held(self.bits.as_ref(), self.words.as_ref(), self.nodes, &mut out))?;
+        Ok(out[0])
+    }
+}

@@ -1,0 +1,200 @@
+//! The library's own calls, on slices: numbers in, the paper's number out (0 where nothing is refused).
+//!
+//! This is the one place where the library is called. Every function here is safe: whatever the words and the numbers are, the call
+//! ends, answers, and touches nothing but the slices it is lent. The queues of this crate are made of these calls; use them directly
+//! where words and numbers are all there is.
+//!
+//! `out` receives the answer: rank and tag (pop, replace, cycle), the count (held), or the cycles run and whether work is left (drain).
+//! An `out` that is too short is refusal 1.
+//!
+//! ```
+//! use card_host::calls;
+//!
+//! let (mut store, mut out) = ([0; 18], [0; 2]);
+//! assert_eq!(calls::tree_words(2, 2), 18);
+//! assert_eq!(calls::tree_clear(&mut store, 2, 2), 0);
+//! assert_eq!(calls::tree_push(&mut store, 2, 2, 5, 50), 0);
+//! assert_eq!((calls::tree_pop(&mut store, 2, 2, &mut out), out), (0, [5, 50]));
+//! assert_eq!((calls::tree_pop(&mut store, 2, 2, &mut out), out), (6, [0, 0]));
+//! ```
+#![allow(clippy::too_many_arguments)]
+
+use crate::raw;
+
+// In every block below: each pointer and length is that of a slice which is borrowed for the length of the call, so its words are
+// there, aligned and initialised, a `&mut` slice overlaps no other, and the library keeps no pointer. Numbers and words may be any.
+
+/// Empties a tree.
+#[inline]
+pub fn tree_clear(store: &mut [u32], order: u32, levels: u32) -> u32 {
+    // SAFETY: borrowed slices, as said above.
+    unsafe { raw::card_tree_clear(store.as_mut_ptr(), store.len(), order, levels) }
+}
+
+/// Takes an element into a tree.
+#[inline]
+pub fn tree_push(store: &mut [u32], order: u32, levels: u32, rank: u32, tag: u32) -> u32 {
+    // SAFETY: borrowed slices, as said above.
+    unsafe { raw::card_tree_push(store.as_mut_ptr(), store.len(), order, levels, rank, tag) }
+}
+
+/// Gives a tree's element of lowest rank.
+#[inline]
+pub fn tree_pop(store: &mut [u32], order: u32, levels: u32, out: &mut [u32]) -> u32 {
+    // SAFETY: borrowed slices, as said above.
+    unsafe { raw::card_tree_pop(store.as_mut_ptr(), store.len(), order, levels, out.as_mut_ptr(), out.len()) }
+}
+
+/// Takes a new element into a tree and gives the lowest of all.
+#[inline]
+pub fn tree_replace(store: &mut [u32], order: u32, levels: u32, rank: u32, tag: u32, out: &mut [u32]) -> u32 {
+    let (s, o) = (store, out);
+    // SAFETY: borrowed slices, as said above.
+    unsafe { raw::card_tree_replace(s.as_mut_ptr(), s.len(), order, levels, rank, tag, o.as_mut_ptr(), o.len()) }
+}
+
+/// Gives the number of a tree's held elements.
+#[inline]
+pub fn tree_held(store: &[u32], order: u32, levels: u32, out: &mut [u32]) -> u32 {
+    // SAFETY: borrowed slices, as said above.
+    unsafe { raw::card_tree_held(store.as_ptr(), store.len(), order, levels, out.as_mut_ptr(), out.len()) }
+}
+
+/// Empties a bucket queue.
+#[inline]
+pub fn bucket_clear(bits: &mut [u64], words: &mut [u32], nodes: u32) -> u32 {
+    // SAFETY: borrowed slices, as said above.
+    unsafe { raw::card_bucket_clear(bits.as_mut_ptr(), bits.len(), words.as_mut_ptr(), words.len(), nodes) }
+}
+
+/// Takes an element into a bucket queue.
+#[inline]
+pub fn bucket_push(bits: &mut [u64], words: &mut [u32], nodes: u32, rank: u32, tag: u32) -> u32 {
+    let (b, w) = (bits, words);
+    // SAFETY: borrowed slices, as said above.
+    unsafe { raw::card_bucket_push(b.as_mut_ptr(), b.len(), w.as_mut_ptr(), w.len(), nodes, rank, tag) }
+}
+
+/// Gives a bucket queue's first element of the lowest rank.
+#[inline]
+pub fn bucket_pop(bits: &mut [u64], words: &mut [u32], nodes: u32, out: &mut [u32]) -> u32 {
+    let (b, w, o) = (bits, words, out);
+    // SAFETY: borrowed slices, as said above.
+    unsafe { raw::card_bucket_pop(b.as_mut_ptr(), b.len(), w.as_mut_ptr(), w.len(), nodes, o.as_mut_ptr(), o.len()) }
+}
+
+/// Takes a new element into a bucket queue and gives the lowest of all.
+#[inline]
+pub fn bucket_replace(bits: &mut [u64], words: &mut [u32], nodes: u32, rank: u32, tag: u32, out: &mut [u32]) -> u32 {
+    let (b, w, o) = (bits, words, out);
+    let (bits, words, out) = (b.as_mut_ptr(), w.as_mut_ptr(), o.as_mut_ptr());
+    // SAFETY: borrowed slices, as said above.
+    unsafe { raw::card_bucket_replace(bits, b.len(), words, w.len(), nodes, rank, tag, out, o.len()) }
+}
+
+/// Gives the number of a bucket queue's held elements.
+#[inline]
+pub fn bucket_held(bits: &[u64], words: &[u32], nodes: u32, out: &mut [u32]) -> u32 {
+    let (b, w, o) = (bits, words, out);
+    // SAFETY: borrowed slices, as said above.
+    unsafe { raw::card_bucket_held(b.as_ptr(), b.len(), w.as_ptr(), w.len(), nodes, o.as_mut_ptr(), o.len()) }
+}
+
+/// Empties a clocked tree, its records and its mark.
+#[inline]
+pub fn clocked_clear(store: &mut [u32], order: u32, levels: u32, records: &mut [u32], mark: &mut [u32]) -> u32 {
+    let (s, r, m) = (store, records, mark);
+    let (store, records, mark) = (s.as_mut_ptr(), r.as_mut_ptr(), m.as_mut_ptr());
+    // SAFETY: borrowed slices, as said above.
+    unsafe { raw::card_clocked_clear(store, s.len(), order, levels, records, r.len(), mark, m.len()) }
+}
+
+/// Runs one cycle of a clocked tree with a request: 0 idle, 1 push, 2 pop, 3 replace.
+#[inline]
+pub fn clocked_cycle(
+    store: &mut [u32],
+    order: u32,
+    levels: u32,
+    records: &mut [u32],
+    mark: &mut [u32],
+    request: u32,
+    rank: u32,
+    tag: u32,
+    out: &mut [u32],
+) -> u32 {
+    // SAFETY: borrowed slices, as said above.
+    unsafe {
+        raw::card_clocked_cycle(
+            store.as_mut_ptr(),
+            store.len(),
+            order,
+            levels,
+            records.as_mut_ptr(),
+            records.len(),
+            mark.as_mut_ptr(),
+            mark.len(),
+            request,
+            rank,
+            tag,
+            out.as_mut_ptr(),
+            out.len(),
+        )
+    }
+}
+
+/// Runs idle cycles of a clocked tree until nothing is pending or the budget is spent.
+#[inline]
+pub fn clocked_drain(
+    store: &mut [u32],
+    order: u32,
+    levels: u32,
+    records: &mut [u32],
+    mark: &mut [u32],
+    budget: u32,
+    out: &mut [u32],
+) -> u32 {
+    // SAFETY: borrowed slices, as said above.
+    unsafe {
+        raw::card_clocked_drain(
+            store.as_mut_ptr(),
+            store.len(),
+            order,
+            levels,
+            records.as_mut_ptr(),
+            records.len(),
+            mark.as_mut_ptr(),
+            mark.len(),
+            budget,
+            out.as_mut_ptr(),
+            out.len(),
+        )
+    }
+}
+
+/// Gives the number of a clocked tree's held elements.
+#[inline]
+pub fn clocked_held(store: &[u32], order: u32, levels: u32, out: &mut [u32]) -> u32 {
+    // SAFETY: borrowed slices, as said above.
+    unsafe { raw::card_clocked_held(store.as_ptr(), store.len(), order, levels, out.as_mut_ptr(), out.len()) }
+}
+
+/// How many words a tree's store needs; 0 for a bad shape.
+#[inline]
+pub fn tree_words(order: u32, levels: u32) -> u32 {
+    // SAFETY: two numbers, and they may be any.
+    unsafe { raw::card_tree_words(order, levels) }
+}
+
+/// How many words of 64 bits a bucket queue needs.
+#[inline]
+pub fn bucket_bits() -> u32 {
+    // SAFETY: nothing is handed over.
+    unsafe { raw::card_bucket_bits() }
+}
+
+/// How many words of 32 bits a bucket queue of so many nodes needs; 0 for a bad number of nodes.
+#[inline]
+pub fn bucket_words(nodes: u32) -> u32 {
+    // SAFETY: a number, and it may be any.
+    unsafe { raw::card_bucket_words(nodes) }
+}

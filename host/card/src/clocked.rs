@@ -1,0 +1,198 @@
+//! The multi-way tree, worked by clock cycles.
+
+use crate::{calls, refused, Element, Refusal};
+use core::fmt;
+
+/// What a cycle is asked for.
+#[derive(Clone, Copy, PartialEq, Eq, Debug)]
+pub enum Request {
+    /// Nothing: pending work moves on.
+    Idle,
+    /// Take this element in.
+    Push(Element),
+    /// Give the element of lowest rank.
+    Pop,
+    /// Take this element in and give the lowest of all.
+    Replace(Element),
+}
+
+/// What a drain reports.
+#[derive(Clone, Copy, PartialEq, Eq, Debug)]
+pub struct Drained {
+    /// The idle cycles that were run.
+    pub cycles: u32,
+    /// Whether anything is still pending: then the budget was spent.
+    pub work_left: bool,
+}
+
+/// A drain that was refused, and how far it came.
+#[derive(Clone, Copy, PartialEq, Eq, Debug)]
+pub struct Stopped {
+    /// Why: [`Refusal::BadShape`], or [`Refusal::Damaged`] by the cycle that was to come next.
+    pub refusal: Refusal,
+    /// The idle cycles that were run before.
+    pub cycles: u32,
+}
+
+impl From<Stopped> for Refusal {
+    fn from(stopped: Stopped) -> Refusal {
+        stopped.refusal
+    }
+}
+
+impl fmt::Display for Stopped {
+    fn fmt(&self, f: &mut fmt::Formatter<'_>) -> fmt::Result {
+        write!(f, "{} after {} cycles", self.refusal, self.cycles)
+    }
+}
+
+#[cfg(feature = "std")]
+impl std::error::Error for Stopped {}
+
+/// A clocked tree over words of any kind: lent slices, arrays, or (with feature `std`) vectors of its own, see
+/// [`ClockedTree`](crate::ClockedTree).
+///
+/// An operation is answered in its own cycle and ends within as many cycles as there are levels. A pop or replace just after an
+/// answered operation is too soon: the cycle runs as an idle one.
+///
+/// ```
+/// use card_host::{record_words, tree_words, Clocked, Element, Rank, Refusal, Tag};
+///
+/// # fn main() -> Result<(), Refusal> {
+/// let (mut words, mut records) = ([0; tree_words(2, 3)], [0; record_words(3)]);
+/// let mut tree = Clocked::cleared(2, 3, &mut words[..], &mut records[..])?;
+/// tree.push(Element::new(Rank(5), Tag(50)))?;
+/// assert_eq!(tree.pop(), Err(Refusal::TooSoon));
+/// assert_eq!(tree.pop()?, Element::new(Rank(5), Tag(50)));
+/// assert_eq!(tree.drain(3)?.work_left, false);
+/// # Ok(())
+/// # }
+/// ```
+#[derive(Clone, Copy, PartialEq, Eq, Debug)]
+pub struct Clocked<W, R> {
+    order: u32,
+    levels: u32,
+    words: W,
+    records: R,
+    mark: [u32; 1],
+}
+
+impl<W: AsRef<[u32]> + AsMut<[u32]>, R: AsRef<[u32]> + AsMut<[u32]>> Clocked<W, R> {
+    /// An empty tree with nothing pending and the mark off: the words that it needs are cleared, those behind them are never touched.
+    /// Refused [`Refusal::BadShape`] where order, levels or the number of words ([`tree_words`](crate::tree_words),
+    /// [`record_words`](crate::record_words)) are not those of a tree; then nothing is written.
+    #[inline]
+    pub fn cleared(order: u32, levels: u32, words: W, records: R) -> Result<Clocked<W, R>, Refusal> {
+        let mut tree = Clocked { order, levels, words, records, mark: [0] };
+        tree.clear()?;
+        Ok(tree)
+    }
+
+    /// A tree over words as they stand, from [`into_words`](Clocked::into_words) or from elsewhere. Nothing is tested here: each call
+    /// tests what it reads, and refuses what is damaged.
+    #[inline]
+    pub fn from_words(order: u32, levels: u32, words: W, records: R, mark: bool) -> Clocked<W, R> {
+        Clocked { order, levels, words, records, mark: [mark as u32] }
+    }
+
+    /// The words of the slots and of the records, and the mark, handed back.
+    #[inline]
+    pub fn into_words(self) -> (W, R, bool) {
+        (self.words, self.records, self.mark[0] != 0)
+    }
+
+    /// The words: rank, tag and count of each slot, level by level.
+    #[inline]
+    pub fn words(&self) -> &[u32] {
+        self.words.as_ref()
+    }
+
+    /// The pending records: kind, node, rank and tag for each level from 2.
+    #[inline]
+    pub fn records(&self) -> &[u32] {
+        self.records.as_ref()
+    }
+
+    /// Whether the last cycle's operation was answered without refusal.
+    #[inline]
+    pub fn mark(&self) -> bool {
+        self.mark[0] != 0
+    }
+
+    /// Empties the tree: nothing held, nothing pending, the mark off.
+    #[inline]
+    pub fn clear(&mut self) -> Result<(), Refusal> {
+        let (words, records) = (self.words.as_mut(), self.records.as_mut());
+        refused(calls::clocked_clear(words, self.order, self.levels, records, &mut self.mark))
+    }
+
+    /// Runs one cycle. An idle cycle or a push answers rank 0, tag 0. Refused [`Refusal::TooSoon`], [`Refusal::Full`] or
+    /// [`Refusal::Empty`] it runs as an idle cycle; after any other refusal everything stands.
+    #[inline]
+    pub fn cycle(&mut self, request: Request) -> Result<Element, Refusal> {
+        let (number, x) = match request {
+            Request::Idle => (0, Element::default()),
+            Request::Push(x) => (1, x),
+            Request::Pop => (2, Element::default()),
+            Request::Replace(x) => (3, x),
+        };
+        let (words, records, mut out) = (self.words.as_mut(), self.records.as_mut(), [0; 2]);
+        refused(calls::clocked_cycle(
+            words,
+            self.order,
+            self.levels,
+            records,
+            &mut self.mark,
+            number,
+            x.rank.0,
+            x.tag.0,
+            &mut out,
+        ))?;
+        Ok(Element::from(out))
+    }
+
+    /// A cycle that takes an element in.
+    #[inline]
+    pub fn push(&mut self, x: Element) -> Result<(), Refusal> {
+        self.cycle(Request::Push(x)).map(|_| ())
+    }
+
+    /// A cycle that gives the element of lowest rank.
+    #[inline]
+    pub fn pop(&mut self) -> Result<Element, Refusal> {
+        self.cycle(Request::Pop)
+    }
+
+    /// A cycle that takes a new element in and gives the lowest of all, the new one included, a held one before the new one on equal
+    /// rank.
+    #[inline]
+    pub fn replace(&mut self, x: Element) -> Result<Element, Refusal> {
+        self.cycle(Request::Replace(x))
+    }
+
+    /// An idle cycle: pending work moves on.
+    #[inline]
+    pub fn idle(&mut self) -> Result<(), Refusal> {
+        self.cycle(Request::Idle).map(|_| ())
+    }
+
+    /// Runs idle cycles until nothing is pending or the budget is spent. Where a cycle would be refused, [`Stopped`] says why, and
+    /// how many cycles were run before it.
+    #[inline]
+    pub fn drain(&mut self, budget: u32) -> Result<Drained, Stopped> {
+        let (words, records, mut out) = (self.words.as_mut(), self.records.as_mut(), [0; 2]);
+        let number = calls::clocked_drain(words, self.order, self.levels, records, &mut self.mark, budget, &mut out);
+        match refused(number) {
+            Ok(()) => Ok(Drained { cycles: out[0], work_left: out[1] != 0 }),
+            Err(refusal) => Err(Stopped { refusal, cycles: out[0] }),
+        }
+    }
+
+    /// How many elements are held. Reads the root alone.
+    #[inline]
+    pub fn held(&self) -> Result<u32, Refusal> {
+        let mut out = [0; 1];
+        refused(calls::clocked_held(self.words.as_ref(), self.order, self.levels, &mut out))?;
+        Ok(out[0])
+    }
+}

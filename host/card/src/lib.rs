@@ -1,0 +1,170 @@
+//! Safe Rust over the card's library of proved priority queues.
+//!
+//! An [`Element`] is a [`Rank`] and a [`Tag`]; the lowest rank leaves first. There are three queues:
+//!
+//! | queue | ranks | ties | over lent words or arrays | with a store of its own (feature `std`) |
+//! |---|---|---|---|---|
+//! | multi-way tree | any | in its own order | [`Tree`] | `TreeQueue` |
+//! | bucket queue | 0 to 4,095 | first in, first out | [`Bucket`] | `BucketQueue` |
+//! | multi-way tree by clock cycles | any | in its own order | [`Clocked`] | `ClockedTree` |
+//!
+//! A call that is refused says so by a [`Refusal`] and leaves behind what the paper's table says. No store's content makes a call
+//! unsafe, endless or a panic. The crate is `no_std` and allocates nothing; feature `std`, which is on unless it is switched off,
+//! adds the queues that own their stores.
+//!
+//! A card lends its own memory:
+//!
+//! ```
+//! use card_host::{tree_words, Element, Rank, Refusal, Tag, Tree};
+//!
+//! fn main() -> Result<(), Refusal> {
+//!     let mut memory = [0; tree_words(2, 2)];
+//!     let mut queue = Tree::cleared(2, 2, &mut memory[..])?;
+//!     queue.push(Element::new(Rank(5), Tag(50)))?;
+//!     assert_eq!(queue.pop()?, Element::new(Rank(5), Tag(50)));
+//!     assert_eq!(queue.pop(), Err(Refusal::Empty));
+//!     Ok(())
+//! }
+//! ```
+#![no_std]
+#![deny(missing_docs)]
+
+#[cfg(feature = "std")]
+extern crate std;
+
+mod bucket;
+pub mod calls;
+mod clocked;
+#[cfg(feature = "std")]
+mod owned;
+mod raw;
+mod sizes;
+mod tree;
+
+pub use bucket::Bucket;
+pub use clocked::{Clocked, Drained, Request, Stopped};
+#[cfg(feature = "std")]
+pub use owned::{BucketQueue, ClockedTree, TreeQueue};
+pub use sizes::{bucket_words, record_words, tree_slots, tree_words, BUCKET_BITS};
+pub use tree::Tree;
+
+use core::fmt;
+
+/// A rank: lower leaves first.
+#[derive(Clone, Copy, PartialEq, Eq, PartialOrd, Ord, Hash, Debug, Default)]
+pub struct Rank(pub u32);
+
+/// A tag: what the card knows the element by.
+#[derive(Clone, Copy, PartialEq, Eq, Hash, Debug, Default)]
+pub struct Tag(pub u32);
+
+/// What a queue holds.
+#[derive(Clone, Copy, PartialEq, Eq, Hash, Debug, Default)]
+pub struct Element {
+    /// When it leaves.
+    pub rank: Rank,
+    /// What it is.
+    pub tag: Tag,
+}
+
+impl Element {
+    /// An element of this rank and tag.
+    ///
+    /// ```
+    /// use card_host::{Element, Rank, Tag};
+    ///
+    /// let x = Element::new(Rank(5), Tag(50));
+    /// assert_eq!((x.rank.0, x.tag.0), (5, 50));
+    /// ```
+    #[inline]
+    pub const fn new(rank: Rank, tag: Tag) -> Element {
+        Element { rank, tag }
+    }
+}
+
+impl From<[u32; 2]> for Element {
+    /// The element in the two words that a call writes.
+    #[inline]
+    fn from(out: [u32; 2]) -> Element {
+        Element::new(Rank(out[0]), Tag(out[1]))
+    }
+}
+
+/// Why a queue says no. The discriminants are the paper's numbers.
+#[derive(Clone, Copy, PartialEq, Eq, Hash, Debug)]
+#[repr(u32)]
+#[non_exhaustive]
+pub enum Refusal {
+    /// Order, levels, number of nodes or a slice's length. Everything stands.
+    BadShape = 1,
+    /// The store or a pending record does not hold together. Everything stands.
+    Damaged = 2,
+    /// A clocked pop or replace just after an answered operation. The cycle runs as an idle one.
+    TooSoon = 3,
+    /// A bucket rank above 4,095. Everything stands.
+    BadRank = 4,
+    /// A push on a full queue. The store stands; a cycle runs as an idle one.
+    Full = 5,
+    /// A pop on an empty queue. The store stands; a cycle runs as an idle one.
+    Empty = 6,
+}
+
+impl Refusal {
+    /// The refusal of this number; none where there is no such refusal.
+    ///
+    /// ```
+    /// use card_host::Refusal;
+    ///
+    /// assert_eq!(Refusal::of(6), Some(Refusal::Empty));
+    /// assert_eq!(Refusal::of(0), None);
+    /// ```
+    #[inline]
+    pub const fn of(number: u32) -> Option<Refusal> {
+        Some(match number {
+            1 => Refusal::BadShape,
+            2 => Refusal::Damaged,
+            3 => Refusal::TooSoon,
+            4 => Refusal::BadRank,
+            5 => Refusal::Full,
+            6 => Refusal::Empty,
+            _ => return None,
+        })
+    }
+
+    /// The paper's number.
+    #[inline]
+    pub const fn number(self) -> u32 {
+        self as u32
+    }
+
+    /// The paper's name.
+    pub const fn name(self) -> &'static str {
+        match self {
+            Refusal::BadShape => "bad shape",
+            Refusal::Damaged => "damaged",
+            Refusal::TooSoon => "too soon",
+            Refusal::BadRank => "bad rank",
+            Refusal::Full => "full",
+            Refusal::Empty => "empty",
+        }
+    }
+}
+
+impl fmt::Display for Refusal {
+    fn fmt(&self, f: &mut fmt::Formatter<'_>) -> fmt::Result {
+        f.write_str(self.name())
+    }
+}
+
+#[cfg(feature = "std")]
+impl std::error::Error for Refusal {}
+
+/// A number of the library's as a result. It is proved that the library has no others.
+#[inline]
+fn refused(number: u32) -> Result<(), Refusal> {
+    match Refusal::of(number) {
+        None if number == 0 => Ok(()),
+        None => unreachable!("the library has no number {}", number),
+        Some(refusal) => Err(refusal),
+    }
+}

@@ -1,0 +1,77 @@
+//! Queues that own their stores.
+
+use crate::{bucket_words, record_words, tree_words, Bucket, Clocked, Refusal, Tree, BUCKET_BITS};
+use std::vec;
+use std::vec::Vec;
+
+/// A multi-way tree with a store of its own. Everything else is [`Tree`]'s.
+///
+/// ```
+/// use card_host::{Element, Rank, Refusal, Tag, TreeQueue};
+///
+/// # fn main() -> Result<(), Refusal> {
+/// let mut queue = TreeQueue::new(4, 3)?;
+/// queue.push(Element::new(Rank(5), Tag(50)))?;
+/// let words = queue.into_words();
+/// let mut again = TreeQueue::from_words(4, 3, words);
+/// assert_eq!(again.pop()?, Element::new(Rank(5), Tag(50)));
+/// # Ok(())
+/// # }
+/// ```
+pub type TreeQueue = Tree<Vec<u32>>;
+
+impl TreeQueue {
+    /// An empty tree, its store allocated.
+    pub fn new(order: u32, levels: u32) -> Result<TreeQueue, Refusal> {
+        Tree::cleared(order, levels, vec![0; tree_words(order, levels)])
+    }
+}
+
+/// A bucket queue with a store of its own. Everything else is [`Bucket`]'s.
+///
+/// ```
+/// use card_host::{BucketQueue, Element, Rank, Refusal, Tag};
+///
+/// # fn main() -> Result<(), Refusal> {
+/// let mut queue = BucketQueue::new(100)?;
+/// queue.push(Element::new(Rank(7), Tag(1)))?;
+/// let (bits, words) = queue.into_words();
+/// let mut again = BucketQueue::from_words(100, bits, words);
+/// assert_eq!(again.pop()?, Element::new(Rank(7), Tag(1)));
+/// # Ok(())
+/// # }
+/// ```
+pub type BucketQueue = Bucket<Vec<u64>, Vec<u32>>;
+
+impl BucketQueue {
+    /// An empty queue with a pool of 1 to 4,096 nodes, its store allocated.
+    pub fn new(nodes: u32) -> Result<BucketQueue, Refusal> {
+        Bucket::cleared(nodes, vec![0; BUCKET_BITS], vec![0; bucket_words(nodes)])
+    }
+}
+
+/// A clocked tree with store and records of its own. Everything else is [`Clocked`]'s.
+///
+/// ```
+/// use card_host::{ClockedTree, Element, Rank, Refusal, Tag};
+///
+/// # fn main() -> Result<(), Refusal> {
+/// let mut tree = ClockedTree::new(2, 3)?;
+/// tree.push(Element::new(Rank(5), Tag(50)))?;
+/// let (words, records, mark) = tree.into_words();
+/// let mut again = ClockedTree::from_words(2, 3, words, records, mark);
+/// assert_eq!(again.pop(), Err(Refusal::TooSoon));
+/// assert_eq!(again.pop()?, Element::new(Rank(5), Tag(50)));
+/// # Ok(())
+/// # }
+/// ```
+pub type ClockedTree = Clocked<Vec<u32>, Vec<u32>>;
+
+impl ClockedTree {
+    /// An empty tree with nothing pending and the mark off, its store and records allocated.
+    pub fn new(order: u32, levels: u32) -> Result<ClockedTree, Refusal> {
+        let words = tree_words(order, levels);
+        let records = if words == 0 { 0 } else { record_words(levels) };
+        Clocked::cleared(order, levels, vec![0; words], vec![0; records])
+    }
+}

@@ -1,0 +1,126 @@
+//! The library's functions as C sees them. A slice is a pointer and then a length in words.
+//!
+//! `host/card.h` has the same declarations with a comment for each; a test holds the two and the library's own source to each other.
+//! Each function is safe for any numbers and for any slices that are really there; nothing here tests them.
+
+extern "C" {
+    pub fn card_tree_clear(store: *mut u32, store_len: usize, order: u32, levels: u32) -> u32;
+    pub fn card_tree_push(store: *mut u32, store_len: usize, order: u32, levels: u32, rank: u32, tag: u32) -> u32;
+    pub fn card_tree_pop(
+        store: *mut u32,
+        store_len: usize,
+        order: u32,
+        levels: u32,
+        out: *mut u32,
+        out_len: usize,
+    ) -> u32;
+    pub fn card_tree_replace(
+        store: *mut u32,
+        store_len: usize,
+        order: u32,
+        levels: u32,
+        rank: u32,
+        tag: u32,
+        out: *mut u32,
+        out_len: usize,
+    ) -> u32;
+    pub fn card_tree_held(
+        store: *const u32,
+        store_len: usize,
+        order: u32,
+        levels: u32,
+        out: *mut u32,
+        out_len: usize,
+    ) -> u32;
+
+    pub fn card_bucket_clear(bits: *mut u64, bits_len: usize, words: *mut u32, words_len: usize, nodes: u32) -> u32;
+    pub fn card_bucket_push(
+        bits: *mut u64,
+        bits_len: usize,
+        words: *mut u32,
+        words_len: usize,
+        nodes: u32,
+        rank: u32,
+        tag: u32,
+    ) -> u32;
+    pub fn card_bucket_pop(
+        bits: *mut u64,
+        bits_len: usize,
+        words: *mut u32,
+        words_len: usize,
+        nodes: u32,
+        out: *mut u32,
+        out_len: usize,
+    ) -> u32;
+    pub fn card_bucket_replace(
+        bits: *mut u64,
+        bits_len: usize,
+        words: *mut u32,
+        words_len: usize,
+        nodes: u32,
+        rank: u32,
+        tag: u32,
+        out: *mut u32,
+        out_len: usize,
+    ) -> u32;
+    pub fn card_bucket_held(
+        bits: *const u64,
+        bits_len: usize,
+        words: *const u32,
+        words_len: usize,
+        nodes: u32,
+        out: *mut u32,
+        out_len: usize,
+    ) -> u32;
+
+    pub fn card_clocked_clear(
+        store: *mut u32,
+        store_len: usize,
+        order: u32,
+        levels: u32,
+        records: *mut u32,
+        records_len: usize,
+        mark: *mut u32,
+        mark_len: usize,
+    ) -> u32;
+    pub fn card_clocked_cycle(
+        store: *mut u32,
+        store_len: usize,
+        order: u32,
+        levels: u32,
+        records: *mut u32,
+        records_len: usize,
+        mark: *mut u32,
+        mark_len: usize,
+        request: u32,
+        rank: u32,
+        tag: u32,
+        out: *mut u32,
+        out_len: usize,
+    ) -> u32;
+    pub fn card_clocked_drain(
+        store: *mut u32,
+        store_len: usize,
+        order: u32,
+        levels: u32,
+        records: *mut u32,
+        records_len: usize,
+        mark: *mut u32,
+        mark_len: usize,
+        budget: u32,
+        out: *mut u32,
+        out_len: usize,
+    ) -> u32;
+    pub fn card_clocked_held(
+        store: *const u32,
+        store_len: usize,
+        order: u32,
+        levels: u32,
+        out: *mut u32,
+        out_len: usize,
+    ) -> u32;
+
+    pub fn card_tree_words(order: u32, levels: u32) -> u32;
+    pub fn card_bucket_bits() -> u32;
+    pub fn card_bucket_words(nodes: u32) -> u32;
+}

@@ -1,0 +1,58 @@
+/* NULL with length 0: every call takes it, and refuses what it lacks; where nothing is needed nothing is lacking. */
+#include "card.h"
+#include <stdio.h>
+
+static int failed = 0;
+
+static void number(const char *what, uint32_t got, uint32_t expected) {
+    if (got == expected) return;
+    printf("%s: %u %s, expected %u\n", what, (unsigned)got, card_name(got), (unsigned)expected);
+    failed = 1;
+}
+
+int main(void) {
+    uint32_t store[CARD_TREE_WORDS(2, 1)], words[CARD_BUCKET_WORDS(1)], mark[1], out[2];
+    uint64_t bits[CARD_BUCKET_BITS];
+    const uint32_t bad = CARD_BAD_SHAPE;
+
+    /* no store */
+    number("tree clear", card_tree_clear(NULL, 0, 2, 1), bad);
+    number("tree push", card_tree_push(NULL, 0, 2, 1, 5, 50), bad);
+    number("tree pop", card_tree_pop(NULL, 0, 2, 1, out, 2), bad);
+    number("tree replace", card_tree_replace(NULL, 0, 2, 1, 5, 50, out, 2), bad);
+    number("tree held", card_tree_held(NULL, 0, 2, 1, out, 1), bad);
+    number("bucket clear", card_bucket_clear(NULL, 0, NULL, 0, 1), bad);
+    number("bucket push", card_bucket_push(NULL, 0, NULL, 0, 1, 5, 50), bad);
+    number("bucket pop", card_bucket_pop(NULL, 0, NULL, 0, 1, out, 2), bad);
+    number("bucket replace", card_bucket_replace(NULL, 0, NULL, 0, 1, 5, 50, out, 2), bad);
+    number("bucket held", card_bucket_held(NULL, 0, NULL, 0, 1, out, 1), bad);
+    number("clocked clear", card_clocked_clear(NULL, 0, 2, 1, NULL, 0, mark, 1), bad);
+    number("clocked held", card_clocked_held(NULL, 0, 2, 1, out, 1), bad);
+
+    /* no room for the answer */
+    number("tree clear", card_tree_clear(store, 6, 2, 1), CARD_OK);
+    number("tree push", card_tree_push(store, 6, 2, 1, 5, 50), CARD_OK);
+    number("tree pop", card_tree_pop(store, 6, 2, 1, NULL, 0), bad);
+    number("tree replace", card_tree_replace(store, 6, 2, 1, 5, 50, NULL, 0), bad);
+    number("tree held", card_tree_held(store, 6, 2, 1, NULL, 0), bad);
+    number("tree held", card_tree_held(store, 6, 2, 1, out, 1), CARD_OK);
+    number("what is held", out[0], 1);
+    number("bucket clear", card_bucket_clear(bits, CARD_BUCKET_BITS, words, CARD_BUCKET_WORDS(1), 1), CARD_OK);
+    number("bucket pop", card_bucket_pop(bits, CARD_BUCKET_BITS, words, CARD_BUCKET_WORDS(1), 1, NULL, 0), bad);
+    number("bucket replace", card_bucket_replace(bits, CARD_BUCKET_BITS, words, CARD_BUCKET_WORDS(1), 1, 5, 50, NULL, 0), bad);
+    number("bucket held", card_bucket_held(bits, CARD_BUCKET_BITS, words, CARD_BUCKET_WORDS(1), 1, NULL, 0), bad);
+
+    /* no mark */
+    number("clocked clear", card_clocked_clear(store, 6, 2, 1, NULL, 0, NULL, 0), bad);
+    number("cycle", card_clocked_cycle(store, 6, 2, 1, NULL, 0, NULL, 0, CARD_IDLE, 0, 0, out, 2), bad);
+    number("drain", card_clocked_drain(store, 6, 2, 1, NULL, 0, NULL, 0, 9, out, 2), bad);
+
+    /* a tree of one level has no records: none are lacking */
+    number("clocked clear", card_clocked_clear(store, 6, 2, 1, NULL, 0, mark, 1), CARD_OK);
+    number("cycle", card_clocked_cycle(store, 6, 2, 1, NULL, 0, mark, 1, CARD_PUSH, 5, 50, out, 2), CARD_OK);
+    number("drain", card_clocked_drain(store, 6, 2, 1, NULL, 0, mark, 1, 9, out, 2), CARD_OK);
+    number("cycle", card_clocked_cycle(store, 6, 2, 1, NULL, 0, mark, 1, CARD_IDLE, 0, 0, out, 2), CARD_OK);
+    number("cycle", card_clocked_cycle(store, 6, 2, 1, NULL, 0, mark, 1, CARD_POP, 0, 0, out, 2), CARD_OK);
+    number("what came out", out[0], 5);
+    return failed;
+}

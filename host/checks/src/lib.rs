@@ -1,0 +1,99 @@
+//! What the checks share: where things are, and how programs are run.
+//!
+//! The environment may say: `PLAY` (the trace program), `CARD_LIB` (the static library), `CARD_CC` and `CARD_CXX` (compilers of x86-64
+//! programs), `CARD_TARGET` (what cargo is to compile for), `RUNNER` (what runs an x86-64 program), `CARD_SEED`. `host/run.sh` sets them.
+
+use std::path::{Path, PathBuf};
+use std::process::{Command, Output};
+
+/// The repository's folder.
+pub fn root() -> PathBuf {
+    Path::new(env!("CARGO_MANIFEST_DIR")).join("../..").canonicalize().expect("the repository's folder")
+}
+
+/// The words of a variable; none where it is not set.
+pub fn words(variable: &str) -> Vec<String> {
+    std::env::var(variable).unwrap_or_default().split_whitespace().map(String::from).collect()
+}
+
+/// A file that a variable names, or else one that `rt` makes in the repository.
+fn made(variable: &str, usual: &str, by: &str) -> PathBuf {
+    let path = std::env::var_os(variable).map_or_else(|| root().join(usual), PathBuf::from);
+    assert!(path.is_file(), "{} is missing: `{by}` in the repository's folder makes it", path.display());
+    path
+}
+
+/// The trace program.
+pub fn play() -> PathBuf {
+    made("PLAY", "target/bin/play", "rt check play")
+}
+
+/// The static library.
+pub fn library() -> PathBuf {
+    made("CARD_LIB", "target/staticlib/libcard.a", "rt staticlib card")
+}
+
+/// A command for an x86-64 program, by way of the emulator where there is one.
+pub fn x86(program: &Path) -> Command {
+    let runner = words("RUNNER");
+    match runner.split_first() {
+        None => Command::new(program),
+        Some((emulator, rest)) => {
+            let mut command = Command::new(emulator);
+            command.args(rest).arg(program);
+            command
+        }
+    }
+}
+
+/// The compiler that a variable names.
+pub fn compiler(variable: &str, usual: &str) -> Command {
+    let mut all = words(variable);
+    if all.is_empty() {
+        all.push(usual.to_string());
+    }
+    let mut command = Command::new(&all[0]);
+    command.args(&all[1..]);
+    command
+}
+
+/// cargo, as this test was started by it, but with nothing of what it tells its tests.
+pub fn cargo() -> Command {
+    let mut command = Command::new(std::env::var_os("CARGO").unwrap_or_else(|| "cargo".into()));
+    for (name, _) in std::env::vars() {
+        let told = name.starts_with("CARGO_PKG") || name.starts_with("CARGO_MANIFEST") || name.starts_with("CARGO_BIN");
+        if told || name == "CARGO_TARGET_DIR" || name == "CARGO_PRIMARY_PACKAGE" {
+            command.env_remove(name);
+        }
+    }
+    command
+}
+
+/// A folder of a test's own, outside the repository.
+pub fn outside(name: &str) -> PathBuf {
+    let folder = std::env::temp_dir().join(format!("card-checks-{}-{name}", std::process::id()));
+    let _ = std::fs::remove_dir_all(&folder);
+    std::fs::create_dir_all(&folder).expect("a folder for the test");
+    folder
+}
+
+/// What a command wrote, once it has ended; it must be there.
+pub fn run(command: &mut Command) -> Output {
+    match command.output() {
+        Ok(output) => output,
+        Err(error) => panic!("{command:?} does not start: {error}"),
+    }
+}
+
+/// What a command wrote to standard output. It must end well.
+pub fn done(command: &mut Command) -> String {
+    let output = run(command);
+    let (out, err) = (String::from_utf8_lossy(&output.stdout), String::from_utf8_lossy(&output.stderr));
+    assert!(output.status.success(), "{command:?} ended with {}\n{out}{err}", output.status);
+    out.into_owned()
+}
+
+/// A file's text.
+pub fn text(path: &Path) -> String {
+    std::fs::read_to_string(path).unwrap_or_else(|error| panic!("{}: {error}", path.display()))
+}

@@ -1,0 +1,287 @@
+//! Holds the three descriptions of the library's functions to each other: the C header, the Rust declarations, and the exported
+//! functions of the library's own source.
+//!
+//! Each function's parameters must have the same names, types and order in all three, a slice being a pointer and then a length in the
+//! first two.
+
+use checks::{root, text};
+use std::collections::{BTreeMap, BTreeSet};
+
+/// A function: its parameters as `name: type`, and what it answers.
+#[derive(Clone, PartialEq, Eq, Debug)]
+struct Function {
+    parameters: Vec<String>,
+    answer: String,
+}
+
+impl Function {
+    fn text(&self) -> String {
+        format!("({}) -> {}", self.parameters.join(", "), self.answer)
+    }
+}
+
+type Functions = BTreeMap<String, Function>;
+
+/// The text without `//` and `/* */` comments.
+fn without_comments(text: &str) -> String {
+    let bytes: Vec<char> = text.chars().collect();
+    let (mut at, mut out) = (0, String::new());
+    while at < bytes.len() {
+        let next = bytes.get(at + 1).copied();
+        if bytes[at] == '/' && next == Some('/') {
+            while at < bytes.len() && bytes[at] != '\n' {
+                at += 1;
+            }
+        } else if bytes[at] == '/' && next == Some('*') {
+            at += 2;
+            while at + 1 < bytes.len() && !(bytes[at] == '*' && bytes[at + 1] == '/') {
+                at += 1;
+            }
+            at += 2;
+            out.push(' ');
+        } else {
+            out.push(bytes[at]);
+            at += 1;
+        }
+    }
+    out
+}
+
+/// Words and spaces as one space each.
+fn squeezed(text: &str) -> String {
+    text.split_whitespace().collect::<Vec<_>>().join(" ")
+}
+
+/// The text up to the parenthesis that closes the one before `text`, and what follows it.
+fn to_the_end(text: &str) -> Option<(&str, &str)> {
+    let mut depth = 1;
+    for (i, c) in text.char_indices() {
+        match c {
+            '(' => depth += 1,
+            ')' => depth -= 1,
+            _ => {}
+        }
+        if depth == 0 {
+            return Some((&text[..i], &text[i + 1..]));
+        }
+    }
+    None
+}
+
+/// Parameters that stand as `name: type`, a pointer and a length put together as a slice.
+fn joined(flat: Vec<(String, String)>) -> Result<Vec<String>, String> {
+    let mut out = Vec::new();
+    let mut rest = flat.into_iter();
+    while let Some((name, kind)) = rest.next() {
+        let slice = match kind.as_str() {
+            "*mut u32" => "&mut [u32]",
+            "*mut u64" => "&mut [u64]",
+            "*const u32" => "&[u32]",
+            "*const u64" => "&[u64]",
+            "u32" => {
+                out.push(format!("{name}: u32"));
+                continue;
+            }
+            other => return Err(format!("{name} has the type {other}")),
+        };
+        match rest.next() {
+            Some((length, kind)) if kind == "usize" && length == format!("{name}_len") => {
+                out.push(format!("{name}: {slice}"))
+            }
+            other => return Err(format!("after {name} stands {other:?} and no {name}_len")),
+        }
+    }
+    Ok(out)
+}
+
+fn name_and_type(parameter: &str) -> Result<(String, String), String> {
+    let (name, kind) = parameter.split_once(':').ok_or(format!("no type in {parameter}"))?;
+    Ok((name.trim().to_string(), squeezed(kind)))
+}
+
+fn split(parameters: &str) -> Vec<String> {
+    parameters.split(',').map(squeezed).filter(|p| !p.is_empty()).collect()
+}
+
+/// The exported functions of the library's source.
+fn of_source(text: &str) -> Result<Functions, String> {
+    let text = without_comments(text);
+    let mut found = Functions::new();
+    let mut rest = text.as_str();
+    let key = "extern \"C\" fn ";
+    while let Some(at) = rest.find(key) {
+        let before = squeezed(&rest[..at]);
+        let after = &rest[at + key.len()..];
+        let (name, after) = after.split_once('(').ok_or("no parenthesis after a name")?;
+        let (parameters, after) = to_the_end(after).ok_or("no closing parenthesis")?;
+        // lifetimes are no part of what C sees
+        let name = name.split('<').next().unwrap_or("").trim().to_string();
+        if !before.ends_with("#[no_mangle] pub") {
+            return Err(format!("{name} is not marked #[no_mangle] pub"));
+        }
+        let answer = match after.trim_start().strip_prefix("->") {
+            Some(after) => {
+                let end = after.trim_start();
+                end.chars().take_while(|c| c.is_alphanumeric() || *c == '_').collect()
+            }
+            None => String::from("nothing"),
+        };
+        let mut list = Vec::new();
+        for p in split(parameters) {
+            let (n, t) = name_and_type(&p)?;
+            let words: Vec<&str> = t.trim_start_matches('&').split(' ').filter(|w| !w.starts_with('\'')).collect();
+            let reference = if t.starts_with('&') { "&" } else { "" };
+            list.push(format!("{n}: {reference}{}", words.join(" ")));
+        }
+        if found.insert(name.clone(), Function { parameters: list, answer }).is_some() {
+            return Err(format!("{name} stands there twice"));
+        }
+        rest = after;
+    }
+    Ok(found)
+}
+
+/// The Rust declarations.
+fn of_rust(text: &str) -> Result<Functions, String> {
+    let text = without_comments(text);
+    let mut found = Functions::new();
+    let mut rest = text.as_str();
+    let key = "pub fn ";
+    while let Some(at) = rest.find(key) {
+        let (name, after) = rest[at + key.len()..].split_once('(').ok_or("no parenthesis after a name")?;
+        let (parameters, after) = to_the_end(after).ok_or("no closing parenthesis")?;
+        let (answer, after) = after.split_once(';').ok_or("no semicolon")?;
+        let answer = squeezed(answer).trim_start_matches("->").trim().to_string();
+        let mut flat = Vec::new();
+        for p in split(parameters) {
+            flat.push(name_and_type(&p)?);
+        }
+        let parameters = joined(flat).map_err(|e| format!("{name}: {e}"))?;
+        if found.insert(name.trim().to_string(), Function { parameters, answer }).is_some() {
+            return Err(format!("{name} stands there twice"));
+        }
+        rest = after;
+    }
+    Ok(found)
+}
+
+/// The text without the header's own small functions: each from its first word to the brace that closes it.
+fn without_inlines(text: &str) -> String {
+    let mut parts = text.split("static inline");
+    let mut out = parts.next().unwrap_or("").to_string();
+    for part in parts {
+        out.push_str(part.split_once("\n}").map_or("", |(_, rest)| rest));
+    }
+    out
+}
+
+/// The C declarations.
+fn of_header(text: &str) -> Result<Functions, String> {
+    let text = without_inlines(&without_comments(text));
+    let lines: Vec<&str> = text.lines().filter(|l| !l.trim_start().starts_with('#')).collect();
+    let text = lines.join("\n");
+    let mut found = Functions::new();
+    for declaration in text.split(';') {
+        let declaration = squeezed(declaration);
+        let declaration = declaration.trim_start_matches("extern \"C\" {").trim();
+        let (start, after) = match declaration.split_once('(') {
+            Some(parts) => parts,
+            None => continue,
+        };
+        let (parameters, after) = to_the_end(after).ok_or("no closing parenthesis")?;
+        if !after.trim().is_empty() {
+            return Err(format!("{after} after {start}"));
+        }
+        let (answer, name) = start.trim().rsplit_once(' ').ok_or(format!("no type before {start}"))?;
+        let answer = match answer {
+            "uint32_t" => "u32".to_string(),
+            other => other.to_string(),
+        };
+        let mut flat = Vec::new();
+        for p in split(parameters).into_iter().filter(|p| p != "void") {
+            let at = p.rfind(|c: char| !(c.is_alphanumeric() || c == '_')).ok_or(format!("no type in {p}"))?;
+            let (kind, n) = (squeezed(&p[..at + 1]), p[at + 1..].to_string());
+            let kind = match kind.as_str() {
+                "uint32_t" => "u32",
+                "size_t" => "usize",
+                "uint32_t *" => "*mut u32",
+                "uint64_t *" => "*mut u64",
+                "const uint32_t *" => "*const u32",
+                "const uint64_t *" => "*const u64",
+                other => return Err(format!("{name}: {n} has the type {other}")),
+            };
+            flat.push((n, kind.to_string()));
+        }
+        let parameters = joined(flat).map_err(|e| format!("{name}: {e}"))?;
+        if found.insert(name.to_string(), Function { parameters, answer }).is_some() {
+            return Err(format!("{name} stands there twice"));
+        }
+    }
+    Ok(found)
+}
+
+#[test]
+fn header_declarations_and_source_agree() {
+    let paths = ["host/card.h", "host/card/src/raw.rs", "crates/card/src/lib.rt"];
+    let texts = paths.map(|path| text(&root().join(path)));
+    let tables = [of_header(&texts[0]), of_rust(&texts[1]), of_source(&texts[2])];
+    let tables: Vec<Functions> =
+        tables.into_iter().zip(paths).map(|(t, path)| t.unwrap_or_else(|e| panic!("{path}: {e}"))).collect();
+    let names: BTreeSet<&String> = tables.iter().flat_map(|t| t.keys()).collect();
+    assert!(names.len() >= 17, "{} functions found", names.len());
+    let mut wrong = String::new();
+    for name in names {
+        let said: Vec<Option<&Function>> = tables.iter().map(|t| t.get(name)).collect();
+        if !said.iter().all(|f| f.is_some() && *f == said[0]) {
+            for (f, path) in said.iter().zip(paths) {
+                wrong += &format!("\n{name} in {path}: {}", f.map_or("not there".to_string(), |f| f.text()));
+            }
+        }
+    }
+    assert!(wrong.is_empty(), "{wrong}");
+}
+
+/// The safe layer has each function once, under the name without its first word.
+#[test]
+fn the_safe_layer_has_every_call() {
+    let declared = of_rust(&text(&root().join("host/card/src/raw.rs"))).unwrap();
+    let calls = text(&root().join("host/card/src/calls.rs"));
+    for name in declared.keys() {
+        let short = name.trim_start_matches("card_");
+        assert_eq!(calls.matches(&format!("pub fn {short}(")).count(), 1, "{name}");
+        assert_eq!(calls.matches(&format!("raw::{name}(")).count(), 1, "{name}");
+    }
+}
+
+/// Every unsafe block of the folder says why it is safe, and none stands outside the safe layer and the bench.
+#[test]
+fn every_unsafe_block_says_why() {
+    fn walk(folder: &std::path::Path, found: &mut Vec<std::path::PathBuf>) {
+        for entry in std::fs::read_dir(folder).unwrap().map(|entry| entry.unwrap().path()) {
+            if entry.is_dir() && !entry.ends_with("target") {
+                walk(&entry, found);
+            } else if entry.extension().map_or(false, |e| e == "rs") && !entry.ends_with("header.rs") {
+                found.push(entry);
+            }
+        }
+    }
+    let mut files = Vec::new();
+    walk(&root().join("host"), &mut files);
+    let mut blocks = 0;
+    for file in files {
+        let text = text(&file);
+        let lines: Vec<&str> = text.lines().collect();
+        for (i, line) in lines.iter().enumerate() {
+            let code = line.split("//").next().unwrap_or("");
+            if code.contains("unsafe {") || code.contains("unsafe impl") {
+                let said = lines[..i].iter().rev().take(3).any(|l| l.contains("// SAFETY: "));
+                assert!(said, "{}:{}: an unsafe block without a word", file.display(), i + 1);
+                let at = file.strip_prefix(root()).unwrap();
+                let safe = at.ends_with("card/src/calls.rs") || at.starts_with("host/bench/src");
+                assert!(safe, "{}:{}: an unsafe block outside the safe layer", at.display(), i + 1);
+                blocks += 1;
+            }
+        }
+    }
+    assert!(blocks >= 17);
+}

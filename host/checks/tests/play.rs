@@ -1,0 +1,365 @@
+//! Runs the trace program on good and bad traces and compares what it writes with the model.
+
+use checks::{play, x86};
+use models::rng::{seed, Rng};
+use models::tree::Shape;
+use std::io::{Read, Write};
+use std::process::Stdio;
+
+/// How the input reaches the program.
+#[derive(Clone, Copy, PartialEq)]
+enum Feed {
+    Whole,
+    Pieces(usize),
+}
+
+fn header(order: u8, levels: u8) -> Vec<u8> {
+    vec![b'P', b'F', b'T', 1, 0, order, levels]
+}
+
+fn record(code: u8, rank: u32, tag: u32) -> Vec<u8> {
+    let mut bytes = vec![code];
+    bytes.extend_from_slice(&rank.to_le_bytes());
+    bytes.extend_from_slice(&tag.to_le_bytes());
+    bytes
+}
+
+/// The paper's worked trace.
+fn worked() -> Vec<u8> {
+    let mut bytes = header(2, 2);
+    bytes.extend(record(1, 5, 50));
+    for _ in 0..3 {
+        bytes.extend(record(2, 0, 0));
+    }
+    bytes
+}
+
+/// A good trace: every kind of record, in moods that fill and empty the tree.
+fn good(rng: &mut Rng, order: u8, levels: u8, records: u64) -> Vec<u8> {
+    let mut bytes = header(order, levels);
+    let ranks = rng.pick(&[1, 3, 20, 1000, 1 << 32]);
+    let mut weights = (70, 10, 10);
+    for _ in 0..records {
+        if rng.once_in(40) {
+            weights =
+                rng.pick(&[(90, 3, 3), (50, 20, 10), (5, 45, 10), (3, 60, 3), (10, 5, 45), (2, 48, 0), (95, 0, 0)]);
+        }
+        let (push, pop, replace) = weights;
+        let (rank, tag) = (rng.below(ranks) as u32, rng.word());
+        let at = rng.below(100);
+        bytes.extend(if at < push {
+            record(1, rank, tag)
+        } else if at < push + pop {
+            record(2, 0, 0)
+        } else if at < push + pop + replace {
+            record(3, rank, tag)
+        } else {
+            record(0, 0, 0)
+        });
+    }
+    bytes
+}
+
+/// Every shape that the program takes.
+fn shapes() -> Vec<(u8, u8)> {
+    let mut all = Vec::new();
+    for order in [2u8, 4, 8] {
+        for levels in 1..=11u8 {
+            if let Some(shape) = Shape::new(order as u32, levels as u32) {
+                if shape.capacity() <= 4094 {
+                    all.push((order, levels));
+                }
+            }
+        }
+    }
+    all
+}
+
+/// What the program writes for this input.
+fn written(bytes: &[u8], feed: Feed) -> Result<Vec<u8>, String> {
+    let mut command = x86(&play());
+    let mut child = command
+        .stdin(Stdio::piped())
+        .stdout(Stdio::piped())
+        .spawn()
+        .map_err(|e| format!("{command:?} does not start: {e}"))?;
+    let mut stdin = child.stdin.take().unwrap();
+    let mut stdout = child.stdout.take().unwrap();
+    let bytes = bytes.to_vec();
+    let writer = std::thread::spawn(move || {
+        // a program that has its answer may stop reading: what it wrote decides
+        match feed {
+            Feed::Whole => {
+                let _ = stdin.write_all(&bytes);
+            }
+            Feed::Pieces(size) => {
+                for (i, piece) in bytes.chunks(size).enumerate() {
+                    if stdin.write_all(piece).and_then(|()| stdin.flush()).is_err() {
+                        break;
+                    }
+                    if i % 8 == 0 {
+                        std::thread::sleep(std::time::Duration::from_micros(300));
+                    }
+                }
+            }
+        }
+    });
+    let mut written = Vec::new();
+    stdout.read_to_end(&mut written).map_err(|e| e.to_string())?;
+    let status = child.wait().map_err(|e| e.to_string())?;
+    writer.join().map_err(|_| "the writer stopped".to_string())?;
+    if !status.success() {
+        return Err(format!("the program ended with {status}"));
+    }
+    Ok(written)
+}
+
+/// The first line that differs.
+fn difference(got: &[u8], expected: &[u8]) -> String {
+    let (got, expected) = (String::from_utf8_lossy(got), String::from_utf8_lossy(expected));
+    let (mut a, mut b) = (got.split('\n'), expected.split('\n'));
+    for n in 1.. {
+        let (x, y) = (a.next(), b.next());
+        if x != y {
+            return format!("line {n} is {x:?}, the model says {y:?}");
+        }
+        if x.is_none() {
+            break;
+        }
+    }
+    String::from("equal")
+}
+
+fn fed(name: String, bytes: Vec<u8>, feed: Feed) {
+    let expected = models::trace::play(&bytes);
+    match written(&bytes, feed) {
+        Ok(got) => assert!(got == expected, "seed {}, {name}: {}", seed(), difference(&got, &expected)),
+        Err(what) => panic!("seed {}, {name}: {what}", seed()),
+    }
+}
+
+fn same(name: String, bytes: Vec<u8>) {
+    fed(name, bytes, Feed::Whole);
+}
+
+#[test]
+fn the_worked_trace_and_records_of_zeros() {
+    same("the worked trace".into(), worked());
+    let mut zeros = header(2, 1);
+    for code in [1, 0, 3, 2, 0, 2, 1, 1, 1, 3, 0, 3, 2] {
+        zeros.extend(record(code, 0, 0));
+    }
+    same("rank 0, tag 0".into(), zeros);
+    let mut high = header(8, 1);
+    for code in [1, 0, 3, 1, 0, 2, 0] {
+        let numbers = if code == 0 || code == 2 { 0 } else { u32::MAX };
+        high.extend(record(code, numbers, numbers));
+    }
+    same("the highest rank and tag".into(), high);
+    let mut kinds = header(4, 2);
+    for (code, rank, tag) in [(1, 0x0403_0201, 0x0807_0605), (0, 0, 0), (2, 0, 0)] {
+        kinds.extend(record(code, rank, tag));
+    }
+    same("each byte of rank and tag".into(), kinds);
+}
+
+#[test]
+fn every_good_shape() {
+    let rng = &mut Rng::new(seed(), 601);
+    for (order, levels) in shapes() {
+        same(format!("order {order}, levels {levels}, no record"), header(order, levels));
+        let records = 20 + rng.below(300);
+        same(format!("order {order}, levels {levels}"), good(rng, order, levels, records));
+    }
+}
+
+#[test]
+fn filled_to_the_brim_and_emptied() {
+    let rng = &mut Rng::new(seed(), 602);
+    for (order, levels) in [(2, 1), (2, 2), (2, 3), (2, 6), (4, 1), (4, 2), (4, 3), (8, 1), (8, 2)] {
+        let capacity = Shape::new(order as u32, levels as u32).unwrap().capacity();
+        let mut bytes = header(order, levels);
+        for i in 0..capacity + 2 {
+            bytes.extend(record(1, rng.below(50) as u32, i as u32));
+        }
+        bytes.extend(record(0, 0, 0));
+        for i in 0..20 {
+            bytes.extend(record(3, rng.below(60) as u32, 1000 + i));
+            if !rng.once_in(4) {
+                bytes.extend(record(0, 0, 0));
+            }
+        }
+        for _ in 0..2 * capacity + 6 {
+            bytes.extend(record(2, 0, 0));
+        }
+        same(format!("order {order}, levels {levels}"), bytes);
+    }
+}
+
+#[test]
+fn work_left_for_the_last_drain() {
+    let rng = &mut Rng::new(seed(), 603);
+    for (order, levels) in [(2, 3), (2, 8), (4, 4), (8, 3)] {
+        for tail in 0..6 {
+            let records = 300 + rng.below(100);
+            let mut bytes = good(rng, order, levels, records);
+            for _ in 0..tail {
+                bytes.extend(record(1, rng.below(9) as u32, 7));
+            }
+            same(format!("order {order}, levels {levels}, {tail} pushes at the end"), bytes);
+        }
+    }
+}
+
+#[test]
+fn bad_headers() {
+    for at in 0..5 {
+        for to in [0u8, 1, 2, b'p', b'P', b'F', 255] {
+            let mut bytes = worked();
+            if bytes[at] != to {
+                bytes[at] = to;
+                same(format!("byte {at} is {to}"), bytes);
+            }
+        }
+    }
+    for (order, levels) in [
+        (0, 1),
+        (1, 1),
+        (3, 1),
+        (5, 2),
+        (6, 1),
+        (7, 1),
+        (9, 1),
+        (16, 1),
+        (64, 1),
+        (255, 1),
+        (2, 0),
+        (4, 0),
+        (8, 0),
+        (0, 0),
+        (2, 12),
+        (2, 13),
+        (2, 32),
+        (2, 64),
+        (2, 255),
+        (4, 6),
+        (4, 7),
+        (4, 16),
+        (4, 255),
+        (8, 4),
+        (8, 5),
+        (8, 22),
+        (8, 255),
+        (255, 255),
+    ] {
+        same(format!("order {order}, levels {levels}, no record"), header(order, levels));
+        let mut bytes = header(order, levels);
+        bytes.extend(&worked()[7..]);
+        same(format!("order {order}, levels {levels}"), bytes);
+    }
+}
+
+#[test]
+fn a_trace_cut_at_each_length() {
+    let mut bytes = header(2, 3);
+    for (code, rank, tag) in [(1, 9, 90), (3, 4, 40), (2, 0, 0), (7, 1, 1)] {
+        bytes.extend(record(code, rank, tag));
+    }
+    for length in 0..=bytes.len() {
+        same(format!("{length} bytes"), bytes[..length].to_vec());
+    }
+}
+
+#[test]
+fn bad_records() {
+    let rng = &mut Rng::new(seed(), 606);
+    for code in [4u8, 5, 6, 7, 9, 16, 127, 128, 254, 255, b'1', b'\n'] {
+        for after in [0, 1, 4] {
+            let mut bytes = good(rng, 2, 3, after);
+            bytes.extend(record(code, 0, 0));
+            bytes.extend(good(rng, 2, 3, 3));
+            same(format!("code {code} as record {}", after + 1), bytes);
+        }
+    }
+    for code in [0u8, 2] {
+        for byte in 1..9 {
+            let before = rng.below(5);
+            let mut bytes = good(rng, 4, 2, before);
+            let at = bytes.len();
+            bytes.extend(record(code, 0, 0));
+            bytes[at + byte] = rng.pick(&[1, 128, 255]);
+            bytes.extend(record(1, 1, 1));
+            same(format!("code {code}, byte {byte} not 0"), bytes);
+        }
+    }
+    for length in 1..9 {
+        for code in [0u8, 1, 2, 3, 4, 255] {
+            let mut bytes = good(rng, 8, 1, 3);
+            bytes.extend(&record(code, 0, 0)[..length]);
+            same(format!("a record of code {code} cut to {length} bytes"), bytes);
+        }
+    }
+}
+
+#[test]
+fn any_bytes() {
+    let rng = &mut Rng::new(seed(), 607);
+    for i in 0..12 {
+        let mut bytes = if i % 3 == 0 { Vec::new() } else { header(rng.pick(&[2, 4, 8]), 1 + rng.below(3) as u8) };
+        for _ in 0..rng.below(60) {
+            bytes.push(rng.pick(&[0, 0, 0, 0, 1, 2, 3, 255, 80, 70, 84]));
+        }
+        same(format!("{i}"), bytes);
+    }
+}
+
+#[test]
+fn fed_in_pieces() {
+    let rng = &mut Rng::new(seed(), 608);
+    for size in [1, 2, 5, 7, 8, 9, 10, 13] {
+        let bytes = good(rng, 2, 4, 30);
+        fed(format!("{size} bytes at a time"), bytes, Feed::Pieces(size));
+    }
+    for records in [453, 454, 455, 456, 909, 910, 911, 7280, 7281, 7282] {
+        // around the lengths of usual buffers
+        let bytes = good(rng, 4, 3, records);
+        fed(format!("{records} records"), bytes, Feed::Pieces(4096));
+    }
+}
+
+#[test]
+fn a_hundred_thousand_records() {
+    let rng = &mut Rng::new(seed(), 609);
+    for (order, levels) in [(2, 1), (2, 11), (4, 5), (8, 3)] {
+        same(format!("order {order}, levels {levels}"), good(rng, order, levels, 100_000));
+    }
+    let mut bytes = good(rng, 2, 5, 100_000);
+    bytes.extend(record(200, 0, 0));
+    same("a bad record at the end".into(), bytes);
+    let mut bytes = good(rng, 4, 4, 100_000);
+    bytes.extend(&record(1, 1, 1)[..4]);
+    same("a cut record at the end".into(), bytes);
+}
+
+/// The program reads 4,096 records at a time: traces that end just there, one record before and one behind, well, with a bad record and
+/// with a cut one.
+#[test]
+fn around_the_end_of_a_piece() {
+    let rng = &mut Rng::new(seed(), 620);
+    for records in [4095, 4096, 4097, 8191, 8192, 8193] {
+        for feed in [Feed::Whole, Feed::Pieces(9 * 4096)] {
+            let bytes = good(rng, 2, 5, records);
+            for code in [4, 200] {
+                let bad = [&bytes[..], &record(code, 0, 0)].concat();
+                fed(format!("{records} records and a bad one"), bad, feed);
+            }
+            for length in [1, 8] {
+                let cut = [&bytes[..], &record(1, 7, 70)[..length]].concat();
+                fed(format!("{records} records and {length} bytes of one"), cut, feed);
+            }
+            let more = [&bytes[..], &record(9, 0, 0), &record(1, 1, 1)].concat();
+            fed(format!("{records} records, a bad one and a good one"), more, feed);
+            fed(format!("{records} records"), bytes, feed);
+        }
+    }
+}

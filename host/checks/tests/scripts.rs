@@ -1,0 +1,88 @@
+//! The scripts of `host/`, run as their users run them: from any folder, and with bad words.
+
+use checks::{done, outside, play, root, run, text};
+use std::process::{Command, Output};
+
+fn script(name: &str) -> Command {
+    Command::new(root().join("host").join(name))
+}
+
+/// Refused: this exit status, these words on standard error, and nothing on standard output.
+fn refused(output: Output, status: i32, says: &str) {
+    let said = String::from_utf8_lossy(&output.stderr).into_owned();
+    assert_eq!(output.status.code(), Some(status), "{said}");
+    assert!(said.contains(says), "{said}");
+    assert!(output.stdout.is_empty());
+}
+
+/// The shipped sample as `rt` holds it to its file, from the repository's folder and from another.
+#[test]
+fn play_plays_the_sample_from_any_folder() {
+    play();
+    let expected = text(&root().join("crates/play/stdout"));
+    let elsewhere = outside("sample");
+    assert_eq!(done(script("play.sh").current_dir(root())), expected);
+    assert_eq!(done(script("play.sh").current_dir(&elsewhere)), expected);
+    // a name is the caller's, be it relative, absolute or standard input
+    std::fs::copy(root().join("crates/play/stdin"), elsewhere.join("a trace")).unwrap();
+    assert_eq!(done(script("play.sh").arg("a trace").current_dir(&elsewhere)), expected);
+    assert_eq!(done(script("play.sh").arg(elsewhere.join("a trace")).current_dir("/")), expected);
+    let input = std::fs::File::open(elsewhere.join("a trace")).unwrap();
+    assert_eq!(done(script("play.sh").arg("-").stdin(input).current_dir("/")), expected);
+    std::fs::remove_dir_all(&elsewhere).unwrap();
+}
+
+#[test]
+fn play_names_what_is_wrong() {
+    let elsewhere = outside("nothing");
+    let missing = elsewhere.canonicalize().unwrap().join("nothing.pft");
+    refused(
+        run(script("play.sh").arg("nothing.pft").current_dir(&elsewhere)),
+        1,
+        &format!("play: there is no file {}", missing.display()),
+    );
+    refused(run(script("play.sh").arg("/nowhere/at/all")), 1, "play: there is no file /nowhere/at/all");
+    refused(run(script("play.sh").arg(&elsewhere)), 1, "is no file that can be read");
+    refused(run(script("play.sh").args(["a", "b"])), 2, "play.sh [TRACE]");
+    std::fs::remove_dir_all(&elsewhere).unwrap();
+}
+
+/// A text, its trace, what the program writes of it, and back: from another folder.
+#[test]
+fn a_text_is_played() {
+    let elsewhere = outside("text");
+    std::fs::copy(root().join("host/examples/worked.txt"), elsewhere.join("worked.txt")).unwrap();
+    done(script("trace.sh").args(["to-trace", "worked.txt", "worked.pft"]).current_dir(&elsewhere));
+    let lines = done(script("play.sh").arg("worked.pft").current_dir(&elsewhere));
+    assert_eq!(lines, "1 pushed\n2 too soon\n3 out 5 50\n4 too soon\nheld 0 drained 0\n");
+    let back = done(script("trace.sh").args(["to-text", "worked.pft"]).current_dir(&elsewhere));
+    assert_eq!(back, text(&elsewhere.join("worked.txt")));
+    refused(
+        run(script("trace.sh").args(["to-trace", "worked.pft"]).current_dir(&elsewhere)),
+        1,
+        "worked.pft: line 1: ",
+    );
+    refused(
+        run(script("trace.sh").args(["to-text", "worked.txt", "x"]).current_dir(&elsewhere)),
+        1,
+        "worked.txt: byte 0: ",
+    );
+    assert!(!elsewhere.join("x").exists());
+    std::fs::remove_dir_all(&elsewhere).unwrap();
+}
+
+/// The bench is no test: it is built, and runs.
+#[test]
+fn the_bench_runs() {
+    let table = done(script("bench.sh").arg("--brief"));
+    for part in [
+        "bucket, spread ranks refilled",
+        "tree, order 4 x 6, push and pop",
+        "cycle, order 4 x 6, idle",
+        "records a second",
+    ] {
+        assert!(table.contains(part), "{part} is not in\n{table}");
+    }
+    refused(run(script("bench.sh").arg("--nonsense")), 2, "bench [--brief]");
+    refused(run(script("bench.sh").args(["--brief", "no such row"])), 2, "bench: no row has `no such row` in its name");
+}

@@ -1,0 +1,276 @@
+//! The paper's ten cases, its worked trace and its known mistakes, each as one check.
+
+use crate::side::{Card, Side};
+use models::call::{Call, Op};
+
+type Done = Result<(), String>;
+
+fn same<T: PartialEq + std::fmt::Debug>(what: &str, got: T, expected: T) -> Done {
+    if got == expected {
+        return Ok(());
+    }
+    Err(format!("{what}: {got:?}, the paper says {expected:?}"))
+}
+
+/// A queue of one of the three kinds, on words that are not 0 before it is cleared.
+struct Queue<'c, C: Card> {
+    card: &'c mut C,
+    /// Shape and lengths; each call is made from it.
+    call: Call,
+    side: Side,
+}
+
+/// A call's number and the two words of its answer.
+type Told = (u32, u32, u32);
+
+impl<'c, C: Card> Queue<'c, C> {
+    fn cleared(card: &'c mut C, call: Call) -> Result<Queue<'c, C>, String> {
+        let side = Side::new(call.words, call.bits, call.records);
+        let mut queue = Queue { card, call, side };
+        let clear = queue.call.clone();
+        same("clear", queue.side.apply(queue.card, &clear), 0)?;
+        Ok(queue)
+    }
+    fn tree(card: &'c mut C, order: u32, levels: u32, slots: usize) -> Result<Queue<'c, C>, String> {
+        Queue::cleared(card, Call::tree(Op::TreeClear, order, levels, 3 * slots))
+    }
+    fn machine(card: &'c mut C, order: u32, levels: u32, slots: usize) -> Result<Queue<'c, C>, String> {
+        let records = 4 * (levels as usize - 1);
+        Queue::cleared(card, Call::machine(Op::ClockedClear, order, levels, 3 * slots, records))
+    }
+    fn bucket(card: &'c mut C, nodes: u32) -> Result<Queue<'c, C>, String> {
+        Queue::cleared(card, Call::bucket(Op::BucketClear, nodes, 65, 8192 + 2 * nodes as usize + 2))
+    }
+    /// Store A: cleared, then push 5/50, 3/30, 8/80, 1/10.
+    fn a(card: &'c mut C) -> Result<Queue<'c, C>, String> {
+        let mut queue = Queue::tree(card, 2, 2, 6)?;
+        for (rank, tag) in [(5, 50), (3, 30), (8, 80), (1, 10)] {
+            same("push", queue.number(Op::TreePush, rank, tag), 0)?;
+        }
+        Ok(queue)
+    }
+
+    fn ask(&mut self, op: Op, request: u32, rank: u32, tag: u32) -> Told {
+        let call = Call { op, request, rank, tag, ..self.call.clone() };
+        let number = self.side.apply(self.card, &call);
+        (number, self.side.out[0], self.side.out[1])
+    }
+    fn number(&mut self, op: Op, rank: u32, tag: u32) -> u32 {
+        self.ask(op, 0, rank, tag).0
+    }
+    fn pop(&mut self) -> Told {
+        match self.call.op {
+            Op::TreeClear => self.ask(Op::TreePop, 0, 0, 0),
+            Op::BucketClear => self.ask(Op::BucketPop, 0, 0, 0),
+            _ => self.ask(Op::CyclePop, 2, 0, 0),
+        }
+    }
+    fn push(&mut self, rank: u32, tag: u32) -> Told {
+        self.ask(Op::CyclePush, 1, rank, tag)
+    }
+    fn idle(&mut self) -> Told {
+        self.ask(Op::CycleIdle, 0, 0, 0)
+    }
+    fn drain(&mut self, budget: u32) -> Told {
+        self.call.budget = budget;
+        self.ask(Op::ClockedDrain, 0, 0, 0)
+    }
+
+    fn words(&self) -> Vec<u32> {
+        self.side.words[..self.call.words].to_vec()
+    }
+    fn records(&self) -> Vec<u32> {
+        self.side.records[..self.call.records].to_vec()
+    }
+}
+
+const A: [u32; 18] = [5, 50, 2, 1, 10, 2, 8, 80, 1, 0, 0, 0, 3, 30, 1, 0, 0, 0];
+
+fn case_1<C: Card>(c: &mut C) -> Done {
+    same("A", Queue::a(c)?.words(), A.to_vec())
+}
+
+fn case_2<C: Card>(c: &mut C) -> Done {
+    let mut t = Queue::a(c)?;
+    let got: Vec<_> = (0..5).map(|_| t.pop()).collect();
+    same("pops", got, vec![(0, 1, 10), (0, 3, 30), (0, 5, 50), (0, 8, 80), (6, 0, 0)])?;
+    same("store", t.words(), vec![0; 18])
+}
+
+fn case_3<C: Card>(c: &mut C) -> Done {
+    let mut t = Queue::a(c)?;
+    same("replace 0/7", t.ask(Op::TreeReplace, 0, 0, 7), (0, 0, 7))?;
+    same("store", t.words(), A.to_vec())
+}
+
+fn case_4<C: Card>(c: &mut C) -> Done {
+    let mut t = Queue::a(c)?;
+    same("replace 1/7", t.ask(Op::TreeReplace, 0, 1, 7), (0, 1, 10))?;
+    let mut after = A.to_vec();
+    after[3..6].copy_from_slice(&[1, 7, 2]);
+    same("store", t.words(), after)
+}
+
+fn case_5<C: Card>(c: &mut C) -> Done {
+    let mut t = Queue::a(c)?;
+    same("replace 4/7", t.ask(Op::TreeReplace, 0, 4, 7), (0, 1, 10))?;
+    let mut after = A.to_vec();
+    after[3..6].copy_from_slice(&[3, 30, 2]);
+    after[12..15].copy_from_slice(&[4, 7, 1]);
+    same("store", t.words(), after)
+}
+
+fn case_6<C: Card>(c: &mut C) -> Done {
+    let mut m = Queue::machine(c, 2, 2, 6)?;
+    for (rank, tag) in [(5, 50), (3, 30), (8, 80), (1, 10)] {
+        same("push", m.push(rank, tag), (0, 0, 0))?;
+    }
+    same("drain", m.drain(100), (0, 1, 0))?;
+    same("A", m.words(), A.to_vec())?;
+    same("pop", m.pop(), (0, 1, 10))?;
+    same("slot 1", m.words()[3..6].to_vec(), vec![3, 30, 1])?;
+    same("node 1", m.words()[12..18].to_vec(), vec![3, 30, 1, 0, 0, 0])?;
+    same("record", m.records(), vec![2, 1, 0, 0])?;
+    same("idle", m.idle(), (0, 0, 0))?;
+    same("node 1", m.words()[12..18].to_vec(), vec![0; 6])?;
+    same("record", m.records(), vec![0; 4])
+}
+
+fn case_7<C: Card>(c: &mut C) -> Done {
+    let mut t = Queue::tree(c, 2, 2, 6)?;
+    let got: Vec<u32> = (0..7).map(|i| t.number(Op::TreePush, 9 - i, i)).collect();
+    same("pushes", got, vec![0, 0, 0, 0, 0, 0, 5])
+}
+
+fn case_8<C: Card>(c: &mut C) -> Done {
+    let mut q = Queue::bucket(c, 3)?;
+    same("nodes", q.words()[8192..].to_vec(), vec![0, 2, 0, 3, 0, 0, 1, 0])?;
+    for (rank, tag, number) in [(7, 1, 0), (7, 2, 0), (4095, 3, 0), (0, 4, 5), (4096, 4, 4)] {
+        same("push", q.number(Op::BucketPush, rank, tag), number)?;
+    }
+    for answer in [(0, 7, 1), (0, 7, 2), (0, 4095, 3), (6, 0, 0)] {
+        same("pop", q.pop(), answer)?;
+    }
+    Ok(())
+}
+
+fn case_9<C: Card>(c: &mut C) -> Done {
+    let mut side = Side::new(3 * 100_000, 65, 0);
+    for (order, levels, slots, number) in [
+        (4, 6, 5460, 0),
+        (4, 7, 21844, 1),
+        (2, 11, 4094, 0),
+        (2, 12, 8190, 1),
+        (8, 4, 4680, 0),
+        (8, 5, 37448, 1),
+        (3, 1, 3, 1),
+        (3, 2, 12, 1),
+        (2, 0, 0, 1),
+        (4, 0, 0, 1),
+    ] {
+        let clear = |words| Call::tree(Op::TreeClear, order, levels, words);
+        same("clear", side.apply(c, &clear(3 * slots)), number)?;
+        if number == 0 {
+            same("clear of a short store", side.apply(c, &clear(3 * slots - 1)), 1)?;
+        }
+    }
+    same("N = 0", side.apply(c, &Call::bucket(Op::BucketClear, 0, 65, 8194)), 1)
+}
+
+fn case_10<C: Card>(c: &mut C) -> Done {
+    let mut m = Queue::machine(c, 2, 2, 6)?;
+    same("push", m.push(5, 50), (0, 0, 0))?;
+    same("idle", m.idle(), (0, 0, 0))?;
+    same("pop", m.pop(), (0, 5, 50))?;
+    let mut m = Queue::machine(c, 2, 3, 14)?;
+    same("push", m.push(5, 50), (0, 0, 0))?;
+    same("idle", m.idle(), (0, 0, 0))?;
+    same("pop", m.pop(), (0, 5, 50))?;
+    same("push", m.push(6, 60), (0, 0, 0))?;
+    same("push", m.push(7, 70), (0, 0, 0))?;
+    let mut m = Queue::machine(c, 2, 2, 6)?;
+    same("pop", m.pop(), (6, 0, 0))?;
+    same("pop", m.pop(), (6, 0, 0))?;
+    same("push", m.push(5, 50), (0, 0, 0))?;
+    same("pop", m.pop(), (3, 0, 0))?;
+    same("pop", m.pop(), (0, 5, 50))
+}
+
+/// Push 1, 9, 2 into order 2: the 2 is still on its way and node 0 is empty.
+fn on_its_way<C: Card>(c: &mut C) -> Done {
+    let mut m = Queue::machine(c, 2, 2, 6)?;
+    for rank in [1, 9, 2] {
+        same("push", m.push(rank, 10 * rank), (0, 0, 0))?;
+    }
+    same("node 0", m.words()[6..12].to_vec(), vec![0; 6])?;
+    same("record", m.records(), vec![1, 0, 2, 20])?;
+    same("pop", m.pop(), (3, 0, 0))?;
+    same("node 0", m.words()[6..12].to_vec(), vec![2, 20, 1, 0, 0, 0])?;
+    same("pop", m.pop(), (0, 1, 10))
+}
+
+/// First in, first out within a bucket; freed room is used at once.
+fn in_turn<C: Card>(c: &mut C) -> Done {
+    let mut q = Queue::bucket(c, 2)?;
+    same("push", q.number(Op::BucketPush, 7, 1), 0)?;
+    same("push", q.number(Op::BucketPush, 7, 2), 0)?;
+    same("replace on a full queue", q.ask(Op::BucketReplace, 0, 7, 3), (0, 7, 1))?;
+    same("pop", q.pop(), (0, 7, 2))?;
+    let words = q.words();
+    same("free link and held", (words[8196], words[8197]), (2, 1))?;
+    same("freed node", (words[8194], words[8195]), (0, 0))
+}
+
+/// Equal ranks are not exchanged in a put, and the leftmost smallest count is chosen.
+fn ties<C: Card>(c: &mut C) -> Done {
+    let mut t = Queue::tree(c, 2, 2, 6)?;
+    for tag in 1..=4 {
+        same("push", t.number(Op::TreePush, 5, tag), 0)?;
+    }
+    same("store", t.words(), vec![5, 1, 2, 5, 2, 2, 5, 3, 1, 0, 0, 0, 5, 4, 1, 0, 0, 0])?;
+    same("pop", t.pop(), (0, 5, 1))?;
+    same("store", t.words(), vec![5, 3, 1, 5, 2, 2, 0, 0, 0, 0, 0, 0, 5, 4, 1, 0, 0, 0])
+}
+
+/// The worked trace, by cycles.
+fn worked<C: Card>(c: &mut C) -> Done {
+    let mut m = Queue::machine(c, 2, 2, 6)?;
+    same("push", m.push(5, 50), (0, 0, 0))?;
+    same("pop", m.pop(), (3, 0, 0))?;
+    same("pop", m.pop(), (0, 5, 50))?;
+    same("pop", m.pop(), (3, 0, 0))?;
+    same("drain", m.drain(100), (0, 0, 0))
+}
+
+/// Every case with its name.
+pub fn all<C: Card>(c: &mut C) -> Vec<(&'static str, Done)> {
+    vec![
+        ("case 1: the words of store A", case_1(c)),
+        ("case 2: A popped", case_2(c)),
+        ("case 3: A, replace 0/7", case_3(c)),
+        ("case 4: A, replace 1/7", case_4(c)),
+        ("case 5: A, replace 4/7", case_5(c)),
+        ("case 6: A clocked, drained, pop", case_6(c)),
+        ("case 7: six pushes and a seventh", case_7(c)),
+        ("case 8: bucket, N = 3", case_8(c)),
+        ("case 9: shapes at the edge", case_9(c)),
+        ("case 10: what is too soon", case_10(c)),
+        ("push 1, 9, 2: still on its way", on_its_way(c)),
+        ("first in, first out in a bucket", in_turn(c)),
+        ("equal ranks in a tree", ties(c)),
+        ("the worked trace by cycles", worked(c)),
+    ]
+}
+
+/// The worked trace through the model of the trace program.
+pub fn trace() -> Done {
+    let mut input = b"PFT\x01\x00\x02\x02".to_vec();
+    for (code, rank, tag) in [(1u8, 5u32, 50u32), (2, 0, 0), (2, 0, 0), (2, 0, 0)] {
+        input.push(code);
+        input.extend_from_slice(&rank.to_le_bytes());
+        input.extend_from_slice(&tag.to_le_bytes());
+    }
+    let written = String::from_utf8(models::trace::play(&input)).unwrap();
+    let paper = "1 pushed\n2 too soon\n3 out 5 50\n4 too soon\nheld 0 drained 0\n";
+    same("the worked trace", written.as_str(), paper)
+}

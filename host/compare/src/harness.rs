@@ -1,0 +1,289 @@
+//! Makes each call on both sides, counts it, and keeps the first difference.
+
+use crate::side::{difference, Card, Model, Side};
+use models::call::{Call, Op, OPS};
+use models::{bucket, shape_cause, tree, No};
+
+/// Things that a single call's number does not show, each to be met at least once.
+#[derive(Clone, Copy, PartialEq, Eq, Debug)]
+pub enum Event {
+    DrainDamagedAtOnce,
+    DrainDamagedLater,
+    DrainNoBudget,
+    DrainNoBudgetBadNode,
+    DrainBudgetSpent,
+    DrainBudgetExact,
+    DrainNothingMarkOn,
+    DamagedMarkOn,
+    NewcomerBackMarkOn,
+    NothingWithNumbers,
+    RecordsPast,
+    BoundaryAndShape,
+    DrainRefusedShapeWorkPending,
+    RefusedWorkMoves,
+    BucketReplaceFull,
+    BucketReplaceSameBucket,
+    TreeReplaceFull,
+}
+
+pub const EVENTS: [(Event, &str); 17] = [
+    (Event::DrainDamagedAtOnce, "drain refused 2 with no cycle run"),
+    (Event::DrainDamagedLater, "drain refused 2 after a cycle or more"),
+    (Event::DrainNoBudget, "drain with budget 0 and work pending"),
+    (Event::DrainNoBudgetBadNode, "drain with budget 0 and a record that names no node"),
+    (Event::DrainBudgetSpent, "drain that spends its budget and leaves work"),
+    (Event::DrainBudgetExact, "drain whose last work ends with its budget"),
+    (Event::DrainNothingMarkOn, "drain with nothing pending and the mark on"),
+    (Event::DamagedMarkOn, "pop or replace with the mark on, refused 2"),
+    (Event::NewcomerBackMarkOn, "replace that answers its newcomer and sets the mark"),
+    (Event::NothingWithNumbers, "cycle that ran over a record of nothing with other numbers"),
+    (Event::RecordsPast, "cycle that ran with a kind above 3 past the last level"),
+    (Event::BoundaryAndShape, "a boundary's fault and a bad shape at once"),
+    (Event::DrainRefusedShapeWorkPending, "drain refused 1 with work pending"),
+    (Event::RefusedWorkMoves, "cycle refused 3, 5 or 6 in which pending work moved"),
+    (Event::BucketReplaceFull, "bucket replace that stored on a full queue"),
+    (Event::BucketReplaceSameBucket, "bucket replace into the bucket that it popped from"),
+    (Event::TreeReplaceFull, "tree replace that stored on a full queue"),
+];
+
+pub struct Tally {
+    /// How often each call gave each number.
+    pub numbers: [[u64; 7]; 18],
+    /// How often one clause alone made each call damaged, and how often a clause was among others.
+    pub damage: Vec<[u64; 64]>,
+    pub damage_any: Vec<[u64; 64]>,
+    /// How often one cause alone made each call refuse 1.
+    pub shape: [[u64; 9]; 18],
+    pub events: [u64; 17],
+}
+
+pub struct Harness<C: Card> {
+    pub library: C,
+    pub model: Model,
+    pub a: Side,
+    pub b: Side,
+    pub calls: u64,
+    pub tally: Tally,
+    pub failed: Option<String>,
+}
+
+impl<C: Card> Harness<C> {
+    pub fn new(library: C) -> Harness<C> {
+        Harness {
+            library,
+            model: Model::default(),
+            a: Side::new(0, 0, 0),
+            b: Side::new(0, 0, 0),
+            calls: 0,
+            tally: Tally {
+                numbers: [[0; 7]; 18],
+                damage: vec![[0; 64]; 18],
+                damage_any: vec![[0; 64]; 18],
+                shape: [[0; 9]; 18],
+                events: [0; 17],
+            },
+            failed: None,
+        }
+    }
+
+    /// Both sides as this one.
+    pub fn set(&mut self, side: &Side) {
+        self.a.copy_from(side);
+        self.b.copy_from(side);
+    }
+
+    pub fn fail(&mut self, what: String) {
+        if self.failed.is_none() {
+            self.failed = Some(what);
+        }
+    }
+
+    pub fn event(&mut self, event: Event) {
+        self.tally.events[event as usize] += 1;
+    }
+
+    /// Makes the call on both sides and compares everything. None where they differ (the first
+    /// difference is kept), else the number.
+    pub fn call(&mut self, k: &Call) -> Option<u32> {
+        let before = Before::of(&self.b, k);
+        let number = self.library_call(k);
+        let expected = self.b.apply(&mut self.model, k);
+        self.calls += 1;
+        self.count(k, expected, &before);
+        if let Some(d) = difference(k, number, &self.a, expected, &self.b) {
+            let text = format!("{d}\n      {}", before.text(&self.b, k));
+            self.fail(text);
+            return None;
+        }
+        Some(expected)
+    }
+
+    fn library_call(&mut self, k: &Call) -> u32 {
+        self.a.apply(&mut self.library, k)
+    }
+
+    /// The element that the last call answered.
+    pub fn answer(&self) -> models::Element {
+        models::element(self.b.out[0], self.b.out[1])
+    }
+
+    fn count(&mut self, k: &Call, number: u32, before: &Before) {
+        let op = OPS.iter().position(|o| *o == k.op).unwrap();
+        self.tally.numbers[op][number as usize] += 1;
+        match self.model.refused {
+            Some(No::Damaged(c)) => {
+                for bit in 0..64 {
+                    if c >> bit & 1 == 1 {
+                        self.tally.damage_any[op][bit] += 1;
+                        if c == 1 << bit {
+                            self.tally.damage[op][bit] += 1;
+                        }
+                    }
+                }
+            }
+            Some(No::BadShape(c)) => {
+                for bit in 0..9 {
+                    if c == 1 << bit {
+                        self.tally.shape[op][bit] += 1;
+                    }
+                }
+                if c & shape_cause::BOUNDARY != 0 && c & !shape_cause::BOUNDARY != 0 {
+                    self.event(Event::BoundaryAndShape);
+                }
+            }
+            _ => {}
+        }
+        let (cycles, left) = (self.b.out[0], self.b.out[1] == 1);
+        if k.op == Op::ClockedDrain {
+            match number {
+                0 if k.budget == 0 && before.pending => {
+                    self.event(Event::DrainNoBudget);
+                    if before.bad_node {
+                        self.event(Event::DrainNoBudgetBadNode);
+                    }
+                }
+                0 if cycles > 0 && left => self.event(Event::DrainBudgetSpent),
+                0 if cycles > 0 && cycles == k.budget => self.event(Event::DrainBudgetExact),
+                0 if cycles == 0 && !left && before.mark == 1 => self.event(Event::DrainNothingMarkOn),
+                1 if before.pending => self.event(Event::DrainRefusedShapeWorkPending),
+                2 if cycles == 0 => self.event(Event::DrainDamagedAtOnce),
+                2 => self.event(Event::DrainDamagedLater),
+                _ => {}
+            }
+        }
+        if k.op.is_cycle() {
+            let asks = k.op == Op::CyclePop || k.op == Op::CycleReplace;
+            if asks && number == 2 && before.mark == 1 {
+                self.event(Event::DamagedMarkOn);
+            }
+            if k.op == Op::CycleReplace && number == 0 && (self.b.out[0], self.b.out[1]) == (k.rank, k.tag) {
+                self.event(Event::NewcomerBackMarkOn);
+            }
+            let ran = number != 1 && number != 2;
+            if ran && before.nothing_with_numbers {
+                self.event(Event::NothingWithNumbers);
+            }
+            if ran && before.past {
+                self.event(Event::RecordsPast);
+            }
+            if number >= 3 && before.pending {
+                self.event(Event::RefusedWorkMoves);
+            }
+        }
+        if k.op == Op::BucketReplace && number == 0 && before.full && k.rank >= self.b.out[0] {
+            self.event(Event::BucketReplaceFull);
+            if k.rank == self.b.out[0] {
+                self.event(Event::BucketReplaceSameBucket);
+            }
+        }
+        if k.op == Op::TreeReplace && number == 0 && before.full && k.rank > self.b.out[0] {
+            self.event(Event::TreeReplaceFull);
+        }
+    }
+}
+
+/// What the count of a call needs to know of the state before it.
+struct Before {
+    pending: bool,
+    bad_node: bool,
+    nothing_with_numbers: bool,
+    past: bool,
+    mark: u32,
+    full: bool,
+    /// The words before the call, where they are few enough to be shown.
+    shown: Option<(Vec<u32>, Vec<u32>, u32)>,
+}
+
+impl Before {
+    fn of(side: &Side, k: &Call) -> Before {
+        let mut b = Before {
+            pending: false,
+            bad_node: false,
+            nothing_with_numbers: false,
+            past: false,
+            mark: 0,
+            full: false,
+            shown: None,
+        };
+        if k.op == Op::BucketReplace && k.nodes <= 4096 && k.words >= bucket::words(k.nodes as u64) as usize {
+            b.full = side.words[bucket::words(k.nodes as u64) as usize - 1] == k.nodes;
+        }
+        if k.op == Op::TreeReplace {
+            if let Some(shape) = tree::Shape::new(k.order, k.levels) {
+                if k.words as u64 >= 3 * shape.capacity() {
+                    let sum: u64 = (0..k.order as usize).map(|j| side.words[3 * j + 2] as u64).sum();
+                    b.full = sum == shape.capacity();
+                }
+            }
+        }
+        if k.op.is_machine() {
+            b.mark = side.mark[0];
+            if let Some(shape) = tree::Shape::new(k.order, k.levels) {
+                let need = 4 * (shape.levels as usize - 1);
+                if k.records >= need {
+                    for (i, r) in side.records[..need].chunks(4).enumerate() {
+                        b.pending |= r[0] != 0;
+                        b.bad_node |= r[0] != 0 && r[1] as u64 >= shape.nodes(i as u64 + 2);
+                        b.nothing_with_numbers |= r[0] == 0 && (r[1] != 0 || r[2] != 0 || r[3] != 0);
+                    }
+                    b.past = k.records >= need + 4 && side.records[need] > 3;
+                }
+            }
+        }
+        if !k.op.is_bucket() && side.words.len() <= 160 {
+            b.shown = Some((side.words.clone(), side.records.clone(), side.mark[0]));
+        }
+        b
+    }
+
+    /// The words that the call was made on, where they can be shown.
+    fn text(&self, side: &Side, k: &Call) -> String {
+        let (words, records) = (&side.words[..k.words], &side.records[..k.records]);
+        if k.op.is_bucket() {
+            let named = |i: usize| match i {
+                0..=4095 => format!("head {i}"),
+                4096..=8191 => format!("tail {}", i - 4096),
+                _ => format!("word {i}"),
+            };
+            let set = (0..k.words).filter(|&i| words[i] != 0).take(60);
+            let words: Vec<String> = set.map(|i| format!("{} = {}", named(i), words[i])).collect();
+            let set = (0..k.bits).filter(|&i| side.bits[i] != 0).take(20);
+            let bits: Vec<String> = set.map(|i| format!("{i} = {:#x}", side.bits[i])).collect();
+            return format!("the model's words after, that are not 0: {}; bits {}", words.join(", "), bits.join(", "));
+        }
+        match &self.shown {
+            None => String::from("(the store is too large to be shown)"),
+            Some((words_before, records_before, mark)) => {
+                let mut s = format!("store before {:?}", &words_before[..k.words]);
+                if k.op.is_machine() {
+                    s += &format!(" records {:?} mark {mark}", &records_before[..k.records]);
+                }
+                s += &format!("\n      the model's store after {words:?}");
+                if k.op.is_machine() {
+                    s += &format!(" records {records:?} mark {}", side.mark[0]);
+                }
+                s
+            }
+        }
+    }
+}

@@ -1,0 +1,813 @@
+//! Hostile calls: stores that are slightly damaged or all garbage, records, marks and requests
+//! that are wrong, shapes and lengths outside the rules.
+
+use crate::harness::Harness;
+use crate::histories::{shapes, shapes_up_to};
+use crate::side::{Card, Side};
+use models::call::{Call, Op};
+use models::rng::Rng;
+use models::tree::{Node, Shape};
+use models::{boundary, bucket};
+
+const ORDERS: [u32; 15] = [0, 1, 3, 5, 6, 7, 9, 16, 32, 64, 0x8000_0000, 0x8000_0002, u32::MAX, u32::MAX - 1, 12];
+const LEVELS: [u32; 12] = [0, 12, 13, 16, 31, 32, 33, 63, 0x4000_0000, 0x8000_0000, 0x8000_0001, u32::MAX];
+
+/// A small shape that is taken, more often the smallest ones.
+fn small(rng: &mut Rng) -> (u32, u32) {
+    if rng.once_in(200) {
+        return rng.pick(&shapes_up_to(600));
+    }
+    rng.pick(&[
+        (2, 1),
+        (2, 2),
+        (2, 2),
+        (2, 3),
+        (2, 3),
+        (2, 3),
+        (2, 4),
+        (2, 4),
+        (2, 5),
+        (4, 1),
+        (4, 2),
+        (4, 2),
+        (4, 3),
+        (4, 3),
+        (8, 1),
+        (8, 2),
+        (8, 2),
+    ])
+}
+
+fn rank(rng: &mut Rng) -> u32 {
+    match rng.below(12) {
+        0 => 0,
+        1 => u32::MAX,
+        2 => rng.word(),
+        _ => rng.below(9) as u32,
+    }
+}
+
+/// A sound store of the one-at-a-time tree, filled to any degree.
+fn sound_tree(rng: &mut Rng, order: u32, levels: u32) -> Vec<u32> {
+    let capacity = Shape::new(order, levels).unwrap().capacity();
+    let mut store = vec![0; 3 * capacity as usize];
+    let mut out = [0; 2];
+    let fill = match rng.below(6) {
+        0 => capacity,
+        1 => 0,
+        _ => rng.below(capacity + 1),
+    };
+    let high = rng.pick(&[3, 10, 1000]);
+    for _ in 0..fill {
+        let _ = boundary::tree_push(&mut store, order, levels, 1 + rng.below(high) as u32, 1 + rng.below(99) as u32);
+    }
+    for _ in 0..rng.below(6) {
+        match rng.below(3) {
+            0 => {
+                let _ = boundary::tree_push(&mut store, order, levels, rank(rng), rank(rng));
+            }
+            1 => {
+                let _ = boundary::tree_pop(&mut store, order, levels, &mut out);
+            }
+            _ => {
+                let _ = boundary::tree_replace(&mut store, order, levels, rank(rng), rank(rng), &mut out);
+            }
+        }
+    }
+    store
+}
+
+/// Any slots, most of which would pass a node's test by themselves.
+fn garbage_tree(rng: &mut Rng, order: u32, levels: u32) -> Vec<u32> {
+    let shape = Shape::new(order, levels).unwrap();
+    let mut store = vec![0; 3 * shape.capacity() as usize];
+    let wild = rng.pick(&[0, 8, 40, 200]);
+    let empty = rng.pick(&[2, 4, 20]);
+    for level in 1..=shape.levels {
+        let limit = 1 + shape.room_below(level);
+        for node in 0..shape.nodes(level) {
+            for slot in 0..shape.order {
+                let w = shape.word(level, node, slot);
+                if rng.once_in(empty) {
+                    continue;
+                }
+                store[w] = rank(rng);
+                store[w + 1] = rank(rng);
+                store[w + 2] = 1 + rng.below(limit) as u32;
+                if wild != 0 && rng.once_in(wild) {
+                    store[w + rng.below(3) as usize] = rng.pick(&[0, limit as u32, limit as u32 + 1, u32::MAX, 1]);
+                }
+            }
+        }
+    }
+    store
+}
+
+/// The nodes that the next operations are going to read: from this node down, by the lowest ranks
+/// or by the smallest counts.
+fn chain(shape: Shape, store: &[u32], mut level: u64, mut node: u64, by_rank: bool, into: &mut Vec<(u64, u64)>) {
+    while level <= shape.levels && node < shape.nodes(level) {
+        into.push((level, node));
+        let slot = match Node::read(shape, store, level, node) {
+            Err(_) => return,
+            Ok(n) if by_rank => match n.lowest() {
+                Some(j) if n.slots()[j].count > 1 => j,
+                _ => return,
+            },
+            Ok(n) if n.first_empty().is_none() => n.smallest_count(),
+            _ => return,
+        };
+        node = node * shape.order + slot as u64;
+        level += 1;
+    }
+}
+
+/// The nodes that an operation or a pending record reaches.
+fn reached(order: u32, levels: u32, store: &[u32], records: &[u32]) -> Vec<(u64, u64)> {
+    let shape = Shape::new(order, levels).unwrap();
+    let mut nodes = Vec::new();
+    chain(shape, store, 1, 0, true, &mut nodes);
+    chain(shape, store, 1, 0, false, &mut nodes);
+    for (i, r) in records.chunks(4).enumerate() {
+        if r[0] != 0 && r[0] <= 3 {
+            // twice, since a record's node is met only while the record stands
+            let level = i as u64 + 2;
+            chain(shape, store, level, r[1] as u64, r[0] != 1, &mut nodes);
+            chain(shape, store, level, r[1] as u64, r[0] != 1, &mut nodes);
+        }
+    }
+    nodes
+}
+
+/// Spoils one word, or one slot or node where a single word shows nothing.
+fn spoil_tree(rng: &mut Rng, order: u32, levels: u32, store: &mut [u32], reached: &[(u64, u64)]) {
+    let shape = Shape::new(order, levels).unwrap();
+    let (level, node) = if rng.once_in(4) {
+        // a level first, so that the few nodes near the root are met as often as the many below
+        let level = 1 + rng.below(shape.levels.min(4));
+        (level, rng.below(shape.nodes(level)))
+    } else {
+        rng.pick(reached)
+    };
+    let mut slot = rng.below(shape.order);
+    if rng.once_in(3) {
+        if let Some(empty) = (0..shape.order).find(|&j| store[shape.word(level, node, j) + 2] == 0) {
+            slot = empty;
+            if rng.once_in(2) {
+                let w = shape.word(level, node, slot);
+                store[w + rng.below(2) as usize] = 1 + rng.below(9) as u32;
+                return;
+            }
+        }
+    }
+    let w = shape.word(level, node, slot);
+    let limit = 1 + shape.room_below(level) as u32;
+    match rng.below(16) {
+        0 | 1 => store[w] = rank(rng),
+        2 => store[w + 1] = rank(rng),
+        3 => store[w + 2] = 0,
+        4 => store[w + 2] = store[w + 2].wrapping_add(1),
+        5 => store[w + 2] = store[w + 2].wrapping_sub(1),
+        6 => store[w + 2] = limit,
+        7 => store[w + 2] = limit + 1,
+        8 => store[w + 2] = rng.pick(&[1, 2, u32::MAX, 0x8000_0000, limit.wrapping_mul(2)]),
+        9 => {
+            // an element in an empty slot, or none in an occupied one
+            if store[w + 2] == 0 {
+                store[w + rng.below(2) as usize] = 1 + rank(rng) % 7;
+            } else {
+                let keep = rng.below(3) as usize;
+                for i in 0..3 {
+                    if i != keep || keep == 2 {
+                        store[w + i] = 0;
+                    }
+                }
+            }
+        }
+        10 | 11 => {
+            // a whole node empty
+            for j in 0..shape.order {
+                let w = shape.word(level, node, j);
+                store[w..w + 3].fill(0);
+            }
+        }
+        12 => {
+            // a whole node at its limit
+            for j in 0..shape.order {
+                let w = shape.word(level, node, j);
+                store[w + 2] = limit;
+            }
+        }
+        13 => {
+            store[w] = rank(rng);
+            store[w + 1] = rank(rng);
+            store[w + 2] = 1 + rng.below(limit as u64) as u32;
+        }
+        14 => {
+            let other = 3 * rng.below(shape.capacity()) as usize;
+            for i in 0..3 {
+                store.swap(w + i, other + i);
+            }
+        }
+        _ => {
+            let at = rng.below(store.len() as u64) as usize;
+            store[at] ^= 1 << rng.below(32);
+        }
+    }
+}
+
+fn spoilt_tree(rng: &mut Rng, order: u32, levels: u32, base: &[u32], records: &[u32]) -> Vec<u32> {
+    let mut store = base.to_vec();
+    let reached = reached(order, levels, base, records);
+    let times = rng.pick(&[0, 1, 1, 1, 1, 1, 1, 2, 2, 3]);
+    for _ in 0..times {
+        spoil_tree(rng, order, levels, &mut store, &reached);
+    }
+    store
+}
+
+/// Turns some calls into ones with wrong numbers or lengths.
+fn misshape(rng: &mut Rng, k: &mut Call, need: usize) {
+    match rng.below(6) {
+        0 => k.order = rng.pick(&ORDERS),
+        1 => k.levels = rng.pick(&LEVELS),
+        2 => k.words = rng.pick(&[need - 1, need - 1, 0, need / 2, 2]),
+        3 => k.out = rng.below(2) as usize,
+        4 => k.order = rng.pick(&[2, 4, 8]),
+        _ => k.levels = rng.below(7) as u32,
+    }
+}
+
+fn lay(side: &mut Side, rng: &mut Rng, store: &[u32], longer: usize) {
+    side.words.clear();
+    side.words.extend_from_slice(store);
+    for _ in 0..longer + crate::side::GUARD {
+        side.words.push(rng.word());
+    }
+}
+
+/// Hostile calls of the one-at-a-time tree.
+pub fn tree<C: Card>(h: &mut Harness<C>, rng: &mut Rng, calls: u64) {
+    let until = h.calls + calls;
+    let mut side = Side::new(0, 0, 0);
+    while h.calls < until {
+        let (order, levels) = small(rng);
+        let garbage = rng.once_in(4);
+        let base = if garbage { garbage_tree(rng, order, levels) } else { sound_tree(rng, order, levels) };
+        for _ in 0..24 {
+            let store = spoilt_tree(rng, order, levels, &base, &[]);
+            let longer = rng.below(3) as usize;
+            lay(&mut side, rng, &store, longer);
+            h.set(&side);
+            for _ in 0..1 + rng.below(3) {
+                let op = match rng.below(40) {
+                    0 => Op::TreeClear,
+                    1..=3 => Op::TreeHeld,
+                    4..=15 => Op::TreePush,
+                    16..=27 => Op::TreePop,
+                    _ => Op::TreeReplace,
+                };
+                let mut k = Call::tree(op, order, levels, store.len() + longer).with(rank(rng), rng.word());
+                k.out = 1 + (op != Op::TreeHeld) as usize + rng.below(2) as usize;
+                if rng.once_in(12) {
+                    misshape(rng, &mut k, store.len());
+                }
+                if h.call(&k).is_none() {
+                    return;
+                }
+            }
+        }
+    }
+}
+
+/// A machine in the middle of a history: a store, records and a mark.
+fn sound_machine(rng: &mut Rng, order: u32, levels: u32) -> (Vec<u32>, Vec<u32>, Vec<u32>) {
+    let mut store = sound_tree(rng, order, levels);
+    let mut records = vec![0; 4 * (levels as usize - 1)];
+    let (mut mark, mut out) = ([0], [0; 2]);
+    for _ in 0..rng.below(2 * levels as u64 + 4) {
+        let request = rng.pick(&[0, 1, 1, 1, 2, 2, 3, 3]);
+        let _ = boundary::clocked_cycle(
+            &mut store,
+            order,
+            levels,
+            &mut records,
+            &mut mark,
+            request,
+            rank(rng),
+            rng.word(),
+            &mut out,
+        );
+    }
+    (store, records, mark.to_vec())
+}
+
+fn node_number(rng: &mut Rng, shape: Shape, level: u64) -> u32 {
+    let nodes = shape.nodes(level) as u32;
+    match rng.below(12) {
+        0 => nodes,
+        1 => rng.pick(&[nodes + 1, u32::MAX, 0x8000_0000, nodes * 2, 0x5555_5556]),
+        _ => rng.below(nodes as u64) as u32,
+    }
+}
+
+fn spoil_records(rng: &mut Rng, order: u32, levels: u32, store: &[u32], records: &mut [u32]) {
+    if levels < 2 {
+        return;
+    }
+    let shape = Shape::new(order, levels).unwrap();
+    let level = 2 + rng.below(shape.levels - 1);
+    let at = 4 * (level as usize - 2);
+    match rng.below(13) {
+        9..=12 => {
+            // work that could well be pending here: on a node that the store's own chains reach
+            let by_rank = !rng.once_in(3);
+            let mut nodes = Vec::new();
+            chain(shape, store, 1, 0, by_rank, &mut nodes);
+            let (level, node) = rng.pick(&nodes);
+            if level >= 2 {
+                let kind = if by_rank { 2 + rng.below(2) as u32 } else { 1 };
+                let at = 4 * (level as usize - 2);
+                records[at..at + 4].copy_from_slice(&[kind, node as u32, rank(rng), rank(rng)]);
+            }
+        }
+        0 => records[at] = rng.below(4) as u32,
+        1 => records[at + 1] = node_number(rng, shape, level),
+        2 => records[at + 2] = rank(rng),
+        3 => records[at + 3] = rank(rng),
+        4 => records[at + 1] = shape.nodes(level) as u32,
+        5 if rng.once_in(4) => records[at] = rng.pick(&[4, 5, 255, 256, 257, 0x1_0000, u32::MAX]),
+        _ => {
+            records[at] = 1 + rng.below(3) as u32;
+            records[at + 1] = node_number(rng, shape, level);
+            records[at + 2] = rank(rng);
+            records[at + 3] = rank(rng);
+        }
+    }
+}
+
+/// Hostile calls of the clocked tree.
+pub fn clocked<C: Card>(h: &mut Harness<C>, rng: &mut Rng, calls: u64) {
+    let until = h.calls + calls;
+    let mut side = Side::new(0, 0, 0);
+    while h.calls < until {
+        let (order, levels) = small(rng);
+        let (base, records, mark) = match rng.below(5) {
+            0 => (garbage_tree(rng, order, levels), vec![0; 4 * (levels as usize - 1)], vec![rng.below(2) as u32]),
+            _ => sound_machine(rng, order, levels),
+        };
+        for _ in 0..24 {
+            let mut spoilt = records.clone();
+            for _ in 0..rng.pick(&[0, 0, 0, 1, 1, 1, 2, 3, 6]) {
+                spoil_records(rng, order, levels, &base, &mut spoilt);
+            }
+            let store = if rng.once_in(3) { base.clone() } else { spoilt_tree(rng, order, levels, &base, &spoilt) };
+            let longer = rng.below(3) as usize;
+            lay(&mut side, rng, &store, longer);
+            side.records.clear();
+            side.records.extend_from_slice(&spoilt);
+            // behind the records of this shape stand others, which no call may look at
+            let further = rng.pick(&[0, 0, 1, 4, 9]);
+            for _ in 0..further + crate::side::GUARD {
+                side.records.push(rng.word());
+            }
+            side.mark = vec![mark[0], rng.word()];
+            match rng.below(24) {
+                0..=3 => side.mark[0] = 0,
+                4..=7 => side.mark[0] = 1,
+                8 => side.mark[0] = rng.pick(&[2, 3, 256, 0x1_0000, u32::MAX]),
+                _ => {}
+            }
+            h.set(&side);
+            for _ in 0..1 + rng.below(4) {
+                let (words, records) = (store.len() + longer, records.len() + further);
+                let mut k = match rng.below(40) {
+                    0 => Call::machine(Op::ClockedClear, order, levels, words, records),
+                    1 => Call::tree(Op::ClockedHeld, order, levels, words),
+                    2..=10 => {
+                        let budget = rng.pick(&[0, 1, 1, 2, 3, levels, levels, 100, u32::MAX]);
+                        Call::machine(Op::ClockedDrain, order, levels, words, records).budget(budget)
+                    }
+                    11 => {
+                        let request = rng.pick(&[4, 5, 256, 257, 0x1_0001, u32::MAX]);
+                        Call::cycle(request, order, levels, words, records)
+                    }
+                    _ => Call::cycle(rng.below(4) as u32, order, levels, words, records),
+                };
+                k = k.with(rank(rng), rng.word());
+                k.out = 1 + (k.op != Op::ClockedHeld) as usize + rng.below(2) as usize;
+                if k.op.is_machine() {
+                    k.mark = 1 + rng.below(2) as usize;
+                }
+                if rng.once_in(10) {
+                    misshape(rng, &mut k, store.len());
+                }
+                if k.op.is_machine() && rng.once_in(20) {
+                    match rng.below(3) {
+                        0 => k.mark = 0,
+                        1 if levels > 1 => k.records = 4 * (levels as usize - 1) - 1 - rng.below(4) as usize,
+                        _ => k.records = 0,
+                    }
+                }
+                if h.call(&k).is_none() {
+                    return;
+                }
+            }
+        }
+    }
+}
+
+/// A bucket queue's store under attack: its N, and the few ranks in use.
+struct Target {
+    nodes: u32,
+    ranks: Vec<u32>,
+}
+
+impl Target {
+    fn head(&self, rank: u32) -> usize {
+        rank as usize
+    }
+    fn tail(&self, rank: u32) -> usize {
+        4096 + rank as usize
+    }
+    fn next(&self, node: u32) -> usize {
+        8192 + 2 * node as usize + 1
+    }
+    fn free(&self) -> usize {
+        8192 + 2 * self.nodes as usize
+    }
+    fn held(&self) -> usize {
+        self.free() + 1
+    }
+
+    fn link(&self, rng: &mut Rng) -> u32 {
+        match rng.below(8) {
+            0 | 1 => 0,
+            2 => self.nodes + 1,
+            3 => rng.pick(&[u32::MAX, 0x8000_0000, self.nodes * 2 + 1, 0x8000_0001]),
+            _ => 1 + rng.below(self.nodes as u64) as u32,
+        }
+    }
+
+    /// Spoils one word.
+    fn spoil(&self, rng: &mut Rng, bits: &mut [u64], words: &mut [u32]) {
+        let r = rng.pick(&self.ranks);
+        let g = (r / 64) as usize;
+        match rng.below(20) {
+            0 => bits[0] ^= 1 << g,
+            1 => bits[0] = rng.pick(&[0, 1, u64::MAX, 1 << 63]),
+            2 => bits[0] ^= 1 << rng.below(64),
+            3 => bits[1 + g] ^= 1 << (r % 64),
+            4 => bits[1 + g] = 0,
+            5 => bits[1 + rng.below(64) as usize] ^= 1 << rng.below(64),
+            6 | 7 => words[self.head(r)] = self.link(rng),
+            8 | 9 => words[self.tail(r)] = self.link(rng),
+            10 | 11 => words[self.next(rng.below(self.nodes as u64) as u32)] = self.link(rng),
+            12 => {
+                // the next of this bucket's tail or head, or of the first free node
+                let at = rng.pick(&[self.head(r), self.tail(r), self.tail(r), self.free(), self.free()]);
+                let link = words[at];
+                if link >= 1 && link <= self.nodes {
+                    words[self.next(link - 1)] = self.link(rng);
+                }
+            }
+            13 => words[self.free()] = self.link(rng),
+            14 => words[self.free()] = words[self.tail(r)],
+            15 => {
+                let other = rng.pick(&self.ranks);
+                words[self.tail(r)] = words[self.head(other)];
+            }
+            16 => words[self.held()] = rng.below(self.nodes as u64 + 2) as u32,
+            17 => words[self.held()] = rng.pick(&[0, 1, self.nodes, self.nodes + 1, u32::MAX, self.nodes - 1]),
+            18 => {
+                // one emptied wholly but for one of the three that must agree
+                let keep = rng.below(4);
+                if keep != 0 {
+                    words[self.head(r)] = 0;
+                }
+                if keep != 1 {
+                    words[self.tail(r)] = 0;
+                }
+                if keep != 2 {
+                    bits[1 + g] &= !(1 << (r % 64));
+                }
+            }
+            _ => words[8192 + 2 * rng.below(self.nodes as u64) as usize] = rng.word(),
+        }
+    }
+
+    /// Links, bits and counts at will, all small.
+    fn scatter(&self, rng: &mut Rng, bits: &mut [u64], words: &mut [u32]) {
+        for &r in &self.ranks {
+            let g = (r / 64) as usize;
+            let some = rng.below(3);
+            words[self.head(r)] = if some == 0 { 0 } else { self.link(rng) };
+            words[self.tail(r)] = match some {
+                0 => 0,
+                1 => words[self.head(r)],
+                _ => self.link(rng),
+            };
+            if (some != 0) != rng.once_in(8) {
+                bits[1 + g] |= 1 << (r % 64);
+            }
+            if (bits[1 + g] != 0) != rng.once_in(8) {
+                bits[0] |= 1 << g;
+            }
+        }
+        for node in 0..self.nodes {
+            words[self.next(node)] = if rng.once_in(2) { 0 } else { self.link(rng) };
+        }
+        let held = rng.below(self.nodes as u64 + 1) as u32;
+        words[self.held()] = if bits[0] == 0 { 0 } else { held };
+        words[self.free()] = if words[self.held()] == self.nodes { 0 } else { 1 + rng.below(self.nodes as u64) as u32 };
+    }
+}
+
+/// Hostile calls of the bucket queue.
+pub fn bucket<C: Card>(h: &mut Harness<C>, rng: &mut Rng, calls: u64) {
+    let until = h.calls + calls;
+    while h.calls < until {
+        let nodes = match rng.below(30) {
+            0 => 1 + rng.below(300) as u32,
+            1 => 4096,
+            _ => 1 + rng.below(5) as u32,
+        };
+        let ranks = match rng.below(6) {
+            0 => vec![0, 1, 2],
+            1 => vec![63, 64],
+            2 => vec![0, 4095],
+            3 => vec![4032, 4095, 31],
+            4 => vec![5, 64 * 7 + 5, 64 * 7 + 6],
+            _ => (0..3).map(|_| rng.below(4096) as u32).collect(),
+        };
+        let t = Target { nodes, ranks };
+        let need = bucket::words(nodes as u64) as usize;
+        let mut side = Side::new(need + 2, 67, 0);
+        side.bits[..65].fill(0);
+        side.words[..need].fill(0);
+        if rng.once_in(4) {
+            t.scatter(rng, &mut side.bits, &mut side.words);
+        } else {
+            let (b, w) = (&mut side.bits[..65], &mut side.words[..need]);
+            let _ = boundary::bucket_clear(b, w, nodes);
+            let fill = match rng.below(5) {
+                0 => nodes as u64,
+                1 => (nodes - 1) as u64,
+                _ => rng.below(nodes as u64 + 1),
+            };
+            for _ in 0..fill {
+                let _ = boundary::bucket_push(b, w, nodes, rng.pick(&t.ranks), rng.word());
+            }
+            for _ in 0..rng.below(4) {
+                let _ = boundary::bucket_replace(b, w, nodes, rng.pick(&t.ranks), rng.word(), &mut [0; 2]);
+            }
+            if rng.once_in(3) {
+                let _ = boundary::bucket_pop(b, w, nodes, &mut [0; 2]);
+            }
+        }
+        let mut spoilt = side.clone();
+        for _ in 0..16 {
+            spoilt.copy_from(&side);
+            for _ in 0..rng.pick(&[0, 1, 1, 1, 1, 1, 1, 1, 2, 2, 3]) {
+                t.spoil(rng, &mut spoilt.bits, &mut spoilt.words);
+            }
+            h.set(&spoilt);
+            for _ in 0..1 + rng.below(4) {
+                let op = match rng.below(40) {
+                    0 => Op::BucketClear,
+                    1..=3 => Op::BucketHeld,
+                    4..=14 => Op::BucketPush,
+                    15..=25 => Op::BucketPop,
+                    _ => Op::BucketReplace,
+                };
+                let (bits, words) = (65 + rng.below(3) as usize, need + rng.below(3) as usize);
+                let mut k = Call::bucket(op, nodes, bits, words).with(rng.pick(&t.ranks), rng.word());
+                k.out = 1 + (op != Op::BucketHeld) as usize + rng.below(2) as usize;
+                match rng.below(60) {
+                    0 | 1 => k.rank = rng.pick(&[4096, 4097, 0x1_0000, u32::MAX]),
+                    2 => k.nodes = rng.pick(&[0, 4097, 0x8000_0000, 0x8000_0001, u32::MAX]),
+                    3 => k.words = rng.pick(&[need - 1, 0, 8193, 8192]),
+                    4 => k.bits = rng.pick(&[64, 0, 1]),
+                    5 => k.out = rng.below(2) as usize,
+                    6 => k.rank = rng.below(4096) as u32,
+                    _ => {}
+                }
+                if h.call(&k).is_none() {
+                    return;
+                }
+            }
+        }
+    }
+}
+
+/// Every order and number of levels near the rules' edges, every length near the one that is
+/// needed, for every call.
+pub fn edges<C: Card>(h: &mut Harness<C>, rng: &mut Rng) {
+    let most = 3 * 5460;
+    let mut base = Side::new(most + 2, 67, 64);
+    base.words[..most].fill(0);
+    base.records.fill(0);
+    let mut orders = ORDERS.to_vec();
+    orders.extend([2, 4, 8]);
+    let mut levels = LEVELS.to_vec();
+    levels.extend(1..=11);
+    let good = shapes();
+    h.set(&base);
+    for &o in &orders {
+        for &l in &levels {
+            let need = match Shape::new(o, l) {
+                Some(shape) => 3 * shape.capacity() as usize,
+                None => most,
+            };
+            let taken = good.contains(&(o, l));
+            let records = if taken { 4 * (l as usize - 1) } else { 40 };
+            let lengths = if taken { vec![need - 1, need, need + 1, 0] } else { vec![need, 0] };
+            for words in lengths {
+                for op in [Op::TreeClear, Op::TreePush, Op::TreePop, Op::TreeReplace, Op::TreeHeld, Op::ClockedHeld] {
+                    let k = Call::tree(op, o, l, words).with(rng.word(), rng.word());
+                    let number = match h.call(&k) {
+                        Some(number) => number,
+                        None => return,
+                    };
+                    if (number == 1) != (!taken || words < need) {
+                        return h.fail(format!("{} answered {number}", k.text()));
+                    }
+                }
+                for (records, mark) in [(records, 1), (records.saturating_sub(1), 1), (records + 3, 2), (records, 0)] {
+                    for request in 0..6 {
+                        let mut k = match request {
+                            4 => Call::machine(Op::ClockedDrain, o, l, words, records).budget(rng.word()),
+                            5 => Call::machine(Op::ClockedClear, o, l, words, records),
+                            _ => Call::cycle(request, o, l, words, records).with(rng.word(), rng.word()),
+                        };
+                        k.mark = mark;
+                        if h.call(&k).is_none() {
+                            return;
+                        }
+                    }
+                }
+            }
+            // nothing of this shape's work is left for the next one
+            h.set(&base);
+        }
+    }
+    let most = bucket::words(4096) as usize;
+    let mut base = Side::new(most + 2, 67, 0);
+    base.bits[..65].fill(0);
+    base.words.fill(0);
+    h.set(&base);
+    for n in [0, 1, 2, 3, 64, 4095, 4096, 4097, 8192, 65536, 0x7fff_ffff, 0x8000_0000, 0x8000_0001, u32::MAX] {
+        let need = if n <= 4096 { bucket::words(n as u64) as usize } else { most };
+        for words in [need, need - 1, need + 1, 0, 8194] {
+            for bits in [65, 64, 66, 0] {
+                for op in [Op::BucketClear, Op::BucketPush, Op::BucketPop, Op::BucketReplace, Op::BucketHeld] {
+                    let k = Call::bucket(op, n, bits, words).with(rng.below(4100) as u32, rng.word());
+                    let number = match h.call(&k) {
+                        Some(number) => number,
+                        None => return,
+                    };
+                    let taken = (1..=4096).contains(&n) && words >= need && bits >= 65;
+                    if (number == 1) == taken {
+                        return h.fail(format!("{} answered {number}", k.text()));
+                    }
+                }
+            }
+        }
+    }
+}
+
+/// Every store that can be put together from a few slots, links, records and marks, with every
+/// call on each.
+pub fn small_stores<C: Card>(h: &mut Harness<C>, _: &mut Rng) {
+    // order 2, one level: two slots
+    let mut slots = Vec::new();
+    for count in 0..3 {
+        for rank in 0..3 {
+            for tag in 0..2 {
+                slots.push([rank, tag, count]);
+            }
+        }
+    }
+    let mut side = Side::new(6, 0, 0);
+    for a in &slots {
+        for b in &slots {
+            side.words[..3].copy_from_slice(a);
+            side.words[3..6].copy_from_slice(b);
+            for mark in 0..2 {
+                side.mark[0] = mark;
+                for (op, rank) in [
+                    (Op::TreePush, 1),
+                    (Op::TreePop, 0),
+                    (Op::TreeReplace, 0),
+                    (Op::TreeReplace, 1),
+                    (Op::TreeReplace, 2),
+                    (Op::TreeHeld, 0),
+                ] {
+                    h.set(&side);
+                    if h.call(&Call::tree(op, 2, 1, 6).with(rank, 9)).is_none() {
+                        return;
+                    }
+                }
+                for (request, rank) in [(0, 0), (1, 1), (2, 0), (3, 0), (3, 1), (3, 2), (4, 0)] {
+                    h.set(&side);
+                    if h.call(&Call::cycle(request, 2, 1, 6, 0).with(rank, 9)).is_none() {
+                        return;
+                    }
+                }
+                h.set(&side);
+                if h.call(&Call::machine(Op::ClockedDrain, 2, 1, 6, 0).budget(1)).is_none() {
+                    return;
+                }
+            }
+        }
+    }
+
+    // order 2, two levels: slots of the root and of node 0 from a few; node 1 is empty or holds one
+    let root = [[0, 0, 0], [1, 5, 1], [1, 6, 2], [2, 7, 3], [2, 8, 4], [1, 0, 0]];
+    let leaf = [[0, 0, 0], [0, 1, 1], [2, 2, 1], [1, 3, 2], [0, 4, 0]];
+    let mut side = Side::new(18, 0, 4);
+    let mut records = vec![[0, 0, 0, 0], [0, 9, 9, 9]];
+    for kind in 1..4 {
+        for node in 0..3 {
+            records.push([kind, node, 1, 8]);
+        }
+    }
+    for a in &root {
+        for b in &root {
+            for c in &leaf {
+                for d in &leaf {
+                    for e in &leaf[..2] {
+                        side.words[..18].fill(0);
+                        side.words[..3].copy_from_slice(a);
+                        side.words[3..6].copy_from_slice(b);
+                        side.words[6..9].copy_from_slice(c);
+                        side.words[9..12].copy_from_slice(d);
+                        side.words[12..15].copy_from_slice(e);
+                        for (op, rank) in [
+                            (Op::TreePush, 1),
+                            (Op::TreePop, 0),
+                            (Op::TreeReplace, 1),
+                            (Op::TreeReplace, 2),
+                            (Op::TreeReplace, 3),
+                        ] {
+                            h.set(&side);
+                            if h.call(&Call::tree(op, 2, 2, 18).with(rank, 9)).is_none() {
+                                return;
+                            }
+                        }
+                        for record in &records {
+                            side.records[..4].copy_from_slice(record);
+                            for mark in 0..2 {
+                                side.mark[0] = mark;
+                                for (request, rank) in [(0, 0), (1, 1), (2, 0), (3, 2)] {
+                                    h.set(&side);
+                                    if h.call(&Call::cycle(request, 2, 2, 18, 4).with(rank, 9)).is_none() {
+                                        return;
+                                    }
+                                }
+                            }
+                            for budget in 0..2 {
+                                h.set(&side);
+                                if h.call(&Call::machine(Op::ClockedDrain, 2, 2, 18, 4).budget(budget)).is_none() {
+                                    return;
+                                }
+                            }
+                        }
+                    }
+                }
+            }
+        }
+    }
+
+    // a bucket queue of one node and one rank: every link, count and bit
+    let t = Target { nodes: 1, ranks: vec![65] };
+    let mut side = Side::new(8196, 65, 0);
+    side.words[..8196].fill(0);
+    side.bits[..65].fill(0);
+    for n in 0..3u32.pow(5) * 4 {
+        let digit = |k: u32| n / 4 / 3u32.pow(k) % 3;
+        side.words[t.head(65)] = digit(0);
+        side.words[t.tail(65)] = digit(1);
+        side.words[t.next(0)] = digit(2);
+        side.words[t.free()] = digit(3);
+        side.words[t.held()] = digit(4);
+        side.words[8192] = 77;
+        side.bits[0] = if n & 1 == 1 { 2 } else { 0 };
+        side.bits[2] = if n & 2 == 2 { 2 } else { 0 };
+        for (op, rank) in [
+            (Op::BucketPush, 65),
+            (Op::BucketPush, 66),
+            (Op::BucketPop, 0),
+            (Op::BucketReplace, 64),
+            (Op::BucketReplace, 65),
+            (Op::BucketReplace, 66),
+            (Op::BucketReplace, 4096),
+            (Op::BucketHeld, 0),
+        ] {
+            h.set(&side);
+            if h.call(&Call::bucket(op, 1, 65, 8196).with(rank, 9)).is_none() {
+                return;
+            }
+        }
+    }
+}

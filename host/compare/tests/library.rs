@@ -1,0 +1,173 @@
+//! Compares the card's library with the plain models, call by call and word by word.
+//!
+//!     cargo test -p compare --test library -- [--self] [--verbose] [--times N] [SEED]
+//!
+//! `--self` puts the models in the library's place (the harness tests itself), `--verbose` prints how often each clause was met,
+//! `--times N` makes N times as many calls. The same seed makes the same calls. Its parts share one tally of what was met, so it is one
+//! program with a main of its own; it closes with a count as every test of cargo's does.
+
+use compare::harness::Harness;
+use compare::side::{Card, Linked, Model};
+use compare::{cases, coverage, histories, hostile};
+use models::rng::{self, Rng};
+use std::time::Instant;
+
+struct Score {
+    passed: u64,
+    failed: u64,
+}
+
+impl Score {
+    fn note(&mut self, name: &str, result: Result<String, String>) {
+        match result {
+            Ok(text) => {
+                self.passed += 1;
+                println!("test {name} ... ok{text}");
+            }
+            Err(what) => {
+                self.failed += 1;
+                println!("test {name} ... FAILED");
+                println!("      {what}");
+            }
+        }
+    }
+}
+
+/// Runs one part on the harness: its calls are counted, its first difference is kept.
+fn part<C: Card>(
+    score: &mut Score,
+    h: &mut Harness<C>,
+    seed: u64,
+    name: &str,
+    stream: u64,
+    run: impl FnOnce(&mut Harness<C>, &mut Rng),
+) {
+    let (before, start) = (h.calls, Instant::now());
+    h.failed = None;
+    let mut rng = Rng::new(seed, stream);
+    run(h, &mut rng);
+    let calls = h.calls - before;
+    let result = match h.failed.take() {
+        None => Ok(format!(": {calls} calls compared, {} ms", start.elapsed().as_millis())),
+        Some(what) => Err(format!("seed {seed}, call {calls} of this part: {what}")),
+    };
+    score.note(name, result);
+}
+
+fn run<C: Card>(library: C, seed: u64, times: u64, verbose: bool) -> Score {
+    let mut score = Score { passed: 0, failed: 0 };
+    let mut h = Harness::new(library);
+
+    for (name, result) in cases::all(&mut Model::default()) {
+        score.note(&format!("model, {name}"), result.map(|()| String::new()));
+    }
+    score.note("model, the worked trace by the trace program", cases::trace().map(|()| String::new()));
+    for (name, result) in cases::all(&mut h.library) {
+        score.note(&format!("library, {name}"), result.map(|()| String::new()));
+    }
+
+    for (i, (order, levels)) in histories::shapes().into_iter().enumerate() {
+        let name = format!("tree histories, order {order}, levels {levels}");
+        part(&mut score, &mut h, seed, &name, 100 + i as u64, |h, rng| {
+            let capacity = models::tree::Shape::new(order, levels).unwrap().capacity();
+            // many short ones for the small shapes, and one to the brim and down for each
+            let full = if capacity > 2000 { 3 * capacity + 300 } else { 6 * capacity + 60 };
+            histories::tree(h, rng, order, levels, full, true);
+            let budget = times * if capacity > 1000 { 2000 } else { 12000 };
+            let each = if capacity > 1000 { 1000 } else { 8 * capacity + 40 };
+            let mut made = 0;
+            while made < budget && h.failed.is_none() {
+                histories::tree(h, rng, order, levels, each, false);
+                made += each;
+            }
+        });
+    }
+
+    for (i, nodes) in [1u32, 2, 3, 4, 5, 7, 8, 16, 63, 64, 65, 200, 1000, 4095, 4096].into_iter().enumerate() {
+        let name = format!("bucket histories, N = {nodes}");
+        part(&mut score, &mut h, seed, &name, 200 + i as u64, |h, rng| {
+            histories::bucket(h, rng, nodes, 6 * nodes as u64 + 60, true);
+            let budget = times * 8000;
+            let each = (8 * nodes as u64 + 40).min(2000);
+            let mut made = 0;
+            while made < budget && h.failed.is_none() {
+                histories::bucket(h, rng, nodes, each, false);
+                made += each;
+            }
+        });
+    }
+    part(&mut score, &mut h, seed, "bucket histories, any N", 299, |h, rng| {
+        for _ in 0..20 * times {
+            let nodes = 1 + rng.below(4096) as u32;
+            histories::bucket(h, rng, nodes, 1000, false);
+            if h.failed.is_some() {
+                return;
+            }
+        }
+    });
+
+    for (i, (order, levels)) in histories::shapes().into_iter().enumerate() {
+        let name = format!("clocked histories, order {order}, levels {levels}");
+        part(&mut score, &mut h, seed, &name, 300 + i as u64, |h, rng| {
+            let capacity = models::tree::Shape::new(order, levels).unwrap().capacity();
+            let budget = times * if capacity > 1000 { 8000 } else { 16000 };
+            let each = if capacity > 1000 { 8000 } else { 12 * capacity + 60 };
+            let mut made = 0;
+            while made < budget && h.failed.is_none() {
+                histories::clocked(h, rng, order, levels, each);
+                made += each;
+            }
+        });
+    }
+
+    part(&mut score, &mut h, seed, "edges of shapes and lengths, every call", 400, hostile::edges);
+    part(&mut score, &mut h, seed, "every store of a few words, every call", 401, hostile::small_stores);
+    for i in 0..4 {
+        let name = format!("hostile tree calls, part {}", i + 1);
+        part(&mut score, &mut h, seed, &name, 410 + i, |h, rng| hostile::tree(h, rng, 60_000 * times));
+        let name = format!("hostile bucket calls, part {}", i + 1);
+        part(&mut score, &mut h, seed, &name, 420 + i, |h, rng| hostile::bucket(h, rng, 60_000 * times));
+        let name = format!("hostile clocked calls, part {}", i + 1);
+        part(&mut score, &mut h, seed, &name, 430 + i, |h, rng| hostile::clocked(h, rng, 150_000 * times));
+    }
+
+    if score.failed == 0 {
+        let missed = coverage::check(&h.tally, verbose);
+        let result = if missed.is_empty() { Ok(String::new()) } else { Err(missed.join("\n      ")) };
+        score.note("every refusal, clause and cause was met", result);
+    }
+    println!("{} calls compared", h.calls);
+    let enough = h.calls >= 1_000_000;
+    if score.failed == 0 {
+        score.note("a million calls or more", if enough { Ok(String::new()) } else { Err(format!("{}", h.calls)) });
+    }
+    score
+}
+
+fn usage() -> ! {
+    eprintln!("library [--self] [--verbose] [--times N] [SEED]");
+    std::process::exit(2)
+}
+
+fn main() {
+    let (mut seed, mut times, mut own, mut verbose) = (rng::seed(), 1, false, false);
+    let mut args = std::env::args().skip(1);
+    while let Some(arg) = args.next() {
+        match arg.as_str() {
+            "--self" => own = true,
+            "--verbose" => verbose = true,
+            "--times" => times = args.next().and_then(|n| n.parse().ok()).unwrap_or_else(|| usage()),
+            // what cargo hands to every test
+            "--nocapture" | "--quiet" | "-q" => {}
+            other => seed = other.parse().unwrap_or_else(|_| usage()),
+        }
+    }
+    println!("seed {seed}");
+    let start = Instant::now();
+    let score = if own { run(Model::default(), seed, times, verbose) } else { run(Linked, seed, times, verbose) };
+    let (result, seconds) = (if score.failed == 0 { "ok" } else { "FAILED" }, start.elapsed().as_secs_f32());
+    println!("\ntest result: {result}. {} passed; {} failed; finished in {seconds:.2}s\n", score.passed, score.failed);
+    if score.failed != 0 {
+        std::process::exit(1);
+    }
+}

@@ -1,0 +1,215 @@
+//! The safe Rust wrapper, used as its users do: beside the plain list, over lent words and over its own, handed out and back.
+
+use card_host::{
+    bucket_words, calls, record_words, tree_slots, tree_words, Bucket, BucketQueue, Clocked, ClockedTree, Drained,
+    Element, Rank, Refusal, Request, Stopped, Tag, Tree, TreeQueue, BUCKET_BITS,
+};
+use models::list::SortedList;
+use models::rng::{seed, Rng};
+
+fn of(x: models::Element) -> Element {
+    Element::new(Rank(x.rank), Tag(x.tag))
+}
+
+fn element(rank: u32, tag: u32) -> Element {
+    Element::new(Rank(rank), Tag(tag))
+}
+
+/// What a call on a queue of this room is to answer, by the plain list.
+fn push(list: &mut SortedList, x: models::Element, room: usize) -> Result<(), Refusal> {
+    if list.held() == room {
+        return Err(Refusal::Full);
+    }
+    list.push(x);
+    Ok(())
+}
+
+fn pop(list: &mut SortedList) -> Result<Element, Refusal> {
+    list.pop().map(of).ok_or(Refusal::Empty)
+}
+
+#[test]
+fn bucket_queues_beside_the_list() {
+    let mut rng = Rng::new(seed(), 500);
+    for nodes in [1, 3, 50, 4096] {
+        let mut queue = BucketQueue::new(nodes).unwrap();
+        let (mut bits, mut words) = ([9; BUCKET_BITS], vec![9; bucket_words(nodes)]);
+        let mut lent = Bucket::cleared(nodes, &mut bits[..], &mut words[..]).unwrap();
+        let mut list = SortedList::new();
+        for n in 0..3000 {
+            let x = models::element(rng.below(4098) as u32, n);
+            let bad = x.rank > 4095;
+            match rng.below(4) {
+                0 | 1 => {
+                    let expected = if bad { Err(Refusal::BadRank) } else { push(&mut list, x, nodes as usize) };
+                    assert_eq!((queue.push(of(x)), lent.push(of(x))), (expected, expected));
+                }
+                2 => {
+                    let expected = pop(&mut list);
+                    assert_eq!((queue.pop(), lent.pop()), (expected, expected));
+                }
+                _ => {
+                    let expected = if bad { Err(Refusal::BadRank) } else { Ok(of(list.replace(x))) };
+                    assert_eq!((queue.replace(of(x)), lent.replace(of(x))), (expected, expected));
+                }
+            }
+            assert_eq!((queue.held(), lent.held()), (Ok(list.held() as u32), Ok(list.held() as u32)));
+            if n % 500 == 0 {
+                // handed out and back
+                let (bits, words) = queue.into_words();
+                queue = BucketQueue::from_words(nodes, bits, words);
+            }
+        }
+        assert_eq!((queue.bits(), queue.words()), (lent.bits(), lent.words()));
+    }
+    assert_eq!(BucketQueue::new(0), Err(Refusal::BadShape));
+    assert_eq!(BucketQueue::new(4097), Err(Refusal::BadShape));
+    let damaged = BucketQueue::from_words(1, vec![0; 65], vec![0; 8196]);
+    assert_eq!(damaged.held(), Err(Refusal::Damaged), "free link 0 and nothing held");
+}
+
+#[test]
+fn trees_beside_the_list() {
+    let mut rng = Rng::new(seed(), 501);
+    for (order, levels) in [(2, 1), (2, 4), (4, 3), (8, 3), (4, 6)] {
+        let mut queue = TreeQueue::new(order, levels).unwrap();
+        let mut words = vec![9; tree_words(order, levels)];
+        let mut lent = Tree::cleared(order, levels, &mut words[..]).unwrap();
+        let mut list = SortedList::new();
+        for n in 0..3000 {
+            // tags that follow from the rank: then pairs of one rank are all alike
+            let rank = rng.below(60) as u32;
+            let x = models::element(rank, 1000 - rank);
+            match rng.below(4) {
+                0 | 1 => {
+                    let expected = push(&mut list, x, tree_slots(order, levels));
+                    assert_eq!((queue.push(of(x)), lent.push(of(x))), (expected, expected));
+                }
+                2 => {
+                    let expected = pop(&mut list);
+                    assert_eq!((queue.pop(), lent.pop()), (expected, expected));
+                }
+                _ => {
+                    let expected = Ok(of(list.replace(x)));
+                    assert_eq!((queue.replace(of(x)), lent.replace(of(x))), (expected, expected));
+                }
+            }
+            assert_eq!((queue.held(), lent.held()), (Ok(list.held() as u32), Ok(list.held() as u32)));
+            if n % 500 == 0 {
+                queue = TreeQueue::from_words(order, levels, queue.into_words());
+            }
+        }
+        assert_eq!(queue.words(), lent.words());
+    }
+    for (order, levels) in [(3, 2), (2, 0), (4, 7), (u32::MAX, u32::MAX)] {
+        assert_eq!(TreeQueue::new(order, levels), Err(Refusal::BadShape));
+    }
+    let damaged = Tree::from_words(2, 1, [9, 0, 0, 0, 0, 0]);
+    assert_eq!(damaged.held(), Err(Refusal::Damaged), "an empty slot with a rank");
+}
+
+#[test]
+fn clocked_trees_beside_the_list() {
+    let mut rng = Rng::new(seed(), 502);
+    for (order, levels) in [(2, 1), (2, 5), (4, 3), (8, 3), (2, 11)] {
+        let mut tree = ClockedTree::new(order, levels).unwrap();
+        let (mut words, mut records) = (vec![9; tree_words(order, levels)], vec![9; record_words(levels)]);
+        let mut lent = Clocked::cleared(order, levels, &mut words[..], &mut records[..]).unwrap();
+        let mut list = SortedList::new();
+        for n in 0..3000 {
+            let rank = rng.below(60) as u32;
+            let x = models::element(rank, 1000 - rank);
+            let soon = tree.mark();
+            match rng.below(6) {
+                0 | 1 => {
+                    let expected = push(&mut list, x, tree_slots(order, levels));
+                    assert_eq!((tree.push(of(x)), lent.push(of(x))), (expected, expected));
+                }
+                2 => {
+                    let expected = if soon { Err(Refusal::TooSoon) } else { pop(&mut list) };
+                    assert_eq!((tree.pop(), lent.pop()), (expected, expected));
+                }
+                3 => {
+                    let expected = if soon { Err(Refusal::TooSoon) } else { Ok(of(list.replace(x))) };
+                    assert_eq!((tree.replace(of(x)), lent.replace(of(x))), (expected, expected));
+                }
+                4 => assert_eq!((tree.idle(), lent.idle()), (Ok(()), Ok(()))),
+                _ => {
+                    let report = tree.drain(levels).unwrap();
+                    assert_eq!((report.work_left, lent.drain(levels)), (false, Ok(report)));
+                    assert_eq!(tree.drain(9), Ok(Drained { cycles: 0, work_left: false }));
+                }
+            }
+            assert_eq!((tree.held(), lent.held()), (Ok(list.held() as u32), Ok(list.held() as u32)));
+            if n % 500 == 0 {
+                // work and mark are handed out and back too
+                let (words, records, mark) = tree.into_words();
+                tree = ClockedTree::from_words(order, levels, words, records, mark);
+            }
+        }
+        assert_eq!((tree.words(), tree.records(), tree.mark()), (lent.words(), lent.records(), lent.mark()));
+        assert_eq!(tree.clear(), Ok(()));
+        assert!(tree.words().iter().chain(tree.records()).all(|w| *w == 0));
+        assert_eq!(tree.cycle(Request::Idle), Ok(Element::default()));
+    }
+    assert_eq!(ClockedTree::new(2, u32::MAX), Err(Refusal::BadShape));
+}
+
+#[test]
+fn a_drain_that_is_refused_says_how_far_it_came() {
+    // a take at a node of level 2 that is empty: the first cycle is refused
+    let mut tree = Clocked::from_words(2, 2, [0; 18], [2, 0, 0, 0], true);
+    assert_eq!(tree.drain(9), Err(Stopped { refusal: Refusal::Damaged, cycles: 0 }));
+    assert_eq!(tree.into_words(), ([0; 18], [2, 0, 0, 0], true));
+    // a put that goes on below, into a node that lacks nothing but is damaged: one cycle runs
+    let mut words = [0; tree_words(2, 3)];
+    words[6..12].copy_from_slice(&[1, 1, 1, 1, 1, 1]);
+    words[18] = 7;
+    let mut tree = Clocked::from_words(2, 3, words, [1, 0, 5, 5, 0, 0, 0, 0], false);
+    assert_eq!(tree.drain(9), Err(Stopped { refusal: Refusal::Damaged, cycles: 1 }));
+    let stopped = Stopped { refusal: Refusal::Damaged, cycles: 1 };
+    assert_eq!((Refusal::from(stopped), stopped.to_string()), (Refusal::Damaged, "damaged after 1 cycles".into()));
+    let mut short = Clocked::from_words(2, 3, [0; 3], [0; 8], false);
+    assert_eq!(short.drain(9), Err(Stopped { refusal: Refusal::BadShape, cycles: 0 }));
+}
+
+#[test]
+fn sizes_are_the_models_and_the_shapes_that_are_taken() {
+    let mut levels: Vec<u32> = (0..40).collect();
+    levels.extend([63, 64, 65, 1 << 16, 1 << 30, 1 << 31, u32::MAX - 1, u32::MAX]);
+    let mut orders: Vec<u32> = (0..20).collect();
+    orders.extend([32, 64, 1 << 16, 1 << 31, (1 << 31) + 2, u32::MAX]);
+    let mut store = vec![0; 3 * 5460];
+    for &order in &orders {
+        for &l in &levels {
+            let model = models::tree::Shape::new(order, l).map_or(0, |shape| shape.capacity() as usize);
+            assert_eq!((tree_slots(order, l), tree_words(order, l)), (model, 3 * model), "order {order}, levels {l}");
+            assert_eq!(calls::tree_words(order, l) as usize, 3 * model, "order {order}, levels {l}");
+            // the size is taken, one word less is not
+            assert_eq!(calls::tree_clear(&mut store, order, l) == 0, model != 0);
+            if model != 0 {
+                assert_eq!(calls::tree_clear(&mut store[..3 * model], order, l), 0);
+                assert_eq!(calls::tree_clear(&mut store[..3 * model - 1], order, l), 1);
+                assert_eq!(record_words(l), 4 * (l as usize - 1));
+            }
+        }
+    }
+    assert_eq!((BUCKET_BITS, calls::bucket_bits()), (models::bucket::BITS, models::bucket::BITS as u32));
+    for nodes in (0..=4100).chain([8192, 1 << 16, 1 << 31, u32::MAX]) {
+        let good = (1..=4096).contains(&nodes);
+        let model = if good { models::bucket::words(nodes as u64) as usize } else { 0 };
+        assert_eq!((bucket_words(nodes), calls::bucket_words(nodes) as usize), (model, model), "{nodes} nodes");
+    }
+}
+
+#[test]
+fn every_refusal_has_its_number_and_name() {
+    let names = ["bad shape", "damaged", "too soon", "bad rank", "full", "empty"];
+    for (i, name) in names.iter().enumerate() {
+        let refusal = Refusal::of(i as u32 + 1).unwrap();
+        assert_eq!((refusal.number(), refusal.name(), refusal.to_string()), (i as u32 + 1, *name, name.to_string()));
+    }
+    assert_eq!((Refusal::of(0), Refusal::of(7), Refusal::of(u32::MAX)), (None, None, None));
+    let error: Box<dyn std::error::Error> = Box::new(Refusal::Full);
+    assert_eq!((error.to_string(), element(1, 2).tag), ("full".into(), Tag(2)));
+}

@@ -1,0 +1,301 @@
+//! The calls as the C library offers them: slices of numbers in, a refusal number out.
+//!
+//! What is the boundary's own, and not the paper's, stands here and nowhere else: which faults it
+//! has (`faults`), what a refusal leaves in `out` (`clears_out`), and how a record is read and
+//! written (`read_record`, `normalise`).
+
+use crate::call::{Call, Op, Slices};
+use crate::clocked::{self, Request, Work};
+use crate::tree::{self, Shape};
+use crate::{bucket, element, shape_cause, Causes, Element, No};
+
+/// The words of one record: kind, node, rank, tag.
+pub const RECORD: usize = 4;
+
+/// A record as the boundary reads it. Numbers that the kind doesn't use are not read.
+fn read_record(words: &[u32]) -> Work {
+    let (node, x) = (words[1], element(words[2], words[3]));
+    match words[0] {
+        1 => Work::Put { node, x },
+        2 => Work::Take { node },
+        3 => Work::Swap { node, x },
+        _ => Work::Nothing,
+    }
+}
+
+/// Writes every record of levels 2 to L from the state that the call leaves. Called after a cycle
+/// that ran (as asked or as an idle one) and after a drain of at least one cycle; numbers that a
+/// kind doesn't use are written 0. Nothing is written where no cycle ran.
+fn normalise(records: &mut [u32], pending: &[Work]) {
+    for (k, work) in pending.iter().enumerate() {
+        let words = match *work {
+            Work::Nothing => [0, 0, 0, 0],
+            Work::Put { node, x } => [1, node, x.rank, x.tag],
+            Work::Take { node } => [2, node, 0, 0],
+            Work::Swap { node, x } => [3, node, x.rank, x.tag],
+        };
+        records[RECORD * k..RECORD * k + RECORD].copy_from_slice(&words);
+    }
+}
+
+/// The boundary's own faults of a clocked call. Records are looked at where order and levels are
+/// good: only then is it known how many there are.
+fn faults(order: u32, levels: u32, records: &[u32], mark: &[u32], request: u32) -> Causes {
+    let mut c = 0;
+    if request > 3 {
+        c |= shape_cause::REQUEST;
+    }
+    if mark.is_empty() {
+        c |= shape_cause::MARK_SHORT;
+    } else if mark[0] > 1 {
+        c |= shape_cause::MARK_WORD;
+    }
+    if let Some(shape) = Shape::new(order, levels) {
+        let need = RECORD * (shape.levels as usize - 1);
+        if records.len() < need {
+            c |= shape_cause::RECORDS;
+        } else if records[..need].chunks(RECORD).any(|r| r[0] > 3) {
+            c |= shape_cause::KIND;
+        }
+    }
+    c
+}
+
+/// The fault of an `out` that has less than the `need` words of an answer.
+fn out_fault(out: &[u32], need: usize) -> Causes {
+    if out.len() < need {
+        shape_cause::OUT
+    } else {
+        0
+    }
+}
+
+/// Whether a refusal writes zeros to an `out` that is long enough: every one but those that the boundary itself gives, and those
+/// that have a fault of the boundary beside a bad shape.
+fn clears_out(no: No) -> bool {
+    !matches!(no, No::BadShape(c) if c & shape_cause::BOUNDARY != 0)
+}
+
+/// What a call leaves in `out`: the words of its answer, or what a refusal leaves there. An `out` that is too short is not touched.
+fn tell<const NEED: usize>(result: Result<[u32; NEED], No>, out: &mut [u32]) -> Result<(), No> {
+    let told = match result {
+        Ok(answer) => Some(answer),
+        Err(no) if clears_out(no) => Some([0; NEED]),
+        Err(_) => None,
+    };
+    if let (Some(words), true) = (told, out.len() >= NEED) {
+        out[..NEED].copy_from_slice(&words);
+    }
+    result.map(|_| ())
+}
+
+fn answer(result: Result<Element, No>, out: &mut [u32]) -> Result<(), No> {
+    tell(result.map(|x| [x.rank, x.tag]), out)
+}
+
+fn count(result: Result<u32, No>, out: &mut [u32]) -> Result<(), No> {
+    tell(result.map(|n| [n]), out)
+}
+
+/// A call of the library.
+pub fn call(k: &Call, s: Slices<'_>) -> Result<(), No> {
+    let Slices { words, bits, records, mark, out } = s;
+    let (order, levels, nodes, rank, tag) = (k.order, k.levels, k.nodes, k.rank, k.tag);
+    match k.op {
+        Op::TreeClear => tree_clear(words, order, levels),
+        Op::TreePush => tree_push(words, order, levels, rank, tag),
+        Op::TreePop => tree_pop(words, order, levels, out),
+        Op::TreeReplace => tree_replace(words, order, levels, rank, tag, out),
+        Op::TreeHeld => tree_held(words, order, levels, out),
+        Op::BucketClear => bucket_clear(bits, words, nodes),
+        Op::BucketPush => bucket_push(bits, words, nodes, rank, tag),
+        Op::BucketPop => bucket_pop(bits, words, nodes, out),
+        Op::BucketReplace => bucket_replace(bits, words, nodes, rank, tag, out),
+        Op::BucketHeld => bucket_held(bits, words, nodes, out),
+        Op::ClockedClear => clocked_clear(words, order, levels, records, mark),
+        Op::CycleIdle | Op::CyclePush | Op::CyclePop | Op::CycleReplace | Op::CycleOther => {
+            clocked_cycle(words, order, levels, records, mark, k.request, rank, tag, out)
+        }
+        Op::ClockedDrain => clocked_drain(words, order, levels, records, mark, k.budget, out),
+        Op::ClockedHeld => clocked_held(words, order, levels, out),
+    }
+}
+
+pub fn tree_clear(store: &mut [u32], order: u32, levels: u32) -> Result<(), No> {
+    tree::clear(store, order, levels)
+}
+
+pub fn tree_push(store: &mut [u32], order: u32, levels: u32, rank: u32, tag: u32) -> Result<(), No> {
+    tree::push(store, order, levels, element(rank, tag))
+}
+
+pub fn tree_pop(store: &mut [u32], order: u32, levels: u32, out: &mut [u32]) -> Result<(), No> {
+    let fault = out_fault(out, 2);
+    if fault != 0 {
+        return answer(Err(No::BadShape(fault)), out);
+    }
+    answer(tree::pop(store, order, levels), out)
+}
+
+pub fn tree_replace(
+    store: &mut [u32],
+    order: u32,
+    levels: u32,
+    rank: u32,
+    tag: u32,
+    out: &mut [u32],
+) -> Result<(), No> {
+    let fault = out_fault(out, 2);
+    if fault != 0 {
+        return answer(Err(No::BadShape(fault)), out);
+    }
+    answer(tree::replace(store, order, levels, element(rank, tag)), out)
+}
+
+pub fn tree_held(store: &[u32], order: u32, levels: u32, out: &mut [u32]) -> Result<(), No> {
+    let fault = out_fault(out, 1);
+    if fault != 0 {
+        return count(Err(No::BadShape(fault)), out);
+    }
+    count(tree::held(store, order, levels), out)
+}
+
+pub fn bucket_clear(bits: &mut [u64], words: &mut [u32], nodes: u32) -> Result<(), No> {
+    bucket::clear(bits, words, nodes)
+}
+
+pub fn bucket_push(bits: &mut [u64], words: &mut [u32], nodes: u32, rank: u32, tag: u32) -> Result<(), No> {
+    bucket::push(bits, words, nodes, element(rank, tag))
+}
+
+pub fn bucket_pop(bits: &mut [u64], words: &mut [u32], nodes: u32, out: &mut [u32]) -> Result<(), No> {
+    let fault = out_fault(out, 2);
+    if fault != 0 {
+        return answer(Err(No::BadShape(fault)), out);
+    }
+    answer(bucket::pop(bits, words, nodes), out)
+}
+
+pub fn bucket_replace(
+    bits: &mut [u64],
+    words: &mut [u32],
+    nodes: u32,
+    rank: u32,
+    tag: u32,
+    out: &mut [u32],
+) -> Result<(), No> {
+    let fault = out_fault(out, 2);
+    if fault != 0 {
+        return answer(Err(No::BadShape(fault)), out);
+    }
+    answer(bucket::replace(bits, words, nodes, element(rank, tag)), out)
+}
+
+pub fn bucket_held(bits: &[u64], words: &[u32], nodes: u32, out: &mut [u32]) -> Result<(), No> {
+    let fault = out_fault(out, 1);
+    if fault != 0 {
+        return count(Err(No::BadShape(fault)), out);
+    }
+    count(bucket::held(bits, words, nodes), out)
+}
+
+/// Clear reads neither the records' words nor the mark's: only their lengths matter.
+pub fn clocked_clear(
+    store: &mut [u32],
+    order: u32,
+    levels: u32,
+    records: &mut [u32],
+    mark: &mut [u32],
+) -> Result<(), No> {
+    let c = faults(order, levels, records, mark, 0) & (shape_cause::MARK_SHORT | shape_cause::RECORDS);
+    let shape = tree::shape(store, order, levels);
+    if c != 0 {
+        return Err(No::BadShape(c | causes(shape.err())));
+    }
+    let shape = shape?;
+    let mut pending = vec![Work::Nothing; shape.levels as usize - 1];
+    let mut on = false;
+    clocked::clear(store, order, levels, &mut pending, &mut on)?;
+    normalise(records, &pending);
+    mark[0] = on as u32;
+    Ok(())
+}
+
+fn causes(no: Option<No>) -> Causes {
+    match no {
+        Some(No::BadShape(c)) => c,
+        _ => 0,
+    }
+}
+
+/// The records of levels 2 to L.
+fn pending(levels: u32, records: &[u32]) -> Vec<Work> {
+    records[..RECORD * (levels as usize - 1)].chunks(RECORD).map(read_record).collect()
+}
+
+#[allow(clippy::too_many_arguments)]
+pub fn clocked_cycle(
+    store: &mut [u32],
+    order: u32,
+    levels: u32,
+    records: &mut [u32],
+    mark: &mut [u32],
+    request: u32,
+    rank: u32,
+    tag: u32,
+    out: &mut [u32],
+) -> Result<(), No> {
+    let shape = tree::shape(store, order, levels);
+    let c = faults(order, levels, records, mark, request) | out_fault(out, 2) | causes(shape.err());
+    if c != 0 {
+        return answer(Err(No::BadShape(c)), out);
+    }
+    let asked = match request {
+        0 => Request::Idle,
+        1 => Request::Push(element(rank, tag)),
+        2 => Request::Pop,
+        _ => Request::Replace(element(rank, tag)),
+    };
+    let mut work = pending(levels, records);
+    let mut on = mark[0] == 1;
+    let result = clocked::cycle(store, order, levels, &mut work, &mut on, asked);
+    let ran = !matches!(result, Err(No::BadShape(_)) | Err(No::Damaged(_)));
+    if ran {
+        normalise(records, &work);
+        mark[0] = on as u32;
+    }
+    answer(result, out)
+}
+
+pub fn clocked_drain(
+    store: &mut [u32],
+    order: u32,
+    levels: u32,
+    records: &mut [u32],
+    mark: &mut [u32],
+    budget: u32,
+    out: &mut [u32],
+) -> Result<(), No> {
+    let shape = tree::shape(store, order, levels);
+    let c = faults(order, levels, records, mark, 0) | out_fault(out, 2) | causes(shape.err());
+    if c != 0 {
+        return answer(Err(No::BadShape(c)), out);
+    }
+    let mut work = pending(levels, records);
+    let mut on = mark[0] == 1;
+    let drained = clocked::drain(store, order, levels, &mut work, &mut on, budget);
+    if drained.cycles > 0 {
+        normalise(records, &work);
+        mark[0] = on as u32;
+    }
+    tell(Ok([drained.cycles, drained.work_left as u32]), out)?;
+    drained.refused.map_or(Ok(()), Err)
+}
+
+pub fn clocked_held(store: &[u32], order: u32, levels: u32, out: &mut [u32]) -> Result<(), No> {
+    let fault = out_fault(out, 1);
+    if fault != 0 {
+        return count(Err(No::BadShape(fault)), out);
+    }
+    count(clocked::held(store, order, levels), out)
+}
