@@ -253,13 +253,7 @@ fn play_bad(play: Playing, at: usize, out: &mut [u8]) -> Piece
 }
 
 // The record at a place of the input, unless the play has ended.
-fn play_record(
-    store: &mut [u32],
-    piece: Piece,
-    bytes: &[u8],
-    at: usize,
-    out: &mut [u8],
-) -> Piece
+fn play_record(store: &mut [u32], piece: Piece, bytes: &[u8], at: usize, out: &mut [u8]) -> Piece
     requires { ⌜ (at + recordBytes ≤ length (now bytes)) × (piece .written + longestLine ≤ length (now out)) ⌝ }
     ensures { λ r. ⌜ Makes (whileLive (turn (entryAt (now (bytes .entry)) at)) (piece .play) (now (store .entry))) (piece .written) (now (out .entry)) r (now (store .exit)) (now (out .exit)) ⌝ }
 {
@@ -320,13 +314,7 @@ fn play_end(store: &mut [u32], play: Playing, at: usize, out: &mut [u8]) -> Piec
 }
 
 // What comes behind the whole records: one that is cut is bad, and the end of the input drains.
-fn play_rest(
-    store: &mut [u32],
-    piece: Piece,
-    cut: bool,
-    last: bool,
-    out: &mut [u8],
-) -> Piece
+fn play_rest(store: &mut [u32], piece: Piece, cut: bool, last: bool, out: &mut [u8]) -> Piece
     requires { ⌜ piece .written + longestLine ≤ length (now out) ⌝ }
     ensures { λ r. ⌜ Makes (after (played (cutRecord cut) (piece .play) (now (store .entry))) (closing last)) (piece .written) (now (out .entry)) r (now (store .exit)) (now (out .exit)) ⌝ }
 {
@@ -406,13 +394,7 @@ pub fn begin(store: &mut [u32], head: &[u8], out: &mut [u8]) -> Piece
 
 // Plays a piece of the input, the last or one of whole records. A buffer without room for a line of each record and one more is left
 // alone, and so is everything else.
-pub fn play(
-    store: &mut [u32],
-    play: Playing,
-    bytes: &[u8],
-    last: bool,
-    out: &mut [u8],
-) -> Piece
+pub fn play(store: &mut [u32], play: Playing, bytes: &[u8], last: bool, out: &mut [u8]) -> Piece
     ensures { λ r. ⌜ Makes (pieceOf (now (bytes .entry)) last (length (now (out .entry))) play (now (store .entry))) 0 (now (out .entry)) r (now (store .exit)) (now (out .exit)) ⌝ }
 {
     if out.len() / LINE <= bytes.len() / RECORD {
