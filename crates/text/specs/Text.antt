@@ -2,12 +2,12 @@
 use Prim.Native.Char.{code}
 use Prim.Native.Nat.{_%_, _*_, _+_, _-_, _/_, suc, zero, ℕ}
 use Prim.Native.String.{String}
+use Prim.Native.String as string
 use mathlib.Core.Bool.{cond}
 use mathlib.Core.List.{[], _++_, _∷_, List}
 use mathlib.Core.Path.{_≡_}
 use lib.Dec.{ltb}
 use lib.ListN.{length, set}
-use Prim.Native.String as string
 
 -- the bytes of a quoted text
 abbrev pub bytesOf : String → List ℕ

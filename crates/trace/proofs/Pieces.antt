@@ -4,18 +4,16 @@ use native.Mathlib.Nat.{add-assoc, add-zero, le-of-lt, zero-add}
 use native.Mathlib.Omega.{arith}
 use mathlib.Core.Bool.{_&&_, Bool, cond, false, not, true}
 use mathlib.Core.List.{[], _++_, _∷_, append-assoc, append-nil, List}
-use mathlib.Core.Path.{_∙_, _≡_, ap, ap₂, refl, subst, sym}
+use mathlib.Core.Path.{_∙_, _≡_, ap, ap₂, refl, sym}
 use lib.Dec.{eqb, leb, ltb}
-use lib.ListN.{drop, getD, length, length-append, length-drop, List·getD-append, replicate, take, take-append-drop}
+use lib.ListN.{drop, getD, length, length-append, length-drop, List·getD-append, take, take-append-drop}
 use lib.Seq.{getD-append-add, getD-take, length-take-le, take-all}
-use borrow.Author.Tests.{le-leb, le-ltb, leb-false, leb-true, lt-leb, lt-ltb, ltb-false, ltb-true}
-use Rattle.clocked_model.specs.Calls.{CycleOutcome, ticked}
-use Rattle.clocked_model.specs.declared.State.{State}
+use borrow.Author.Tests.{le-leb, leb-false, leb-true, lt-ltb, ltb-false, ltb-true}
 use Rattle.strip.specs.Answers.{element}
 use Rattle.trace.proofs.Runs.{after-after, after-stands, closing-ended, played-append, played-ended, stands-after}
 use Rattle.trace.specs.Format.{cutRecord, entryAt, entryOf, headerBytes, headerOf, longestLine, markOk, numberAt, recordBytes, recordsFrom, recordsOf, traceShape}
 use Rattle.trace.specs.Play.{after, begun, closing, ending, inPieces, opening, outBytes, pieceBytes, pieceOf, pieceRun, piecesText, played, run, Run, shut, stands, Step, turn, whileLive}
-use Rattle.trace.specs.Program.{endOf, nextNumber, storeWords, textFrom, textOf, traceText}
+use Rattle.trace.specs.Program.{emptyStore, endOf, textFrom, textOf, traceText}
 use Rattle.trace.specs.declared.Header.{Header}
 use Rattle.trace.specs.declared.Header.the-variants.{Shape, Wrong}
 use Rattle.trace.specs.declared.Playing.{Playing}
@@ -240,11 +238,11 @@ unfolding pieceRun
 whole-text bs p ws e = text-from (recordsOf bs) p ws e
 
 by-header : (r : ℕ) → 0 < r → (h : Header) (rest : List ℕ)
-    → after (opening h (replicate storeWords 0)) (whileLive (inPieces r (suc (length rest)) rest)) .text ≡ textOf h (recordsOf rest)
+    → after (opening h emptyStore) (whileLive (inPieces r (suc (length rest)) rest)) .text ≡ textOf h (recordsOf rest)
 unfolding opening textOf
-by-header r some Wrong rest = ap (λ (u : Run). u .text) (ended-after (opening Wrong (replicate storeWords 0)) (inPieces r (suc (length rest)) rest) refl)
+by-header r some Wrong rest = ap (λ (u : Run). u .text) (ended-after (opening Wrong emptyStore) (inPieces r (suc (length rest)) rest) refl)
 by-header r some (Shape m levels) rest =
-    let u : Run = opening (Shape m levels) (replicate storeWords 0) in
+    let u : Run = opening (Shape m levels) emptyStore in
     ap (λ (v : Run). v .text) (after-same u (whileLive (inPieces r (suc (length rest)) rest)) (pieceRun rest true)
     (live-same (inPieces r (suc (length rest)) rest) (pieceRun rest true) (u .play) (u .words) (pieces-run r some (suc (length rest)) rest (u .play) (u .words) (omega arith))
     ∙ live-piece rest true (u .play) (u .words)))
@@ -256,7 +254,7 @@ pub pieces : (r : ℕ) → 0 < r → (bs : List ℕ) → piecesText r bs ≡ tra
 unfolding piecesText traceText begun
 pieces r some bs =
     let rest : List ℕ = drop headerBytes bs in
-    let ws : List ℕ = replicate storeWords 0 in
+    let ws : List ℕ = emptyStore in
     let room : longestLine ≤ outBytes r = omega arith in
     ap (λ (b : Bool). after (cond b (opening (headerOf (take headerBytes bs)) ws) (run ws shut [])) (whileLive (inPieces r (suc (length rest)) rest)) .text) (le-leb longestLine (outBytes r) room)
     ∙ ap (λ (h : Header). after (opening h ws) (whileLive (inPieces r (suc (length rest)) rest)) .text) (header-first bs)

@@ -1,6 +1,5 @@
 -- A play step by step, by what the code has done. Assumes nothing.
-use Prim.Native.Nat.{_%_, _*_, _+_, _-_, _/_, _<_, _≤_, suc, zero, ℕ}
-use native.Mathlib.Nat.{zero-add}
+use Prim.Native.Nat.{_%_, _+_, _-_, _/_, _<_, _≤_, suc, zero, ℕ}
 use native.Mathlib.Omega.{arith}
 use mathlib.Core.Bool.{Bool, cond, false, not, true}
 use mathlib.Core.List.{[], _++_, _∷_, append-assoc, append-nil, List}
@@ -14,8 +13,8 @@ use Rattle.strip.specs.Answers.{countOf}
 use Rattle.strip.specs.declared.Answer.{Answer}
 use Rattle.strip.specs.declared.Count.{Count}
 use Rattle.strip.specs.declared.Request.{Request}
-use Rattle.text.proofs.Laws.{decimal-short, overlay-append, overlay-length}
-use Rattle.text.specs.Text.{decimal, Laid, overlay}
+use Rattle.text.proofs.Laws.{overlay-append, overlay-length}
+use Rattle.text.specs.Text.{Laid, overlay}
 use Rattle.trace.proofs.Lines.{bad-short, end-short, line-short}
 use Rattle.trace.specs.Format.{badLine, badTrace, cutRecord, endLine, entryAt, headerOf, lineOf, longestLine, recordBytes, recordsFrom, recordsOf}
 use Rattle.trace.specs.Play.{after, begun, carry, closing, ending, Makes, opening, pieceOf, pieceRun, played, run, Run, shut, stands, Step, turn, whileLive}

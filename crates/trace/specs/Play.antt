@@ -4,12 +4,12 @@ use mathlib.Core.Bool.{Bool, cond, false, true}
 use mathlib.Core.List.{[], _++_, _∷_, List}
 use mathlib.Core.Path.{_≡_}
 use lib.Dec.{leb, ltb}
-use lib.ListN.{drop, length, replicate, take}
+use lib.ListN.{drop, length, take}
 use Rattle.clocked_model.specs.Calls.{drains, fresh, restarted, ticked}
 use Rattle.clocked_model.specs.declared.State.{State}
 use Rattle.text.specs.Text.{overlay}
 use Rattle.trace.specs.Format.{badLine, badTrace, headerBytes, headerOf, lineOf, longestLine, recordBytes, recordsOf}
-use Rattle.trace.specs.Program.{endOf, nextNumber, storeWords}
+use Rattle.trace.specs.Program.{emptyStore, endOf, nextNumber}
 use Rattle.trace.specs.declared.Header.{Header}
 use Rattle.trace.specs.declared.Header.the-variants.{Shape, Wrong}
 use Rattle.trace.specs.declared.Piece.{Piece}
@@ -119,7 +119,7 @@ module _ (r : ℕ) where
   unfoldable pub piecesText : List ℕ → List ℕ
   piecesText bs =
       let rest = drop headerBytes bs in
-      after (begun (take headerBytes bs) outBytes (replicate storeWords 0)) (whileLive (inPieces (suc (length rest)) rest)) .text
+      after (begun (take headerBytes bs) outBytes emptyStore) (whileLive (inPieces (suc (length rest)) rest)) .text
 
 -- the program's pieces
 abbrev pub programRecords : ℕ

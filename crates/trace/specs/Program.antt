@@ -21,6 +21,9 @@ nextNumber n = (n + 1) % 2 ^ 64
 abbrev pub storeWords : ℕ
 storeWords = width * traceLimit
 
+unfoldable pub emptyStore : List ℕ
+emptyStore = replicate storeWords 0
+
 module _ (m levels : ℕ) where
   -- "then it drains", with a cycle for each level, and what is held is asked afterwards
   unfoldable pub endOf : State → List ℕ → List ℕ
@@ -41,7 +44,7 @@ module _ (m levels : ℕ) where
 unfoldable pub textOf : Header → List Record → List ℕ
 textOf Wrong es = badTrace
 textOf (Shape m levels) es =
-    let c = restarted m levels (replicate storeWords 0) in
+    let c = restarted m levels emptyStore in
     textFrom m levels 0 (c .state) (c .words) es
 
 -- THE PROGRAM

@@ -1,11 +1,10 @@
 -- `play::fill` meets its contract. Assumes nothing.
-use lib.Seq.{length-take-le}
-use borrow.Author.Needs.{needs}
-use lib.ListN.{length}
+use Prim.Native.Nat.{_-_, _≤_, ℕ}
 use mathlib.Core.List.{List}
 use mathlib.Core.Path.{_≡_, sym}
-use native.Mathlib.Omega.{arith}
-use Prim.Native.Nat.{_-_, _≤_, ℕ}
+use lib.ListN.{length}
+use lib.Seq.{length-take-le}
+use borrow.Author.Needs.{needs}
 use Rattle.io.specs.Counts.{Counts}
 use Rattle.play.proofs.fill.Statement.{statement}
 use Rattle.play.proofs.fill.Tie as tie

@@ -1,9 +1,9 @@
 -- `play::main` meets its contract. Assumes nothing.
-use native.Mathlib.Omega.{arith}
-use borrow.Author.Needs.{needs}
-use lib.ListN.{length, length-replicate}
-use mathlib.Core.Path.{_∙_, _≡_, sym}
 use Prim.Native.Nat.{_-_, _<_, ℕ}
+use native.Mathlib.Omega.{arith}
+use mathlib.Core.Path.{_∙_, _≡_, sym}
+use lib.ListN.{length, length-replicate}
+use borrow.Author.Needs.{needs}
 use Rattle.trace.specs.Play.{outBytes, pieceBytes, programRecords}
 use Rattle.play.proofs.main.Statement.{statement}
 use Rattle.play.proofs.main.Tie as tie

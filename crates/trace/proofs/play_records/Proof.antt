@@ -1,10 +1,10 @@
 -- `trace::play_records` meets its contract. Assumes nothing.
-use lib.ListN.{length}
-use mathlib.Core.Path.{_∙_, _≡_, refl}
-use native.Mathlib.Omega.{arith}
 use Prim.Native.Nat.{_*_, _+_, _/_, _≤_}
-use Rattle.trace.specs.Format.{longestLine, recordBytes}
+use native.Mathlib.Omega.{arith}
+use mathlib.Core.Path.{_∙_, _≡_, refl}
+use lib.ListN.{length}
 use Rattle.trace.proofs.Runs.{At, at-end, at-next, at-start, written-next}
+use Rattle.trace.specs.Format.{longestLine, recordBytes}
 use Rattle.trace.proofs.play_records.Statement.{statement}
 use Rattle.trace.proofs.play_records.Tie as tie
 use Rattle.trace.proofs.play_records.Reads as reads
