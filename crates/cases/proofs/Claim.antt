@@ -1,17 +1,21 @@
 -- The one claim over the table of worked cases, proved by computing the definitions. Assumes nothing.
-use mathlib.Core.Path.{refl}
+use mathlib.Core.List.{map}
+use mathlib.Core.Path.{ap, refl}
 use Rattle.bucket_model.proofs.Case8.{case8-holds}
-use Rattle.cases.specs.Table.{Right, table}
+use Rattle.cases.specs.Table.{Right, table, told}
 use Rattle.clocked_model.proofs.Cases.{case-6}
 use Rattle.laws.specs.Lists.{All}
 use Rattle.promise.specs.Queue.{answers, leaves}
 use Rattle.strip.specs.Answers.{blank, key}
-use Rattle.tree_model.specs.Calls.{called, carriedOut, cleared, orderOk, rule, shapeOk}
+use Rattle.tree_model.specs.Calls.{called, carriedOut, cleared, counted, orderOk, rule, shapeOk}
 use Rattle.tree_model.specs.Damage.{fine, hasRoom, hasSome, isBlank, lifts, nodeOk, pathOk, readOk, room, slotOk, stepOk}
 use Rattle.tree_model.specs.Levels.{levelMove, stepWork, top, work}
 use Rattle.tree_model.specs.Node.{every, firstEmpty, isEmpty, isNothing, keep, leastCount, low, lowest, opMove, pass, putBy, putMove, seek, slotAt, sumCounts, swapBy, swapMove, takeBy, takeMove, vacant}
 use Rattle.tree_model.specs.Words.{applyWords, levelOf, levelsOf, nodeOf, size, slotOf, stepWords, tabulate, wipe, write}
 
 pub cases : All Right table
-unfolding table blank key vacant isEmpty slotAt seek every firstEmpty leastCount lowest low sumCounts keep pass putBy putMove takeBy takeMove swapBy swapMove opMove isNothing top work levelMove stepWork slotOf write wipe tabulate nodeOf size levelOf levelsOf stepWords applyWords room isBlank slotOk nodeOk hasRoom hasSome readOk lifts stepOk fine pathOk orderOk shapeOk rule carriedOut called cleared leaves answers
-cases = ((refl, refl), ((refl, refl), ((refl, refl), ((refl, refl), ((refl, refl), (case-6, ((refl, refl), (case8-holds, tt))))))))
+unfolding table blank key vacant isEmpty slotAt seek every firstEmpty leastCount lowest low sumCounts keep pass putBy putMove takeBy takeMove swapBy swapMove opMove isNothing top work levelMove stepWork slotOf write wipe tabulate nodeOf size levelOf levelsOf stepWords applyWords room isBlank slotOk nodeOk hasRoom hasSome readOk lifts stepOk fine pathOk orderOk shapeOk rule carriedOut called cleared counted leaves answers
+cases = (
+  (refl, refl, refl),
+  ((refl, refl, refl), ((refl, refl, refl), ((refl, refl, refl), ((refl, refl, refl), (case-6, ((refl, refl, refl), (ap (map told) case8-holds, (refl, (refl, tt))))))))),
+)

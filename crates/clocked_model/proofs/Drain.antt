@@ -162,22 +162,34 @@ module _ (m levels : ℕ) where
   next-shape : (s : State) (ws : List ℕ) → shapeOk m levels (length ws) ≡ true → shapeOk m levels (length (ticked m levels Idle s ws .words)) ≡ true
   next-shape s ws e = ap (shapeOk m levels) (ticked-length m levels Idle s ws) ∙ e
 
+  -- one round of a drain: nothing is pending; the idle cycle meets damage; it runs
+  module _ (b n : ℕ) (s : State) (ws : List ℕ) where
+    drain-quiet : pending m levels s ≡ false → drainFrom m levels (suc b) n s ws ≡ drainOutcome Done n false ws s
+    unfolding drainFrom
+    drain-quiet e = rw e
+
+    drain-jams : pending m levels s ≡ true → ticked m levels Idle s ws ≡ cycleOutcome (Refused Damaged) ws s → drainFrom m levels (suc b) n s ws ≡ drainOutcome (Refused Damaged) n true ws s
+    unfolding drainFrom isRefused
+    drain-jams e x = rw (e, jams-damaged m levels s ws x, x)
+
+    drain-runs : pending m levels s ≡ true → idle-answer m levels s ws ≡ Done
+        → drainFrom m levels (suc b) n s ws ≡ drainFrom m levels b (suc n) (ticked m levels Idle s ws .state) (ticked m levels Idle s ws .words)
+    unfolding drainFrom isRefused
+    drain-runs e x = rw (e, x)
+
   ends : (b n : ℕ) (s : State) (ws : List ℕ) → shapeOk m levels (length ws) ≡ true → Ends m levels b n s ws (drainFrom m levels b n s ws)
-  unfolding drainFrom isRefused
+  unfolding drainFrom
   ends zero n s ws e = ends-here zero n s ws Done (pending m levels s) refl (done refl (λ l. refl))
   ends (suc b) n s ws e = go (pending m levels s) refl (idling m levels s ws e) (ends b (suc n) (ticked m levels Idle s ws .state) (ticked m levels Idle s ws .words) (next-shape s ws e))
     where
-      jam : DrainOutcome
-      jam = drainOutcome (idle-answer m levels s ws) n true (ticked m levels Idle s ws .words) (ticked m levels Idle s ws .state)
-
       on : DrainOutcome
       on = drainFrom m levels b (suc n) (ticked m levels Idle s ws .state) (ticked m levels Idle s ws .words)
 
       go : (p : Bool) → pending m levels s ≡ p → Idling m levels s ws → Ends m levels b (suc n) (ticked m levels Idle s ws .state) (ticked m levels Idle s ws .words) on
-          → Ends m levels (suc b) n s ws (cond p (cond (isRefused (idle-answer m levels s ws)) jam on) (drainOutcome Done n false ws s))
-      go false q x ih = ends-here (suc b) n s ws Done false (sym q) (done refl (λ l. absurd (false≢true l)))
-      go true q (runs x) ih = rw (runs-done m levels s ws x) (ends-next b n s ws on q (runs-done m levels s ws x) ih)
-      go true q (jams x d) ih = rw (jams-damaged m levels s ws x, x) (ends-here (suc b) n s ws (Refused Damaged) true (sym q) (jammed refl refl (jams-here b s ws q d)))
+          → Ends m levels (suc b) n s ws (drainFrom m levels (suc b) n s ws)
+      go false q x ih = subst (Ends m levels (suc b) n s ws) (sym (drain-quiet b n s ws q)) (ends-here (suc b) n s ws Done false (sym q) (done refl (λ l. absurd (false≢true l))))
+      go true q (runs x) ih = subst (Ends m levels (suc b) n s ws) (sym (drain-runs b n s ws q (runs-done m levels s ws x))) (ends-next b n s ws on q (runs-done m levels s ws x) ih)
+      go true q (jams x d) ih = subst (Ends m levels (suc b) n s ws) (sym (drain-jams b n s ws q x)) (ends-here (suc b) n s ws (Refused Damaged) true (sym q) (jammed refl refl (jams-here b s ws q d)))
 
   -- ---- the call
   pub drain-bad : (b : ℕ) (s : State) (ws : List ℕ) → shapeOk m levels (length ws) ≡ false → drains m levels b s ws ≡ drainOutcome (Refused BadShape) 0 false ws s

@@ -123,6 +123,10 @@ refused-mark (Push x) n = refl
 refused-mark Pop n = refl
 refused-mark (Replace x) n = refl
 
+idle-mark : (a : Answer) → marks Idle a ≡ false
+unfolding marks asks
+idle-mark a = refl
+
 -- an idle cycle reads no root
 pub root-unread : (m levels : ℕ) (ws : List ℕ) → askedOk m levels Idle ws ≡ true
 unfolding asks
@@ -138,15 +142,22 @@ idle-turned m levels o s ws e f =
     (ap (λ (g : Ruling). stepsOk m levels (g .op) s ws) i ∙ steps-none m levels o s ws f))
     ∙ ap (λ (g : Ruling). turned m levels Idle g s ws) i
 
+-- the mark that a cycle leaves
+turned-mark : (m levels : ℕ) (r : Request) (g : Ruling) (s : State) (ws : List ℕ) → turned m levels r g s ws .state .mark ≡ marks r (g .answer)
+unfolding turned
+turned-mark m levels r g s ws = refl
+
 -- what a refusal of the rule leaves
 turned-refused : (m levels : ℕ) (r : Request) (s : State) (ws : List ℕ) (n : Refusal) → runsIdle n ≡ true → (o : Op) → shapeOk m levels (length ws) ≡ true → stepsOk m levels o s ws ≡ true
     → turned m levels r (ruling (Refused n) Nothing) s ws ≡ cycleLeft m levels s ws n
-unfolding turned marks asks leaves
-turned-refused m levels r s ws n i o e f =
-    rw i (rw (idle-turned m levels o s ws e f) (ap (λ (b : Bool). cycleOutcome (Refused n) (idly .words) (record { records = idly .state .records; mark = b })) (refused-mark r n)))
+unfolding turned leaves
+turned-refused m levels r s ws n i o e f = rw i (rw (idle-turned m levels o s ws e f) (λ j. cycleOutcome (Refused n) (idly .words) (record { records = idly .state .records; mark = same-mark j })))
   where
     idly : CycleOutcome
     idly = turned m levels Idle (ruling Done Nothing) s ws
+
+    same-mark : turned m levels r (ruling (Refused n) Nothing) s ws .state .mark ≡ idly .state .mark
+    same-mark = turned-mark m levels r (ruling (Refused n) Nothing) s ws ∙ refused-mark r n ∙ sym (turned-mark m levels Idle (ruling Done Nothing) s ws ∙ idle-mark Done)
 
 -- EXACTLY: a cycle gives each refusal for its cause and for that cause only, and leaves behind what the table says
 module _ (m levels : ℕ) (r : Request) (s : State) (ws : List ℕ) where
@@ -246,4 +257,4 @@ unfolding turned
 mark-says m levels r s ws =
     ticked-either m levels r s ws
     (λ c. (numberOf (c .answer) ≡ 1 → ⊥) → (numberOf (c .answer) ≡ 2 → ⊥) → Iff (c .state .mark ≡ true) (Asks r × (numberOf (c .answer) ≡ 0)))
-    (λ no1 no2. absurd (no1 refl)) (λ no1 no2. absurd (no2 refl)) (λ e f no1 no2. marks-mean r (hearing m levels r s ws .answer))
+    (λ no1 no2. absurd (no1 refl)) (λ no1 no2. absurd (no2 refl)) (λ e f no1 no2. rw (turned-mark m levels r (hearing m levels r s ws) s ws) (marks-mean r (hearing m levels r s ws .answer)))

@@ -15,7 +15,7 @@ use Rattle.clocked_model.proofs.Demand.{ran-in-step}
 use Rattle.clocked_model.proofs.Exactly.{no-damage-sound, sound-no-damage, ticked-fine}
 use Rattle.clocked_model.proofs.Promises.{shape-kept, undamaged}
 use Rattle.clocked_model.proofs.Step.{in-step, InStep, root-fine, steps-fine}
-use Rattle.clocked_model.proofs.Turn.{none-idle, Plain, plain-rest, after-before, after-past, words-cycle}
+use Rattle.clocked_model.proofs.Turn.{after-before, after-past, landed-recorded, plain-rest, recorded-work, words-cycle}
 use Rattle.clocked_model.specs.Calls.{askedOk, CycleOutcome, cycleWork, hearing, stepsOk, ticked, turned}
 use Rattle.clocked_model.specs.Cycle.{cycleLevels, cycleOk, cycleWords, Works}
 use Rattle.clocked_model.specs.Promise.{clockedQueue, CycleDamage, firstSlot, flight, leaveBelow, levelNow, levelWork, Machine, OneStep, ran, Recorded}
@@ -29,7 +29,7 @@ use Rattle.strip.specs.declared.Answer.{Answer}
 use Rattle.strip.specs.declared.Element.{Element}
 use Rattle.strip.specs.declared.Request.{Request}
 use Rattle.tree_model.proofs.Choice.{every-all, none-empty}
-use Rattle.tree_model.proofs.Exactly.{is-shape, nothing-fails, order-pos, room-fails, slot-limit}
+use Rattle.tree_model.proofs.Exactly.{is-shape, order-pos, room-fails, slot-limit}
 use Rattle.tree_model.proofs.Nothing.{is-none, op-work, step-none, work-none}
 use Rattle.tree_model.proofs.Place.{above-one}
 use Rattle.tree_model.proofs.Rules.{put-rule, swap-rule, take-rule}
@@ -165,15 +165,6 @@ after-at m (suc k) q i rs ls (suc j) h fits =
         ap (λ (v : Work). stepWork m (work (v .op) (v .node)) (levelAt k (ls .1) j) (levelAt k (ls .1) (suc j)))
         (getD-set-other rs i (suc i + j) _ idle (λ e. omega arith) ∙ ap (λ (a : ℕ). getD rs a idle) at)
 
-landed-recorded : (q w : Work) → Recorded q w (landed q w)
-unfolding landed isNothing
-landed-recorded q w =
-    record {
-      loaded = λ s. rw (nothing-fails (q .op) .shown s);
-      finished = λ e s. rw (ap isNothing e, nothing-fails (w .op) .shown s);
-      stands = λ e f. rw (ap isNothing e, ap isNothing f);
-    }
-
 -- ---- ONE-STEP
 module _ (m k : ℕ) (r : Request) (s : State) (ws : List ℕ) (sh : Shape m (suc k) (length ws)) (len : k ≤ length (s .records)) (d : CycleDamage m (suc k) r s ws → ⊥) where
   abbrev g : Ruling
@@ -274,18 +265,6 @@ one-step-run m zero ws rs sh r = absurd (not-suc-le-zero (sh .some))
 one-step-run m (suc k) ws rs sh r = one-step m (suc k) r _ _ (shape-kept m ws rs (suc k) sh) (ran-in-step m ws rs k sh .records) (undamaged m ws rs (suc k) sh r)
 
 -- ---- LAST WRITE: "its last write falls within L cycles, its own included", whatever is asked after it
--- a record read as work is what was left for it
-recorded-work : (q w v : Work) → Plain q → Recorded q w v → work (v .op) (v .node) ≡ q
-recorded-work q w v pl rec = go (isNothing (q .op)) refl (isNothing (w .op)) refl
-  where
-    none : isNothing (q .op) ≡ true → q ≡ idle
-    none e = sym pl ∙ none-idle q (is-none (q .op) e)
-
-    go : (a : Bool) → isNothing (q .op) ≡ a → (b : Bool) → isNothing (w .op) ≡ b → work (v .op) (v .node) ≡ q
-    go false e b f = ap (λ (u : Work). work (u .op) (u .node)) (rec .loaded (nothing-fails (q .op) .found e)) ∙ pl
-    go true e true f = ap (λ (u : Work). work (u .op) (u .node)) (rec .stands (is-none (q .op) e) (is-none (w .op) f)) ∙ none-idle w (is-none (w .op) f) ∙ sym (none e)
-    go true e false f = ap (λ (u : Work). work (u .op) (u .node)) (rec .finished (is-none (q .op) e) (nothing-fails (w .op) .found f)) ∙ none-idle idle refl ∙ sym (none e)
-
 module _ (m k : ℕ) where
   abbrev queue : Request → Machine → Step Answer Machine
   queue = clockedQueue m (suc k)

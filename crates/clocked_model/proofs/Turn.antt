@@ -1,14 +1,16 @@
 -- A cycle on words and records is the cycle on levels and works. Assumes nothing.
 use Prim.Native.Nat.{_*_, _+_, _<_, _≤_, suc, zero, ℕ}
 use native.Mathlib.Omega.{arith}
-use mathlib.Core.Bool.{Bool, cond, false, true}
+use mathlib.Core.Bool.{Bool, false, true}
 use mathlib.Core.List.{List}
 use mathlib.Core.Path.{_∙_, _≡_, ap, ap₂, refl, sym}
 use lib.ListN.{getD, length, length-set, set}
 use lib.Seq.{getD-set-other, getD-set-same}
 use Rattle.clocked_model.specs.Cycle.{cycleLevels, cycleOk, cycleWords, cycleWorks, Works}
+use Rattle.clocked_model.specs.Promise.{Recorded}
 use Rattle.clocked_model.specs.Records.{landed, recordAt, recordsAfter, worksOf}
 use Rattle.laws.specs.Tests.{and-left, and-right}
+use Rattle.tree_model.proofs.Exactly.{nothing-fails}
 use Rattle.tree_model.proofs.Nothing.{is-none}
 use Rattle.tree_model.proofs.Words.{level-ext, step-before, step-length, step-past, step-words}
 use Rattle.tree_model.specs.Damage.{fine}
@@ -74,16 +76,27 @@ pub none-idle : (w : Work) → w .op ≡ Nothing → work (w .op) (w .node) ≡ 
 unfolding work
 none-idle w e = ap (λ (o : Op). work o (w .node)) e
 
--- a record that q lands on is q, read as work
-landed-reads : (q w : Work) → Plain q → work (landed q w .op) (landed q w .node) ≡ q
-unfolding landed work
-landed-reads q w pl = go (isNothing (q .op)) refl (isNothing (w .op)) refl
+-- what a record becomes
+pub landed-recorded : (q w : Work) → Recorded q w (landed q w)
+unfolding landed isNothing
+landed-recorded q w =
+    record {
+      loaded = λ s. rw (nothing-fails (q .op) .shown s);
+      finished = λ e s. simp (ap isNothing e, nothing-fails (w .op) .shown s);
+      stands = λ e f. simp (ap isNothing e, ap isNothing f);
+    }
+
+-- a record read as work is what was left for it
+pub recorded-work : (q w v : Work) → Plain q → Recorded q w v → work (v .op) (v .node) ≡ q
+recorded-work q w v pl rec = go (isNothing (q .op)) refl (isNothing (w .op)) refl
   where
-    go : (a : Bool) → isNothing (q .op) ≡ a → (b : Bool) → isNothing (w .op) ≡ b
-        → work (cond a (cond b w idle) q .op) (cond a (cond b w idle) q .node) ≡ q
-    go false e b f = pl
-    go true e true f = none-idle w (is-none (w .op) f) ∙ sym (none-idle q (is-none (q .op) e)) ∙ pl
-    go true e false f = sym (none-idle q (is-none (q .op) e)) ∙ pl
+    none : isNothing (q .op) ≡ true → q ≡ idle
+    none e = sym pl ∙ none-idle q (is-none (q .op) e)
+
+    go : (a : Bool) → isNothing (q .op) ≡ a → (b : Bool) → isNothing (w .op) ≡ b → work (v .op) (v .node) ≡ q
+    go false e b f = ap (λ (u : Work). work (u .op) (u .node)) (rec .loaded (nothing-fails (q .op) .found e)) ∙ pl
+    go true e true f = ap (λ (u : Work). work (u .op) (u .node)) (rec .stands (is-none (q .op) e) (is-none (w .op) f)) ∙ none-idle w (is-none (w .op) f) ∙ sym (none e)
+    go true e false f = ap (λ (u : Work). work (u .op) (u .node)) (rec .finished (is-none (q .op) e) (nothing-fails (w .op) .found f)) ∙ none-idle idle refl ∙ sym (none e)
 
 pub after-length : (m k : ℕ) (q : Work) (i : ℕ) (rs : List Work) (ls : Levels k) → length (recordsAfter m k q i rs ls) ≡ length rs
 unfolding recordsAfter
@@ -119,6 +132,6 @@ works-after m (suc k) q i rs ls pl h =
     let q₁ : Work = stepWork m (work (w .op) (w .node)) (ls .0) (top k (ls .1)) in
     let n : length rs₁ ≡ length rs = length-set rs i (landed q w) in
     ap₂ (λ (a : Work) (r : Works k). (a, r))
-    (ap (λ (v : Work). work (v .op) (v .node)) (after-before m k q₁ (suc i) rs₁ (ls .1) i (omega arith) ∙ getD-set-same rs i (landed q w) idle (omega arith)) ∙ landed-reads q w pl)
+    (ap (λ (v : Work). work (v .op) (v .node)) (after-before m k q₁ (suc i) rs₁ (ls .1) i (omega arith) ∙ getD-set-same rs i (landed q w) idle (omega arith)) ∙ recorded-work q w _ pl (landed-recorded q w))
     (works-after m k q₁ (suc i) rs₁ (ls .1) (plain-rest m (work (w .op) (w .node)) (ls .0) (top k (ls .1))) (omega arith)
     ∙ ap (λ (r : Works k). cycleWorks m k q₁ r (ls .1)) (works-set k rs (suc i) i (landed q w) (omega arith)))

@@ -3,19 +3,20 @@
 use Prim.Native.Nat.{_*_, _+_, _<_, _≤_, pred, suc, zero, ℕ}
 use native.Mathlib.Nat.{not-suc-le-zero}
 use native.Mathlib.Omega.{arith}
-use mathlib.Core.Bool.{_&&_, _||_, Bool, cond, false, false≢true, not, true, true≢false}
+use mathlib.Core.Bool.{_&&_, _||_, Bool, false, false≢true, not, true, true≢false}
 use mathlib.Core.List.{[], _∷_, List}
 use mathlib.Core.Logic.{_⊎_, inl, inr, ⊎-elim}
 use mathlib.Core.Path.{_∙_, _≡_, ap, refl, subst, sym}
 use lib.Dec.{eqb, leb, ltb}
 use lib.ListN.{getD, length}
 use lib.Seq.{slice}
-use borrow.Author.Tests.{eq-eqb, eqb-false, eqb-true, le-leb, le-ltb, leb-true, ltb-false, ltb-true}
+use borrow.Author.Tests.{eq-eqb, eqb-false, eqb-true, le-ltb, leb-true, ltb-false, ltb-true}
 use Rattle.laws.specs.Fails.{Fails, fails-and, fails-every, fails-leb, fails-not-eqb, fails-not-every, fails-or, fails-true}
-use Rattle.laws.specs.Ladder.{climb, climb-by, climb-fine, climb-stop, Exactly, Granted, Ladder, left-behind, rung}
+use Rattle.laws.specs.Ladder.{climb-by, climb-fine, climb-stop, Exactly, Granted, Ladder, left-behind, rung, stop}
 use Rattle.laws.specs.Ladder as ladder
 use Rattle.laws.specs.Lists.{All}
-use Rattle.laws.specs.Tests.{and-left, and-right, and-true, or-right}
+use Rattle.laws.specs.Means.{Means, means-and, means-by, means-leb}
+use Rattle.laws.specs.Tests.{and-left, and-right, or-right}
 use Rattle.promise.specs.Refused.{IsPush, limits, refusal-told, zero-told}
 use Rattle.promise.specs.Served.{Kind}
 use Rattle.strip.specs.Answers.{countNumber, numberOf, refusalNumber}
@@ -30,13 +31,13 @@ use Rattle.strip.specs.declared.Request.{Request}
 use Rattle.tree_model.proofs.Nothing.{op-work, work-none}
 use Rattle.tree_model.proofs.Rules.{comes}
 use Rattle.tree_model.proofs.Words.{node-length}
-use Rattle.tree_model.specs.Calls.{called, carriedOut, cleared, counted, orderOk, Outcome, outcome, rootOf, rootOk, rule, ruling, Ruling, shapeOk, slotLimit, verdict, wayOk}
+use Rattle.tree_model.specs.Calls.{called, carriedOut, cleared, counted, orderOk, Outcome, outcome, rootOf, rootOk, rule, ruling, Ruling, shapeOk, verdict, wayOk}
 use Rattle.tree_model.specs.Damage.{fine, hasRoom, hasSome, isBlank, lifts, nodeOk, pathOk, readOk, room, slotOk, stepOk}
 use Rattle.tree_model.specs.Levels.{Level, Levels, stepWork, top, work}
 use Rattle.tree_model.specs.Node.{every, isEmpty, isNothing, low, lowest, slotAt, sumCounts}
 use Rattle.tree_model.specs.Promise.{clearRefusals, Damage, heldRefusals, Lifts, NodeDamaged, PathDamaged, ReadDamaged, refusals, Shape, SlotDamaged, Some, StepDamaged, WorkDamaged}
 use Rattle.tree_model.specs.Rules.{Comes, empty, full, idles, puts, returns, swaps, takes}
-use Rattle.tree_model.specs.Words.{applyWords, levelOf, levelsOf, stepWords, under, width, wipe}
+use Rattle.tree_model.specs.Words.{applyWords, levelOf, levelsOf, stepWords, under, wipe}
 use Rattle.tree_model.specs.declared.Op.{Op}
 use Rattle.tree_model.specs.declared.Op.the-variants.{Nothing, Put, Swap, Take}
 use Rattle.tree_model.specs.declared.Slot.{Slot}
@@ -118,21 +119,13 @@ module _ (m : ℕ) where
       fails-and (fine m k w (ls .0) (top k (ls .1))) _ (work-fails k w (ls .0) (top k (ls .1)))
       (path-fails k (stepWork m w (ls .0) (top k (ls .1))) (ls .1))
 
--- ---- the shape
-pub shape-is : (m levels len : ℕ) → shapeOk m levels len ≡ true → Shape m levels len
-unfolding shapeOk orderOk
-shape-is m levels len e =
-    let o : Bool = eqb m 2 || (eqb m 4 || eqb m 8) in
-    let l : Bool = leb 1 levels in
-    let c : Bool = leb (room m levels) slotLimit in
-    let r : Bool = c && leb (width * room m levels) len in
-    let e₁ = and-right o (l && r) e in
-    let e₂ = and-right l r e₁ in
+-- ---- the shape: the test says what 01's numbers say
+order-means : (m : ℕ) → Means (orderOk m) ((m ≡ 2) ⊎ (m ≡ 4) ⊎ (m ≡ 8))
+unfolding orderOk
+order-means m =
     record {
-      order = either (eqb m 2) refl (eqb m 4) refl (eqb m 8) refl (and-left o (l && r) e);
-      some = leb-true 1 levels (and-left l r e₁);
-      capacity = leb-true (room m levels) slotLimit (and-left c (leb (width * room m levels) len) e₂);
-      slice = leb-true (width * room m levels) len (and-right c (leb (width * room m levels) len) e₂);
+      says = λ e. either (eqb m 2) refl (eqb m 4) refl (eqb m 8) refl e;
+      holds = λ o. ⊎-elim (λ e. rw (eq-eqb m 2 e)) (λ d. or-right (eqb m 2) _ (⊎-elim (λ e. rw (eq-eqb m 4 e)) (λ e. or-right (eqb m 4) _ (eq-eqb m 8 e)) d)) o;
     }
   where
     either : (a : Bool) → eqb m 2 ≡ a → (b : Bool) → eqb m 4 ≡ b → (c : Bool) → eqb m 8 ≡ c → (a || (b || c)) ≡ true → (m ≡ 2) ⊎ (m ≡ 4) ⊎ (m ≡ 8)
@@ -141,13 +134,19 @@ shape-is m levels len e =
     either false p false q true r e = inr (inr (eqb-true m 8 r))
     either false p false q false r e = absurd (false≢true e)
 
+pub shape-means : (m levels len : ℕ) → Means (shapeOk m levels len) (Shape m levels len)
+unfolding shapeOk
+shape-means m levels len =
+    means-by _ _ (Shape m levels len) (λ p. record { order = p .0; some = p .1 .0; capacity = p .1 .1 .0; slice = p .1 .1 .1 }) (λ s. (s .order, (s .some, (s .capacity, s .slice))))
+    (means-and (orderOk m) _ _ _ (order-means m)
+    (means-and (leb 1 levels) _ _ _ (means-leb 1 levels)
+    (means-and (leb (room m levels) 5460) _ _ _ (means-leb (room m levels) 5460) (means-leb (3 * room m levels) len))))
+
+pub shape-is : (m levels len : ℕ) → shapeOk m levels len ≡ true → Shape m levels len
+shape-is m levels len = shape-means m levels len .says
+
 pub is-shape : (m levels len : ℕ) → Shape m levels len → shapeOk m levels len ≡ true
-unfolding shapeOk orderOk
-is-shape m levels len s =
-    and-true (eqb m 2 || (eqb m 4 || eqb m 8)) _
-    (⊎-elim (λ e. rw (eq-eqb m 2 e)) (λ d. or-right (eqb m 2) _ (⊎-elim (λ e. rw (eq-eqb m 4 e)) (λ e. or-right (eqb m 4) _ (eq-eqb m 8 e)) d)) (s .order))
-    (and-true (leb 1 levels) _ (le-leb 1 levels (s .some))
-    (and-true (leb (room m levels) slotLimit) _ (le-leb (room m levels) slotLimit (s .capacity)) (le-leb (width * room m levels) len (s .slice))))
+is-shape m levels len = shape-means m levels len .holds
 
 pub order-pos : {m levels len : ℕ} → Shape m levels len → 0 < m
 order-pos s = ⊎-elim (λ e. omega arith) (λ d. ⊎-elim (λ e. omega arith) (λ e. omega arith) d) (s .order)
@@ -343,15 +342,41 @@ kind m levels r ws =
     called-either m levels r ws (λ o. numberOf (o .answer) ≡ 0 → Kind r (o .answer)) (λ x e. absurd (zero-told x (sym e)))
     (λ s o w. comes-kind (room m levels) (rootOf m ws) r (verdict m levels r ws) (comes (room m levels) r (rootOf m ws)))
 
--- held
-pub exactly-held : (m levels : ℕ) (ws : List ℕ) → Exactly countNumber Unknown (counted m levels ws) (heldRefusals m levels ws)
-unfolding counted
-exactly-held m levels ws =
-    climb countNumber Unknown refusal-told (shapeOk m levels (length ws)) _ BadShape _ _ (record { says = shape-is m levels (length ws); holds = is-shape m levels (length ws) })
-    (climb-stop countNumber Unknown refusal-told Damaged _ _ ladder.fine (go (rootOk m levels ws) refl))
-  where
-    go : (t : Bool) → rootOk m levels ws ≡ t
-        → ((NodeDamaged (room m (pred levels)) (rootOf m ws) → ⊥) × Exactly countNumber Unknown (cond t (Held (sumCounts (rootOf m ws))) (Unknown Damaged)) ladder.fine)
-        ⊎ (NodeDamaged (room m (pred levels)) (rootOf m ws) × (cond t (Held (sumCounts (rootOf m ws))) (Unknown Damaged) ≡ Unknown Damaged))
-    go true e = inl ((λ d. true≢false (sym e ∙ node-fails (room m (pred levels)) (rootOf m ws) .shown d)), climb-fine countNumber Unknown _ zero-told)
-    go false e = inr (node-fails (room m (pred levels)) (rootOf m ws) .found e, refl)
+-- held: "the sum of the root's counts, taken once the root passes test 2"
+module _ (m levels : ℕ) (ws : List ℕ) where
+  pub counted-is : shapeOk m levels (length ws) ≡ true → rootOk m levels ws ≡ true → counted m levels ws ≡ Held (sumCounts (rootOf m ws))
+  unfolding counted
+  counted-is s o = rw (s, o)
+
+  counted-bad : shapeOk m levels (length ws) ≡ false → counted m levels ws ≡ Unknown BadShape
+  unfolding counted
+  counted-bad s = rw s
+
+  counted-damaged : shapeOk m levels (length ws) ≡ true → rootOk m levels ws ≡ false → counted m levels ws ≡ Unknown Damaged
+  unfolding counted
+  counted-damaged s o = rw (s, o)
+
+  pub exactly-held : Exactly countNumber Unknown (counted m levels ws) (heldRefusals m levels ws)
+  exactly-held = climb-by countNumber Unknown refusal-told BadShape _ _ _ (by-test (shapeOk m levels (length ws)) refl)
+    where
+      by-root : shapeOk m levels (length ws) ≡ true → (t : Bool) → rootOk m levels ws ≡ t
+          → ((NodeDamaged (room m (pred levels)) (rootOf m ws) → ⊥) × Exactly countNumber Unknown (counted m levels ws) ladder.fine)
+          ⊎ (NodeDamaged (room m (pred levels)) (rootOf m ws) × (counted m levels ws ≡ Unknown Damaged))
+      by-root s true o =
+          inl ((λ d. true≢false (sym o ∙ node-fails (room m (pred levels)) (rootOf m ws) .shown d)), climb-fine countNumber Unknown _ (λ r e. zero-told r (ap countNumber (sym (counted-is s o)) ∙ e)))
+      by-root s false o = inr (node-fails (room m (pred levels)) (rootOf m ws) .found o, counted-damaged s o)
+
+      by-test : (t : Bool) → shapeOk m levels (length ws) ≡ t
+          → (Shape m levels (length ws) × Exactly countNumber Unknown (counted m levels ws) (stop Damaged (NodeDamaged (room m (pred levels)) (rootOf m ws)) ladder.fine))
+          ⊎ ((Shape m levels (length ws) → ⊥) × (counted m levels ws ≡ Unknown BadShape))
+      by-test true s = inl (shape-is m levels (length ws) s, climb-stop countNumber Unknown refusal-told Damaged _ _ ladder.fine (by-root s (rootOk m levels ws) refl))
+      by-test false s = inr ((λ z. true≢false (sym (is-shape m levels (length ws) z) ∙ s)), counted-bad s)
+
+  -- what is so of a refused held and of one that counts is so of held
+  pub counted-either : (P : Count → Type 0) → ((x : Refusal) → P (Unknown x)) → P (Held (sumCounts (rootOf m ws))) → P (counted m levels ws)
+  counted-either P refused held = go (shapeOk m levels (length ws)) refl (rootOk m levels ws) refl
+    where
+      go : (a : Bool) → shapeOk m levels (length ws) ≡ a → (b : Bool) → rootOk m levels ws ≡ b → P (counted m levels ws)
+      go false s b o = subst P (sym (counted-bad s)) (refused BadShape)
+      go true s false o = subst P (sym (counted-damaged s o)) (refused Damaged)
+      go true s true o = subst P (sym (counted-is s o)) held

@@ -14,17 +14,16 @@ use Rattle.promise.specs.Queue.{answers, leaves, leaves-keep, pins}
 use Rattle.promise.specs.Served.{all-sum, allBrought, allGiven, always, brought, given, Holds, Least, least-same, same}
 use Rattle.strip.specs.Answers.{blank, countNumber, countOf, element, numberOf}
 use Rattle.strip.specs.declared.Answer.{Answer}
-use Rattle.strip.specs.declared.Count.the-variants.{Held}
 use Rattle.strip.specs.declared.Element.{Element}
 use Rattle.strip.specs.declared.Request.{Request}
-use Rattle.tree_model.proofs.Exactly.{called-either, called-fine, cleared-fine, comes-number, is-shape, no-damage, order-pos, shape-is}
+use Rattle.tree_model.proofs.Exactly.{called-either, called-fine, cleared-fine, comes-number, counted-is, is-shape, no-damage, order-pos, shape-is}
 use Rattle.tree_model.proofs.Hang.{below-less}
 use Rattle.tree_model.proofs.Path.{node-ok, root-path}
 use Rattle.tree_model.proofs.Rules.{comes}
 use Rattle.tree_model.proofs.Serve.{answered, cleared-holds, cleared-store, root-slots, root-sum}
 use Rattle.tree_model.proofs.Slice.{wiped}
 use Rattle.tree_model.proofs.Words.{apply-length, level-node, node-length, node-slot, size-room, tab-ext, words-apply}
-use Rattle.tree_model.specs.Calls.{called, counted, Outcome, outcome, rootOf, rootOk, rule, Ruling, shapeOk, verdict, wayOk}
+use Rattle.tree_model.specs.Calls.{called, counted, Outcome, outcome, rootOf, rootOk, rule, Ruling, verdict, wayOk}
 use Rattle.tree_model.specs.Damage.{nodeOk, room}
 use Rattle.tree_model.specs.Levels.{apply, Level, Levels, work}
 use Rattle.tree_model.specs.Node.{slotAt, sumCounts, vacant}
@@ -207,10 +206,6 @@ module _ (m k : ℕ) (ws : List ℕ) (sh : Shape m (suc k) (length ws)) where
   start-empty f = stored-holding m k (start m (suc k) ws) f ∙ ap (λ (l : Levels (suc k)). holding m k l f) start-bare ∙ cleared-holds m k f
 
 -- the call held on a kept store
-counted-is : (m levels : ℕ) (ws : List ℕ) → shapeOk m levels (length ws) ≡ true → rootOk m levels ws ≡ true → counted m levels ws ≡ Held (sumCounts (rootOf m ws))
-unfolding counted
-counted-is m levels ws s o = rw (s, o)
-
 kept-sum : (m k : ℕ) (ws : List ℕ) → Kept m k ws → sumCounts (rootOf m ws) ≡ holding m k (levelsOf m (suc k) ws 0 1) always
 unfolding holding levelsOf
 kept-sum m k ws kept = ap sumCounts (sym (root-node m ws)) ∙ root-sum m k (order-pos (kept .shape)) (levelsOf m (suc k) ws 0 1) (kept .store)

@@ -2,19 +2,17 @@
 use Prim.Native.Nat.{_*_, _+_, _-_, _<_, _^_, _≤_, suc, zero, ℕ}
 use native.Mathlib.Nat.{add-zero, mul-assoc, mul-one, not-suc-le-zero, one-mul, pow-succ', pow-zero, zero-add}
 use native.Mathlib.Omega.{arith}
-use mathlib.Core.Bool.{Bool, cond, false, true}
 use mathlib.Core.List.{[], _++_, List}
 use mathlib.Core.Path.{_∙_, _≡_, ap, ap₂, refl, sym}
 use lib.ListN.{drop, getD, getD-replicate, length, length-append, length-drop, length-replicate, List·getD-append, replicate}
 use lib.Seq.{getD-append-add, getD-drop}
 use Rattle.laws.specs.Sums.{sumTo, to-ext}
+use Rattle.promise.specs.Refused.{zero-told}
 use Rattle.strip.specs.Answers.{countNumber, countOf}
 use Rattle.strip.specs.declared.Answer.the-variants.{Done}
-use Rattle.strip.specs.declared.Count.the-variants.{Held, Unknown}
-use Rattle.strip.specs.declared.Refusal.the-variants.{BadShape, Damaged}
-use Rattle.tree_model.proofs.Exactly.{cleared-fine, is-shape}
+use Rattle.tree_model.proofs.Exactly.{cleared-fine, counted-either, is-shape}
 use Rattle.tree_model.proofs.Words.{level-length, level-node, node-slot, size-room}
-use Rattle.tree_model.specs.Calls.{cleared, counted, Outcome, rootOf, rootOk, shapeOk}
+use Rattle.tree_model.specs.Calls.{cleared, counted, Outcome, rootOf}
 use Rattle.tree_model.specs.Damage.{room}
 use Rattle.tree_model.specs.Levels.{Level}
 use Rattle.tree_model.specs.Node.{slotAt, sumCounts}
@@ -96,11 +94,5 @@ root-counts m ws =
     sum-tabulate m (λ j. slotOf ws (0 + j)) ∙ to-ext m (λ j. getD ws (3 * (0 + j) + 2) 0) (λ j. getD ws (3 * j + 2) 0) (λ j l. ap (λ (i : ℕ). getD ws (3 * i + 2) 0) (zero-add j))
 
 pub held-counts : (m levels : ℕ) (ws : List ℕ) → countNumber (counted m levels ws) ≡ 0 → countOf (counted m levels ws) ≡ sumTo m (λ j. getD ws (3 * j + 2) 0)
-unfolding counted
-held-counts m levels ws = go (shapeOk m levels (length ws)) (rootOk m levels ws)
-  where
-    go : (a b : Bool) → countNumber (cond a (cond b (Held (sumCounts (rootOf m ws))) (Unknown Damaged)) (Unknown BadShape)) ≡ 0
-        → countOf (cond a (cond b (Held (sumCounts (rootOf m ws))) (Unknown Damaged)) (Unknown BadShape)) ≡ sumTo m (λ j. getD ws (3 * j + 2) 0)
-    go true true e = root-counts m ws
-    go true false e = absurd (omega arith)
-    go false b e = absurd (omega arith)
+held-counts m levels ws =
+    counted-either m levels ws (λ c. countNumber c ≡ 0 → countOf c ≡ sumTo m (λ j. getD ws (3 * j + 2) 0)) (λ x e. absurd (zero-told x (sym e))) (λ e. root-counts m ws)

@@ -1,0 +1,18 @@
+-- What the order goes by, and the values where there is no element, in 01's words. Assumes nothing.
+use Prim.Native.Nat.{_<_, ℕ}
+use mathlib.Core.Path.{_≡_, refl}
+use Rattle.strip.specs.Answers.{blank, countOf, key, numberOf, rankOf, refusalNumber, tagOf}
+use Rattle.strip.specs.declared.Answer.the-variants.{Done, Refused}
+use Rattle.strip.specs.declared.Count.the-variants.{Unknown}
+use Rattle.strip.specs.declared.Element.{Element}
+use Rattle.strip.specs.declared.Refusal.{Refusal}
+
+-- "Lower rank leaves first"
+pub by-rank : (e : Element) → key e ≡ e .rank .0
+unfolding key
+by-rank e = refl
+
+-- "A refusal, idle cycle or push answers rank 0, tag 0"; "In every queue a refused held answers 0"
+pub nothing-given : (r : Refusal) → (rankOf (Refused r) ≡ 0) × (tagOf (Refused r) ≡ 0) × (rankOf Done ≡ 0) × (tagOf Done ≡ 0) × (countOf (Unknown r) ≡ 0)
+unfolding blank
+nothing-given r = (refl, refl, refl, refl, refl)
