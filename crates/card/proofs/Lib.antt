@@ -1,3 +1,4 @@
 -- What the proofs of the calls share.
 pub mod Calls
 pub mod Clocked
+pub mod Zeros
