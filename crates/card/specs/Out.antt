@@ -13,9 +13,14 @@ use Rattle.strip.specs.declared.Refusal.the-variants.{BadShape}
 abbrev pub answerOut : Answer → List ℕ → List ℕ
 answerOut a out = set (set out 0 (rankOf a)) 1 (tagOf a)
 
--- the number of a call that the boundary itself refuses: nothing is changed
+-- the number of a call that the boundary itself refuses: nothing is changed but `out`
 abbrev pub badShape : ℕ
 badShape = refusalNumber BadShape
+
+-- what a refused call leaves in `out`: "A refusal .. answers rank 0, tag 0", a drain refused 1 "reports 0 and no work left".
+-- An `out` that is too short is not touched
+unfoldable pub refusedOut : List ℕ → List ℕ
+refusedOut out = cond (leb 2 (length out)) (set (set out 0 0) 1 0) out
 
 -- ---- held, of any queue: the number returned, and `out` afterwards
 pub record Counted : Type 0 where

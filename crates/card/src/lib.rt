@@ -1,5 +1,5 @@
 // The static library for C and Rust: the three queues over numbers and slices. Each function returns 01's number, 0 where nothing is
-// refused, and writes what it answers to `out`. An `out` that is too short is refusal 1, and nothing changes.
+// refused, and writes what it answers to `out`, zeros on a refusal. An `out` that is too short is refusal 1, and nothing changes.
 ghost use mathlib.Core.Path.{_≡_};
 ghost use Prim.Native.Nat.{_≤_};
 ghost use lib.ListN.{length, set};
@@ -30,6 +30,9 @@ use strip::given;
 use strip::number;
 
 // ---- what `out` receives
+
+// The words of an answer: rank and tag, or cycles run and whether work is left.
+const OUT: usize = 2;
 
 // Writes an answer's rank and tag, 0 and 0 on a refusal, and returns its number.
 fn tell(out: &mut [u32], answer: Answer) -> u32
@@ -83,7 +86,7 @@ pub extern "C" fn card_tree_push(
 pub extern "C" fn card_tree_pop(store: &mut [u32], order: u32, levels: u32, out: &mut [u32]) -> u32
     ensures { λ r. ⌜ treeTold r (now (store .exit)) (now (out .exit)) ≡ treePop order levels (now (store .entry)) (now (out .entry)) ⌝ }
 {
-    if out.len() < 2 {
+    if out.len() < OUT {
         return 1;
     }
     let answer = tree::pop(store, order as usize, levels as usize);
@@ -101,7 +104,7 @@ pub extern "C" fn card_tree_replace(
 ) -> u32
     ensures { λ r. ⌜ treeTold r (now (store .exit)) (now (out .exit)) ≡ treeReplace order levels (now (store .entry)) rank tag (now (out .entry)) ⌝ }
 {
-    if out.len() < 2 {
+    if out.len() < OUT {
         return 1;
     }
     let x = Element {
@@ -154,7 +157,7 @@ pub extern "C" fn card_bucket_pop(
 ) -> u32
     ensures { λ r. ⌜ drawn r (now (bits .exit)) (now (words .exit)) (now (out .exit)) ≡ bucketPop (now (bits .entry)) (now (words .entry)) nodes (now (out .entry)) ⌝ }
 {
-    if out.len() < 2 {
+    if out.len() < OUT {
         return 1;
     }
     let answer = bucket::pop(bits, words, nodes);
@@ -172,7 +175,7 @@ pub extern "C" fn card_bucket_replace(
 ) -> u32
     ensures { λ r. ⌜ drawn r (now (bits .exit)) (now (words .exit)) (now (out .exit)) ≡ bucketReplace (now (bits .entry)) (now (words .entry)) nodes rank tag (now (out .entry)) ⌝ }
 {
-    if out.len() < 2 {
+    if out.len() < OUT {
         return 1;
     }
     let answer = bucket::replace(bits, words, nodes, Rank(rank), Tag(tag));
@@ -192,19 +195,22 @@ pub extern "C" fn card_bucket_held(bits: &[u64], words: &[u32], nodes: u32, out:
 
 // ---- the clocked tree
 
-// Whether the boundary takes a call: two words of `out`, a request, and records and mark that can be read.
+// Whether the boundary takes a call on a store of so many words: a shape, a request, and records and mark that can be read.
 fn is_taken(
     order: usize,
     levels: usize,
+    words: usize,
     records: &[u32],
     mark: &[u32],
     request: u32,
-    room: usize,
 ) -> bool
-    ensures { λ r. ⌜ r ≡ taken order levels (now (records .entry)) (now (mark .entry)) request room ⌝ }
+    ensures { λ r. ⌜ r ≡ taken order levels words (now (records .entry)) (now (mark .entry)) request ⌝ }
 {
-    let readable = is_readable(order, levels, records, mark);
-    (2 <= room) & (request <= 3) & readable
+    if !shape_ok(order, levels, words) {
+        return false;
+    }
+    let readable = is_readable(records, mark, levels - 1);
+    (request <= 3) & readable
 }
 
 fn request_of(request: u32, rank: u32, tag: u32) -> Request
@@ -256,10 +262,10 @@ pub extern "C" fn card_clocked_clear(
 {
     let m = order as usize;
     let l = levels as usize;
-    if !is_roomy(m, l, records, mark) {
+    if !shape_ok(m, l, store.len()) {
         return 1;
     }
-    if !shape_ok(m, l, store.len()) {
+    if !is_roomy(records, mark, l - 1) {
         return 1;
     }
     let done = clocked::clear(store, m, l);
@@ -286,10 +292,10 @@ pub extern "C" fn card_clocked_cycle(
 {
     let m = order as usize;
     let l = levels as usize;
-    if !is_taken(m, l, records, mark, request, out.len()) {
+    if out.len() < OUT {
         return 1;
     }
-    if !shape_ok(m, l, store.len()) {
+    if !is_taken(m, l, store.len(), records, mark, request) {
         return tell(out, Answer::Refused(Refusal::BadShape));
     }
     let state = read_state(records, mark, l - 1);
@@ -316,10 +322,10 @@ pub extern "C" fn card_clocked_drain(
 {
     let m = order as usize;
     let l = levels as usize;
-    if !is_taken(m, l, records, mark, 0, out.len()) {
+    if out.len() < OUT {
         return 1;
     }
-    if !shape_ok(m, l, store.len()) {
+    if !is_taken(m, l, store.len(), records, mark, 0) {
         return tell_drain(out, 0, false, Answer::Refused(Refusal::BadShape));
     }
     let state = read_state(records, mark, l - 1);

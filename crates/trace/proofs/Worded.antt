@@ -8,17 +8,16 @@ use mathlib.Core.Path.{_∙_, _≡_, ap, ap₂, refl, subst, sym}
 use lib.Dec.{eqb, leb, ltb}
 use lib.ListN.{drop, length, length-replicate}
 use borrow.Author.Tests.{le-leb, leb-true}
-use Rattle.clocked_model.proofs.Demand.{ran}
 use Rattle.clocked_model.proofs.Drain.{drain-left, drain-state}
-use Rattle.clocked_model.proofs.Exactly.{exactly-cycle, no-damage-sound, ticked-fine}
+use Rattle.clocked_model.proofs.Exactly.{no-damage-sound, ticked-fine}
 use Rattle.clocked_model.proofs.Promises.{drained-fine, drained-left, held-says, shape-kept, undamaged}
-use Rattle.clocked_model.specs.Calls.{CycleOutcome, DrainOutcome, drains, heard, isRefused, pending, popsOrReplaces, restarted, runs, ticked, turned}
+use Rattle.clocked_model.specs.Calls.{CycleOutcome, DrainOutcome, drains, heard, pending, popsOrReplaces, restarted, ticked, turned}
+use Rattle.clocked_model.specs.Promise.{cleared, clockedQueue, Machine, ran}
 use Rattle.clocked_model.specs.declared.State.{State}
+use Rattle.promise.specs.Queue.{leaves}
 use Rattle.laws.specs.Tests.{and-left, and-right, and-true}
-use Rattle.strip.specs.Answers.{countOf, key}
+use Rattle.strip.specs.Answers.{countOf, key, numberOf}
 use Rattle.strip.specs.declared.Answer.the-variants.{Done, Out, Refused}
-use Rattle.strip.specs.declared.Count.{Count}
-use Rattle.strip.specs.declared.Count.the-variants.{Held}
 use Rattle.strip.specs.declared.Refusal.{Refusal}
 use Rattle.strip.specs.declared.Refusal.the-variants.{BadRank, BadShape, Damaged, Empty, Full, TooSoon}
 use Rattle.strip.specs.declared.Request.{Request}
@@ -35,7 +34,7 @@ use Rattle.tree_model.specs.Calls.{counted, orderOk, rule, ruling, shapeOk, slo
 use Rattle.tree_model.specs.Damage.{room}
 use Rattle.tree_model.specs.Node.{low, sumCounts}
 use Rattle.tree_model.specs.Promise.{Shape, stored}
-use Rattle.tree_model.specs.Tree.{always}
+use Rattle.promise.specs.Served.{always}
 use Rattle.tree_model.specs.Words.{width}
 use Rattle.tree_model.specs.declared.Op.the-variants.{Nothing, Put, Swap, Take}
 use Rattle.tree_model.specs.declared.Slot.{Slot}
@@ -74,12 +73,10 @@ pred-le (suc n) = omega arith
 
 -- ---- one request more
 module _ (m levels : ℕ) where
-  run-next : (rs : List Request) (r : Request) (s : State) (ws : List ℕ)
-      → (runs m levels (rs ++ (r ∷ [])) s ws .state ≡ ticked m levels r (runs m levels rs s ws .state) (runs m levels rs s ws .words) .state)
-      × (runs m levels (rs ++ (r ∷ [])) s ws .words ≡ ticked m levels r (runs m levels rs s ws .state) (runs m levels rs s ws .words) .words)
-  unfolding runs
-  run-next [] r s ws = (refl, refl)
-  run-next (x ∷ rs) r s ws = run-next rs r (ticked m levels x s ws .state) (ticked m levels x s ws .words)
+  run-next : (rs : List Request) (r : Request) (x : Machine) → leaves (clockedQueue m levels) (rs ++ (r ∷ [])) x ≡ clockedQueue m levels r (leaves (clockedQueue m levels) rs x) .next
+  unfolding leaves
+  run-next [] r x = refl
+  run-next (q ∷ rs) r x = run-next rs r (clockedQueue m levels q x .next)
 
 -- ---- from a cleared machine, whatever the words before, with a shape
 module _ (m levels : ℕ) (ws : List ℕ) (sh : Shape m levels (length ws)) where
@@ -89,15 +86,6 @@ module _ (m levels : ℕ) (ws : List ℕ) (sh : Shape m levels (length ws)) wher
   abbrev wordsAt : List Request → List ℕ
   wordsAt rs = ran m levels rs ws .words
 
-  -- NONE SILENT: after any list of cycles no cycle is refused 1, 2 or 4
-  pub none-silent : (rs : List Request) (r : Request) (n : Refusal) → Silent n → ticked m levels r (stateAt rs) (wordsAt rs) .answer ≡ Refused n → ⊥
-  none-silent rs r BadShape q e = exactly-cycle m levels r (stateAt rs) (wordsAt rs) BadShape .0 e (shape-kept m ws rs levels sh)
-  none-silent rs r Damaged q e = undamaged m ws rs levels sh r (exactly-cycle m levels r (stateAt rs) (wordsAt rs) Damaged .0 e .1)
-  none-silent rs r TooSoon q e = q
-  none-silent rs r BadRank q e = exactly-cycle m levels r (stateAt rs) (wordsAt rs) BadRank .0 e
-  none-silent rs r Full q e = q
-  none-silent rs r Empty q e = q
-
   word-some : (rs : List Request) (r : Request) → wordOf r (ticked m levels r (stateAt rs) (wordsAt rs) .answer) ≡ [] → ⊥
   unfolding turned
   word-some rs r e =
@@ -106,30 +94,39 @@ module _ (m levels : ℕ) (ws : List ℕ) (sh : Shape m levels (length ws)) wher
       (is-shape m levels (length (wordsAt rs)) (shape-kept m ws rs levels sh))
       (no-damage-sound m levels r (stateAt rs) (wordsAt rs) (undamaged m ws rs levels sh r)))) ∙ e)
 
+  -- NONE SILENT: after any list of cycles no cycle is refused 1, 2 or 4
+  pub none-silent : (rs : List Request) (r : Request) (n : Refusal) → Silent n → ticked m levels r (stateAt rs) (wordsAt rs) .answer ≡ Refused n → ⊥
+  unfolding wordOf refusalWord
+  none-silent rs r BadShape q e = word-some rs r (ap (wordOf r) e)
+  none-silent rs r Damaged q e = word-some rs r (ap (wordOf r) e)
+  none-silent rs r TooSoon q e = q
+  none-silent rs r BadRank q e = word-some rs r (ap (wordOf r) e)
+  none-silent rs r Full q e = q
+  none-silent rs r Empty q e = q
+
   worded-from : (es : List Record) (rs : List Request) → Worded m levels (stateAt rs) (wordsAt rs) es
   worded-from [] rs = tt
   worded-from (Bad ∷ es) rs = tt
   worded-from (Good r ∷ es) rs =
-      let n = run-next m levels rs r (restarted m levels ws .state) (restarted m levels ws .words) in
-      (word-some rs r, subst (λ (x : State × List ℕ). Worded m levels (x .0) (x .1) es) (ap₂ (λ (s : State) (w : List ℕ). (s, w)) (n .0) (n .1)) (worded-from es (rs ++ (r ∷ []))))
+      (word-some rs r, subst (λ (x : Machine). Worded m levels (x .state) (x .words) es) (run-next m levels rs r (cleared m levels ws)) (worded-from es (rs ++ (r ∷ []))))
 
   -- THE LAST LINE: after any list of cycles the drain is not refused and leaves no work, and the line says how many are stored
   abbrev drained : List Request → DrainOutcome
   drained rs = drains m levels levels (stateAt rs) (wordsAt rs)
 
-  pub end-done : (rs : List Request) → (isRefused (drained rs .answer) ≡ false) × (drained rs .left ≡ false)
+  pub end-done : (rs : List Request) → (numberOf (drained rs .answer) ≡ 0) × (drained rs .left ≡ false)
   end-done rs = (drained-fine m ws rs levels sh levels (pred-le levels), drained-left m ws rs levels sh levels (pred-le levels))
 
   pub end-says : (rs : List Request) → endOf m levels (stateAt rs) (wordsAt rs) ≡ endLine (stored (room m levels) (drained rs .words) always) (drained rs .cycles)
   unfolding endOf
-  end-says rs = ap (λ (c : Count). endLine (countOf c) (drained rs .cycles)) (held-at rs)
+  end-says rs = ap (λ (n : ℕ). endLine n (drained rs .cycles)) (held-at rs)
     where
-      held-at : (rs : List Request) → counted m levels (drained rs .words) ≡ Held (stored (room m levels) (drained rs .words) always)
+      held-at : (rs : List Request) → countOf (counted m levels (drained rs .words)) ≡ stored (room m levels) (drained rs .words) always
       held-at rs =
           let d = drain-state m levels levels (stateAt rs) (wordsAt rs) in
-          subst (λ (v : List ℕ). counted m levels v ≡ Held (stored (room m levels) v always)) (sym (d .0))
+          subst (λ (v : List ℕ). countOf (counted m levels v) ≡ stored (room m levels) v always) (sym (d .0))
           (held-says m ws rs levels sh (drained rs .cycles)
-          (ap (pending m levels) (sym (d .1)) ∙ sym (drain-left m levels levels (stateAt rs) (wordsAt rs) (shape-kept m ws rs levels sh)) ∙ end-done rs .1))
+          (ap (pending m levels) (sym (d .1)) ∙ sym (drain-left m levels levels (stateAt rs) (wordsAt rs) (shape-kept m ws rs levels sh)) ∙ end-done rs .1) .1)
 
 -- ---- the program's shapes
 trace-shape : (m levels : ℕ) → traceShape m levels ≡ true → Shape m levels storeWords
@@ -161,7 +158,7 @@ unfolding emptyStore
 store-length = length-replicate {A = ℕ} storeWords 0
 
 at-first : (m levels : ℕ) (ws : List ℕ) → Shape m levels (length ws) → (es : List Record) → Worded m levels (restarted m levels ws .state) (restarted m levels ws .words) es
-unfolding runs
+unfolding leaves
 at-first m levels ws sh es = worded-from m levels ws sh es []
 
 -- WORDED: every line of every trace has a word
