@@ -60,6 +60,13 @@ pub record Fit (m levels cap : ℕ) (ws : List ℕ) : Type 0 where
   pub few : (0 < m) × (m ≤ 8)
   pub below : cap ≡ room m (levels - 1)
 
+-- .. and once the root has been looked at, is whole and holds something
+pub record Opened (m levels cap j : ℕ) (ws : List ℕ) : Type 0 where
+  pub fits : Fit m levels cap ws
+  pub fine : rootOk m levels ws ≡ true
+  pub looked : Looked m levels 0 j cap ws
+  pub some : sumCounts (rootOf m ws) ≡ 0 → ⊥
+
 module _ (m levels : ℕ) (ws : List ℕ) (t : Bool) (shaped : t ≡ shapeOk m levels (length ws)) (yes : not t ≡ false) where
   pub shape-here : Shape m levels (length ws)
   shape-here = shape-is m levels (length ws) (sym shaped ∙ not-false t yes)
@@ -161,40 +168,17 @@ module _ {m levels cap : ℕ} {ws : List ℕ} (f : Fit m levels cap ws) where
     pub replace-none : (x : Element) → j ≡ m → outcome (Out x) ws ≡ called m levels (Replace x) ws
     replace-none x e = still root-fine (Replace x) (Out x) Nothing (replace-empty m levels ws _ refl x (root-none e)) refl
 
-    module _ (some : j ≡ m → ⊥) (most : j ≤ m) where
-      pub root-looked : Looked m levels 0 j cap ws
-      root-looked = record { stands = root-stands; whole = cap-fine; place = place; inside = below-ne j m some most }
-
-      root-some : sumCounts (rootOf m ws) ≡ 0 → ⊥
-      root-some z =
-          let s : hasSome (nodeOf m ws 0) ≡ true =
-          and-right (nodeOk cap (nodeOf m ws 0)) (hasSome (nodeOf m ws 0)) (sym (some-test m ws 0 j cap true place (sym cap-fine)) ∙ lt-ltb j m (root-looked .inside)) in
-          omega (arith, has-sum (nodeOf m ws 0) s)
-
-      module _ (a : Slot) (read : a ≡ slotOf ws j) where
-        low-is : a .element ≡ low (rootOf m ws)
-        low-is = low-found m ws 0 j a place (root-looked .inside) (read ∙ ap (slotOf ws) (sym (zero-add j)))
-
-        module _ (t : Bool) (q : List ℕ) (d : Carried m levels 0 Take ws t q) where
-          pub pop-broken : not t ≡ true → outcome (Refused Damaged) q ≡ called m levels Pop ws
-          pop-broken e = broken root-fine Pop (Out (a .element)) Take (pop-takes m levels ws _ refl root-some (a .element) low-is) t q d (not-true t e)
-
-          pub pop-done : not t ≡ false → outcome (Out (a .element)) q ≡ called m levels Pop ws
-          pop-done e = carried root-fine Pop (Out (a .element)) Take (pop-takes m levels ws _ refl root-some (a .element) low-is) t q d (not-false t e)
-
-        module _ (x : Element) (s : Bool) (is-lower : s ≡ ltb (key x) (key (a .element))) where
-          pub replace-first : s ≡ true → outcome (Out x) ws ≡ called m levels (Replace x) ws
-          replace-first e = still root-fine (Replace x) (Out x) Nothing (replace-back m levels ws _ refl root-some (a .element) low-is x s is-lower e) refl
-
-          module _ (no : s ≡ false) (t : Bool) (q : List ℕ) (d : Carried m levels 0 (Swap x) ws t q) where
-            swaps : verdict m levels (Replace x) ws ≡ ruling (Out (a .element)) (Swap x)
-            swaps = replace-swaps m levels ws _ refl root-some (a .element) low-is x s is-lower no
-
-            pub replace-broken : not t ≡ true → outcome (Refused Damaged) q ≡ called m levels (Replace x) ws
-            replace-broken e = broken root-fine (Replace x) (Out (a .element)) (Swap x) swaps t q d (not-true t e)
-
-            pub replace-done : not t ≡ false → outcome (Out (a .element)) q ≡ called m levels (Replace x) ws
-            replace-done e = carried root-fine (Replace x) (Out (a .element)) (Swap x) swaps t q d (not-false t e)
+    pub opened : (j ≡ m → ⊥) → j ≤ m → Opened m levels cap j ws
+    opened n most =
+        let inside : j < m = below-ne j m n most in
+        let some : hasSome (nodeOf m ws 0) ≡ true =
+        and-right (nodeOk cap (nodeOf m ws 0)) (hasSome (nodeOf m ws 0)) (sym (some-test m ws 0 j cap true place (sym cap-fine)) ∙ lt-ltb j m inside) in
+        record {
+          fits = f;
+          fine = root-fine;
+          looked = record { stands = root-stands; whole = cap-fine; place = place; inside = inside };
+          some = λ z. omega (arith, has-sum (nodeOf m ws 0) some);
+        }
 
   -- ---- a push: the put comes first, and only where it is not done the cause is looked for
   room-top : m * suc (room m (levels - 1)) ≡ room m levels
@@ -249,3 +233,32 @@ module _ {m levels cap : ℕ} {ws : List ℕ} (f : Fit m levels cap ws) where
         pub push-over : most ≤ n → outcome (Refused Full) q ≡ called m levels (Push x) ws
         push-over h =
             ap (outcome (Refused Full)) same-words ∙ still (held-is .0) (Push x) (Refused Full) Nothing (push-full m levels ws n (held-is .1) x most count (f .shape .capacity) h) refl
+
+-- ---- pop and replace at a root that holds something
+module _ {m levels cap j : ℕ} {ws : List ℕ} (o : Opened m levels cap j ws) (a : Slot) (read : a ≡ slotOf ws j) where
+  low-is : a .element ≡ low (rootOf m ws)
+  low-is = low-found m ws 0 j a (o .looked .place) (o .looked .inside) (read ∙ ap (slotOf ws) (sym (zero-add j)))
+
+  module _ (t : Bool) (q : List ℕ) (d : Carried m levels 0 Take ws t q) where
+    takes : verdict m levels Pop ws ≡ ruling (Out (a .element)) Take
+    takes = pop-takes m levels ws _ refl (o .some) (a .element) low-is
+
+    pub pop-broken : not t ≡ true → outcome (Refused Damaged) q ≡ called m levels Pop ws
+    pop-broken e = broken (o .fits) (o .fine) Pop (Out (a .element)) Take takes t q d (not-true t e)
+
+    pub pop-done : not t ≡ false → outcome (Out (a .element)) q ≡ called m levels Pop ws
+    pop-done e = carried (o .fits) (o .fine) Pop (Out (a .element)) Take takes t q d (not-false t e)
+
+  module _ (x : Element) (s : Bool) (is-lower : s ≡ ltb (key x) (key (a .element))) where
+    pub replace-first : s ≡ true → outcome (Out x) ws ≡ called m levels (Replace x) ws
+    replace-first e = still (o .fits) (o .fine) (Replace x) (Out x) Nothing (replace-back m levels ws _ refl (o .some) (a .element) low-is x s is-lower e) refl
+
+    module _ (no : s ≡ false) (t : Bool) (q : List ℕ) (d : Carried m levels 0 (Swap x) ws t q) where
+      swaps : verdict m levels (Replace x) ws ≡ ruling (Out (a .element)) (Swap x)
+      swaps = replace-swaps m levels ws _ refl (o .some) (a .element) low-is x s is-lower no
+
+      pub replace-broken : not t ≡ true → outcome (Refused Damaged) q ≡ called m levels (Replace x) ws
+      replace-broken e = broken (o .fits) (o .fine) (Replace x) (Out (a .element)) (Swap x) swaps t q d (not-true t e)
+
+      pub replace-done : not t ≡ false → outcome (Out (a .element)) q ≡ called m levels (Replace x) ws
+      replace-done e = carried (o .fits) (o .fine) (Replace x) (Out (a .element)) (Swap x) swaps t q d (not-false t e)

@@ -209,10 +209,10 @@ module _ {m k at cap : ℕ} {ws : List ℕ} (st : Stands m k at cap ws) where
     cap-is : cap ≡ m * suc (room m (k - 1 - 1))
     cap-is = st .fits ∙ room-step m (k - 1) deep
 
-    pub cap-some : 1 ≤ cap
+    cap-some : 1 ≤ cap
     cap-some = omega (arith, cap-is, mul-le-mul-right (suc (room m (k - 1 - 1))) (numbers .order))
 
-    pub stands-below : (j : ℕ) → j < m → Stands m (k - 1) ((at + j + 1) * m) ((cap - 1) / m) ws
+    stands-below : (j : ℕ) → j < m → Stands m (k - 1) ((at + j + 1) * m) ((cap - 1) / m) ws
     stands-below j h =
         record {
           base = st .base + st .nodes * m;

@@ -22,13 +22,13 @@ pub record Lies (m k b c n : ℕ) (ws : List ℕ) : Type 0 where
   pub words : width * (b + size m k c) ≤ length ws
   pub small : b + size m k c ≤ slotLimit
 
--- a node by its first slot, `at`. Every level above is whole, so that the node below slot i of this level begins at slot (i + 1) * m
+-- .. and its first slot is slot `at`. Every level above is whole, so that the node below slot i of this level begins at slot (i + 1) * m
 pub record Placed (m k at b c n : ℕ) (ws : List ℕ) : Type 0 where
   pub lies : Lies m k b c n ws
   pub above : b + c * m ≡ (b + 1) * m
   pub first : at ≡ b + n * m
 
--- .. at some level of some node, with this level at least left, and `cap` the room below each of its slots
+-- what put asks: there is such a node, with its own level at least left, and `cap` is the room below each of its slots
 pub record Stands (m k at cap : ℕ) (ws : List ℕ) : Type 0 where
   pub base : ℕ
   pub nodes : ℕ
@@ -37,7 +37,7 @@ pub record Stands (m k at cap : ℕ) (ws : List ℕ) : Type 0 where
   pub some : 1 ≤ k
   pub fits : cap ≡ room m (k - 1)
 
--- .. and it has been looked at: it is whole, and j is its lowest place
+-- what take and swap ask: the node has been looked at, is whole, and j is its lowest place
 pub record Looked (m k at j cap : ℕ) (ws : List ℕ) : Type 0 where
   pub stands : Stands m k at cap ws
   pub whole : nodeOk cap (nodeOf m ws at) ≡ true

@@ -1,4 +1,4 @@
-// The multi-way tree, one operation at a time, over lent words. A level is named by the number of its first slot and how many nodes it has.
+// The multi-way tree, one operation at a time, over lent words. A node is named by its first slot.
 ghost use mathlib.Core.Path.{_≡_};
 ghost use mathlib.Core.List.{_++_};
 ghost use Prim.Native.Nat.{_≤_};

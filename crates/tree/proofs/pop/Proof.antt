@@ -1,10 +1,26 @@
 -- `tree::pop` meets its contract. Assumes nothing.
 use native.Mathlib.Omega.{arith}
 use borrow.Author.Needs.{needs}
-use Rattle.tree.proofs.Calls.{called-damaged, called-shape, fit, pop-broken, pop-done, pop-none, root-looked, root-stands, shape-few, shape-here}
+use Rattle.tree.proofs.Calls.{called-damaged, called-shape, Fit, fit, Opened, opened, pop-broken, pop-done, pop-none, root-stands, shape-few, shape-here}
 use Rattle.tree.proofs.Once.{look-in, numbers}
 use Rattle.tree.proofs.pop.Statement.{statement}
 use Rattle.tree.proofs.pop.Tie as tie
+
+-- the shape is tested, and the room below the root counted
+abbrev start : tie.After-capacity → tie.Start
+start c = c .before .before .before .before
+
+fitting : (c : tie.After-capacity) → Fit (start c .args .order) (start c .args .levels) (c .capacity .result) (start c .args .store .now)
+fitting c = fit _ _ _ _ (c .before .before .shape-ok .ensures) (c .before .if1 .left) _ (c .capacity .ensures)
+
+-- the root is looked at, whole, and holds something
+abbrev at-count : tie.Else3 → tie.After-capacity
+at-count c = c .before .before .before .before .before
+
+opening : (c : tie.Else3) → Opened (start (at-count c) .args .order) (start (at-count c) .args .levels) (at-count c .capacity .result) (c .before .before .before .look-low .result .place) (start (at-count c) .args .store .now)
+opening c =
+    let looked = c .before .before .before .look-low .ensures in
+    opened (fitting (at-count c)) _ _ (looked .0) (looked .1 .0) (c .before .if2 .left) (c .if3 .left) (looked .1 .1)
 
 shape-ok-requires : tie.Need-shape-ok-requires
 shape-ok-requires c κs = search needs
@@ -27,12 +43,7 @@ capacity-requires c κs =
     shape-few (start .args .order) (start .args .levels) (start .args .store .now) _ (at-shape .shape-ok .ensures) (c .if1 .left)
 
 look-low-requires : tie.Need-look-low-requires
-look-low-requires c κs =
-    let at-cap = c .before in
-    let at-if1 = at-cap .before in
-    let at-shape = at-if1 .before in
-    let start = at-shape .before .before in
-    look-in (root-stands (fit (start .args .order) (start .args .levels) (start .args .store .now) _ (at-shape .shape-ok .ensures) (at-if1 .if1 .left) _ (at-cap .capacity .ensures)))
+look-low-requires c κs = look-in (root-stands (fitting (c .before)))
 
 same-length : tie.Need-same-length
 same-length c = search needs
@@ -40,11 +51,7 @@ same-length c = search needs
 returns-2 : tie.Need-returns-2
 returns-2 c =
     let at-look = c .before .before in
-    let at-cap = at-look .before .before in
-    let at-if1 = at-cap .before in
-    let at-shape = at-if1 .before in
-    let start = at-shape .before .before in
-    called-damaged (fit (start .args .order) (start .args .levels) (start .args .store .now) _ (at-shape .shape-ok .ensures) (at-if1 .if1 .left) _ (at-cap .capacity .ensures)) _ _ (at-look .look-low .ensures .0) (c .if2 .taken)
+    called-damaged (fitting (c .before .before .before .before)) _ _ (at-look .look-low .ensures .0) (c .if2 .taken)
 
 same-length-2 : tie.Need-same-length-2
 same-length-2 c = search needs
@@ -53,33 +60,13 @@ returns-3 : tie.Need-returns-3
 returns-3 c =
     let at-if2 = c .before in
     let at-look = at-if2 .before .before in
-    let at-cap = at-look .before .before in
-    let at-if1 = at-cap .before in
-    let at-shape = at-if1 .before in
-    let start = at-shape .before .before in
-    pop-none (fit (start .args .order) (start .args .levels) (start .args .store .now) _ (at-shape .shape-ok .ensures) (at-if1 .if1 .left) _ (at-cap .capacity .ensures)) _ _ (at-look .look-low .ensures .0) (at-look .look-low .ensures .1 .0) (at-if2 .if2 .left) (c .if3 .taken)
+    pop-none (fitting (c .before .before .before .before .before)) _ _ (at-look .look-low .ensures .0) (at-look .look-low .ensures .1 .0) (at-if2 .if2 .left) (c .if3 .taken)
 
 slot-at-requires : tie.Need-slot-at-requires
-slot-at-requires c κs =
-    let at-if3 = c .before in
-    let at-if2 = at-if3 .before in
-    let at-look = at-if2 .before .before in
-    let at-cap = at-look .before .before in
-    let at-if1 = at-cap .before in
-    let at-shape = at-if1 .before in
-    let start = at-shape .before .before in
-    omega (arith, numbers (root-stands (fit (start .args .order) (start .args .levels) (start .args .store .now) _ (at-shape .shape-ok .ensures) (at-if1 .if1 .left) _ (at-cap .capacity .ensures))), root-looked (fit (start .args .order) (start .args .levels) (start .args .store .now) _ (at-shape .shape-ok .ensures) (at-if1 .if1 .left) _ (at-cap .capacity .ensures)) (at-look .look-low .result .place) (at-look .look-low .result .ok) (at-look .look-low .ensures .0) (at-look .look-low .ensures .1 .0) (at-if2 .if2 .left) (at-if3 .if3 .left) (at-look .look-low .ensures .1 .1))
+slot-at-requires c κs = omega (arith, numbers (root-stands (fitting (c .before .before .before .before .before .before))), opening (c .before))
 
 take-requires : tie.Need-take-requires
-take-requires c κs =
-    let at-if3 = c .before .before .before .before in
-    let at-if2 = at-if3 .before in
-    let at-look = at-if2 .before .before in
-    let at-cap = at-look .before .before in
-    let at-if1 = at-cap .before in
-    let at-shape = at-if1 .before in
-    let start = at-shape .before .before in
-    root-looked (fit (start .args .order) (start .args .levels) (start .args .store .now) _ (at-shape .shape-ok .ensures) (at-if1 .if1 .left) _ (at-cap .capacity .ensures)) _ _ (at-look .look-low .ensures .0) (at-look .look-low .ensures .1 .0) (at-if2 .if2 .left) (at-if3 .if3 .left) (at-look .look-low .ensures .1 .1)
+take-requires c κs = opening (c .before .before .before .before) .looked
 
 same-length-3 : tie.Need-same-length-3
 same-length-3 c = search needs
@@ -88,14 +75,7 @@ returns-4 : tie.Need-returns-4
 returns-4 c =
     let at-done = c .before .before .before in
     let at-slot = at-done .before .before .before in
-    let at-if3 = at-slot .before .before in
-    let at-if2 = at-if3 .before in
-    let at-look = at-if2 .before .before in
-    let at-cap = at-look .before .before in
-    let at-if1 = at-cap .before in
-    let at-shape = at-if1 .before in
-    let start = at-shape .before .before in
-    pop-broken (fit (start .args .order) (start .args .levels) (start .args .store .now) _ (at-shape .shape-ok .ensures) (at-if1 .if1 .left) _ (at-cap .capacity .ensures)) _ _ (at-look .look-low .ensures .0) (at-look .look-low .ensures .1 .0) (at-if2 .if2 .left) (at-if3 .if3 .left) (at-look .look-low .ensures .1 .1) _ (at-slot .slot-at .ensures) _ _ (at-done .take .ensures) (c .if4 .taken)
+    pop-broken (opening (c .before .before .before .before .before .before .before .before)) _ (at-slot .slot-at .ensures) _ _ (at-done .take .ensures) (c .if4 .taken)
 
 same-length-4 : tie.Need-same-length-4
 same-length-4 c = search needs
@@ -104,14 +84,7 @@ returns-5 : tie.Need-returns-5
 returns-5 c =
     let at-done = c .before .before .before in
     let at-slot = at-done .before .before .before in
-    let at-if3 = at-slot .before .before in
-    let at-if2 = at-if3 .before in
-    let at-look = at-if2 .before .before in
-    let at-cap = at-look .before .before in
-    let at-if1 = at-cap .before in
-    let at-shape = at-if1 .before in
-    let start = at-shape .before .before in
-    pop-done (fit (start .args .order) (start .args .levels) (start .args .store .now) _ (at-shape .shape-ok .ensures) (at-if1 .if1 .left) _ (at-cap .capacity .ensures)) _ _ (at-look .look-low .ensures .0) (at-look .look-low .ensures .1 .0) (at-if2 .if2 .left) (at-if3 .if3 .left) (at-look .look-low .ensures .1 .1) _ (at-slot .slot-at .ensures) _ _ (at-done .take .ensures) (c .if4 .left)
+    pop-done (opening (c .before .before .before .before .before .before .before .before)) _ (at-slot .slot-at .ensures) _ _ (at-done .take .ensures) (c .if4 .left)
 
 pub pop-spec : {M : Type 1} → statement M
 pop-spec = tie.close (tie.spec shape-ok-requires returns sub-capacity capacity-requires look-low-requires same-length returns-2 same-length-2 returns-3 slot-at-requires take-requires same-length-3 returns-4 same-length-4 returns-5)

@@ -2,9 +2,16 @@
 use native.Mathlib.Omega.{arith}
 use mathlib.Core.Path.{_∙_, sym}
 use borrow.Author.Needs.{needs}
-use Rattle.tree.proofs.Calls.{called-shape, fit, push-below, push-done, push-over, push-root, root-stands, shape-few, shape-here}
+use Rattle.tree.proofs.Calls.{called-shape, Fit, fit, push-below, push-done, push-over, push-root, root-stands, shape-few, shape-here}
 use Rattle.tree.proofs.push.Statement.{statement}
 use Rattle.tree.proofs.push.Tie as tie
+
+-- the shape is tested, and the room below the root counted
+abbrev start : tie.After-capacity → tie.Start
+start c = c .before .before .before .before
+
+fitting : (c : tie.After-capacity) → Fit (start c .args .order) (start c .args .levels) (c .capacity .result) (start c .args .store .now)
+fitting c = fit _ _ _ _ (c .before .before .shape-ok .ensures) (c .before .if1 .left) _ (c .capacity .ensures)
 
 shape-ok-requires : tie.Need-shape-ok-requires
 shape-ok-requires c κs = search needs
@@ -27,12 +34,7 @@ capacity-requires c κs =
     shape-few (start .args .order) (start .args .levels) (start .args .store .now) _ (at-shape .shape-ok .ensures) (c .if1 .left)
 
 put-requires : tie.Need-put-requires
-put-requires c κs =
-    let at-cap = c .before in
-    let at-if1 = at-cap .before in
-    let at-shape = at-if1 .before in
-    let start = at-shape .before .before in
-    root-stands (fit (start .args .order) (start .args .levels) (start .args .store .now) _ (at-shape .shape-ok .ensures) (at-if1 .if1 .left) _ (at-cap .capacity .ensures))
+put-requires c κs = root-stands (fitting (c .before))
 
 same-length : tie.Need-same-length
 same-length c = search needs
@@ -40,11 +42,7 @@ same-length c = search needs
 returns-2 : tie.Need-returns-2
 returns-2 c =
     let at-done = c .before .before .before in
-    let at-cap = at-done .before .before in
-    let at-if1 = at-cap .before in
-    let at-shape = at-if1 .before in
-    let start = at-shape .before .before in
-    push-done (fit (start .args .order) (start .args .levels) (start .args .store .now) _ (at-shape .shape-ok .ensures) (at-if1 .if1 .left) _ (at-cap .capacity .ensures)) (start .args .x) _ _ (at-done .put .ensures) (c .if2 .taken)
+    push-done (fitting (c .before .before .before .before .before)) (start (c .before .before .before .before .before) .args .x) _ _ (at-done .put .ensures) (c .if2 .taken)
 
 held-requires : tie.Need-held-requires
 held-requires c κs = search needs
@@ -59,11 +57,7 @@ cast-if3 : tie.Need-cast-if3
 cast-if3 c = search needs
 
 capacity-requires-2 : tie.Need-capacity-requires-2
-capacity-requires-2 c κs =
-    let at-if1 = c .before .before .before .before .before .before .before .before .before .before .before in
-    let at-shape = at-if1 .before in
-    let start = at-shape .before .before in
-    shape-few (start .args .order) (start .args .levels) (start .args .store .now) _ (at-shape .shape-ok .ensures) (at-if1 .if1 .left)
+capacity-requires-2 c κs = fitting (c .before .before .before .before .before .before .before .before .before .before) .few
 
 same-length-2 : tie.Need-same-length-2
 same-length-2 c = search needs
@@ -75,11 +69,7 @@ returns-3 c =
     let at-told = at-count .before .before in
     let at-if2 = at-told .before .before in
     let at-done = at-if2 .before .before .before in
-    let at-cap = at-done .before .before in
-    let at-if1 = at-cap .before in
-    let at-shape = at-if1 .before in
-    let start = at-shape .before .before in
-    push-below (fit (start .args .order) (start .args .levels) (start .args .store .now) _ (at-shape .shape-ok .ensures) (at-if1 .if1 .left) _ (at-cap .capacity .ensures)) (start .args .x) _ _ (at-done .put .ensures) (at-if2 .if2 .left) _ (sym (at-count .all2 .given .1) ∙ at-told .held .ensures) _ (at-most .capacity2 .ensures) (c .if3 .taken)
+    push-below (fitting (c .before .before .before .before .before .before .before .before .before .before .before .before)) (start (c .before .before .before .before .before .before .before .before .before .before .before .before) .args .x) _ _ (at-done .put .ensures) (at-if2 .if2 .left) _ (sym (at-count .all2 .given .1) ∙ at-told .held .ensures) _ (at-most .capacity2 .ensures) (c .if3 .taken)
 
 same-length-3 : tie.Need-same-length-3
 same-length-3 c = search needs
@@ -90,11 +80,7 @@ returns-4 c =
     let at-told = at-count .before .before in
     let at-if2 = at-told .before .before in
     let at-done = at-if2 .before .before .before in
-    let at-cap = at-done .before .before in
-    let at-if1 = at-cap .before in
-    let at-shape = at-if1 .before in
-    let start = at-shape .before .before in
-    push-root (fit (start .args .order) (start .args .levels) (start .args .store .now) _ (at-shape .shape-ok .ensures) (at-if1 .if1 .left) _ (at-cap .capacity .ensures)) (start .args .x) _ _ (at-done .put .ensures) (at-if2 .if2 .left) _ (sym (at-count .all .given .1) ∙ at-told .held .ensures)
+    push-root (fitting (c .before .before .before .before .before .before .before .before .before .before)) (start (c .before .before .before .before .before .before .before .before .before .before) .args .x) _ _ (at-done .put .ensures) (at-if2 .if2 .left) _ (sym (at-count .all .given .1) ∙ at-told .held .ensures)
 
 same-length-4 : tie.Need-same-length-4
 same-length-4 c = search needs
@@ -106,11 +92,7 @@ returns-5 c =
     let at-told = at-count .before .before in
     let at-if2 = at-told .before .before in
     let at-done = at-if2 .before .before .before in
-    let at-cap = at-done .before .before in
-    let at-if1 = at-cap .before in
-    let at-shape = at-if1 .before in
-    let start = at-shape .before .before in
-    push-over (fit (start .args .order) (start .args .levels) (start .args .store .now) _ (at-shape .shape-ok .ensures) (at-if1 .if1 .left) _ (at-cap .capacity .ensures)) (start .args .x) _ _ (at-done .put .ensures) (at-if2 .if2 .left) _ (sym (at-count .all2 .given .1) ∙ at-told .held .ensures) _ (at-most .capacity2 .ensures) (c .if3 .left)
+    push-over (fitting (c .before .before .before .before .before .before .before .before .before .before .before .before)) (start (c .before .before .before .before .before .before .before .before .before .before .before .before) .args .x) _ _ (at-done .put .ensures) (at-if2 .if2 .left) _ (sym (at-count .all2 .given .1) ∙ at-told .held .ensures) _ (at-most .capacity2 .ensures) (c .if3 .left)
 
 pub push-spec : {M : Type 1} → statement M
 push-spec = tie.close (tie.spec shape-ok-requires returns sub-capacity capacity-requires put-requires same-length returns-2 held-requires enum-known-all enum-known-all-2 cast-if3 capacity-requires-2 same-length-2 returns-3 same-length-3 returns-4 same-length-4 returns-5)

@@ -1,10 +1,26 @@
 -- `tree::replace` meets its contract. Assumes nothing.
 use native.Mathlib.Omega.{arith}
 use borrow.Author.Needs.{needs}
-use Rattle.tree.proofs.Calls.{called-damaged, called-shape, fit, replace-broken, replace-done, replace-first, replace-none, root-looked, root-stands, shape-few, shape-here}
+use Rattle.tree.proofs.Calls.{called-damaged, called-shape, Fit, fit, Opened, opened, replace-broken, replace-done, replace-first, replace-none, root-stands, shape-few, shape-here}
 use Rattle.tree.proofs.Once.{look-in, numbers}
 use Rattle.tree.proofs.replace.Statement.{statement}
 use Rattle.tree.proofs.replace.Tie as tie
+
+-- the shape is tested, and the room below the root counted
+abbrev start : tie.After-capacity → tie.Start
+start c = c .before .before .before .before
+
+fitting : (c : tie.After-capacity) → Fit (start c .args .order) (start c .args .levels) (c .capacity .result) (start c .args .store .now)
+fitting c = fit _ _ _ _ (c .before .before .shape-ok .ensures) (c .before .if1 .left) _ (c .capacity .ensures)
+
+-- the root is looked at, whole, and holds something
+abbrev at-count : tie.Else3 → tie.After-capacity
+at-count c = c .before .before .before .before .before
+
+opening : (c : tie.Else3) → Opened (start (at-count c) .args .order) (start (at-count c) .args .levels) (at-count c .capacity .result) (c .before .before .before .look-low .result .place) (start (at-count c) .args .store .now)
+opening c =
+    let looked = c .before .before .before .look-low .ensures in
+    opened (fitting (at-count c)) _ _ (looked .0) (looked .1 .0) (c .before .if2 .left) (c .if3 .left) (looked .1 .1)
 
 shape-ok-requires : tie.Need-shape-ok-requires
 shape-ok-requires c κs = search needs
@@ -27,12 +43,7 @@ capacity-requires c κs =
     shape-few (start .args .order) (start .args .levels) (start .args .store .now) _ (at-shape .shape-ok .ensures) (c .if1 .left)
 
 look-low-requires : tie.Need-look-low-requires
-look-low-requires c κs =
-    let at-cap = c .before in
-    let at-if1 = at-cap .before in
-    let at-shape = at-if1 .before in
-    let start = at-shape .before .before in
-    look-in (root-stands (fit (start .args .order) (start .args .levels) (start .args .store .now) _ (at-shape .shape-ok .ensures) (at-if1 .if1 .left) _ (at-cap .capacity .ensures)))
+look-low-requires c κs = look-in (root-stands (fitting (c .before)))
 
 same-length : tie.Need-same-length
 same-length c = search needs
@@ -40,11 +51,7 @@ same-length c = search needs
 returns-2 : tie.Need-returns-2
 returns-2 c =
     let at-look = c .before .before in
-    let at-cap = at-look .before .before in
-    let at-if1 = at-cap .before in
-    let at-shape = at-if1 .before in
-    let start = at-shape .before .before in
-    called-damaged (fit (start .args .order) (start .args .levels) (start .args .store .now) _ (at-shape .shape-ok .ensures) (at-if1 .if1 .left) _ (at-cap .capacity .ensures)) _ _ (at-look .look-low .ensures .0) (c .if2 .taken)
+    called-damaged (fitting (c .before .before .before .before)) _ _ (at-look .look-low .ensures .0) (c .if2 .taken)
 
 same-length-2 : tie.Need-same-length-2
 same-length-2 c = search needs
@@ -53,22 +60,10 @@ returns-3 : tie.Need-returns-3
 returns-3 c =
     let at-if2 = c .before in
     let at-look = at-if2 .before .before in
-    let at-cap = at-look .before .before in
-    let at-if1 = at-cap .before in
-    let at-shape = at-if1 .before in
-    let start = at-shape .before .before in
-    replace-none (fit (start .args .order) (start .args .levels) (start .args .store .now) _ (at-shape .shape-ok .ensures) (at-if1 .if1 .left) _ (at-cap .capacity .ensures)) _ _ (at-look .look-low .ensures .0) (at-look .look-low .ensures .1 .0) (at-if2 .if2 .left) (start .args .x) (c .if3 .taken)
+    replace-none (fitting (c .before .before .before .before .before)) _ _ (at-look .look-low .ensures .0) (at-look .look-low .ensures .1 .0) (at-if2 .if2 .left) (start (c .before .before .before .before .before) .args .x) (c .if3 .taken)
 
 slot-at-requires : tie.Need-slot-at-requires
-slot-at-requires c κs =
-    let at-if3 = c .before in
-    let at-if2 = at-if3 .before in
-    let at-look = at-if2 .before .before in
-    let at-cap = at-look .before .before in
-    let at-if1 = at-cap .before in
-    let at-shape = at-if1 .before in
-    let start = at-shape .before .before in
-    omega (arith, numbers (root-stands (fit (start .args .order) (start .args .levels) (start .args .store .now) _ (at-shape .shape-ok .ensures) (at-if1 .if1 .left) _ (at-cap .capacity .ensures))), root-looked (fit (start .args .order) (start .args .levels) (start .args .store .now) _ (at-shape .shape-ok .ensures) (at-if1 .if1 .left) _ (at-cap .capacity .ensures)) (at-look .look-low .result .place) (at-look .look-low .result .ok) (at-look .look-low .ensures .0) (at-look .look-low .ensures .1 .0) (at-if2 .if2 .left) (at-if3 .if3 .left) (at-look .look-low .ensures .1 .1))
+slot-at-requires c κs = omega (arith, numbers (root-stands (fitting (c .before .before .before .before .before .before))), opening (c .before))
 
 lower-requires : tie.Need-lower-requires
 lower-requires c κs = search needs
@@ -80,25 +75,10 @@ returns-4 : tie.Need-returns-4
 returns-4 c =
     let at-lower = c .before in
     let at-slot = at-lower .before .before in
-    let at-if3 = at-slot .before .before in
-    let at-if2 = at-if3 .before in
-    let at-look = at-if2 .before .before in
-    let at-cap = at-look .before .before in
-    let at-if1 = at-cap .before in
-    let at-shape = at-if1 .before in
-    let start = at-shape .before .before in
-    replace-first (fit (start .args .order) (start .args .levels) (start .args .store .now) _ (at-shape .shape-ok .ensures) (at-if1 .if1 .left) _ (at-cap .capacity .ensures)) _ _ (at-look .look-low .ensures .0) (at-look .look-low .ensures .1 .0) (at-if2 .if2 .left) (at-if3 .if3 .left) (at-look .look-low .ensures .1 .1) _ (at-slot .slot-at .ensures) (start .args .x) _ (at-lower .lower .ensures) (c .if4 .taken)
+    replace-first (opening (c .before .before .before .before .before)) _ (at-slot .slot-at .ensures) (start (c .before .before .before .before .before .before .before .before .before .before) .args .x) _ (at-lower .lower .ensures) (c .if4 .taken)
 
 swap-requires : tie.Need-swap-requires
-swap-requires c κs =
-    let at-if3 = c .before .before .before .before .before .before in
-    let at-if2 = at-if3 .before in
-    let at-look = at-if2 .before .before in
-    let at-cap = at-look .before .before in
-    let at-if1 = at-cap .before in
-    let at-shape = at-if1 .before in
-    let start = at-shape .before .before in
-    root-looked (fit (start .args .order) (start .args .levels) (start .args .store .now) _ (at-shape .shape-ok .ensures) (at-if1 .if1 .left) _ (at-cap .capacity .ensures)) _ _ (at-look .look-low .ensures .0) (at-look .look-low .ensures .1 .0) (at-if2 .if2 .left) (at-if3 .if3 .left) (at-look .look-low .ensures .1 .1)
+swap-requires c κs = opening (c .before .before .before .before .before .before) .looked
 
 same-length-4 : tie.Need-same-length-4
 same-length-4 c = search needs
@@ -109,14 +89,7 @@ returns-5 c =
     let at-if4 = at-done .before .before in
     let at-lower = at-if4 .before in
     let at-slot = at-lower .before .before in
-    let at-if3 = at-slot .before .before in
-    let at-if2 = at-if3 .before in
-    let at-look = at-if2 .before .before in
-    let at-cap = at-look .before .before in
-    let at-if1 = at-cap .before in
-    let at-shape = at-if1 .before in
-    let start = at-shape .before .before in
-    replace-broken (fit (start .args .order) (start .args .levels) (start .args .store .now) _ (at-shape .shape-ok .ensures) (at-if1 .if1 .left) _ (at-cap .capacity .ensures)) _ _ (at-look .look-low .ensures .0) (at-look .look-low .ensures .1 .0) (at-if2 .if2 .left) (at-if3 .if3 .left) (at-look .look-low .ensures .1 .1) _ (at-slot .slot-at .ensures) (start .args .x) _ (at-lower .lower .ensures) (at-if4 .if4 .left) _ _ (at-done .swap .ensures) (c .if5 .taken)
+    replace-broken (opening (c .before .before .before .before .before .before .before .before .before .before)) _ (at-slot .slot-at .ensures) (start (c .before .before .before .before .before .before .before .before .before .before .before .before .before .before .before) .args .x) _ (at-lower .lower .ensures) (at-if4 .if4 .left) _ _ (at-done .swap .ensures) (c .if5 .taken)
 
 same-length-5 : tie.Need-same-length-5
 same-length-5 c = search needs
@@ -127,14 +100,7 @@ returns-6 c =
     let at-if4 = at-done .before .before in
     let at-lower = at-if4 .before in
     let at-slot = at-lower .before .before in
-    let at-if3 = at-slot .before .before in
-    let at-if2 = at-if3 .before in
-    let at-look = at-if2 .before .before in
-    let at-cap = at-look .before .before in
-    let at-if1 = at-cap .before in
-    let at-shape = at-if1 .before in
-    let start = at-shape .before .before in
-    replace-done (fit (start .args .order) (start .args .levels) (start .args .store .now) _ (at-shape .shape-ok .ensures) (at-if1 .if1 .left) _ (at-cap .capacity .ensures)) _ _ (at-look .look-low .ensures .0) (at-look .look-low .ensures .1 .0) (at-if2 .if2 .left) (at-if3 .if3 .left) (at-look .look-low .ensures .1 .1) _ (at-slot .slot-at .ensures) (start .args .x) _ (at-lower .lower .ensures) (at-if4 .if4 .left) _ _ (at-done .swap .ensures) (c .if5 .left)
+    replace-done (opening (c .before .before .before .before .before .before .before .before .before .before)) _ (at-slot .slot-at .ensures) (start (c .before .before .before .before .before .before .before .before .before .before .before .before .before .before .before) .args .x) _ (at-lower .lower .ensures) (at-if4 .if4 .left) _ _ (at-done .swap .ensures) (c .if5 .left)
 
 pub replace-spec : {M : Type 1} → statement M
 replace-spec = tie.close (tie.spec shape-ok-requires returns sub-capacity capacity-requires look-low-requires same-length returns-2 same-length-2 returns-3 slot-at-requires lower-requires same-length-3 returns-4 swap-requires same-length-4 returns-5 same-length-5 returns-6)
