@@ -2,3 +2,4 @@
 pub mod Calls
 pub mod Clocked
 pub mod Zeros
+pub mod History
