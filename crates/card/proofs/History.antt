@@ -10,9 +10,9 @@ use lib.Dec.{leb, ltb}
 use lib.ListN.{length, length-replicate, replicate}
 use borrow.Author.Tests.{le-leb, ltb-false}
 use Rattle.card.proofs.Clocked.{shape-few}
-use Rattle.card.specs.Clocked.{Beat, clockedClear, clockedCycle, clockedDrain, cycleOf, drainOf, drainOut, markBack, ran, recordsBack, requestOf, restart, Restart, restartOf, saysNo, stateIn, taken}
+use Rattle.card.specs.Clocked.{ClockedAfterOut, clockedClear, clockedCycle, clockedDrain, cycleOf, drainOf, drainOut, markBack, ran, recordsBack, requestOf, clockedAfter, ClockedAfter, clearOf, saysNo, stateIn, taken}
 use Rattle.card.specs.History.{asks, broughtBy, Call, callC, callM, codeOf, Did, drain, Holds, leftC, leftM, saidC, saidM}
-use Rattle.card.specs.Out.{answerOut, badShape, Counted, tally}
+use Rattle.card.specs.Out.{answerOut, badShape, CountAfter, countAfter}
 use Rattle.card_records.proofs.Alike.{Alike, drains-kept, drains-same, SameCycle, SameDrain, ticked-records, ticked-same}
 use Rattle.card_records.proofs.Handed.{handed-on, mark-on, readable-again}
 use Rattle.card_records.proofs.Nodes.{works-few}
@@ -93,8 +93,8 @@ not-run (Refused Full) e = absurd (true≢false e)
 not-run (Refused Empty) e = absurd (true≢false e)
 
 -- the boundary's call b does what the model's d does
-record Goes (m levels : ℕ) (b : Beat) (d : Did) : Type 0 where
-  said : tally (b .number) (b .out) ≡ d .said
+record Goes (m levels : ℕ) (b : ClockedAfterOut) (d : Did) : Type 0 where
+  said : countAfter (b .number) (b .out) ≡ d .said
   store : b .store ≡ d .words
   holds : Holds levels (b .records) (b .mark) (d .state)
   shape : shapeOk m levels (length (d .words)) ≡ true
@@ -128,9 +128,9 @@ module _ (m levels : ℕ) (out : List ℕ) (room : 2 ≤ length out) (s : State)
   cycle-goes : (r : Request) → Goes m levels (callC m levels out (asks r) ws rs mark) (callM m levels out (asks r) s ws)
   unfolding callC callM clockedCycle
   cycle-goes r =
-      subst (λ (b : Beat). Goes m levels b (callM m levels out (asks r) s ws)) (sym here)
+      subst (λ (b : ClockedAfterOut). Goes m levels b (callM m levels out (asks r) s ws)) (sym here)
       (record {
-        said = ap (λ (a : Answer). tally (numberOf a) (answerOut a out)) (same .answer);
+        said = ap (λ (a : Answer). countAfter (numberOf a) (answerOut a out)) (same .answer);
         store = same .words;
         holds = back (ran (numberOf (o .answer))) (o .state) (p .state) (same .state) (ticked-records m levels r t ws ∙ works-few (levels - 1) rs) (ticked-records m levels r s ws ∙ q .few) stood;
         shape = ap (shapeOk m levels) (ticked-length m levels r s ws) ∙ shape;
@@ -158,9 +158,9 @@ module _ (m levels : ℕ) (out : List ℕ) (room : 2 ≤ length out) (s : State)
   drain-goes : (budget : ℕ) → Goes m levels (callC m levels out (drain budget) ws rs mark) (callM m levels out (drain budget) s ws)
   unfolding callC callM clockedDrain runs
   drain-goes budget =
-      subst (λ (b : Beat). Goes m levels b (callM m levels out (drain budget) s ws)) (sym here)
+      subst (λ (b : ClockedAfterOut). Goes m levels b (callM m levels out (drain budget) s ws)) (sym here)
       (record {
-        said = λ i. tally (numberOf (same .answer i)) (drainOut (same .cycles i) (same .left i) out);
+        said = λ i. countAfter (numberOf (same .answer i)) (drainOut (same .cycles i) (same .left i) out);
         store = same .words;
         holds = back (ltb 0 (d .cycles)) (d .state) (e .state) (same .state) (drains-kept m levels budget t ws .0 ∙ works-few (levels - 1) rs) (drains-kept m levels budget s ws .0 ∙ q .few) stood;
         shape = ap (shapeOk m levels) (drains-kept m levels budget s ws .1) ∙ shape;
@@ -201,13 +201,13 @@ module _ (m levels : ℕ) (out : List ℕ) (room : 2 ≤ length out) where
   unfolding saidC saidM leftC leftM
   history [] s ws rs mark shape q = (refl, refl, q)
   history (c ∷ cs) s ws rs mark shape q =
-      let b : Beat = callC m levels out c ws rs mark in
+      let b : ClockedAfterOut = callC m levels out c ws rs mark in
       let d : Did = callM m levels out c s ws in
       let g : Goes m levels b d = call-goes m levels out room s ws rs mark shape q c in
       let same : length (b .store) ≡ length (d .words) = ap length (g .store) in
       let h = history cs (d .state) (b .store) (b .records) (b .mark) (ap (shapeOk m levels) same ∙ g .shape) (g .holds) in
       let w : d .words ≡ b .store = sym (g .store) in (
-        ap₂ (λ (x : Counted) (xs : List Counted). x ∷ xs) (g .said) (h .0 ∙ ap (saidM m levels out cs (d .state)) (g .store)),
+        ap₂ (λ (x : CountAfter) (xs : List CountAfter). x ∷ xs) (g .said) (h .0 ∙ ap (saidM m levels out cs (d .state)) (g .store)),
         h .1 ∙ ap (λ (v : List ℕ). leftM m levels out cs (d .state) v .words) (g .store),
         subst (λ (v : List ℕ). Holds levels (leftC m levels out cs (b .store) (b .records) (b .mark) .records) (leftC m levels out cs (b .store) (b .records) (b .mark) .mark) (leftM m levels out cs (d .state) v .state)) (g .store) (h .2),
       )
@@ -218,14 +218,14 @@ unfolding runs
 kept-shape m levels ws shape = is-shape m levels _ (shape-kept m ws [] levels (shape-is m levels (length ws) shape))
 
 module _ (m levels : ℕ) (ws rs mark : List ℕ) (shape : shapeOk m levels (length ws) ≡ true) (e : roomy (levels - 1) rs mark ≡ true) where
-  abbrev b : Restart
+  abbrev b : ClockedAfter
   b = clockedClear m levels ws rs mark
 
-  clear-as : b ≡ restart 0 (restarted m levels ws .words) (worksWritten (levels - 1) (fresh .records) rs) (markWritten fresh mark)
+  clear-as : b ≡ clockedAfter 0 (restarted m levels ws .words) (worksWritten (levels - 1) (fresh .records) rs) (markWritten fresh mark)
   unfolding clockedClear cleared
   clear-as =
-      ap (λ (t : Bool). cond t (restartOf levels rs mark (restarted m levels ws)) (restart badShape ws rs mark)) (and-true (shapeOk m levels (length ws)) (roomy (levels - 1) rs mark) shape e)
-      ∙ ap (λ (t : Bool). restartOf levels rs mark (cycleOutcome (cond t (outcome Done (wipe (room m levels) ws)) (outcome (Refused BadShape) ws) .answer) (restarted m levels ws .words) fresh)) shape
+      ap (λ (t : Bool). cond t (clearOf levels rs mark (restarted m levels ws)) (clockedAfter badShape ws rs mark)) (and-true (shapeOk m levels (length ws)) (roomy (levels - 1) rs mark) shape e)
+      ∙ ap (λ (t : Bool). clearOf levels rs mark (cycleOutcome (cond t (outcome Done (wipe (room m levels) ws)) (outcome (Refused BadShape) ws) .answer) (restarted m levels ws .words) fresh)) shape
 
   fresh-few : length (fresh .records) ≡ recordCount
   unfolding fresh
@@ -234,9 +234,9 @@ module _ (m levels : ℕ) (ws rs mark : List ℕ) (shape : shapeOk m levels (len
   -- CLEARED: a clear through the boundary, with a shape and room, is not refused, and leaves a cleared machine
   pub clear-holds : (b .number ≡ 0) × (b .store ≡ restarted m levels ws .words) × Holds levels (b .records) (b .mark) fresh
   clear-holds = (
-    ap (λ (r : Restart). r .number) clear-as,
-    ap (λ (r : Restart). r .store) clear-as,
-    subst (λ (r : Restart). Holds levels (r .records) (r .mark) fresh) (sym clear-as) (holds-written levels rs mark fresh (shape-few m levels (length ws) shape .1) e fresh-few),
+    ap (λ (r : ClockedAfter). r .number) clear-as,
+    ap (λ (r : ClockedAfter). r .store) clear-as,
+    subst (λ (r : ClockedAfter). Holds levels (r .records) (r .mark) fresh) (sym clear-as) (holds-written levels rs mark fresh (shape-few m levels (length ws) shape .1) e fresh-few),
   )
 
   -- .. and from there a list of calls answers and leaves what the model does from its own clear

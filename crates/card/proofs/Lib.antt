@@ -3,3 +3,4 @@ pub mod Calls
 pub mod Clocked
 pub mod Zeros
 pub mod History
+pub mod Pinned

@@ -5,8 +5,8 @@ use mathlib.Core.Bool.{true}
 use mathlib.Core.List.{[], _∷_, List}
 use mathlib.Core.Path.{_≡_}
 use lib.ListN.{length}
-use Rattle.card.specs.Clocked.{beat, Beat, clockedCycle, clockedDrain, drainOut, stateIn}
-use Rattle.card.specs.Out.{answerOut, Counted, tally}
+use Rattle.card.specs.Clocked.{clockedAfterOut, ClockedAfterOut, clockedCycle, clockedDrain, drainOut, stateIn}
+use Rattle.card.specs.Out.{answerOut, CountAfter, countAfter}
 use Rattle.card_records.specs.Records.{readable}
 use Rattle.clocked_model.specs.Calls.{drains, recordCount, ticked}
 use Rattle.clocked_model.specs.Records.{worksOf}
@@ -36,46 +36,46 @@ broughtBy (Replace x) = x
 
 -- what a call of the model answers, in C's numbers, and leaves
 pub record Did : Type 0 where
-  pub said : Counted
+  pub said : CountAfter
   pub words : List ℕ
   pub state : State
 
 -- order, levels, and the `out` that each call is lent
 module _ (m levels : ℕ) (out : List ℕ) where
   -- ---- through the boundary
-  unfoldable pub callC : Call → List ℕ → List ℕ → List ℕ → Beat
+  unfoldable pub callC : Call → List ℕ → List ℕ → List ℕ → ClockedAfterOut
   callC (asks r) ws rs mark = clockedCycle m levels ws rs mark (codeOf r) (broughtBy r .rank .0) (broughtBy r .tag .0) out
   callC (drain budget) ws rs mark = clockedDrain m levels ws rs mark budget out
 
   -- one after the other, each handed the words that the one before left: what is left in the end, and what each answers
-  unfoldable pub leftC : List Call → List ℕ → List ℕ → List ℕ → Beat
-  leftC [] ws rs mark = beat 0 ws rs mark out
+  unfoldable pub leftC : List Call → List ℕ → List ℕ → List ℕ → ClockedAfterOut
+  leftC [] ws rs mark = clockedAfterOut 0 ws rs mark out
   leftC (c ∷ cs) ws rs mark =
       let b = callC c ws rs mark in
       leftC cs (b .store) (b .records) (b .mark)
 
-  unfoldable pub saidC : List Call → List ℕ → List ℕ → List ℕ → List Counted
+  unfoldable pub saidC : List Call → List ℕ → List ℕ → List ℕ → List CountAfter
   saidC [] ws rs mark = []
   saidC (c ∷ cs) ws rs mark =
       let b = callC c ws rs mark in
-      tally (b .number) (b .out) ∷ saidC cs (b .store) (b .records) (b .mark)
+      countAfter (b .number) (b .out) ∷ saidC cs (b .store) (b .records) (b .mark)
 
   -- ---- the same of the model
   unfoldable pub callM : Call → State → List ℕ → Did
   callM (asks r) s ws =
       let o = ticked m levels r s ws in
-      record { said = tally (numberOf (o .answer)) (answerOut (o .answer) out); words = o .words; state = o .state }
+      record { said = countAfter (numberOf (o .answer)) (answerOut (o .answer) out); words = o .words; state = o .state }
   callM (drain budget) s ws =
       let d = drains m levels budget s ws in
-      record { said = tally (numberOf (d .answer)) (drainOut (d .cycles) (d .left) out); words = d .words; state = d .state }
+      record { said = countAfter (numberOf (d .answer)) (drainOut (d .cycles) (d .left) out); words = d .words; state = d .state }
 
   unfoldable pub leftM : List Call → State → List ℕ → Did
-  leftM [] s ws = record { said = tally 0 out; words = ws; state = s }
+  leftM [] s ws = record { said = countAfter 0 out; words = ws; state = s }
   leftM (c ∷ cs) s ws =
       let d = callM c s ws in
       leftM cs (d .state) (d .words)
 
-  unfoldable pub saidM : List Call → State → List ℕ → List Counted
+  unfoldable pub saidM : List Call → State → List ℕ → List CountAfter
   saidM [] s ws = []
   saidM (c ∷ cs) s ws =
       let d = callM c s ws in
