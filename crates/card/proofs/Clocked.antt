@@ -7,7 +7,7 @@ use mathlib.Core.Path.{_∙_, _≡_, ap, ap₂, subst, sym}
 use lib.Dec.{leb, ltb}
 use lib.ListN.{getD, length, set}
 use borrow.Author.Tests.{eq-eqb, le-leb, lt-leb, ne-eqb, not-false, not-true}
-use Rattle.card.specs.Clocked.{beat, clockedClear, clockedCycle, clockedDrain, cycleOf, drainOf, drainOut, markBack, ran, recordsBack, requestOf, restart, restartOf, saysNo, stateIn, taken}
+use Rattle.card.specs.Clocked.{clockedAfterOut, clockedClear, clockedCycle, clockedDrain, cycleOf, drainOf, drainOut, markBack, ran, recordsBack, requestOf, clockedAfter, clearOf, saysNo, stateIn, taken}
 use Rattle.card.specs.Out.{answerOut, refusedOut}
 use Rattle.card_records.proofs.Nodes.{drained-fits, Fits, fresh-fit, read-fits, ticked-fits}
 use Rattle.card_records.proofs.Records.{lent, readable-roomy}
@@ -89,50 +89,50 @@ Back k rs mark r s rs₁ mark₁ = (rs₁ ≡ cond r (worksWritten k (s .records
 module _ (m levels : ℕ) (ws rs mark : List ℕ) where
   -- ---- clear
   module _ (t : Bool) (p : t ≡ shapeOk m levels (length ws)) where
-    pub restart-shape : not t ≡ true → restart 1 ws rs mark ≡ clockedClear m levels ws rs mark
+    pub clear-shape : not t ≡ true → clockedAfter 1 ws rs mark ≡ clockedClear m levels ws rs mark
     unfolding clockedClear
-    restart-shape f = rw (sym p ∙ not-true t f)
+    clear-shape f = rw (sym p ∙ not-true t f)
 
     module _ (f : not t ≡ false) where
       shape : shapeOk m levels (length ws) ≡ true
       shape = sym p ∙ not-false t f
 
       module _ (b : Bool) (tested : b ≡ roomy (levels - 1) rs mark) where
-        pub restart-bare : not b ≡ true → restart 1 ws rs mark ≡ clockedClear m levels ws rs mark
+        pub clear-bare : not b ≡ true → clockedAfter 1 ws rs mark ≡ clockedClear m levels ws rs mark
         unfolding clockedClear
-        restart-bare e = rw (shape, sym tested ∙ not-true b e)
+        clear-bare e = rw (shape, sym tested ∙ not-true b e)
 
         module _ (e : not b ≡ false) where
           pub roomy-lent : Lent (levels - 1) rs mark
           roomy-lent = lent (levels - 1) rs mark (shape-few m levels (length ws) shape .1) (sym tested ∙ not-false b e)
 
-          pub restart-done : (a : Answer) (after : List ℕ) (s : State) (n : ℕ) (r : Bool) (rs₁ mark₁ : List ℕ) → cycleOutcome a after s ≡ restarted m levels ws
-              → r ≡ ran (numberOf a) → Back (levels - 1) rs mark r s rs₁ mark₁ → n ≡ numberOf a → restart n after rs₁ mark₁ ≡ clockedClear m levels ws rs mark
+          pub clear-done : (a : Answer) (after : List ℕ) (s : State) (n : ℕ) (r : Bool) (rs₁ mark₁ : List ℕ) → cycleOutcome a after s ≡ restarted m levels ws
+              → r ≡ ran (numberOf a) → Back (levels - 1) rs mark r s rs₁ mark₁ → n ≡ numberOf a → clockedAfter n after rs₁ mark₁ ≡ clockedClear m levels ws rs mark
           unfolding clockedClear
-          restart-done a after s n r rs₁ mark₁ o q back k =
+          clear-done a after s n r rs₁ mark₁ o q back k =
               rw (shape, sym tested ∙ not-false b e)
               ((λ i. record { number = k i; store = after; records = back .0 i; mark = back .1 i })
-              ∙ ap (λ (r : Bool). restart (numberOf a) after (recordsBack levels rs mark r s) (markBack levels rs mark r s)) q
-              ∙ ap (restartOf levels rs mark) o)
+              ∙ ap (λ (r : Bool). clockedAfter (numberOf a) after (recordsBack levels rs mark r s) (markBack levels rs mark r s)) q
+              ∙ ap (clearOf levels rs mark) o)
 
   -- ---- where the boundary says no
-  no-short : (out : List ℕ) → length out < 2 → beat 1 ws rs mark out ≡ saysNo m levels ws rs mark out
+  no-short : (out : List ℕ) → length out < 2 → clockedAfterOut 1 ws rs mark out ≡ saysNo m levels ws rs mark out
   unfolding refusedOut
   no-short out h = rw (lt-leb 2 (length out) h)
 
-  no-zeros : (out : List ℕ) → 2 ≤ length out → (n : ℕ) (out₁ : List ℕ) → n ≡ 1 → out₁ ≡ set (set out 0 0) 1 0 → beat n ws rs mark out₁ ≡ saysNo m levels ws rs mark out
+  no-zeros : (out : List ℕ) → 2 ≤ length out → (n : ℕ) (out₁ : List ℕ) → n ≡ 1 → out₁ ≡ set (set out 0 0) 1 0 → clockedAfterOut n ws rs mark out₁ ≡ saysNo m levels ws rs mark out
   unfolding refusedOut
   no-zeros out h n out₁ e z = rw (le-leb 2 (length out) h) (λ i. record { number = e i; store = ws; records = rs; mark = mark; out = z i })
 
   -- ---- a cycle
   module _ (out : List ℕ) (request rank tag : ℕ) where
-    pub cycle-short : length out < 2 → beat 1 ws rs mark out ≡ clockedCycle m levels ws rs mark request rank tag out
+    pub cycle-short : length out < 2 → clockedAfterOut 1 ws rs mark out ≡ clockedCycle m levels ws rs mark request rank tag out
     unfolding clockedCycle
     cycle-short h = rw (lt-leb 2 (length out) h) (no-short out h)
 
     module _ (room : 2 ≤ length out) (b : Bool) (tested : b ≡ taken m levels (length ws) rs mark request) where
       pub cycle-refused : not b ≡ true → (n : ℕ) (out₁ : List ℕ) → (n ≡ numberOf (Refused BadShape)) × (out₁ ≡ answerOut (Refused BadShape) out)
-          → beat n ws rs mark out₁ ≡ clockedCycle m levels ws rs mark request rank tag out
+          → clockedAfterOut n ws rs mark out₁ ≡ clockedCycle m levels ws rs mark request rank tag out
       unfolding clockedCycle blank
       cycle-refused e n out₁ told = rw (le-leb 2 (length out) room, sym tested ∙ not-true b e) (no-zeros out room n out₁ (told .0) (told .1))
 
@@ -140,23 +140,23 @@ module _ (m levels : ℕ) (ws rs mark : List ℕ) where
         pub cycle-done : (asked : Request) (state : State) (a : Answer) (after : List ℕ) (s : State) (n : ℕ) (r : Bool) (rs₁ mark₁ out₁ : List ℕ)
             → asked ≡ requestOf request rank tag → state ≡ stateIn levels rs mark → cycleOutcome a after s ≡ ticked m levels asked state ws
             → r ≡ ran (numberOf a) → Back (levels - 1) rs mark r s rs₁ mark₁ → (n ≡ numberOf a) × (out₁ ≡ answerOut a out)
-            → beat n after rs₁ mark₁ out₁ ≡ clockedCycle m levels ws rs mark request rank tag out
+            → clockedAfterOut n after rs₁ mark₁ out₁ ≡ clockedCycle m levels ws rs mark request rank tag out
         unfolding clockedCycle
         cycle-done asked state a after s n r rs₁ mark₁ out₁ h k o q back told =
             rw (le-leb 2 (length out) room, sym tested ∙ not-false b e)
             ((λ i. record { number = told .0 i; store = after; records = back .0 i; mark = back .1 i; out = told .1 i })
-            ∙ ap (λ (r : Bool). beat (numberOf a) after (recordsBack levels rs mark r s) (markBack levels rs mark r s) (answerOut a out)) q
+            ∙ ap (λ (r : Bool). clockedAfterOut (numberOf a) after (recordsBack levels rs mark r s) (markBack levels rs mark r s) (answerOut a out)) q
             ∙ ap (λ (o : CycleOutcome). cycleOf levels rs mark o out) (o ∙ ap₂ (λ (q : Request) (s : State). ticked m levels q s ws) h k))
 
   -- ---- a drain
   module _ (out : List ℕ) (budget : ℕ) where
-    pub drain-short : length out < 2 → beat 1 ws rs mark out ≡ clockedDrain m levels ws rs mark budget out
+    pub drain-short : length out < 2 → clockedAfterOut 1 ws rs mark out ≡ clockedDrain m levels ws rs mark budget out
     unfolding clockedDrain
     drain-short h = rw (lt-leb 2 (length out) h) (no-short out h)
 
     module _ (room : 2 ≤ length out) (b : Bool) (tested : b ≡ taken m levels (length ws) rs mark 0) where
       pub drain-refused : not b ≡ true → (n : ℕ) (out₁ : List ℕ) → (n ≡ numberOf (Refused BadShape)) × (out₁ ≡ drainOut 0 false out)
-          → beat n ws rs mark out₁ ≡ clockedDrain m levels ws rs mark budget out
+          → clockedAfterOut n ws rs mark out₁ ≡ clockedDrain m levels ws rs mark budget out
       unfolding clockedDrain
       drain-refused e n out₁ told = rw (le-leb 2 (length out) room, sym tested ∙ not-true b e) (no-zeros out room n out₁ (told .0) (told .1))
 
@@ -164,7 +164,7 @@ module _ (m levels : ℕ) (ws rs mark : List ℕ) where
         pub drain-done : (state : State) (a : Answer) (cycles : ℕ) (left : Bool) (after : List ℕ) (s : State) (n : ℕ) (rs₁ mark₁ out₁ : List ℕ)
             → state ≡ stateIn levels rs mark → drainOutcome a cycles left after s ≡ drains m levels budget state ws
             → Back (levels - 1) rs mark (ltb 0 cycles) s rs₁ mark₁ → (n ≡ numberOf a) × (out₁ ≡ drainOut cycles left out)
-            → beat n after rs₁ mark₁ out₁ ≡ clockedDrain m levels ws rs mark budget out
+            → clockedAfterOut n after rs₁ mark₁ out₁ ≡ clockedDrain m levels ws rs mark budget out
         unfolding clockedDrain
         drain-done state a cycles left after s n rs₁ mark₁ out₁ k o back told =
             rw (le-leb 2 (length out) room, sym tested ∙ not-false b e)

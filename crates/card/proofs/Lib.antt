@@ -3,3 +3,5 @@ pub mod Calls
 pub mod Clocked
 pub mod Sizes
 pub mod Zeros
+pub mod History
+pub mod Pinned

@@ -8,10 +8,10 @@ use lib.Dec.{leb}
 use lib.ListN.{length, set}
 use Rattle.bucket_model.specs.Calls as bucket
 use Rattle.card.proofs.Clocked.{taken-shape}
-use Rattle.card.specs.Bucket.{bucketPop, bucketReplace, drawn, drawnOf}
-use Rattle.card.specs.Clocked.{Beat, clockedCycle, clockedDrain, cycleOf, drainOf, requestOf, saysNo, stateIn, taken}
-use Rattle.card.specs.Out.{answerOut, badShape, countTold, refusedOut, tally}
-use Rattle.card.specs.Tree.{treePop, treeReplace, treeTold, toldOf}
+use Rattle.card.specs.Bucket.{bucketPop, bucketReplace, bucketAfterOut, bucketAnswered}
+use Rattle.card.specs.Clocked.{ClockedAfterOut, clockedCycle, clockedDrain, cycleOf, drainOf, requestOf, saysNo, stateIn, taken}
+use Rattle.card.specs.Out.{answerOut, badShape, countAnswered, refusedOut, countAfter}
+use Rattle.card.specs.Tree.{treePop, treeReplace, treeAfterOut, treeAnswered}
 use Rattle.clocked_model.proofs.Drain.{exactly-drain}
 use Rattle.clocked_model.specs.Calls.{DrainOutcome, drains, ticked}
 use Rattle.laws.specs.Tests.{and-right}
@@ -36,21 +36,21 @@ unfolding refusedOut
 told-zeros a out true e h = answer-zeros a out h ∙ ap (λ (b : Bool). cond b (set (set out 0 0) 1 0) out) (sym e)
 told-zeros a out false e h = ap (λ (b : Bool). cond b (set (set out 0 0) 1 0) out) (sym e)
 
-tree-zeros : (o : tree.Outcome) (ws out : List ℕ) → (toldOf o ws out .number ≡ 0 → ⊥) → toldOf o ws out .out ≡ refusedOut out
-unfolding toldOf
+tree-zeros : (o : tree.Outcome) (ws out : List ℕ) → (treeAnswered o ws out .number ≡ 0 → ⊥) → treeAnswered o ws out .out ≡ refusedOut out
+unfolding treeAnswered
 tree-zeros o ws out h = go (leb 2 (length out)) refl h
   where
-    go : (b : Bool) → leb 2 (length out) ≡ b → (cond b (treeTold (numberOf (o .answer)) (o .words) (answerOut (o .answer) out)) (treeTold badShape ws out) .number ≡ 0 → ⊥)
-        → cond b (treeTold (numberOf (o .answer)) (o .words) (answerOut (o .answer) out)) (treeTold badShape ws out) .out ≡ refusedOut out
+    go : (b : Bool) → leb 2 (length out) ≡ b → (cond b (treeAfterOut (numberOf (o .answer)) (o .words) (answerOut (o .answer) out)) (treeAfterOut badShape ws out) .number ≡ 0 → ⊥)
+        → cond b (treeAfterOut (numberOf (o .answer)) (o .words) (answerOut (o .answer) out)) (treeAfterOut badShape ws out) .out ≡ refusedOut out
     go true e h = told-zeros (o .answer) out true e h
     go false e h = told-zeros (o .answer) out false e h
 
-bucket-zeros : (o : bucket.Outcome) (b w out : List ℕ) → (drawnOf o b w out .number ≡ 0 → ⊥) → drawnOf o b w out .out ≡ refusedOut out
-unfolding drawnOf
+bucket-zeros : (o : bucket.Outcome) (b w out : List ℕ) → (bucketAnswered o b w out .number ≡ 0 → ⊥) → bucketAnswered o b w out .out ≡ refusedOut out
+unfolding bucketAnswered
 bucket-zeros o b w out h = go (leb 2 (length out)) refl h
   where
-    go : (t : Bool) → leb 2 (length out) ≡ t → (cond t (drawn (numberOf (o .answer)) (o .bits) (o .words) (answerOut (o .answer) out)) (drawn badShape b w out) .number ≡ 0 → ⊥)
-        → cond t (drawn (numberOf (o .answer)) (o .bits) (o .words) (answerOut (o .answer) out)) (drawn badShape b w out) .out ≡ refusedOut out
+    go : (t : Bool) → leb 2 (length out) ≡ t → (cond t (bucketAfterOut (numberOf (o .answer)) (o .bits) (o .words) (answerOut (o .answer) out)) (bucketAfterOut badShape b w out) .number ≡ 0 → ⊥)
+        → cond t (bucketAfterOut (numberOf (o .answer)) (o .bits) (o .words) (answerOut (o .answer) out)) (bucketAfterOut badShape b w out) .out ≡ refusedOut out
     go true e h = told-zeros (o .answer) out true e h
     go false e h = told-zeros (o .answer) out false e h
 
@@ -78,7 +78,7 @@ module _ (m levels : ℕ) (ws rs mark out : List ℕ) where
       a : Answer
       a = ticked m levels (requestOf request rank tag) (stateIn levels rs mark) ws .answer
 
-      done : Beat
+      done : ClockedAfterOut
       done = cycleOf levels rs mark (ticked m levels (requestOf request rank tag) (stateIn levels rs mark) ws) out
 
       go : (b : Bool) → leb 2 (length out) ≡ b → (t : Bool) → (cond (b && t) done (saysNo m levels ws rs mark out) .number ≡ 0 → ⊥) → cond (b && t) done (saysNo m levels ws rs mark out) .out ≡ refusedOut out
@@ -112,12 +112,12 @@ module _ (m levels : ℕ) (ws rs mark out : List ℕ) where
           (shape-is m levels (length ws) (taken-shape m levels (length ws) rs mark 0 (and-right (leb 2 (length out)) (taken m levels (length ws) rs mark 0) e))))
 
 -- held answers 0
-pub zeros-held : (c : Count) (out : List ℕ) → (countTold c out .number ≡ 0 → ⊥) → countTold c out .out ≡ cond (leb 1 (length out)) (set out 0 0) out
-unfolding countTold
+pub zeros-held : (c : Count) (out : List ℕ) → (countAnswered c out .number ≡ 0 → ⊥) → countAnswered c out .out ≡ cond (leb 1 (length out)) (set out 0 0) out
+unfolding countAnswered
 zeros-held c out h = go (leb 1 (length out)) c h
   where
-    go : (b : Bool) (c : Count) → (cond b (tally (countNumber c) (set out 0 (countOf c))) (tally badShape out) .number ≡ 0 → ⊥)
-        → cond b (tally (countNumber c) (set out 0 (countOf c))) (tally badShape out) .out ≡ cond b (set out 0 0) out
+    go : (b : Bool) (c : Count) → (cond b (countAfter (countNumber c) (set out 0 (countOf c))) (countAfter badShape out) .number ≡ 0 → ⊥)
+        → cond b (countAfter (countNumber c) (set out 0 (countOf c))) (countAfter badShape out) .out ≡ cond b (set out 0 0) out
     go true (Held n) h = absurd (h refl)
     go true (Unknown r) h = refl
     go false c h = refl

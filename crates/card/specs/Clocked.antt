@@ -5,7 +5,7 @@ use mathlib.Core.Bool.{_&&_, Bool, cond, not}
 use mathlib.Core.List.{List}
 use lib.Dec.{eqb, leb, ltb}
 use lib.ListN.{length, set}
-use Rattle.card.specs.Out.{answerOut, badShape, Counted, countTold, refusedOut}
+use Rattle.card.specs.Out.{answerOut, badShape, CountAfter, countAnswered, refusedOut}
 use Rattle.card_records.specs.Records.{markWritten, readable, roomy, stateRead, worksWritten}
 use Rattle.clocked_model.specs.Calls.{CycleOutcome, DrainOutcome, drains, restarted, ticked}
 use Rattle.clocked_model.specs.declared.State.{State}
@@ -15,25 +15,25 @@ use Rattle.strip.specs.declared.Request.the-variants.{Idle, Pop, Push, Replace}
 use Rattle.tree_model.specs.Calls.{counted, shapeOk}
 
 -- ---- clear: the number, and all words afterwards
-pub record Restart : Type 0 where
+pub record ClockedAfter : Type 0 where
   pub number : ℕ
   pub store : List ℕ
   pub records : List ℕ
   pub mark : List ℕ
 
-abbrev pub restart : ℕ → List ℕ → List ℕ → List ℕ → Restart
-restart n ws rs mark = record { number = n; store = ws; records = rs; mark = mark }
+abbrev pub clockedAfter : ℕ → List ℕ → List ℕ → List ℕ → ClockedAfter
+clockedAfter n ws rs mark = record { number = n; store = ws; records = rs; mark = mark }
 
 -- ---- cycle and drain: the number, and all words afterwards
-pub record Beat : Type 0 where
+pub record ClockedAfterOut : Type 0 where
   pub number : ℕ
   pub store : List ℕ
   pub records : List ℕ
   pub mark : List ℕ
   pub out : List ℕ
 
-abbrev pub beat : ℕ → List ℕ → List ℕ → List ℕ → List ℕ → Beat
-beat n ws rs mark out = record { number = n; store = ws; records = rs; mark = mark; out = out }
+abbrev pub clockedAfterOut : ℕ → List ℕ → List ℕ → List ℕ → List ℕ → ClockedAfterOut
+clockedAfterOut n ws rs mark out = record { number = n; store = ws; records = rs; mark = mark; out = out }
 
 -- the request of a number: 0 idle, 1 push, 2 pop, 3 replace
 unfoldable pub requestOf : ℕ → ℕ → ℕ → Request
@@ -65,37 +65,37 @@ module _ (levels : ℕ) (rs mark : List ℕ) where
   markBack r s = cond r (markWritten s mark) mark
 
   -- what a clear, a cycle and a drain come to
-  abbrev pub restartOf : CycleOutcome → Restart
-  restartOf o =
-      restart (numberOf (o .answer)) (o .words) (recordsBack (ran (numberOf (o .answer))) (o .state)) (markBack (ran (numberOf (o .answer))) (o .state))
+  abbrev pub clearOf : CycleOutcome → ClockedAfter
+  clearOf o =
+      clockedAfter (numberOf (o .answer)) (o .words) (recordsBack (ran (numberOf (o .answer))) (o .state)) (markBack (ran (numberOf (o .answer))) (o .state))
 
-  abbrev pub cycleOf : CycleOutcome → List ℕ → Beat
+  abbrev pub cycleOf : CycleOutcome → List ℕ → ClockedAfterOut
   cycleOf o out =
-      beat (numberOf (o .answer)) (o .words) (recordsBack (ran (numberOf (o .answer))) (o .state)) (markBack (ran (numberOf (o .answer))) (o .state)) (answerOut (o .answer) out)
+      clockedAfterOut (numberOf (o .answer)) (o .words) (recordsBack (ran (numberOf (o .answer))) (o .state)) (markBack (ran (numberOf (o .answer))) (o .state)) (answerOut (o .answer) out)
 
-  abbrev pub drainOf : DrainOutcome → List ℕ → Beat
+  abbrev pub drainOf : DrainOutcome → List ℕ → ClockedAfterOut
   drainOf o out =
-      beat (numberOf (o .answer)) (o .words) (recordsBack (ltb 0 (o .cycles)) (o .state)) (markBack (ltb 0 (o .cycles)) (o .state)) (drainOut (o .cycles) (o .left) out)
+      clockedAfterOut (numberOf (o .answer)) (o .words) (recordsBack (ltb 0 (o .cycles)) (o .state)) (markBack (ltb 0 (o .cycles)) (o .state)) (drainOut (o .cycles) (o .left) out)
 
 -- ---- the calls
 module _ (m levels : ℕ) (ws rs mark : List ℕ) where
-  unfoldable pub clockedClear : Restart
+  unfoldable pub clockedClear : ClockedAfter
   clockedClear =
-      cond (shapeOk m levels (length ws) && roomy (levels - 1) rs mark) (restartOf levels rs mark (restarted m levels ws)) (restart badShape ws rs mark)
+      cond (shapeOk m levels (length ws) && roomy (levels - 1) rs mark) (clearOf levels rs mark (restarted m levels ws)) (clockedAfter badShape ws rs mark)
 
   -- where the boundary says no, all stands but `out`, which gets zeros if it is long enough
-  abbrev pub saysNo : List ℕ → Beat
-  saysNo out = beat badShape ws rs mark (refusedOut out)
+  abbrev pub saysNo : List ℕ → ClockedAfterOut
+  saysNo out = clockedAfterOut badShape ws rs mark (refusedOut out)
 
-  unfoldable pub clockedCycle : ℕ → ℕ → ℕ → List ℕ → Beat
+  unfoldable pub clockedCycle : ℕ → ℕ → ℕ → List ℕ → ClockedAfterOut
   clockedCycle request rank tag out =
       cond (leb 2 (length out) && taken m levels (length ws) rs mark request)
       (cycleOf levels rs mark (ticked m levels (requestOf request rank tag) (stateIn levels rs mark) ws) out) (saysNo out)
 
-  unfoldable pub clockedDrain : ℕ → List ℕ → Beat
+  unfoldable pub clockedDrain : ℕ → List ℕ → ClockedAfterOut
   clockedDrain budget out =
       cond (leb 2 (length out) && taken m levels (length ws) rs mark 0)
       (drainOf levels rs mark (drains m levels budget (stateIn levels rs mark) ws) out) (saysNo out)
 
-abbrev pub clockedHeld : ℕ → ℕ → List ℕ → List ℕ → Counted
-clockedHeld m levels ws out = countTold (counted m levels ws) out
+abbrev pub clockedHeld : ℕ → ℕ → List ℕ → List ℕ → CountAfter
+clockedHeld m levels ws out = countAnswered (counted m levels ws) out

@@ -3,3 +3,4 @@ pub mod Tree
 pub mod Bucket
 pub mod Clocked
 pub mod Sizes
+pub mod History

@@ -4,10 +4,10 @@ ghost use mathlib.Core.Path.{_≡_};
 ghost use Prim.Native.Nat.{_≤_};
 ghost use lib.ListN.{length, set};
 ghost use Rattle.strip.specs.Answers.{numberOf, countNumber, countOf};
-ghost use Rattle.card.specs.Out.{answerOut, tally};
-ghost use Rattle.card.specs.Tree.{treeStored, treeTold, treeClear, treePush, treePop, treeReplace, treeHeld};
-ghost use Rattle.card.specs.Bucket.{pooled, drawn, bucketClear, bucketPush, bucketPop, bucketReplace, bucketHeld};
-ghost use Rattle.card.specs.Clocked.{restart, beat, requestOf, ran, taken, drainOut, clockedClear, clockedCycle, clockedDrain, clockedHeld};
+ghost use Rattle.card.specs.Out.{answerOut, countAfter};
+ghost use Rattle.card.specs.Tree.{treeAfter, treeAfterOut, treeClear, treePush, treePop, treeReplace, treeHeld};
+ghost use Rattle.card.specs.Bucket.{bucketAfter, bucketAfterOut, bucketClear, bucketPush, bucketPop, bucketReplace, bucketHeld};
+ghost use Rattle.card.specs.Clocked.{clockedAfter, clockedAfterOut, requestOf, ran, taken, drainOut, clockedClear, clockedCycle, clockedDrain, clockedHeld};
 ghost use Rattle.card.specs.Sizes.{treeWords, bucketBits, bucketWords};
 use card_records::bit;
 use card_records::hand_back;
@@ -60,7 +60,7 @@ fn tell_count(out: &mut [u32], count: Count) -> u32
 
 #[no_mangle]
 pub extern "C" fn card_tree_clear(store: &mut [u32], order: u32, levels: u32) -> u32
-    ensures { λ r. ⌜ treeStored r (now (store .exit)) ≡ treeClear order levels (now (store .entry)) ⌝ }
+    ensures { λ r. ⌜ treeAfter r (now (store .exit)) ≡ treeClear order levels (now (store .entry)) ⌝ }
 {
     number(tree::clear(store, order as usize, levels as usize))
 }
@@ -73,7 +73,7 @@ pub extern "C" fn card_tree_push(
     rank: u32,
     tag: u32,
 ) -> u32
-    ensures { λ r. ⌜ treeStored r (now (store .exit)) ≡ treePush order levels (now (store .entry)) rank tag ⌝ }
+    ensures { λ r. ⌜ treeAfter r (now (store .exit)) ≡ treePush order levels (now (store .entry)) rank tag ⌝ }
 {
     let x = Element {
         rank: Rank(rank),
@@ -84,7 +84,7 @@ pub extern "C" fn card_tree_push(
 
 #[no_mangle]
 pub extern "C" fn card_tree_pop(store: &mut [u32], order: u32, levels: u32, out: &mut [u32]) -> u32
-    ensures { λ r. ⌜ treeTold r (now (store .exit)) (now (out .exit)) ≡ treePop order levels (now (store .entry)) (now (out .entry)) ⌝ }
+    ensures { λ r. ⌜ treeAfterOut r (now (store .exit)) (now (out .exit)) ≡ treePop order levels (now (store .entry)) (now (out .entry)) ⌝ }
 {
     if out.len() < OUT {
         return 1;
@@ -102,7 +102,7 @@ pub extern "C" fn card_tree_replace(
     tag: u32,
     out: &mut [u32],
 ) -> u32
-    ensures { λ r. ⌜ treeTold r (now (store .exit)) (now (out .exit)) ≡ treeReplace order levels (now (store .entry)) rank tag (now (out .entry)) ⌝ }
+    ensures { λ r. ⌜ treeAfterOut r (now (store .exit)) (now (out .exit)) ≡ treeReplace order levels (now (store .entry)) rank tag (now (out .entry)) ⌝ }
 {
     if out.len() < OUT {
         return 1;
@@ -117,7 +117,7 @@ pub extern "C" fn card_tree_replace(
 
 #[no_mangle]
 pub extern "C" fn card_tree_held(store: &[u32], order: u32, levels: u32, out: &mut [u32]) -> u32
-    ensures { λ r. ⌜ tally r (now (out .exit)) ≡ treeHeld order levels (now (store .entry)) (now (out .entry)) ⌝ }
+    ensures { λ r. ⌜ countAfter r (now (out .exit)) ≡ treeHeld order levels (now (store .entry)) (now (out .entry)) ⌝ }
 {
     if out.len() < 1 {
         return 1;
@@ -130,7 +130,7 @@ pub extern "C" fn card_tree_held(store: &[u32], order: u32, levels: u32, out: &m
 
 #[no_mangle]
 pub extern "C" fn card_bucket_clear(bits: &mut [u64], words: &mut [u32], nodes: u32) -> u32
-    ensures { λ r. ⌜ pooled r (now (bits .exit)) (now (words .exit)) ≡ bucketClear (now (bits .entry)) (now (words .entry)) nodes ⌝ }
+    ensures { λ r. ⌜ bucketAfter r (now (bits .exit)) (now (words .exit)) ≡ bucketClear (now (bits .entry)) (now (words .entry)) nodes ⌝ }
 {
     number(bucket::clear(bits, words, nodes))
 }
@@ -143,7 +143,7 @@ pub extern "C" fn card_bucket_push(
     rank: u32,
     tag: u32,
 ) -> u32
-    ensures { λ r. ⌜ pooled r (now (bits .exit)) (now (words .exit)) ≡ bucketPush (now (bits .entry)) (now (words .entry)) nodes rank tag ⌝ }
+    ensures { λ r. ⌜ bucketAfter r (now (bits .exit)) (now (words .exit)) ≡ bucketPush (now (bits .entry)) (now (words .entry)) nodes rank tag ⌝ }
 {
     number(bucket::push(bits, words, nodes, Rank(rank), Tag(tag)))
 }
@@ -155,7 +155,7 @@ pub extern "C" fn card_bucket_pop(
     nodes: u32,
     out: &mut [u32],
 ) -> u32
-    ensures { λ r. ⌜ drawn r (now (bits .exit)) (now (words .exit)) (now (out .exit)) ≡ bucketPop (now (bits .entry)) (now (words .entry)) nodes (now (out .entry)) ⌝ }
+    ensures { λ r. ⌜ bucketAfterOut r (now (bits .exit)) (now (words .exit)) (now (out .exit)) ≡ bucketPop (now (bits .entry)) (now (words .entry)) nodes (now (out .entry)) ⌝ }
 {
     if out.len() < OUT {
         return 1;
@@ -173,7 +173,7 @@ pub extern "C" fn card_bucket_replace(
     tag: u32,
     out: &mut [u32],
 ) -> u32
-    ensures { λ r. ⌜ drawn r (now (bits .exit)) (now (words .exit)) (now (out .exit)) ≡ bucketReplace (now (bits .entry)) (now (words .entry)) nodes rank tag (now (out .entry)) ⌝ }
+    ensures { λ r. ⌜ bucketAfterOut r (now (bits .exit)) (now (words .exit)) (now (out .exit)) ≡ bucketReplace (now (bits .entry)) (now (words .entry)) nodes rank tag (now (out .entry)) ⌝ }
 {
     if out.len() < OUT {
         return 1;
@@ -184,7 +184,7 @@ pub extern "C" fn card_bucket_replace(
 
 #[no_mangle]
 pub extern "C" fn card_bucket_held(bits: &[u64], words: &[u32], nodes: u32, out: &mut [u32]) -> u32
-    ensures { λ r. ⌜ tally r (now (out .exit)) ≡ bucketHeld (now (bits .entry)) (now (words .entry)) nodes (now (out .entry)) ⌝ }
+    ensures { λ r. ⌜ countAfter r (now (out .exit)) ≡ bucketHeld (now (bits .entry)) (now (words .entry)) nodes (now (out .entry)) ⌝ }
 {
     if out.len() < 1 {
         return 1;
@@ -258,7 +258,7 @@ pub extern "C" fn card_clocked_clear(
     records: &mut [u32],
     mark: &mut [u32],
 ) -> u32
-    ensures { λ r. ⌜ restart r (now (store .exit)) (now (records .exit)) (now (mark .exit)) ≡ clockedClear order levels (now (store .entry)) (now (records .entry)) (now (mark .entry)) ⌝ }
+    ensures { λ r. ⌜ clockedAfter r (now (store .exit)) (now (records .exit)) (now (mark .exit)) ≡ clockedClear order levels (now (store .entry)) (now (records .entry)) (now (mark .entry)) ⌝ }
 {
     let m = order as usize;
     let l = levels as usize;
@@ -288,7 +288,7 @@ pub extern "C" fn card_clocked_cycle(
     tag: u32,
     out: &mut [u32],
 ) -> u32
-    ensures { λ r. ⌜ beat r (now (store .exit)) (now (records .exit)) (now (mark .exit)) (now (out .exit)) ≡ clockedCycle order levels (now (store .entry)) (now (records .entry)) (now (mark .entry)) request rank tag (now (out .entry)) ⌝ }
+    ensures { λ r. ⌜ clockedAfterOut r (now (store .exit)) (now (records .exit)) (now (mark .exit)) (now (out .exit)) ≡ clockedCycle order levels (now (store .entry)) (now (records .entry)) (now (mark .entry)) request rank tag (now (out .entry)) ⌝ }
 {
     let m = order as usize;
     let l = levels as usize;
@@ -318,7 +318,7 @@ pub extern "C" fn card_clocked_drain(
     budget: u32,
     out: &mut [u32],
 ) -> u32
-    ensures { λ r. ⌜ beat r (now (store .exit)) (now (records .exit)) (now (mark .exit)) (now (out .exit)) ≡ clockedDrain order levels (now (store .entry)) (now (records .entry)) (now (mark .entry)) budget (now (out .entry)) ⌝ }
+    ensures { λ r. ⌜ clockedAfterOut r (now (store .exit)) (now (records .exit)) (now (mark .exit)) (now (out .exit)) ≡ clockedDrain order levels (now (store .entry)) (now (records .entry)) (now (mark .entry)) budget (now (out .entry)) ⌝ }
 {
     let m = order as usize;
     let l = levels as usize;
@@ -339,7 +339,7 @@ pub extern "C" fn card_clocked_drain(
 
 #[no_mangle]
 pub extern "C" fn card_clocked_held(store: &[u32], order: u32, levels: u32, out: &mut [u32]) -> u32
-    ensures { λ r. ⌜ tally r (now (out .exit)) ≡ clockedHeld order levels (now (store .entry)) (now (out .entry)) ⌝ }
+    ensures { λ r. ⌜ countAfter r (now (out .exit)) ≡ clockedHeld order levels (now (store .entry)) (now (out .entry)) ⌝ }
 {
     if out.len() < 1 {
         return 1;

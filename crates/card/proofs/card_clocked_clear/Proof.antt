@@ -1,7 +1,7 @@
 -- `card::card_clocked_clear` meets its contract. Assumes nothing.
 use lib.ListN.{length}
 use borrow.Author.Needs.{needs}
-use Rattle.card.proofs.Clocked.{fresh-fits, restart-bare, restart-done, restart-shape, roomy-lent, shape-some}
+use Rattle.card.proofs.Clocked.{fresh-fits, clear-bare, clear-done, clear-shape, roomy-lent, shape-some}
 use Rattle.card.proofs.card_clocked_clear.Statement.{statement}
 use Rattle.card.proofs.card_clocked_clear.Tie as tie
 use Rattle.card.proofs.card_clocked_clear.Reads as reads
@@ -17,7 +17,7 @@ shape-ok-requires : tie.Need-shape-ok-requires
 shape-ok-requires c κs = search needs
 
 returns : tie.Need-returns
-returns c = restart-shape _ _ _ _ _ _ (c .before .shape-ok .ensures) (c .if1 .taken)
+returns c = clear-shape _ _ _ _ _ _ (c .before .shape-ok .ensures) (c .if1 .taken)
 
 sub-is-roomy : tie.Need-sub-is-roomy
 sub-is-roomy c = let a = c .before .before .before .before .before .before .before .args in shape-some (a .order) (a .levels) (length (a .store .now)) _ (c .before .before .before .shape-ok .ensures) (c .before .before .if1 .left)
@@ -32,7 +32,7 @@ same-length-2 : tie.Need-same-length-2
 same-length-2 c = search needs
 
 returns-2 : tie.Need-returns-2
-returns-2 c = restart-bare _ _ _ _ _ _ (c .before .before .before .before .before .shape-ok .ensures) (c .before .before .before .before .if1 .left) _ (c .before .is-roomy .ensures) (c .if2 .taken)
+returns-2 c = clear-bare _ _ _ _ _ _ (c .before .before .before .before .before .shape-ok .ensures) (c .before .before .before .before .if1 .left) _ (c .before .is-roomy .ensures) (c .if2 .taken)
 
 clear-requires : tie.Need-clear-requires
 clear-requires c κs = search needs
@@ -59,7 +59,7 @@ same-length-5 : tie.Need-same-length-5
 same-length-5 c = search needs
 
 returns-3 : tie.Need-returns-3
-returns-3 c = restart-done _ _ _ _ _ _ (c .before .before .before .before .before .before .before .before .before .before .before .before .before .before .before .before .before .before .before .shape-ok .ensures) (c .before .before .before .before .before .before .before .before .before .before .before .before .before .before .before .before .before .before .if1 .left) _ (c .before .before .before .before .before .before .before .before .before .before .before .before .before .before .before .is-roomy .ensures) (c .before .before .before .before .before .before .before .before .before .before .before .before .before .before .if2 .left) _ _ _ _ _ _ _ (c .before .before .before .before .before .before .before .before .before .before .before .before .clear .ensures) (c .before .before .before .before .before .before .before .before .has-run .ensures) (c .before .before .before .before .before .hand-back .ensures) (c .number .ensures)
+returns-3 c = clear-done _ _ _ _ _ _ (c .before .before .before .before .before .before .before .before .before .before .before .before .before .before .before .before .before .before .before .shape-ok .ensures) (c .before .before .before .before .before .before .before .before .before .before .before .before .before .before .before .before .before .before .if1 .left) _ (c .before .before .before .before .before .before .before .before .before .before .before .before .before .before .before .is-roomy .ensures) (c .before .before .before .before .before .before .before .before .before .before .before .before .before .before .if2 .left) _ _ _ _ _ _ _ (c .before .before .before .before .before .before .before .before .before .before .before .before .clear .ensures) (c .before .before .before .before .before .before .before .before .has-run .ensures) (c .before .before .before .before .before .hand-back .ensures) (c .number .ensures)
 
 pub card-clocked-clear-spec : {M : Type 1} → statement M
 card-clocked-clear-spec =

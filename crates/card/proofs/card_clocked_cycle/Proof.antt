@@ -1,6 +1,6 @@
 -- `card::card_clocked_cycle` meets its contract. Assumes nothing.
-use lib.ListN.{length}
 use native.Mathlib.Omega.{arith}
+use lib.ListN.{length}
 use borrow.Author.Needs.{needs}
 use Rattle.card.proofs.Clocked.{cycle-done, cycle-fits, cycle-refused, cycle-short, some-levels, taken-lent}
 use Rattle.card.proofs.card_clocked_cycle.Statement.{statement}

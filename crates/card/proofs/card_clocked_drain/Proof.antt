@@ -1,6 +1,6 @@
 -- `card::card_clocked_drain` meets its contract. Assumes nothing.
-use lib.ListN.{length}
 use native.Mathlib.Omega.{arith}
+use lib.ListN.{length}
 use borrow.Author.Needs.{needs}
 use Rattle.card.proofs.Clocked.{drain-done, drain-few, drain-fits, drain-refused, drain-short, some-levels, taken-lent}
 use Rattle.card.proofs.card_clocked_drain.Statement.{statement}
