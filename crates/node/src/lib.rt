@@ -10,6 +10,7 @@ ghost use Rattle.tree_model.specs.Words.{width, slotOf, write, nodeOf, nodeMove
 ghost use Rattle.tree_model.specs.Damage.{slotOk, nodeOk, hasRoom, hasSome, stepOk};
 ghost use Rattle.tree_model.specs.Calls.{slotLimit, orderOk, shapeOk};
 ghost use Rattle.node.specs.Scan.{beats, keyOr, NodeIn, StepIn, Doable, childOf, lowBelow, liftOk, Capacity, RoomUnder};
+
 pub mod plan;
 
 use strip::Element;

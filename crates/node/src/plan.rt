@@ -119,7 +119,14 @@ pub fn plan_put(place: usize, slot: Slot, x: Element) -> Plan
 }
 
 // A take at the chosen slot: above count 1 it lifts the lowest element of the node below, the first of which begins at slot `first`.
-pub fn plan_take(s: &[u32], first: usize, order: usize, room: usize, place: usize, slot: Slot) -> Plan
+pub fn plan_take(
+    s: &[u32],
+    first: usize,
+    order: usize,
+    room: usize,
+    place: usize,
+    slot: Slot,
+) -> Plan
     requires { ⌜ (1 < slot .count → NodeIn order (first + place * order) (now s)) × (room ≤ slotLimit) ⌝ }
     ensures order { λ r. ⌜ r .ok ≡ liftsOk room slot (nodeOf order (now (s .entry)) (first + place * order)) ⌝ }
     ensures step { λ r. ⌜ (r .ok ≡ true → r .step ≡ takeFrom place slot (nodeOf order (now (s .entry)) (first + place * order))) ⌝ }
@@ -138,7 +145,15 @@ pub fn plan_take(s: &[u32], first: usize, order: usize, room: usize, place: usiz
 }
 
 // A swap likewise.
-pub fn plan_swap(s: &[u32], first: usize, order: usize, room: usize, place: usize, slot: Slot, x: Element) -> Plan
+pub fn plan_swap(
+    s: &[u32],
+    first: usize,
+    order: usize,
+    room: usize,
+    place: usize,
+    slot: Slot,
+    x: Element,
+) -> Plan
     requires { ⌜ (1 < slot .count → NodeIn order (first + place * order) (now s)) × (room ≤ slotLimit) ⌝ }
     ensures order { λ r. ⌜ r .ok ≡ liftsOk room slot (nodeOf order (now (s .entry)) (first + place * order)) ⌝ }
     ensures step { λ r. ⌜ (r .ok ≡ true → r .step ≡ swapFrom place slot (nodeOf order (now (s .entry)) (first + place * order)) x) ⌝ }
@@ -185,7 +200,15 @@ fn take_at(s: &[u32], at: usize, first: usize, order: usize, room: usize, under:
     plan_take(s, first, order, under, c.place, slot)
 }
 
-fn swap_at(s: &[u32], at: usize, first: usize, order: usize, room: usize, under: usize, x: Element) -> Plan
+fn swap_at(
+    s: &[u32],
+    at: usize,
+    first: usize,
+    order: usize,
+    room: usize,
+    under: usize,
+    x: Element,
+) -> Plan
     requires { ⌜ PlanIn order at first room under (now s) ⌝ }
     ensures { λ r. ⌜ Planned order room under (Op.Swap x) at first (now (s .entry)) (r .ok) (r .step) ⌝ }
 {
@@ -198,7 +221,15 @@ fn swap_at(s: &[u32], at: usize, first: usize, order: usize, room: usize, under:
 }
 
 // The step of any operation at the node whose first slot is slot `at`; the node below its first place begins at slot `first`.
-pub fn plan_of(s: &[u32], at: usize, first: usize, order: usize, room: usize, under: usize, op: Op) -> Plan
+pub fn plan_of(
+    s: &[u32],
+    at: usize,
+    first: usize,
+    order: usize,
+    room: usize,
+    under: usize,
+    op: Op,
+) -> Plan
     requires { ⌜ PlanIn order at first room under (now s) ⌝ }
     ensures { λ r. ⌜ Planned order room under op at first (now (s .entry)) (r .ok) (r .step) ⌝ }
 {
