@@ -6,8 +6,7 @@ use mathlib.Core.Bool.{Bool, cond, false, not, true}
 use mathlib.Core.List.{List}
 use mathlib.Core.Path.{_∙_, _≡_, ap, ap₂, refl, sym}
 use lib.ListN.{length}
-use Rattle.clocked_model.proofs.Demand.{few-levels}
-use Rattle.clocked_model.specs.Calls.{CycleOutcome, cycleOutcome, drainFrom, drainOutcome, DrainOutcome, drains, isRefused, pending, recordCount, ticked}
+use Rattle.clocked_model.specs.Calls.{CycleOutcome, cycleOutcome, drainFrom, drainOutcome, DrainOutcome, drains, isRefused, pending, ticked}
 use Rattle.clocked_model.specs.Cycle.{quiet}
 use Rattle.clocked_model.specs.Records.{worksOf}
 use Rattle.clocked_model.specs.declared.State.{State}
@@ -17,7 +16,6 @@ use Rattle.strip.specs.declared.Answer.{Answer}
 use Rattle.strip.specs.declared.Answer.the-variants.{Done, Refused}
 use Rattle.strip.specs.declared.Refusal.the-variants.{BadShape}
 use Rattle.strip.specs.declared.Request.the-variants.{Idle}
-use Rattle.tree_model.proofs.Exactly.{shape-is}
 use Rattle.tree_model.specs.Calls.{shapeOk}
 
 -- what a report says
@@ -26,11 +24,6 @@ Report a n l s b k d u = (a ≡ b) × (n ≡ k) × (l ≡ d) × (s ≡ u)
 
 reported : (a b : Answer) (n k : ℕ) (l d : Bool) (s u : State) (ws : List ℕ) → Report a n l s b k d u → drainOutcome a n l ws s ≡ drainOutcome b k d ws u
 reported a b n k l d s u ws p = λ i. record { answer = p .0 i; cycles = p .1 i; left = p .2 i; words = ws; state = p .3 i }
-
-pub few-records : (m levels : ℕ) (ws : List ℕ) → shapeOk m levels (length ws) ≡ true → (1 ≤ levels) × (levels - 1 ≤ recordCount)
-few-records m levels ws e =
-    let sh = shape-is m levels (length ws) e in
-    (sh .some, omega (arith, few-levels m levels (length ws) sh, sub-one levels))
 
 module _ (m levels n : ℕ) (s : State) (ws : List ℕ) (q : Bool) (read : q ≡ quiet (levels - 1) (worksOf (levels - 1) (s .records) 0)) where
   waits : not q ≡ pending m levels s
@@ -41,14 +34,15 @@ module _ (m levels n : ℕ) (s : State) (ws : List ℕ) (q : Bool) (read : q ≡
   drain-quiet zero a k l u e p = reported a Done k n l false u s ws p ∙ ap (λ (t : Bool). drainOutcome Done n t ws s) (sym (ap not e) ∙ waits)
   drain-quiet (suc b) a k l u e p = rw (sym waits ∙ ap not e) (reported a Done k n l false u s ws p)
 
+  -- the budget is spent
+  pub drain-spent : (b : ℕ) (a : Answer) (k : ℕ) (l : Bool) (u : State) → b ≡ 0 → Report a k l u Done n (not q) s → drainOutcome a k l ws u ≡ drainFrom m levels b n s ws
+  unfolding drainFrom
+  drain-spent b a k l u z p =
+      reported a Done k n l (not q) u s ws p ∙ ap (λ (t : Bool). drainOutcome Done n t ws s) waits ∙ ap (λ (b : ℕ). drainFrom m levels b n s ws) (sym z)
+
   module _ (e : q ≡ false) where
     on : pending m levels s ≡ true
     on = sym waits ∙ ap not e
-
-    pub drain-spent : (b : ℕ) (a : Answer) (k : ℕ) (l : Bool) (u : State) → b ≡ 0 → Report a k l u Done n true s → drainOutcome a k l ws u ≡ drainFrom m levels b n s ws
-    unfolding drainFrom
-    drain-spent b a k l u z p =
-        reported a Done k n l true u s ws p ∙ ap (λ (t : Bool). drainOutcome Done n t ws s) (sym on) ∙ ap (λ (b : ℕ). drainFrom m levels b n s ws) (sym z)
 
     module _ (b : ℕ) (some : b ≡ 0 → ⊥) (x : Answer) (ws₁ : List ℕ) (s₁ : State) (ran : cycleOutcome x ws₁ s₁ ≡ ticked m levels Idle s ws) (t : Bool) (tested : t ≡ isRefused x) where
       one-cycle : drainFrom m levels b n s ws ≡ cond t (drainOutcome x n true ws₁ s₁) (drainFrom m levels (b - 1) (n + 1) s₁ ws₁)
@@ -72,8 +66,16 @@ module _ (m levels n : ℕ) (s : State) (ws : List ℕ) (q : Bool) (read : q ≡
           reported a x k n l true u s₁ ws₁ p
           ∙ sym (one-cycle ∙ ap (λ (t : Bool). cond t (drainOutcome x n true ws₁ s₁) (drainFrom m levels (b - 1) (n + 1) s₁ ws₁)) f)
 
-      pub drain-goes : (d : DrainOutcome) → t ≡ false → d ≡ drainFrom m levels (b - 1) (n + 1) s₁ ws₁ → d ≡ drainFrom m levels b n s ws
-      drain-goes d f p = p ∙ sym (one-cycle ∙ ap (λ (t : Bool). cond t (drainOutcome x n true ws₁ s₁) (drainFrom m levels (b - 1) (n + 1) s₁ ws₁)) f)
+      pub drain-goes : (b′ : ℕ) → t ≡ false → b′ ≡ b - 1 → drainFrom m levels b′ (n + 1) s₁ ws₁ ≡ drainFrom m levels b n s ws
+      drain-goes b′ f eb =
+          ap (λ (b : ℕ). drainFrom m levels b (n + 1) s₁ ws₁) eb ∙ sym (one-cycle ∙ ap (λ (t : Bool). cond t (drainOutcome x n true ws₁ s₁) (drainFrom m levels (b - 1) (n + 1) s₁ ws₁)) f)
+
+-- what the drain from here on leaves, with n cycles run, is what the whole drain does
+abbrev pub Draining : ℕ → ℕ → ℕ → State → List ℕ → ℕ → State → List ℕ → Type 0
+Draining m levels budget s₀ ws₀ n s ws = drainFrom m levels (budget - n) n s ws ≡ drainFrom m levels budget 0 s₀ ws₀
+
+pub drain-starts : (m levels budget : ℕ) (s : State) (ws : List ℕ) → Draining m levels budget s ws 0 s ws
+drain-starts m levels budget s ws = let e : budget - 0 ≡ budget = omega arith in ap (λ (b : ℕ). drainFrom m levels b 0 s ws) e
 
 module _ (m levels budget : ℕ) (s : State) (ws : List ℕ) (t : Bool) (shaped : t ≡ shapeOk m levels (length ws)) where
   pub drain-shape : (a : Answer) (k : ℕ) (l : Bool) (u : State) → not t ≡ true → Report a k l u (Refused BadShape) 0 false s → drainOutcome a k l ws u ≡ drains m levels budget s ws

@@ -1,6 +1,5 @@
-pub mod Beat
-pub mod Round
-pub mod Request
-pub mod Whole
+pub mod Works
+pub mod Root
+pub mod Rounds
 pub mod Public
 pub mod Drains

@@ -1,27 +1,42 @@
 -- The public calls: each test and what follows it make the outcome that the definitions say. Assumes nothing.
-use Prim.Native.Nat.{ℕ}
+use Prim.Native.Nat.{_*_, _+_, _-_, _<_, _≤_, pred, suc, zero, ℕ}
 use native.Mathlib.Omega.{arith}
-use mathlib.Core.Bool.{_&&_, Bool, false, not, true}
+use mathlib.Core.Bool.{_&&_, Bool, cond, false, not, true}
 use mathlib.Core.List.{List}
-use mathlib.Core.Path.{_∙_, _≡_, ap, ap₂, refl, sym}
+use mathlib.Core.Path.{_∙_, _≡_, ap, ap₂, refl, subst, sym}
 use lib.ListN.{length, replicate}
 use borrow.Author.Tests.{not-false, not-true}
 use Rattle.clocked_model.proofs.Demand.{few-levels}
-use Rattle.clocked_model.specs.Calls.{askedOk, asks, cycleOutcome, fresh, heard, hearing, isRefused, marks, recordCount, restarted, stepsOk, ticked, turned}
+use Rattle.clocked_model.specs.Calls.{askedOk, CycleOutcome, cycleOutcome, fresh, hearing, marks, recordCount, restarted, stepsOk, ticked, turned}
+use Rattle.clocked_model.specs.Cycle.{cycleOk, cycleWords, quiet}
+use Rattle.clocked_model.specs.Records.{recordsAfter, worksOf}
 use Rattle.clocked_model.specs.declared.State.{State}
-use Rattle.clocked.specs.Beat.{allOk, recordsTurned, Rooted, stateOf, wordsTurned}
+use Rattle.clocked.proofs.Works.{still-ok, still-records, still-words}
+use Rattle.clocked.specs.Beat.{Hears, RoomIs, Rooted, RootIn, RootPlanned, stateOf, turnedBy}
+use Rattle.clocked.specs.declared.asked.Heard.{Heard}
+use Rattle.laws.specs.Tests.{and-assoc, and-left, and-right, sub-one}
+use Rattle.node.proofs.Steps.{room-up}
+use Rattle.node.specs.Scan.{Capacity, childOf}
 use Rattle.strip.specs.declared.Answer.{Answer}
 use Rattle.strip.specs.declared.Answer.the-variants.{Refused}
 use Rattle.strip.specs.declared.Refusal.the-variants.{BadShape, Damaged}
 use Rattle.strip.specs.declared.Request.{Request}
 use Rattle.tree.proofs.Calls.{shape-few, shape-here}
-use Rattle.tree_model.proofs.Exactly.{order-pos}
+use Rattle.tree.specs.Down.{Lies}
+use Rattle.tree_model.proofs.Exactly.{order-pos, shape-is}
+use Rattle.tree_model.proofs.Nothing.{is-none, work-none}
+use Rattle.tree_model.proofs.Place.{fine-here}
 use Rattle.tree_model.proofs.Words.{size-room}
-use Rattle.tree_model.specs.Calls.{cleared, Outcome, outcome, Ruling, ruling, shapeOk, verdict}
-use Rattle.tree_model.specs.Levels.{idle}
+use Rattle.tree_model.specs.Calls.{cleared, Outcome, outcome, Ruling, shapeOk, slotLimit}
+use Rattle.tree_model.specs.Damage.{fine, room, stepOk}
+use Rattle.tree_model.specs.Levels.{idle, top, work}
+use Rattle.tree_model.specs.Node.{isNothing}
+use Rattle.tree_model.specs.Words.{levelOf, levelsOf, nodeMove, nodeOf, restWords, size, stepWords, under, width}
 use Rattle.tree_model.specs.declared.Op.{Op}
+use Rattle.tree_model.specs.declared.Op.the-variants.{Nothing}
 use Rattle.tree_model.specs.declared.Work.{Work}
 
+-- ---- the shape
 module _ (m levels : ℕ) (ws : List ℕ) (t : Bool) (shaped : t ≡ shapeOk m levels (length ws)) where
   pub shape-no : not t ≡ true → shapeOk m levels (length ws) ≡ false
   shape-no e = sym shaped ∙ not-true t e
@@ -29,21 +44,62 @@ module _ (m levels : ℕ) (ws : List ℕ) (t : Bool) (shaped : t ≡ shapeOk m l
   pub shape-yes : not t ≡ false → shapeOk m levels (length ws) ≡ true
   shape-yes e = sym shaped ∙ not-false t e
 
-  pub rooted : not t ≡ false → Rooted m levels ws
-  rooted e =
-      let sh = shape-here m levels ws t shaped e in
+-- what is known of a shape that passes, with k levels below the root
+module _ (m k : ℕ) (ws : List ℕ) (shape : shapeOk m (suc k) (length ws) ≡ true) where
+  few-order : (0 < m) × (m ≤ 8)
+  few-order = shape-few m (suc k) ws true (sym shape) refl
+
+  pub rooted : Rooted m k ws
+  rooted =
+      let sh = shape-is m (suc k) (length ws) shape in
       record {
         lies = record {
-          order = order-pos sh;
-          few = shape-few m levels ws t shaped e .1;
+          order = few-order .0;
+          few = few-order .1;
           node = omega arith;
-          words = omega (arith, sh .slice, size-room m levels 1);
-          small = omega (arith, sh .capacity, size-room m levels 1);
+          words = omega (arith, sh .slice, size-room m (suc k) 1);
+          small = omega (arith, sh .capacity, size-room m (suc k) 1);
         };
-        some = sh .some;
-        capacity = sh .capacity;
-        records = few-levels m levels (length ws) sh;
+        records = few-levels m (suc k) (length ws) sh;
       }
+
+  pub room-below : room m k ≤ slotLimit
+  room-below = omega (arith, room-up m k (suc k) (few-order .0) (omega arith), shape-is m (suc k) (length ws) shape .capacity)
+
+  deeper-size : (k : ℕ) → 1 ≤ room m k → m + m * m ≤ 1 * m + size m k (1 * m)
+  unfolding room size
+  deeper-size zero h = absurd (omega arith)
+  deeper-size (suc k) h = omega arith
+
+  pub root-in : (r : ℕ) → RoomIs m k r → RootIn m r ws
+  unfolding size
+  root-in r e =
+      let lies : Lies m (suc k) 0 1 0 ws = rooted .lies in
+      record {
+        node = record { order = lies .order; words = omega (arith, lies .words) };
+        few = lies .few;
+        limit = omega (arith, room-below);
+        below = k;
+        fits = e;
+        children = λ h. omega (arith, lies .words, deeper-size k (omega (arith, h)));
+      }
+
+-- the levels below the root, by the code's numbers
+module _ (m levels : ℕ) (ws : List ℕ) (shape : shapeOk m levels (length ws) ≡ true) where
+  pub below-root : levels ≡ suc (levels - 1)
+  below-root = omega (arith, shape-is m levels (length ws) shape .some)
+
+  pub shape-below : shapeOk m (suc (levels - 1)) (length ws) ≡ true
+  shape-below = ap (λ (n : ℕ). shapeOk m n (length ws)) (sym below-root) ∙ shape
+
+  pub some-levels : 1 ≤ levels
+  some-levels = shape-is m levels (length ws) shape .some
+
+  pub order-few : (0 < m) × (m ≤ 8)
+  order-few = few-order m (levels - 1) ws shape-below
+
+  pub room-counted : (cap : ℕ) → Capacity m (levels - 1) cap → RoomIs m (levels - 1) cap
+  room-counted cap c = c .within (room-below m (levels - 1) ws shape-below)
 
 -- ---- clear
 pub fresh-is : (w : Work) → w ≡ idle → stateOf (replicate recordCount w) false ≡ fresh
@@ -54,43 +110,71 @@ pub clear-is : (m levels : ℕ) (ws after : List ℕ) (a : Answer) (s : State) �
 clear-is m levels ws after a s e p = ap₂ (λ (o : Outcome) (s : State). cycleOutcome (o .answer) (o .words) s) e p
 
 -- ---- a cycle
-pub mark-of : (rs : List Work) (r : Request) (a : Answer) (x y : Bool) → x ≡ asks r → y ≡ isRefused a → stateOf rs (x && not y) ≡ stateOf rs (marks r a)
-unfolding marks
-mark-of rs r a x y p q = ap₂ (λ (x y : Bool). stateOf rs (x && not y)) p q
+pub outcome-path : (a b : Answer) (ws : List ℕ) (s u : State) → (a ≡ b) × (s ≡ u) → cycleOutcome a ws s ≡ cycleOutcome b ws u
+outcome-path a b ws s u p = λ i. record { answer = p .0 i; words = ws; state = p .1 i }
 
-outcome-path : (a b : Answer) (v w : List ℕ) (s u : State) → a ≡ b → v ≡ w → s ≡ u → cycleOutcome a v s ≡ cycleOutcome b w u
-outcome-path a b v w s u p q r = λ i. record { answer = p i; words = q i; state = r i }
+pub cycle-shape : (m levels : ℕ) (r : Request) (s : State) (ws : List ℕ) (t : Bool) → t ≡ shapeOk m levels (length ws) → (a : Answer) (u : State) → not t ≡ true
+    → (a ≡ Refused BadShape) × (u ≡ s) → cycleOutcome a ws u ≡ ticked m levels r s ws
+unfolding ticked
+cycle-shape m levels r s ws t shaped a u e p = rw (shape-no m levels ws t shaped e) (outcome-path a (Refused BadShape) ws u s p)
 
-module _ (m levels : ℕ) (r : Request) (s : State) (ws : List ℕ) (t : Bool) (shaped : t ≡ shapeOk m levels (length ws)) where
-  pub cycle-shape : (a : Answer) (u : State) → not t ≡ true → (a ≡ Refused BadShape) × (u ≡ s) → cycleOutcome a ws u ≡ ticked m levels r s ws
+-- with nothing to do at any level
+pub turned-still : (m k : ℕ) (ws : List ℕ) (o : Op) (a x : Answer) (mark : Bool) (s u : State) (t q : Bool) → t ≡ isNothing o → t ≡ true
+    → q ≡ quiet k (worksOf k (s .records) 0) → q ≡ true → (x ≡ a) × (u ≡ stateOf (s .records) mark) → cycleOutcome x ws u ≡ turnedBy m k a o mark s ws
+unfolding turnedBy cycleWords stepWords work isNothing
+turned-still m k ws o a x mark s u t q none e still f p =
+    let z : quiet k (worksOf k (s .records) 0) ≡ true = sym still ∙ f in
+    let is : o ≡ Nothing = is-none o (sym none ∙ e) in
+    outcome-path x a ws u (stateOf (s .records) mark) p
+    ∙ sym (ap (λ (o : Op). turnedBy m k a o mark s ws) is
+    ∙ rw (still-ok m k (s .records) 0 (under m k ws 0 1) z)
+    (ap₂ (λ (v : List ℕ) (rs : List Work). cycleOutcome a v (stateOf rs mark)) (still-words m k (s .records) 0 (0 + 1 * m) (1 * m) ws z)
+    (ap (λ (w : Work). recordsAfter m k w 0 (s .records) (under m k ws 0 1)) (work-none m idle (levelOf m ws 0 1) (top k (under m k ws 0 1)) refl) ∙ still-records m k (s .records) 0 (under m k ws 0 1) z)))
+
+module _ (m k r : ℕ) (q : Request) (s : State) (ws : List ℕ) (shape : shapeOk m (suc k) (length ws) ≡ true) (fits : RoomIs m k r) (h : Heard) (hears : Hears m r (s .mark) q ws h) where
+  abbrev g : Ruling
+  g = hearing m (suc k) q s ws
+
+  abbrev rest : Bool
+  rest = cycleOk m k (worksOf k (s .records) 0) (under m k ws 0 1)
+
+  root-fine : (o : Op) → fine m k (work o 0) (levelOf m ws 0 1) (top k (under m k ws 0 1)) ≡ stepOk m k o (nodeOf m ws 0) (childOf m m ws)
+  root-fine o =
+      fine-here m k 0 1 0 ws (omega arith) o
+      ∙ ap₂ (λ (i f : ℕ). stepOk m k o (nodeOf m ws i) (childOf m f ws)) (omega arith) (omega arith)
+
+  -- the tests of a cycle: those of the plan, and those of the records
+  tests : (askedOk m (suc k) q ws && stepsOk m (suc k) (g .op) s ws) ≡ (h .plan .ok && rest)
+  unfolding cycleOk levelsOf
+  tests =
+      ap (λ (b : Bool). askedOk m (suc k) q ws && (b && rest)) (root-fine (g .op))
+      ∙ sym (and-assoc (askedOk m (suc k) q ws) (stepOk m k (g .op) (nodeOf m ws 0) (childOf m m ws)) rest) ∙ ap (λ (b : Bool). b && rest) (sym (hears k fits .0))
+
+  pub beat-damaged : (a : Answer) (u : State) → not (h .plan .ok) ≡ true → (a ≡ Refused Damaged) × (u ≡ s) → cycleOutcome a ws u ≡ ticked m (suc k) q s ws
   unfolding ticked
-  cycle-shape a u e p = rw (shape-no m levels ws t shaped e) (outcome-path a (Refused BadShape) ws ws u s (p .0) refl (p .1))
+  beat-damaged a u e p =
+      rw (shape, tests ∙ ap (λ (b : Bool). b && rest) (not-true (h .plan .ok) e)) (outcome-path a (Refused Damaged) ws u s p)
 
-  module _ (e : not t ≡ false) (b : Bool) (asked : b ≡ askedOk m levels r ws) where
-    pub cycle-root : (a : Answer) (u : State) → not b ≡ true → (a ≡ Refused Damaged) × (u ≡ s) → cycleOutcome a ws u ≡ ticked m levels r s ws
-    unfolding ticked
-    cycle-root a u f p =
-        rw (shape-yes m levels ws t shaped e, sym asked ∙ not-true b f) (outcome-path a (Refused Damaged) ws ws u s (p .0) refl (p .1))
+  module _ (e : not (h .plan .ok) ≡ false) where
+    ok : h .plan .ok ≡ true
+    ok = not-false (h .plan .ok) e
 
-    module _ (f : not b ≡ false) (x : Answer) (o : Op) (hears : ruling x o ≡ heard (s .mark) r (verdict m levels r ws)) (d : Bool) (steps : d ≡ allOk m levels o (s .records) ws) where
-      all-steps : d ≡ stepsOk m levels (hearing m levels r s ws .op) s ws
-      all-steps = steps ∙ ap (λ (g : Ruling). allOk m levels (g .op) (s .records) ws) hears
+    pub root-planned : RootPlanned m k h ws
+    root-planned =
+        let p = hears k fits .1 ok in
+        let y : (askedOk m (suc k) q ws && stepOk m k (g .op) (nodeOf m ws 0) (childOf m m ws)) ≡ true = sym (hears k fits .0) ∙ ok in (
+          ap (λ (o : Op). stepOk m k o (nodeOf m ws 0) (childOf m m ws)) (p .1) ∙ and-right (askedOk m (suc k) q ws) (stepOk m k (g .op) (nodeOf m ws 0) (childOf m m ws)) y,
+          p .2 ∙ ap (λ (o : Op). nodeMove m o 0 m ws) (sym (p .1)),
+        )
 
-      pub cycle-steps : (a : Answer) (u : State) → not d ≡ true → (a ≡ Refused Damaged) × (u ≡ s) → cycleOutcome a ws u ≡ ticked m levels r s ws
-      unfolding ticked
-      cycle-steps a u h p =
-          rw (shape-yes m levels ws t shaped e, sym asked ∙ not-false b f, sym all-steps ∙ not-true d h)
-          (outcome-path a (Refused Damaged) ws ws u s (p .0) refl (p .1))
+    pub beat-turned : (mark : Bool) (o : CycleOutcome) → mark ≡ marks q (h .answer) → o ≡ turnedBy m k (h .answer) (h .op) mark s ws → o ≡ ticked m (suc k) q s ws
+    unfolding ticked turned turnedBy
+    beat-turned mark o em eo =
+        let p = hears k fits .1 ok in
+        eo ∙ ap (λ (b : Bool). turnedBy m k (h .answer) (h .op) b s ws) em
+        ∙ ap₂ (λ (a : Answer) (o : Op). turnedBy m k a o (marks q a) s ws) (p .0) (p .1) ∙ sym (rw (shape, tests ∙ ap (λ (b : Bool). b && rest) ok))
 
-      pub steps-fine : not d ≡ false → allOk m levels o (s .records) ws ≡ true
-      steps-fine h = sym steps ∙ not-false d h
-
-      pub cycle-turned : (rs : List Work) (after : List ℕ) (a : Answer) (u : State) → not d ≡ false
-          → (rs ≡ recordsTurned m levels o (s .records) ws) × (after ≡ wordsTurned m levels o (s .records) ws)
-          → (a ≡ x) × (u ≡ stateOf rs (marks r x)) → cycleOutcome a after u ≡ ticked m levels r s ws
-      unfolding ticked turned
-      cycle-turned rs after a u h p q =
-          rw (shape-yes m levels ws t shaped e, sym asked ∙ not-false b f, sym all-steps ∙ not-false d h)
-          (outcome-path a x after (wordsTurned m levels o (s .records) ws) u (stateOf (recordsTurned m levels o (s .records) ws) (marks r x)) (q .0) (p .1)
-          (q .1 ∙ ap (λ (v : List Work). stateOf v (marks r x)) (p .0))
-          ∙ ap (λ (g : Ruling). cycleOutcome (g .answer) (wordsTurned m levels (g .op) (s .records) ws) (stateOf (recordsTurned m levels (g .op) (s .records) ws) (marks r (g .answer)))) hears)
+-- the cycle by the code's number of levels
+pub cycle-beat : (m levels : ℕ) (q : Request) (s : State) (ws : List ℕ) → shapeOk m levels (length ws) ≡ true → (o : CycleOutcome)
+    → o ≡ ticked m (suc (levels - 1)) q s ws → o ≡ ticked m levels q s ws
+cycle-beat m levels q s ws shape o e = e ∙ ap (λ (n : ℕ). ticked m n q s ws) (sym (below-root m levels ws shape))

@@ -2,10 +2,13 @@
 use strip::Answer;
 use tree_model::Work;
 
+// How many records there are: one for each level from 2, as many as order 2 needs, that has the most levels, 11.
+pub const RECORDS: usize = 10;
+
 // What stands beside the store between two cycles: the pending records, that of level 2 first, and whether the last cycle's operation was
-// answered without refusal. There is a record for each level from 2, as many as order 2 needs, that has the most levels, 11.
+// answered without refusal.
 pub struct State {
-    pub records: [Work; 10],
+    pub records: [Work; RECORDS],
     pub mark: bool,
 }
 

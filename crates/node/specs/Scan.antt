@@ -9,10 +9,9 @@ use Rattle.strip.specs.Answers.{key}
 use Rattle.strip.specs.declared.Element.{Element}
 use Rattle.tree_model.specs.Calls.{slotLimit}
 use Rattle.tree_model.specs.Damage.{room, stepOk}
-use Rattle.tree_model.specs.Node.{isEmpty, leastCount, low, lowest, slotAt, sumCounts}
+use Rattle.tree_model.specs.Node.{isEmpty, low, slotAt}
 use Rattle.tree_model.specs.Words.{nodeOf, width}
-use Rattle.tree_model.specs.declared.Op.{Op}
-use Rattle.tree_model.specs.declared.Op.the-variants.{Nothing, Put, Swap, Take}
+use Rattle.tree_model.specs.declared.Op.the-variants.{Take}
 use Rattle.tree_model.specs.declared.Slot.{Slot}
 
 -- a node of m slots lies within the words
@@ -30,13 +29,6 @@ childOf m f ws j = nodeOf m ws (f + j * m)
 
 abbrev pub lowBelow : ℕ → ℕ → List ℕ → ℕ → Element
 lowBelow m f ws j = low (childOf m f ws j)
-
--- what an operation's step needs of its node
-abbrev pub Doable : ℕ → Op → ℕ → ℕ → List ℕ → Type 0
-Doable m Nothing i f ws = Unit {0}
-Doable m (Put x) i f ws = slotAt (nodeOf m ws i) (leastCount (nodeOf m ws i)) .count ≤ slotLimit
-Doable m Take i f ws = (0 < sumCounts (nodeOf m ws i)) × (1 < slotAt (nodeOf m ws i) (lowest (nodeOf m ws i)) .count → ChildrenIn m f ws)
-Doable m (Swap x) i f ws = (0 < sumCounts (nodeOf m ws i)) × (1 < slotAt (nodeOf m ws i) (lowest (nodeOf m ws i)) .count → ChildrenIn m f ws)
 
 -- a node with its children, where `k` levels are below it: the room below is within the limit
 pub record StepIn (m i f k : ℕ) (ws : List ℕ) : Type 0 where

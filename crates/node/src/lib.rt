@@ -5,17 +5,18 @@ ghost use Prim.Native.Nat.{_+_, _*_, _<_, _≤_};
 ghost use lib.ListN.{length};
 ghost use lib.Dec.{ltb};
 ghost use Rattle.strip.specs.Answers.{key};
-ghost use Rattle.tree_model.specs.Node.{slotAt, leastCount, lowest, low, sumCounts, keep, pass, move, putMove, takeMove, swapMove};
-ghost use Rattle.tree_model.specs.Words.{width, slotOf, write, nodeOf, nodeMove};
-ghost use Rattle.tree_model.specs.Damage.{slotOk, nodeOk, hasRoom, hasSome, stepOk};
+ghost use Rattle.tree_model.specs.Node.{leastCount, lowest, sumCounts, keep, pass};
+ghost use Rattle.tree_model.specs.Words.{width, slotOf, write, nodeOf};
+ghost use Rattle.tree_model.specs.Damage.{slotOk, nodeOk};
 ghost use Rattle.tree_model.specs.Calls.{slotLimit, orderOk, shapeOk};
-ghost use Rattle.node.specs.Scan.{beats, keyOr, NodeIn, StepIn, Doable, childOf, lowBelow, liftOk, Capacity, RoomUnder};
+ghost use Rattle.node.specs.Scan.{keyOr, NodeIn, Capacity, RoomUnder};
+
+pub mod plan;
+
 use strip::Element;
 use strip::Rank;
 use strip::Tag;
 use strip::no_element;
-use tree_model::Move;
-use tree_model::Op;
 use tree_model::Slot;
 
 // The largest capacity of a tree.
@@ -168,6 +169,20 @@ pub fn look_low(s: &[u32], at: usize, order: usize, room: usize) -> Look
     Look { ok, place: best }
 }
 
+// Whether no slot of a node is damaged, with room for so many below each.
+pub fn node_ok(s: &[u32], at: usize, order: usize, room: usize) -> bool
+    requires { ⌜ NodeIn order at (now s) × (room ≤ slotLimit) ⌝ }
+    ensures { λ r. ⌜ r ≡ nodeOk room (nodeOf order (now (s .entry)) at) ⌝ }
+{
+    let mut ok = true;
+    let mut j = 0;
+    while j < order {
+        ok = ok & slot_ok(slot_at(s, at + j), room);
+        j += 1;
+    }
+    ok
+}
+
 // ---- the shape
 
 // The sum of a node's counts.
@@ -223,104 +238,6 @@ pub fn shape_ok(order: usize, levels: usize, len: usize) -> bool
     3 * slots <= len
 }
 
-// ---- the step of any operation, a scan for each question
-
-// The slot with the smallest count, leftmost on a tie.
-pub fn least_count(s: &[u32], at: usize, order: usize) -> usize
-    requires { ⌜ NodeIn order at (now s) ⌝ }
-    ensures place { λ r. ⌜ r ≡ leastCount (nodeOf order (now (s .entry)) at) ⌝ }
-    ensures within { λ r. ⌜ r < order ⌝ }
-{
-    let mut best = 0;
-    let mut j = 0;
-    while j < order {
-        if slot_at(s, at + j).count < slot_at(s, at + best).count {
-            best = j;
-        }
-        j += 1;
-    }
-    best
-}
-
-// Whether slot j is occupied, and there is no best yet or its rank is lower than the best one's.
-fn better(s: &[u32], at: usize, order: usize, j: usize, best: usize) -> bool
-    requires { ⌜ NodeIn order at (now s) × (j < order) × (best ≤ order) ⌝ }
-    ensures { λ r. ⌜ r ≡ beats (nodeOf order (now (s .entry)) at) j best ⌝ }
-{
-    let a = slot_at(s, at + j);
-    if a.count == 0 {
-        return false;
-    }
-    if best == order {
-        return true;
-    }
-    let b = slot_at(s, at + best);
-    lower(a.element, b.element)
-}
-
-// The occupied slot of lowest rank, leftmost on a tie; the order where all are empty.
-pub fn lowest_slot(s: &[u32], at: usize, order: usize) -> usize
-    requires { ⌜ NodeIn order at (now s) ⌝ }
-    ensures place { λ r. ⌜ r ≡ lowest (nodeOf order (now (s .entry)) at) ⌝ }
-    ensures within { λ r. ⌜ r ≤ order ⌝ }
-{
-    let mut best = order;
-    let mut j = 0;
-    while j < order {
-        if better(s, at, order, j, best) {
-            best = j;
-        }
-        j += 1;
-    }
-    best
-}
-
-// What a take gives at a node.
-pub fn lowest_element(s: &[u32], at: usize, order: usize) -> Element
-    requires { ⌜ NodeIn order at (now s) ⌝ }
-    ensures { λ r. ⌜ r ≡ low (nodeOf order (now (s .entry)) at) ⌝ }
-{
-    let j = lowest_slot(s, at, order);
-    if j == order {
-        return no_element();
-    }
-    let a = slot_at(s, at + j);
-    a.element
-}
-
-// Whether no slot of a node is damaged, with room for so many below each.
-pub fn node_ok(s: &[u32], at: usize, order: usize, room: usize) -> bool
-    requires { ⌜ NodeIn order at (now s) × (room ≤ slotLimit) ⌝ }
-    ensures { λ r. ⌜ r ≡ nodeOk room (nodeOf order (now (s .entry)) at) ⌝ }
-{
-    let mut ok = true;
-    let mut j = 0;
-    while j < order {
-        ok = ok & slot_ok(slot_at(s, at + j), room);
-        j += 1;
-    }
-    ok
-}
-
-// Whether a node that a put works at is in order: the smallest count leaves room, or every count is at its limit.
-fn put_ok(s: &[u32], at: usize, order: usize, room: usize) -> bool
-    requires { ⌜ NodeIn order at (now s) × (room ≤ slotLimit) ⌝ }
-    ensures { λ r. ⌜ r ≡ (nodeOk room (nodeOf order (now (s .entry)) at) && hasRoom room (nodeOf order (now (s .entry)) at)) ⌝ }
-{
-    let j = least_count(s, at, order);
-    let a = slot_at(s, at + j);
-    node_ok(s, at, order, room) & (a.count as usize <= room)
-}
-
-// Whether a node that a take, a swap or a read for the lowest works at is in order.
-fn take_ok(s: &[u32], at: usize, order: usize, room: usize) -> bool
-    requires { ⌜ NodeIn order at (now s) × (room ≤ slotLimit) ⌝ }
-    ensures { λ r. ⌜ r ≡ (nodeOk room (nodeOf order (now (s .entry)) at) && hasSome (nodeOf order (now (s .entry)) at)) ⌝ }
-{
-    let j = lowest_slot(s, at, order);
-    node_ok(s, at, order, room) & (j < order)
-}
-
 // The room below a slot of the next level, by the room below a slot of this one.
 pub fn room_under(order: usize, room: usize) -> usize
     requires { ⌜ 0 < order ⌝ }
@@ -339,98 +256,4 @@ pub fn room_under(order: usize, room: usize) -> usize
         return (room - 1) / 8;
     }
     (room - 1) / order
-}
-
-// Whether the node, and the one below the chosen place where a take or swap lifts from there, are in order, with `below` levels below.
-fn lift_ok(s: &[u32], at: usize, first: usize, order: usize, below: usize) -> bool
-    requires { ⌜ StepIn order at first below (now s) ⌝ }
-    ensures { λ r. ⌜ r ≡ liftOk order below (nodeOf order (now (s .entry)) at) (childOf order first (now (s .entry))) ⌝ }
-{
-    if !take_ok(s, at, order, capacity(order, below)) {
-        return false;
-    }
-    let j = lowest_slot(s, at, order);
-    let a = slot_at(s, at + j);
-    if a.count <= 1 {
-        return true;
-    }
-    take_ok(s, first + j * order, order, capacity(order, below - 1))
-}
-
-// Whether all that an operation's step reads is in order, with `below` levels below.
-pub fn step_ok(s: &[u32], at: usize, first: usize, order: usize, below: usize, op: Op) -> bool
-    requires { ⌜ StepIn order at first below (now s) ⌝ }
-    ensures { λ r. ⌜ r ≡ stepOk order below op (nodeOf order (now (s .entry)) at) (childOf order first (now (s .entry))) ⌝ }
-{
-    match op {
-        Op::Nothing => true,
-        Op::Put(_) => put_ok(s, at, order, capacity(order, below)),
-        Op::Take => lift_ok(s, at, first, order, below),
-        Op::Swap(_) => lift_ok(s, at, first, order, below),
-    }
-}
-
-fn step(place: usize, element: Element, count: u32, rest: Op) -> Move
-    ensures { λ r. ⌜ r ≡ move place element count rest ⌝ }
-{
-    let slot = Slot { element, count };
-    Move { place, slot, rest }
-}
-
-pub fn put_move(s: &[u32], at: usize, order: usize, x: Element) -> Move
-    requires { ⌜ NodeIn order at (now s) × (slotAt (nodeOf order (now s) at) (leastCount (nodeOf order (now s) at)) .count ≤ slotLimit) ⌝ }
-    ensures { λ r. ⌜ r ≡ putMove x (nodeOf order (now (s .entry)) at) ⌝ }
-{
-    let j = least_count(s, at, order);
-    let a = slot_at(s, at + j);
-    if a.count == 0 {
-        return step(j, x, 1, Op::Nothing);
-    }
-    let y = a.element;
-    if lower(x, y) {
-        return step(j, x, a.count + 1, Op::Put(y));
-    }
-    step(j, y, a.count + 1, Op::Put(x))
-}
-
-pub fn take_move(s: &[u32], at: usize, first: usize, order: usize) -> Move
-    requires { ⌜ NodeIn order at (now s) × Doable order Op.Take at first (now s) ⌝ }
-    ensures { λ r. ⌜ r ≡ takeMove (nodeOf order (now (s .entry)) at) (lowBelow order first (now (s .entry))) ⌝ }
-{
-    let j = lowest_slot(s, at, order);
-    let a = slot_at(s, at + j);
-    if a.count <= 1 {
-        return step(j, no_element(), 0, Op::Nothing);
-    }
-    let up = lowest_element(s, first + j * order, order);
-    step(j, up, a.count - 1, Op::Take)
-}
-
-pub fn swap_move(s: &[u32], at: usize, first: usize, order: usize, x: Element) -> Move
-    requires { ⌜ NodeIn order at (now s) × Doable order Op.Take at first (now s) ⌝ }
-    ensures { λ r. ⌜ r ≡ swapMove x (nodeOf order (now (s .entry)) at) (lowBelow order first (now (s .entry))) ⌝ }
-{
-    let j = lowest_slot(s, at, order);
-    let a = slot_at(s, at + j);
-    if a.count <= 1 {
-        return step(j, x, a.count, Op::Nothing);
-    }
-    let up = lowest_element(s, first + j * order, order);
-    if lower(up, x) {
-        return step(j, up, a.count, Op::Swap(x));
-    }
-    step(j, x, a.count, Op::Nothing)
-}
-
-// The step of any operation.
-pub fn move_of(s: &[u32], at: usize, first: usize, order: usize, op: Op) -> Move
-    requires { ⌜ NodeIn order at (now s) × Doable order op at first (now s) ⌝ }
-    ensures { λ r. ⌜ r ≡ nodeMove order op at first (now (s .entry)) ⌝ }
-{
-    match op {
-        Op::Nothing => step(order, no_element(), 0, Op::Nothing),
-        Op::Put(x) => put_move(s, at, order, x),
-        Op::Take => take_move(s, at, first, order),
-        Op::Swap(x) => swap_move(s, at, first, order, x),
-    }
 }

@@ -2,22 +2,14 @@
 use Prim.Native.Nat.{_*_, _+_, _-_, _<_, _≤_, suc, zero, ℕ}
 use native.Mathlib.Nat.{add-mul, mul-le-mul-left, mul-le-mul-right, not-suc-le-zero, suc-mul}
 use native.Mathlib.Omega.{arith}
-use mathlib.Core.Bool.{_&&_, Bool, not, true}
 use mathlib.Core.List.{List}
 use mathlib.Core.Path.{_≡_, ap, refl, subst}
 use lib.ListN.{length}
-use borrow.Author.Tests.{lt-leb}
-use Rattle.laws.specs.Tests.{and-left, and-right}
-use Rattle.node.specs.Scan.{childOf, ChildrenIn, Doable, StepIn}
-use Rattle.tree_model.proofs.Place.{above-one, least-room}
-use Rattle.tree_model.proofs.Words.{has-sum, node-length, size-room}
+use Rattle.node.specs.Scan.{ChildrenIn, StepIn}
+use Rattle.tree_model.proofs.Words.{size-room}
 use Rattle.tree_model.specs.Calls.{slotLimit}
-use Rattle.tree_model.specs.Damage.{hasRoom, hasSome, lifts, nodeOk, readOk, room, stepOk}
-use Rattle.tree_model.specs.Node.{lowest, slotAt}
-use Rattle.tree_model.specs.Words.{nodeOf, size, width}
-use Rattle.tree_model.specs.declared.Op.{Op}
-use Rattle.tree_model.specs.declared.Op.the-variants.{Nothing, Put, Swap, Take}
-use Rattle.tree_model.specs.declared.Slot.{Slot}
+use Rattle.tree_model.specs.Damage.{room}
+use Rattle.tree_model.specs.Words.{size, width}
 use Rattle.tree.specs.Down.{Lies}
 
 pub not-zero : {n : ℕ} → 1 ≤ n → n ≡ 0 → ⊥
@@ -78,23 +70,3 @@ module _ (m b c n : ℕ) (ws : List ℕ) where
           below-in zero l v h = absurd (not-suc-le-zero h)
           below-in (suc k) l v h = omega (arith, size-step m (suc k) c, size-step m k (c * m), l .words, v .child)
 
-  abbrev tested : Op → ℕ → Bool
-  tested o k = stepOk m k o (nodeOf m ws (b + n * m)) (childOf m (b + c * m + n * m * m) ws)
-
-  -- a test that is in order makes the step's needs
-  take-doable : (k : ℕ) → StepIn m (b + n * m) (b + c * m + n * m * m) k ws → tested Take k ≡ true → Doable m Take (b + n * m) (b + c * m + n * m * m) ws
-  unfolding stepOk readOk
-  take-doable k s e =
-      let nd : List Slot = nodeOf m ws (b + n * m) in
-      let ok : (nodeOk (room m k) nd && hasSome nd) ≡ true = and-left (nodeOk (room m k) nd && hasSome nd) _ e in
-      (has-sum nd (and-right (nodeOk (room m k) nd) (hasSome nd) ok), λ h. s .children (above-one m k nd (and-left (nodeOk (room m k) nd) (hasSome nd) ok) (lt-leb (slotAt nd (lowest nd) .count) 1 h) .0))
-
-  pub doable : (k : ℕ) (o : Op) → StepIn m (b + n * m) (b + c * m + n * m * m) k ws → tested o k ≡ true → Doable m o (b + n * m) (b + c * m + n * m * m) ws
-  unfolding stepOk readOk lifts
-  doable k Nothing s e = tt
-  doable k (Put x) s e =
-      let nd : List Slot = nodeOf m ws (b + n * m) in
-      let ok : (nodeOk (room m k) nd && hasRoom (room m k) nd) ≡ true = and-left (nodeOk (room m k) nd && hasRoom (room m k) nd) _ e in
-      omega (arith, s .limit, least-room (room m k) nd (omega (arith, node-length m ws (b + n * m), s .node .order)) (and-left (nodeOk (room m k) nd) (hasRoom (room m k) nd) ok) (and-right (nodeOk (room m k) nd) (hasRoom (room m k) nd) ok))
-  doable k Take s e = take-doable k s e
-  doable k (Swap x) s e = take-doable k s e

@@ -4,9 +4,6 @@ use mathlib.Core.Bool.{Bool, cond, true}
 use mathlib.Core.List.{List}
 use mathlib.Core.Path.{_≡_}
 use lib.ListN.{length}
-use Rattle.strip.specs.declared.Element.{Element}
-use Rattle.strip.specs.declared.Rank.{Rank}
-use Rattle.strip.specs.declared.Tag.{Tag}
 use Rattle.tree_model.specs.Calls.{slotLimit}
 use Rattle.tree_model.specs.Damage.{nodeOk, pathOk, room}
 use Rattle.tree_model.specs.Levels.{work}
@@ -48,7 +45,3 @@ pub record Looked (m k at j cap : ℕ) (ws : List ℕ) : Type 0 where
 abbrev pub Carried : ℕ → ℕ → ℕ → Op → List ℕ → Bool → List ℕ → Type 0
 Carried m k at o ws r ws′ =
     (b c n : ℕ) → Placed m k at b c n ws → (r ≡ pathOk m k (work o n) (levelsOf m k ws b c)) × (ws′ ≡ cond r (applyWords m k (work o n) b c ws) ws)
-
--- the element of a rank and a tag
-abbrev pub pair : Rank → Tag → Element
-pair r t = record { rank = r; tag = t }

@@ -1,34 +1,120 @@
 -- `clocked::drain` meets its contract. Assumes nothing.
+use Prim.Native.Nat.{_-_, _≤_, suc}
+use native.Mathlib.Omega.{arith}
+use mathlib.Core.Path.{_∙_, _≡_, ap, refl}
+use lib.ListN.{length}
+use Rattle.tree_model.specs.Calls.{shapeOk}
+use Rattle.clocked.proofs.Public.{cycle-beat, order-few, room-counted, rooted, shape-below, shape-yes, some-levels}
+use Rattle.clocked.proofs.Drains.{drain-goes, drain-quiet, drain-runs, drain-shape, drain-spent, drain-starts, drain-stops, Draining}
 use borrow.Author.Needs.{needs}
-use Rattle.clocked.proofs.Drains.{drain-runs, drain-shape}
-use Rattle.clocked.proofs.Public.{shape-yes}
 use Rattle.clocked.proofs.drain.Statement.{statement}
 use Rattle.clocked.proofs.drain.Tie as tie
 use Rattle.clocked.proofs.drain.Reads as reads
 use Rattle.clocked.proofs.drain.Lts as lts
-use Rattle.clocked.proofs.drain_from.Reads as drain-from-reads
+use Rattle.clocked.proofs.asked.is_refused.Reads as is-refused-reads
+use Rattle.clocked.proofs.beat.Reads as beat-reads
+use Rattle.clocked.proofs.records.is_quiet.Reads as is-quiet-reads
 use Rattle.clocked.proofs.report.Reads as report-reads
+use Rattle.node.proofs.capacity.Reads as capacity-reads
 use Rattle.node.proofs.shape_ok.Reads as shape-ok-reads
 
-shape-ok-requires : tie.Need-shape-ok-requires
+abbrev Inv-loop : tie.InvT-loop
+Inv-loop store₀ order levels budget below room now₀ run₀ store now run = (run ≤ budget) × (length store ≡ length store₀) × Draining order levels budget now₀ store₀ run now store
+
+abbrev μ-loop : tie.MeasureT-loop
+μ-loop store₀ order levels budget below room now₀ run₀ store now run = budget - run
+
+shape-ok-requires : tie.Need-shape-ok-requires Inv-loop μ-loop
 shape-ok-requires c κs = search needs
 
-report-requires : tie.Need-report-requires
+report-requires : tie.Need-report-requires Inv-loop μ-loop
 report-requires c κs = search needs
 
-returns : tie.Need-returns
+returns : tie.Need-returns Inv-loop μ-loop
 returns c = drain-shape _ _ _ _ _ _ (c .before .before .shape-ok .ensures) _ _ _ _ (c .before .if1 .taken) (c .report .ensures)
 
-drain-from-requires : tie.Need-drain-from-requires
-drain-from-requires c κs = (shape-yes (c .before .before .before .before .args .order) (c .before .before .before .before .args .levels) (c .before .before .before .before .args .store .now) _ (c .before .before .shape-ok .ensures) (c .before .if1 .left), search needs)
+sub-below : tie.Need-sub-below Inv-loop μ-loop
+sub-below c = some-levels (c .before .before .before .args .order) (c .before .before .before .args .levels) (c .before .before .before .args .store .now) (shape-yes (c .before .before .before .args .order) (c .before .before .before .args .levels) (c .before .before .before .args .store .now) _ (c .before .shape-ok .ensures) (c .if1 .left))
 
-same-length : tie.Need-same-length
-same-length c = search needs
+capacity-requires : tie.Need-capacity-requires Inv-loop μ-loop
+capacity-requires c κs = order-few (c .before .before .before .args .order) (c .before .before .before .args .levels) (c .before .before .before .args .store .now) (shape-yes (c .before .before .before .args .order) (c .before .before .before .args .levels) (c .before .before .before .args .store .now) _ (c .before .shape-ok .ensures) (c .if1 .left))
 
-returns-2 : tie.Need-returns-2
-returns-2 c = drain-runs _ _ _ _ _ _ (c .before .before .before .before .before .shape-ok .ensures) _ (c .before .before .before .before .if1 .left) (c .before .before .drain-from .ensures)
+loop-holds : tie.Need-loop-holds Inv-loop μ-loop
+loop-holds c = (omega arith, refl, drain-starts _ _ _ _ _)
+
+is-quiet-requires : tie.Need-is-quiet-requires Inv-loop μ-loop
+is-quiet-requires c κs = rooted (c .before .before .before .before .before .before .before .args .order) _ (c .before .before .before .before .before .before .before .args .store .now) (shape-below (c .before .before .before .before .before .before .before .args .order) (c .before .before .before .before .before .before .before .args .levels) (c .before .before .before .before .before .before .before .args .store .now) (shape-yes (c .before .before .before .before .before .before .before .args .order) (c .before .before .before .before .before .before .before .args .levels) (c .before .before .before .before .before .before .before .args .store .now) _ (c .before .before .before .before .before .shape-ok .ensures) (c .before .before .before .before .if1 .left))) .records
+
+report-requires-2 : tie.Need-report-requires-2 Inv-loop μ-loop
+report-requires-2 c κs = search needs
+
+same-length : tie.Need-same-length Inv-loop μ-loop
+same-length c = c .before .before .before .before .before .loop .inv .1
+
+returns-2 : tie.Need-returns-2 Inv-loop μ-loop
+returns-2 c = drain-runs _ _ _ _ _ _ (c .before .before .before .before .before .before .before .before .shape-ok .ensures) _ (c .before .before .before .before .before .before .before .if1 .left) (drain-quiet _ _ _ _ _ _ (c .before .before .is-quiet .ensures) _ _ _ _ _ (c .before .if2 .taken) (c .report2 .ensures) ∙ c .before .before .before .before .before .loop .inv .2)
+
+beat-requires : tie.Need-beat-requires Inv-loop μ-loop
+beat-requires c κs = (ap (shapeOk (c .before .before .before .before .before .before .before .before .before .before .args .order) (suc (c .before .before .before .before .before .before .before .before .before .before .args .levels - 1))) (c .before .before .before .before .before .loop .inv .1) ∙ shape-below (c .before .before .before .before .before .before .before .before .before .before .args .order) (c .before .before .before .before .before .before .before .before .before .before .args .levels) (c .before .before .before .before .before .before .before .before .before .before .args .store .now) (shape-yes (c .before .before .before .before .before .before .before .before .before .before .args .order) (c .before .before .before .before .before .before .before .before .before .before .args .levels) (c .before .before .before .before .before .before .before .before .before .before .args .store .now) _ (c .before .before .before .before .before .before .before .before .shape-ok .ensures) (c .before .before .before .before .before .before .before .if1 .left)), room-counted (c .before .before .before .before .before .before .before .before .before .before .args .order) (c .before .before .before .before .before .before .before .before .before .before .args .levels) (c .before .before .before .before .before .before .before .before .before .before .args .store .now) (shape-yes (c .before .before .before .before .before .before .before .before .before .before .args .order) (c .before .before .before .before .before .before .before .before .before .before .args .levels) (c .before .before .before .before .before .before .before .before .before .before .args .store .now) _ (c .before .before .before .before .before .before .before .before .shape-ok .ensures) (c .before .before .before .before .before .before .before .if1 .left)) _ (c .before .before .before .before .before .before .capacity .ensures))
+
+is-refused-requires : tie.Need-is-refused-requires Inv-loop μ-loop
+is-refused-requires c κs = search needs
+
+report-requires-3 : tie.Need-report-requires-3 Inv-loop μ-loop
+report-requires-3 c κs = search needs
+
+same-length-2 : tie.Need-same-length-2 Inv-loop μ-loop
+same-length-2 c = c .before .before .before .before .before .before .beat .kept .0 ∙ c .before .before .before .before .before .before .before .before .before .before .before .before .loop .inv .1
+
+returns-3 : tie.Need-returns-3 Inv-loop μ-loop
+returns-3 c = drain-runs _ _ _ _ _ _ (c .before .before .before .before .before .before .before .before .before .before .before .before .before .before .before .shape-ok .ensures) _ (c .before .before .before .before .before .before .before .before .before .before .before .before .before .before .if1 .left) (drain-stops _ _ _ _ _ _ (c .before .before .before .before .before .before .before .before .before .is-quiet .ensures) (c .before .before .before .before .before .before .before .before .if2 .left) _ (λ z. omega arith) _ _ _ (cycle-beat _ _ _ _ _ (ap (shapeOk (c .before .before .before .before .before .before .before .before .before .before .before .before .before .before .before .before .before .args .order) (c .before .before .before .before .before .before .before .before .before .before .before .before .before .before .before .before .before .args .levels)) (c .before .before .before .before .before .before .before .before .before .before .before .before .loop .inv .1) ∙ (shape-yes (c .before .before .before .before .before .before .before .before .before .before .before .before .before .before .before .before .before .args .order) (c .before .before .before .before .before .before .before .before .before .before .before .before .before .before .before .before .before .args .levels) (c .before .before .before .before .before .before .before .before .before .before .before .before .before .before .before .before .before .args .store .now) _ (c .before .before .before .before .before .before .before .before .before .before .before .before .before .before .before .shape-ok .ensures) (c .before .before .before .before .before .before .before .before .before .before .before .before .before .before .if1 .left))) _ (c .before .before .before .before .before .before .beat .ensures)) _ (c .before .before .is-refused .ensures) _ _ _ _ (c .before .if3 .taken) (c .report3 .ensures) ∙ c .before .before .before .before .before .before .before .before .before .before .before .before .loop .inv .2)
+
+add-run : tie.Need-add-run Inv-loop μ-loop
+add-run c = search needs
+
+loop-less : tie.Need-loop-less Inv-loop μ-loop
+loop-less c = search needs
+
+loop-again : tie.Need-loop-again Inv-loop μ-loop
+loop-again c = (omega arith, c .before .before .before .before .before .beat .kept .0 ∙ c .before .before .before .before .before .before .before .before .before .before .before .loop .inv .1, drain-goes _ _ _ _ _ _ (c .before .before .before .before .before .before .before .before .is-quiet .ensures) (c .before .before .before .before .before .before .before .if2 .left) _ (λ z. omega arith) _ _ _ (cycle-beat _ _ _ _ _ (ap (shapeOk (c .before .before .before .before .before .before .before .before .before .before .before .before .before .before .before .before .args .order) (c .before .before .before .before .before .before .before .before .before .before .before .before .before .before .before .before .args .levels)) (c .before .before .before .before .before .before .before .before .before .before .before .loop .inv .1) ∙ (shape-yes (c .before .before .before .before .before .before .before .before .before .before .before .before .before .before .before .before .args .order) (c .before .before .before .before .before .before .before .before .before .before .before .before .before .before .before .before .args .levels) (c .before .before .before .before .before .before .before .before .before .before .before .before .before .before .before .before .args .store .now) _ (c .before .before .before .before .before .before .before .before .before .before .before .before .before .before .shape-ok .ensures) (c .before .before .before .before .before .before .before .before .before .before .before .before .before .if1 .left))) _ (c .before .before .before .before .before .beat .ensures)) _ (c .before .is-refused .ensures) _ (c .if3 .left) (omega arith) ∙ c .before .before .before .before .before .before .before .before .before .before .before .loop .inv .2)
+
+is-quiet-requires-2 : tie.Need-is-quiet-requires-2 Inv-loop μ-loop
+is-quiet-requires-2 c κs = rooted (c .before .before .before .before .before .before .before .args .order) _ (c .before .before .before .before .before .before .before .args .store .now) (shape-below (c .before .before .before .before .before .before .before .args .order) (c .before .before .before .before .before .before .before .args .levels) (c .before .before .before .before .before .before .before .args .store .now) (shape-yes (c .before .before .before .before .before .before .before .args .order) (c .before .before .before .before .before .before .before .args .levels) (c .before .before .before .before .before .before .before .args .store .now) _ (c .before .before .before .before .before .shape-ok .ensures) (c .before .before .before .before .if1 .left))) .records
+
+report-requires-4 : tie.Need-report-requires-4 Inv-loop μ-loop
+report-requires-4 c κs = search needs
+
+same-length-3 : tie.Need-same-length-3 Inv-loop μ-loop
+same-length-3 c = c .before .before .before .before .loop .inv .1
+
+returns-4 : tie.Need-returns-4 Inv-loop μ-loop
+returns-4 c = drain-runs _ _ _ _ _ _ (c .before .before .before .before .before .before .before .shape-ok .ensures) _ (c .before .before .before .before .before .before .if1 .left) (drain-spent _ _ _ _ _ _ (c .before .is-quiet2 .ensures) _ _ _ _ _ (omega arith) (c .report4 .ensures) ∙ c .before .before .before .before .loop .inv .2)
 
 pub drain-spec : {M : Type 1} → statement M
 drain-spec =
     tie.close
-    (tie.spec shape-ok-requires report-requires returns drain-from-requires same-length returns-2)
+    (tie.spec
+    Inv-loop
+    μ-loop
+    shape-ok-requires
+    report-requires
+    returns
+    sub-below
+    capacity-requires
+    loop-holds
+    is-quiet-requires
+    report-requires-2
+    same-length
+    returns-2
+    beat-requires
+    is-refused-requires
+    report-requires-3
+    same-length-2
+    returns-3
+    add-run
+    loop-less
+    loop-again
+    is-quiet-requires-2
+    report-requires-4
+    same-length-3
+    returns-4)

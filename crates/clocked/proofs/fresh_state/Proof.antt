@@ -5,7 +5,7 @@ use Rattle.clocked.proofs.fresh_state.Statement.{statement}
 use Rattle.clocked.proofs.fresh_state.Tie as tie
 use Rattle.clocked.proofs.fresh_state.Reads as reads
 use Rattle.clocked.proofs.fresh_state.Lts as lts
-use Rattle.clocked.proofs.no_work.Reads as no-work-reads
+use Rattle.clocked.proofs.records.no_work.Reads as no-work-reads
 
 no-work-requires : tie.Need-no-work-requires
 no-work-requires c κs = search needs

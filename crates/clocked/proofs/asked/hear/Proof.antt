@@ -1,0 +1,87 @@
+-- `clocked::asked::hear` meets its contract. Assumes nothing.
+use mathlib.Core.Path.{refl}
+use Rattle.clocked_model.specs.Calls.{asks}
+use Rattle.clocked.proofs.Root.{hears-as, hears-idle, hears-soon}
+use borrow.Author.Needs.{needs}
+use Rattle.clocked.proofs.asked.hear.Statement.{statement}
+use Rattle.clocked.proofs.asked.hear.Tie as tie
+use Rattle.clocked.proofs.asked.hear.Reads as reads
+use Rattle.clocked.proofs.asked.hear.Lts as lts
+use Rattle.clocked.proofs.asked.hear_pop.Reads as hear-pop-reads
+use Rattle.clocked.proofs.asked.hear_push.Reads as hear-push-reads
+use Rattle.clocked.proofs.asked.hear_replace.Reads as hear-replace-reads
+use Rattle.clocked.proofs.asked.pops_or_replaces.Reads as pops-or-replaces-reads
+use Rattle.clocked.proofs.asked.still.Reads as still-reads
+use Rattle.node.proofs.node_ok.Reads as node-ok-reads
+
+pops-or-replaces-requires : tie.Need-pops-or-replaces-requires
+pops-or-replaces-requires c κs = search needs
+
+node-ok-requires : tie.Need-node-ok-requires
+node-ok-requires c κs = search needs
+
+still-requires : tie.Need-still-requires
+still-requires c κs = search needs
+
+returns : tie.Need-returns
+returns c = hears-soon _ _ _ _ _ _ (c .before .before .before .pops-or-replaces .ensures) _ _ (c .before .before .if1 .taken) (c .before .node-ok .ensures) (c .still .ensures)
+
+enum-told : tie.Need-enum-told
+enum-told c = search needs
+
+still-requires-2 : tie.Need-still-requires-2
+still-requires-2 c κs = search needs
+
+enum-known-request : tie.Need-enum-known-request
+enum-known-request c = search needs
+
+hear-push-requires : tie.Need-hear-push-requires
+hear-push-requires c κs = search needs
+
+enum-told-2 : tie.Need-enum-told-2
+enum-told-2 c = search needs
+
+hear-pop-requires : tie.Need-hear-pop-requires
+hear-pop-requires c κs = search needs
+
+enum-known-request-2 : tie.Need-enum-known-request-2
+enum-known-request-2 c = search needs
+
+hear-replace-requires : tie.Need-hear-replace-requires
+hear-replace-requires c κs = search needs
+
+returns-2 : tie.Need-returns-2
+returns-2 c = hears-idle _ _ _ _ _ _ (c .before .before .before .before .pops-or-replaces .ensures) (c .before .before .before .if1 .left) _ (c .before .enum-told .given .1) (c .still2 .ensures)
+
+returns-3 : tie.Need-returns-3
+unfolding asks
+returns-3 c = hears-as _ _ _ _ _ _ (c .before .before .before .before .before .pops-or-replaces .ensures) (c .before .before .before .before .if1 .left) _ _ (c .before .before .request .given .1) refl (c .hear-push .ensures)
+
+returns-4 : tie.Need-returns-4
+unfolding asks
+returns-4 c = hears-as _ _ _ _ _ _ (c .before .before .before .before .pops-or-replaces .ensures) (c .before .before .before .if1 .left) _ _ (c .before .enum-told2 .given .1) refl (c .hear-pop .ensures)
+
+returns-5 : tie.Need-returns-5
+unfolding asks
+returns-5 c = hears-as _ _ _ _ _ _ (c .before .before .before .before .before .pops-or-replaces .ensures) (c .before .before .before .before .if1 .left) _ _ (c .before .before .request2 .given .1) refl (c .hear-replace .ensures)
+
+pub hear-spec : {M : Type 1} → statement M
+hear-spec =
+    tie.close
+    (tie.spec
+    pops-or-replaces-requires
+    node-ok-requires
+    still-requires
+    returns
+    enum-told
+    still-requires-2
+    enum-known-request
+    hear-push-requires
+    enum-told-2
+    hear-pop-requires
+    enum-known-request-2
+    hear-replace-requires
+    returns-2
+    returns-3
+    returns-4
+    returns-5)

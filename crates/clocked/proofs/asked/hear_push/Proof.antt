@@ -1,0 +1,42 @@
+-- `clocked::asked::hear_push` meets its contract. Assumes nothing.
+use borrow.Author.Tests.{not-false}
+use mathlib.Core.Path.{refl}
+use Rattle.clocked.proofs.Root.{push-step, push-still}
+use borrow.Author.Needs.{needs}
+use Rattle.clocked.proofs.asked.hear_push.Statement.{statement}
+use Rattle.clocked.proofs.asked.hear_push.Tie as tie
+use Rattle.clocked.proofs.asked.hear_push.Reads as reads
+use Rattle.clocked.proofs.asked.hear_push.Lts as lts
+use Rattle.clocked.proofs.asked.still.Reads as still-reads
+use Rattle.node.proofs.node_ok.Reads as node-ok-reads
+use Rattle.node.proofs.plan.choose_least.Reads as choose-least-reads
+use Rattle.node.proofs.plan.plan_put.Reads as plan-put-reads
+
+choose-least-requires : tie.Need-choose-least-requires
+choose-least-requires c κs = search needs
+
+node-ok-requires : tie.Need-node-ok-requires
+node-ok-requires c κs = search needs
+
+still-requires : tie.Need-still-requires
+still-requires c κs = search needs
+
+returns : tie.Need-returns
+returns c = push-still _ _ _ _ _ (c .before .before .before .before .choose-least .ensures .0) _ _ (c .before .before .if1 .taken) (c .before .node-ok .ensures) (c .still .ensures)
+
+plan-put-requires : tie.Need-plan-put-requires
+plan-put-requires c κs = c .before .before .before .choose-least .ensures .1 .1 (not-false _ (c .before .if1 .left))
+
+returns-2 : tie.Need-returns-2
+returns-2 c = push-step _ _ _ _ _ (c .before .before .before .before .choose-least .ensures .0) _ _ _ (c .before .before .if1 .left) (c .before .before .before .before .choose-least .ensures .1 .0) refl refl (c .plan-put .ensures .0) (c .plan-put .ensures .1)
+
+pub hear-push-spec : {M : Type 1} → statement M
+hear-push-spec =
+    tie.close
+    (tie.spec
+    choose-least-requires
+    node-ok-requires
+    still-requires
+    returns
+    plan-put-requires
+    returns-2)

@@ -1,0 +1,59 @@
+-- `clocked::asked::hear_replace` meets its contract. Assumes nothing.
+use mathlib.Core.Path.{refl}
+use Rattle.clocked.proofs.Root.{replace-stands, replace-step, replace-still, root-below}
+use borrow.Author.Needs.{needs}
+use Rattle.clocked.proofs.asked.hear_replace.Statement.{statement}
+use Rattle.clocked.proofs.asked.hear_replace.Tie as tie
+use Rattle.clocked.proofs.asked.hear_replace.Reads as reads
+use Rattle.clocked.proofs.asked.hear_replace.Lts as lts
+use Rattle.clocked.proofs.asked.still.Reads as still-reads
+use Rattle.node.proofs.lower.Reads as lower-reads
+use Rattle.node.proofs.node_ok.Reads as node-ok-reads
+use Rattle.node.proofs.plan.choose_low.Reads as choose-low-reads
+use Rattle.node.proofs.plan.plan_swap.Reads as plan-swap-reads
+use Rattle.node.proofs.room_under.Reads as room-under-reads
+
+choose-low-requires : tie.Need-choose-low-requires
+choose-low-requires c κs = search needs
+
+node-ok-requires : tie.Need-node-ok-requires
+node-ok-requires c κs = search needs
+
+still-requires : tie.Need-still-requires
+still-requires c κs = search needs
+
+returns : tie.Need-returns
+returns c = replace-still _ _ _ _ (c .before .before .before .before .choose-low .ensures .0) _ _ _ (c .before .before .if1 .taken) (c .before .node-ok .ensures) (c .still .ensures)
+
+lower-requires : tie.Need-lower-requires
+lower-requires c κs = search needs
+
+still-requires-2 : tie.Need-still-requires-2
+still-requires-2 c κs = search needs
+
+returns-2 : tie.Need-returns-2
+returns-2 c = replace-stands _ _ _ _ (c .before .before .before .before .before .before .before .choose-low .ensures .0) (c .before .before .before .before .before .if1 .left) _ _ (c .before .before .before .before .before .before .before .choose-low .ensures .1) _ _ (c .before .before .lower .ensures) _ (c .before .if2 .taken) (c .still2 .ensures)
+
+room-under-requires : tie.Need-room-under-requires
+room-under-requires c κs = search needs
+
+plan-swap-requires : tie.Need-plan-swap-requires
+plan-swap-requires c κs = root-below _ _ _ _ (c .before .before .before .before .before .before .before .choose-low .ensures .0) (c .before .before .before .before .before .if1 .left) _ _ (c .before .before .before .before .before .before .before .choose-low .ensures .1) (c .before .before .before .before .before .before .before .before .before .pre) _ (c .room-under .ensures)
+
+returns-3 : tie.Need-returns-3
+returns-3 c = replace-step _ _ _ _ (c .before .before .before .before .before .before .before .before .choose-low .ensures .0) (c .before .before .before .before .before .before .if1 .left) _ _ (c .before .before .before .before .before .before .before .before .choose-low .ensures .1) _ _ (c .before .before .before .lower .ensures) _ _ (c .before .before .if2 .left) (c .before .room-under .ensures) refl refl (c .plan-swap .ensures .0) (c .plan-swap .ensures .1)
+
+pub hear-replace-spec : {M : Type 1} → statement M
+hear-replace-spec =
+    tie.close
+    (tie.spec
+    choose-low-requires
+    node-ok-requires
+    still-requires
+    returns
+    lower-requires
+    still-requires-2
+    returns-2
+    room-under-requires
+    plan-swap-requires
+    returns-3)

@@ -1,0 +1,21 @@
+-- `node::plan::no_plan` meets its contract. Assumes nothing.
+use mathlib.Core.Path.{refl}
+use mathlib.Core.Path.{ap}
+use Rattle.tree_model.specs.Node.{move}
+use Rattle.tree_model.specs.declared.Op.the-variants.{Nothing}
+use Rattle.strip.specs.declared.Element.{Element}
+use borrow.Author.Needs.{needs}
+use Rattle.node.proofs.plan.no_plan.Statement.{statement}
+use Rattle.node.proofs.plan.no_plan.Tie as tie
+use Rattle.node.proofs.plan.no_plan.Reads as reads
+use Rattle.node.proofs.plan.no_plan.Lts as lts
+use Rattle.strip.proofs.no_element.Reads as no-element-reads
+
+no-element-requires : tie.Need-no-element-requires
+no-element-requires c κs = search needs
+
+returns : tie.Need-returns
+returns c = (refl, ap (λ (e : Element). move (c .before .args .order) e 0 Nothing) (c .no-element .ensures))
+
+pub no-plan-spec : {M : Type 1} → statement M
+no-plan-spec = tie.close (tie.spec no-element-requires returns)
