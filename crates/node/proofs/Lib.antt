@@ -3,3 +3,4 @@ pub mod Steps
 pub mod Looks
 pub mod Planning
 pub mod Rulings
+pub mod Shapes
