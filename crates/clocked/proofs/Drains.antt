@@ -1,5 +1,5 @@
 -- Drain: each test and what follows it make the outcome that the definition says. Assumes nothing.
-use Prim.Native.Nat.{_+_, _-_, _≤_, suc, zero, ℕ}
+use Prim.Native.Nat.{_+_, _-_, _≤_, pred, suc, zero, ℕ}
 use native.Mathlib.Numerals.{add-one}
 use native.Mathlib.Omega.{arith}
 use mathlib.Core.Bool.{Bool, cond, false, not, true}
@@ -11,7 +11,6 @@ use Rattle.clocked_model.specs.Cycle.{quiet}
 use Rattle.clocked_model.specs.Records.{worksOf}
 use Rattle.clocked_model.specs.declared.State.{State}
 use Rattle.clocked.proofs.Public.{shape-no, shape-yes}
-use Rattle.laws.specs.Tests.{sub-one}
 use Rattle.strip.specs.declared.Answer.{Answer}
 use Rattle.strip.specs.declared.Answer.the-variants.{Done, Refused}
 use Rattle.strip.specs.declared.Refusal.the-variants.{BadShape}
@@ -25,9 +24,9 @@ Report a n l s b k d u = (a ≡ b) × (n ≡ k) × (l ≡ d) × (s ≡ u)
 reported : (a b : Answer) (n k : ℕ) (l d : Bool) (s u : State) (ws : List ℕ) → Report a n l s b k d u → drainOutcome a n l ws s ≡ drainOutcome b k d ws u
 reported a b n k l d s u ws p = λ i. record { answer = p .0 i; cycles = p .1 i; left = p .2 i; words = ws; state = p .3 i }
 
-module _ (m levels n : ℕ) (s : State) (ws : List ℕ) (q : Bool) (read : q ≡ quiet (levels - 1) (worksOf (levels - 1) (s .records) 0)) where
+module _ (m levels n k : ℕ) (below : levels ≡ suc k) (s : State) (ws : List ℕ) (q : Bool) (read : q ≡ quiet k (worksOf k (s .records) 0)) where
   waits : not q ≡ pending m levels s
-  waits = ap not (read ∙ ap (λ (k : ℕ). quiet k (worksOf k (s .records) 0)) (sub-one levels))
+  waits = ap not (read ∙ ap (λ (n : ℕ). quiet (pred n) (worksOf (pred n) (s .records) 0)) (sym below))
 
   pub drain-quiet : (b : ℕ) (a : Answer) (k : ℕ) (l : Bool) (u : State) → q ≡ true → Report a k l u Done n false s → drainOutcome a k l ws u ≡ drainFrom m levels b n s ws
   unfolding drainFrom

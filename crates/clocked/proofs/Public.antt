@@ -15,8 +15,11 @@ use Rattle.clocked.proofs.Works.{still-ok, still-records, still-words}
 use Rattle.clocked.specs.Beat.{Hears, RoomIs, Rooted, RootIn, RootPlanned, stateOf, turnedBy}
 use Rattle.clocked.specs.declared.asked.Heard.{Heard}
 use Rattle.laws.specs.Tests.{and-assoc, and-left, and-right, sub-one}
+use Rattle.node.proofs.Shapes.{shaped-levels}
 use Rattle.node.proofs.Steps.{room-up}
-use Rattle.node.specs.Scan.{Capacity, childOf}
+use Rattle.node.specs.Scan.{childOf}
+use Rattle.node.specs.Shaping.{Shaped}
+use Rattle.node.specs.declared.shape.Shape.{Shape}
 use Rattle.strip.specs.declared.Answer.{Answer}
 use Rattle.strip.specs.declared.Answer.the-variants.{Refused}
 use Rattle.strip.specs.declared.Refusal.the-variants.{BadShape, Damaged}
@@ -63,7 +66,7 @@ module _ (m k : ℕ) (ws : List ℕ) (shape : shapeOk m (suc k) (length ws) ≡ 
         records = few-levels m (suc k) (length ws) sh;
       }
 
-  pub room-below : room m k ≤ slotLimit
+  room-below : room m k ≤ slotLimit
   room-below = omega (arith, room-up m k (suc k) (few-order .0) (omega arith), shape-is m (suc k) (length ws) shape .capacity)
 
   deeper-size : (k : ℕ) → 1 ≤ room m k → m + m * m ≤ 1 * m + size m k (1 * m)
@@ -84,22 +87,16 @@ module _ (m k : ℕ) (ws : List ℕ) (shape : shapeOk m (suc k) (length ws) ≡ 
         children = λ h. omega (arith, lies .words, deeper-size k (omega (arith, h)));
       }
 
--- the levels below the root, by the code's numbers
-module _ (m levels : ℕ) (ws : List ℕ) (shape : shapeOk m levels (length ws) ≡ true) where
-  pub below-root : levels ≡ suc (levels - 1)
-  below-root = omega (arith, shape-is m levels (length ws) shape .some)
+-- the levels below the root, by the shape that the code has computed
+module _ (m levels : ℕ) (ws : List ℕ) (f : Shape) (shaped : Shaped m levels f) (e : shapeOk m levels (length ws) ≡ true) where
+  pub levels-are : levels ≡ suc (f .below)
+  levels-are = shaped-levels m levels (length ws) f shaped e
 
-  pub shape-below : shapeOk m (suc (levels - 1)) (length ws) ≡ true
-  shape-below = ap (λ (n : ℕ). shapeOk m n (length ws)) (sym below-root) ∙ shape
+  pub shape-below : (shapeOk m (suc (f .below)) (length ws) ≡ true) × RoomIs m (f .below) (f .room)
+  shape-below = (ap (λ (n : ℕ). shapeOk m n (length ws)) (sym levels-are) ∙ e, shaped .fits)
 
-  pub some-levels : 1 ≤ levels
-  some-levels = shape-is m levels (length ws) shape .some
-
-  pub order-few : (0 < m) × (m ≤ 8)
-  order-few = few-order m (levels - 1) ws shape-below
-
-  pub room-counted : (cap : ℕ) → Capacity m (levels - 1) cap → RoomIs m (levels - 1) cap
-  room-counted cap c = c .within (room-below m (levels - 1) ws shape-below)
+  pub cycle-beat : (q : Request) (s : State) (o : CycleOutcome) → o ≡ ticked m (suc (f .below)) q s ws → o ≡ ticked m levels q s ws
+  cycle-beat q s o p = p ∙ ap (λ (n : ℕ). ticked m n q s ws) (sym levels-are)
 
 -- ---- clear
 pub fresh-is : (w : Work) → w ≡ idle → stateOf (replicate recordCount w) false ≡ fresh
@@ -173,8 +170,3 @@ module _ (m k r : ℕ) (q : Request) (s : State) (ws : List ℕ) (shape : shapeO
         let p = hears k fits .1 ok in
         eo ∙ ap (λ (b : Bool). turnedBy m k (h .answer) (h .op) b s ws) em
         ∙ ap₂ (λ (a : Answer) (o : Op). turnedBy m k a o (marks q a) s ws) (p .0) (p .1) ∙ sym (rw (shape, tests ∙ ap (λ (b : Bool). b && rest) ok))
-
--- the cycle by the code's number of levels
-pub cycle-beat : (m levels : ℕ) (q : Request) (s : State) (ws : List ℕ) → shapeOk m levels (length ws) ≡ true → (o : CycleOutcome)
-    → o ≡ ticked m (suc (levels - 1)) q s ws → o ≡ ticked m levels q s ws
-cycle-beat m levels q s ws shape o e = e ∙ ap (λ (n : ℕ). ticked m n q s ws) (sym (below-root m levels ws shape))

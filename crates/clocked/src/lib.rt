@@ -19,8 +19,8 @@ use clocked_model::Drained;
 use clocked_model::RECORDS;
 use clocked_model::State;
 use levels::turn;
-use node::capacity;
-use node::shape_ok;
+use node::shape::shape_fits;
+use node::shape::shape_of;
 use records::is_nothing;
 use records::is_quiet;
 use records::no_work;
@@ -89,12 +89,11 @@ pub fn cycle(
 ) -> Cycled
     ensures { λ r. ⌜ cycleOutcome (r .answer) (now (store .exit)) (r .state) ≡ ticked order levels request state (now (store .entry)) ⌝ }
 {
-    if !shape_ok(order, levels, store.len()) {
+    let shape = shape_of(order, levels);
+    if !shape_fits(shape, store.len()) {
         return left_as(Refusal::BadShape, state);
     }
-    let below = levels - 1;
-    let room = capacity(order, below);
-    beat(store, order, below, room, state, request)
+    beat(store, order, shape.below, shape.room, state, request)
 }
 
 pub fn push(
@@ -173,11 +172,11 @@ fn report(answer: Answer, cycles: usize, left: bool, state: State) -> Drained
 pub fn drain(store: &mut [u32], order: usize, levels: usize, state: State, budget: usize) -> Drained
     ensures { λ r. ⌜ drainOutcome (r .answer) (r .cycles) (r .left) (now (store .exit)) (r .state) ≡ drains order levels budget state (now (store .entry)) ⌝ }
 {
-    if !shape_ok(order, levels, store.len()) {
+    let shape = shape_of(order, levels);
+    if !shape_fits(shape, store.len()) {
         return report(Answer::Refused(Refusal::BadShape), 0, false, state);
     }
-    let below = levels - 1;
-    let room = capacity(order, below);
+    let below = shape.below;
     let mut now = state;
     let mut run = 0;
     while run < budget {
@@ -185,7 +184,7 @@ pub fn drain(store: &mut [u32], order: usize, levels: usize, state: State, budge
         if is_quiet(below, records) {
             return report(Answer::Done, run, false, now);
         }
-        let c = beat(store, order, below, room, now, Request::Idle);
+        let c = beat(store, order, below, shape.room, now, Request::Idle);
         let answer = c.answer;
         let next = c.state;
         if is_refused(answer) {

@@ -3,3 +3,4 @@ pub mod Looks
 pub mod Steps
 pub mod Planning
 pub mod Rulings
+pub mod Shapes

@@ -12,6 +12,7 @@ ghost use Rattle.tree_model.specs.Calls.{slotLimit, orderOk, shapeOk};
 ghost use Rattle.node.specs.Scan.{keyOr, NodeIn, Capacity, RoomUnder};
 
 pub mod plan;
+pub mod shape;
 
 use strip::Element;
 use strip::Rank;
