@@ -5,26 +5,27 @@ use mathlib.Core.Bool.{_&&_, Bool, cond, false, not, true}
 use mathlib.Core.List.{List}
 use mathlib.Core.Path.{_∙_, _≡_, ap, ap₂, subst, sym}
 use lib.Dec.{leb, ltb}
-use lib.ListN.{getD, length}
-use borrow.Author.Tests.{eq-eqb, leb-true, ne-eqb, not-false, not-true}
-use Rattle.tree_model.specs.Calls.{cleared, shapeOk}
+use lib.ListN.{getD, length, set}
+use borrow.Author.Tests.{eq-eqb, le-leb, lt-leb, ne-eqb, not-false, not-true}
+use Rattle.card.specs.Clocked.{clockedAfterOut, clockedClear, clockedCycle, clockedDrain, cycleOf, drainOf, drainOut, markBack, ran, recordsBack, requestOf, clockedAfter, clearOf, saysNo, stateIn, taken}
+use Rattle.card.specs.Out.{answerOut, refusedOut}
 use Rattle.card_records.proofs.Nodes.{drained-fits, Fits, fresh-fit, read-fits, ticked-fits}
-use Rattle.card_records.proofs.Records.{lent, readable-roomy, shape-few}
-use Rattle.clocked_model.specs.Records.{worksOf}
+use Rattle.card_records.proofs.Records.{lent, readable-roomy}
 use Rattle.card_records.specs.Records.{Fit, Lent, wordLimit, markWritten, readable, roomy, worksWritten}
-use Rattle.card.specs.Clocked.{beat, clockedClear, clockedCycle, clockedDrain, cycleOf, drainOf, drainOut, markBack, ran, recordsBack, requestOf, restart, restartOf, stateIn, taken}
-use Rattle.card.specs.Out.{answerOut}
+use Rattle.clocked_model.proofs.Demand.{few-levels}
 use Rattle.clocked_model.proofs.Drain.{drain-within}
-use Rattle.clocked_model.proofs.Exactly.{ticked-bad}
 use Rattle.clocked_model.specs.Calls.{cycleOutcome, CycleOutcome, drainOutcome, DrainOutcome, drains, recordCount, restarted, ticked}
+use Rattle.clocked_model.specs.Records.{worksOf}
 use Rattle.clocked_model.specs.declared.State.{State}
 use Rattle.laws.specs.Tests.{and-left, and-right, sub-one}
-use Rattle.strip.specs.Answers.{element, numberOf}
+use Rattle.strip.specs.Answers.{blank, element, numberOf}
 use Rattle.strip.specs.declared.Answer.{Answer}
 use Rattle.strip.specs.declared.Answer.the-variants.{Refused}
 use Rattle.strip.specs.declared.Refusal.the-variants.{BadShape}
 use Rattle.strip.specs.declared.Request.{Request}
 use Rattle.strip.specs.declared.Request.the-variants.{Idle, Pop, Push, Replace}
+use Rattle.tree_model.proofs.Exactly.{shape-is}
+use Rattle.tree_model.specs.Calls.{shapeOk}
 
 -- ---- the tests
 pub request-idle : (n rank tag : ℕ) → (n ≡ 1 → ⊥) → (n ≡ 2 → ⊥) → (n ≡ 3 → ⊥) → Idle ≡ requestOf n rank tag
@@ -43,35 +44,43 @@ pub request-replace : (n rank tag : ℕ) → (n ≡ 1 → ⊥) → (n ≡ 2 → 
 unfolding requestOf
 request-replace n rank tag a b e = rw (ne-eqb n 1 a, ne-eqb n 2 b, eq-eqb n 3 e)
 
-pub taken-is : (m levels : ℕ) (rs mark : List ℕ) (request n : ℕ) (b : Bool) → b ≡ readable m levels rs mark → ((leb 2 n && leb request 3) && b) ≡ taken m levels rs mark request n
-unfolding taken
-taken-is m levels rs mark request n b e = ap (λ (b : Bool). (leb 2 n && leb request 3) && b) e
+module _ (m levels n : ℕ) (rs mark : List ℕ) (request : ℕ) where
+  pub taken-shapeless : (t : Bool) → t ≡ shapeOk m levels n → not t ≡ true → false ≡ taken m levels n rs mark request
+  unfolding taken
+  taken-shapeless t p f = rw (← p, not-true t f)
 
-module _ (m levels : ℕ) (rs mark : List ℕ) (request n : ℕ) (b : Bool) (tested : b ≡ taken m levels rs mark request n) where
-  pub not-taken : not b ≡ true → taken m levels rs mark request n ≡ false
-  not-taken e = sym tested ∙ not-true b e
+  pub taken-is : (t : Bool) → t ≡ shapeOk m levels n → not t ≡ false → (b : Bool) → b ≡ readable (levels - 1) rs mark → (leb request 3 && b) ≡ taken m levels n rs mark request
+  unfolding taken
+  taken-is t p f b e = rw (← p, not-false t f) (ap (λ (b : Bool). leb request 3 && b) e)
 
-  module _ (e : not b ≡ false) where
-    pub is-taken : taken m levels rs mark request n ≡ true
-    is-taken = sym tested ∙ not-false b e
+  -- ---- what a passed test says
+  pub taken-shape : taken m levels n rs mark request ≡ true → shapeOk m levels n ≡ true
+  unfolding taken
+  taken-shape e = and-left (shapeOk m levels n) (leb request 3 && readable (levels - 1) rs mark) e
 
-    pub taken-out : 2 ≤ n
-    unfolding taken
-    taken-out = leb-true 2 n (and-left (leb 2 n) (leb request 3) (and-left (leb 2 n && leb request 3) (readable m levels rs mark) is-taken))
+  pub taken-readable : taken m levels n rs mark request ≡ true → readable (levels - 1) rs mark ≡ true
+  unfolding taken
+  taken-readable e = and-right (leb request 3) (readable (levels - 1) rs mark) (and-right (shapeOk m levels n) (leb request 3 && readable (levels - 1) rs mark) e)
 
-    pub taken-readable : readable m levels rs mark ≡ true
-    unfolding taken
-    taken-readable = and-right (leb 2 n && leb request 3) (readable m levels rs mark) is-taken
+pub shape-few : (m levels n : ℕ) → shapeOk m levels n ≡ true → (1 ≤ levels) × (levels - 1 ≤ recordCount)
+shape-few m levels n e =
+    let sh = shape-is m levels n e in
+    (sh .some, omega (arith, few-levels m levels n sh, sub-one levels))
 
-    pub taken-lent : (len : ℕ) (t : Bool) → t ≡ shapeOk m levels len → not t ≡ false → Lent (levels - 1) rs mark
-    taken-lent len t p f = lent m levels rs mark (readable-roomy m levels rs mark taken-readable) len (sym p ∙ not-false t f)
+pub shape-some : (m levels n : ℕ) (t : Bool) → t ≡ shapeOk m levels n → not t ≡ false → 1 ≤ levels
+shape-some m levels n t p f = shape-few m levels n (sym p ∙ not-false t f) .0
 
-pub roomy-lent : (m levels : ℕ) (rs mark : List ℕ) (b : Bool) → b ≡ roomy m levels rs mark → not b ≡ false
-    → (len : ℕ) (t : Bool) → t ≡ shapeOk m levels len → not t ≡ false → Lent (levels - 1) rs mark
-roomy-lent m levels rs mark b q e len t p f = lent m levels rs mark (sym q ∙ not-false b e) len (sym p ∙ not-false t f)
+module _ (m levels n : ℕ) (rs mark : List ℕ) (request : ℕ) (b : Bool) (tested : b ≡ taken m levels n rs mark request) (e : not b ≡ false) where
+  is-taken : taken m levels n rs mark request ≡ true
+  is-taken = sym tested ∙ not-false b e
 
-pub some-levels : (m levels len : ℕ) (t : Bool) → t ≡ shapeOk m levels len → not t ≡ false → 1 ≤ levels
-some-levels m levels len t p f = shape-few m levels len (sym p ∙ not-false t f) .0
+  pub some-levels : 1 ≤ levels
+  some-levels = shape-few m levels n (taken-shape m levels n rs mark request is-taken) .0
+
+  pub taken-lent : Lent (levels - 1) rs mark
+  taken-lent =
+      lent (levels - 1) rs mark (shape-few m levels n (taken-shape m levels n rs mark request is-taken) .1)
+      (readable-roomy (levels - 1) rs mark (taken-readable m levels n rs mark request is-taken))
 
 -- ---- what is handed back
 abbrev Back : ℕ → List ℕ → List ℕ → Bool → State → List ℕ → List ℕ → Type 0
@@ -79,74 +88,88 @@ Back k rs mark r s rs₁ mark₁ = (rs₁ ≡ cond r (worksWritten k (s .records
 
 module _ (m levels : ℕ) (ws rs mark : List ℕ) where
   -- ---- clear
-  module _ (b : Bool) (tested : b ≡ roomy m levels rs mark) where
-    pub restart-bare : not b ≡ true → restart 1 ws rs mark ≡ clockedClear m levels ws rs mark
+  module _ (t : Bool) (p : t ≡ shapeOk m levels (length ws)) where
+    pub clear-shape : not t ≡ true → clockedAfter 1 ws rs mark ≡ clockedClear m levels ws rs mark
     unfolding clockedClear
-    restart-bare e = rw (sym tested ∙ not-true b e)
+    clear-shape f = rw (sym p ∙ not-true t f)
 
-    module _ (e : not b ≡ false) where
-      pub restart-shape : (t : Bool) → t ≡ shapeOk m levels (length ws) → not t ≡ true → restart 1 ws rs mark ≡ clockedClear m levels ws rs mark
-      unfolding clockedClear cleared
-      restart-shape t p f = rw (sym tested ∙ not-false b e, sym p ∙ not-true t f)
+    module _ (f : not t ≡ false) where
+      shape : shapeOk m levels (length ws) ≡ true
+      shape = sym p ∙ not-false t f
 
-      pub restart-done : (a : Answer) (after : List ℕ) (s : State) (n : ℕ) (r : Bool) (rs₁ mark₁ : List ℕ) → cycleOutcome a after s ≡ restarted m levels ws
-          → r ≡ ran (numberOf a) → Back (levels - 1) rs mark r s rs₁ mark₁ → n ≡ numberOf a → restart n after rs₁ mark₁ ≡ clockedClear m levels ws rs mark
-      unfolding clockedClear
-      restart-done a after s n r rs₁ mark₁ o q back p =
-          rw (sym tested ∙ not-false b e)
-          ((λ i. record { number = p i; store = after; records = back .0 i; mark = back .1 i })
-          ∙ ap (λ (r : Bool). restart (numberOf a) after (recordsBack levels rs mark r s) (markBack levels rs mark r s)) q
-          ∙ ap (restartOf levels rs mark) o)
+      module _ (b : Bool) (tested : b ≡ roomy (levels - 1) rs mark) where
+        pub clear-bare : not b ≡ true → clockedAfter 1 ws rs mark ≡ clockedClear m levels ws rs mark
+        unfolding clockedClear
+        clear-bare e = rw (shape, sym tested ∙ not-true b e)
+
+        module _ (e : not b ≡ false) where
+          pub roomy-lent : Lent (levels - 1) rs mark
+          roomy-lent = lent (levels - 1) rs mark (shape-few m levels (length ws) shape .1) (sym tested ∙ not-false b e)
+
+          pub clear-done : (a : Answer) (after : List ℕ) (s : State) (n : ℕ) (r : Bool) (rs₁ mark₁ : List ℕ) → cycleOutcome a after s ≡ restarted m levels ws
+              → r ≡ ran (numberOf a) → Back (levels - 1) rs mark r s rs₁ mark₁ → n ≡ numberOf a → clockedAfter n after rs₁ mark₁ ≡ clockedClear m levels ws rs mark
+          unfolding clockedClear
+          clear-done a after s n r rs₁ mark₁ o q back k =
+              rw (shape, sym tested ∙ not-false b e)
+              ((λ i. record { number = k i; store = after; records = back .0 i; mark = back .1 i })
+              ∙ ap (λ (r : Bool). clockedAfter (numberOf a) after (recordsBack levels rs mark r s) (markBack levels rs mark r s)) q
+              ∙ ap (clearOf levels rs mark) o)
+
+  -- ---- where the boundary says no
+  no-short : (out : List ℕ) → length out < 2 → clockedAfterOut 1 ws rs mark out ≡ saysNo m levels ws rs mark out
+  unfolding refusedOut
+  no-short out h = rw (lt-leb 2 (length out) h)
+
+  no-zeros : (out : List ℕ) → 2 ≤ length out → (n : ℕ) (out₁ : List ℕ) → n ≡ 1 → out₁ ≡ set (set out 0 0) 1 0 → clockedAfterOut n ws rs mark out₁ ≡ saysNo m levels ws rs mark out
+  unfolding refusedOut
+  no-zeros out h n out₁ e z = rw (le-leb 2 (length out) h) (λ i. record { number = e i; store = ws; records = rs; mark = mark; out = z i })
 
   -- ---- a cycle
-  module _ (out : List ℕ) (request rank tag : ℕ) (b : Bool) (tested : b ≡ taken m levels rs mark request (length out)) where
-    pub cycle-refused : not b ≡ true → beat 1 ws rs mark out ≡ clockedCycle m levels ws rs mark request rank tag out
+  module _ (out : List ℕ) (request rank tag : ℕ) where
+    pub cycle-short : length out < 2 → clockedAfterOut 1 ws rs mark out ≡ clockedCycle m levels ws rs mark request rank tag out
     unfolding clockedCycle
-    cycle-refused e = rw (sym tested ∙ not-true b e)
+    cycle-short h = rw (lt-leb 2 (length out) h) (no-short out h)
 
-    module _ (e : not b ≡ false) where
-      pub cycle-shape : (t : Bool) (n : ℕ) (out₁ : List ℕ) → t ≡ shapeOk m levels (length ws) → not t ≡ true
-          → (n ≡ numberOf (Refused BadShape)) × (out₁ ≡ answerOut (Refused BadShape) out) → beat n ws rs mark out₁ ≡ clockedCycle m levels ws rs mark request rank tag out
-      unfolding clockedCycle
-      cycle-shape t n out₁ p f told =
-          rw (sym tested ∙ not-false b e)
-          ((λ i. record { number = told .0 i; store = ws; records = rs; mark = mark; out = told .1 i })
-          ∙ ap (λ (o : CycleOutcome). cycleOf levels rs mark o out) (sym (ticked-bad m levels (requestOf request rank tag) (stateIn levels rs mark) ws (sym p ∙ not-true t f))))
+    module _ (room : 2 ≤ length out) (b : Bool) (tested : b ≡ taken m levels (length ws) rs mark request) where
+      pub cycle-refused : not b ≡ true → (n : ℕ) (out₁ : List ℕ) → (n ≡ numberOf (Refused BadShape)) × (out₁ ≡ answerOut (Refused BadShape) out)
+          → clockedAfterOut n ws rs mark out₁ ≡ clockedCycle m levels ws rs mark request rank tag out
+      unfolding clockedCycle blank
+      cycle-refused e n out₁ told = rw (le-leb 2 (length out) room, sym tested ∙ not-true b e) (no-zeros out room n out₁ (told .0) (told .1))
 
-      pub cycle-done : (asked : Request) (state : State) (a : Answer) (after : List ℕ) (s : State) (n : ℕ) (r : Bool) (rs₁ mark₁ out₁ : List ℕ)
-          → asked ≡ requestOf request rank tag → state ≡ stateIn levels rs mark → cycleOutcome a after s ≡ ticked m levels asked state ws
-          → r ≡ ran (numberOf a) → Back (levels - 1) rs mark r s rs₁ mark₁ → (n ≡ numberOf a) × (out₁ ≡ answerOut a out)
-          → beat n after rs₁ mark₁ out₁ ≡ clockedCycle m levels ws rs mark request rank tag out
-      unfolding clockedCycle
-      cycle-done asked state a after s n r rs₁ mark₁ out₁ h k o q back told =
-          rw (sym tested ∙ not-false b e)
-          ((λ i. record { number = told .0 i; store = after; records = back .0 i; mark = back .1 i; out = told .1 i })
-          ∙ ap (λ (r : Bool). beat (numberOf a) after (recordsBack levels rs mark r s) (markBack levels rs mark r s) (answerOut a out)) q
-          ∙ ap (λ (o : CycleOutcome). cycleOf levels rs mark o out) (o ∙ ap₂ (λ (q : Request) (s : State). ticked m levels q s ws) h k))
+      module _ (e : not b ≡ false) where
+        pub cycle-done : (asked : Request) (state : State) (a : Answer) (after : List ℕ) (s : State) (n : ℕ) (r : Bool) (rs₁ mark₁ out₁ : List ℕ)
+            → asked ≡ requestOf request rank tag → state ≡ stateIn levels rs mark → cycleOutcome a after s ≡ ticked m levels asked state ws
+            → r ≡ ran (numberOf a) → Back (levels - 1) rs mark r s rs₁ mark₁ → (n ≡ numberOf a) × (out₁ ≡ answerOut a out)
+            → clockedAfterOut n after rs₁ mark₁ out₁ ≡ clockedCycle m levels ws rs mark request rank tag out
+        unfolding clockedCycle
+        cycle-done asked state a after s n r rs₁ mark₁ out₁ h k o q back told =
+            rw (le-leb 2 (length out) room, sym tested ∙ not-false b e)
+            ((λ i. record { number = told .0 i; store = after; records = back .0 i; mark = back .1 i; out = told .1 i })
+            ∙ ap (λ (r : Bool). clockedAfterOut (numberOf a) after (recordsBack levels rs mark r s) (markBack levels rs mark r s) (answerOut a out)) q
+            ∙ ap (λ (o : CycleOutcome). cycleOf levels rs mark o out) (o ∙ ap₂ (λ (q : Request) (s : State). ticked m levels q s ws) h k))
 
   -- ---- a drain
-  module _ (out : List ℕ) (budget : ℕ) (b : Bool) (tested : b ≡ taken m levels rs mark 0 (length out)) where
-    pub drain-refused : not b ≡ true → beat 1 ws rs mark out ≡ clockedDrain m levels ws rs mark budget out
+  module _ (out : List ℕ) (budget : ℕ) where
+    pub drain-short : length out < 2 → clockedAfterOut 1 ws rs mark out ≡ clockedDrain m levels ws rs mark budget out
     unfolding clockedDrain
-    drain-refused e = rw (sym tested ∙ not-true b e)
+    drain-short h = rw (lt-leb 2 (length out) h) (no-short out h)
 
-    module _ (e : not b ≡ false) where
-      pub drain-shape : (t : Bool) (n : ℕ) (out₁ : List ℕ) → t ≡ shapeOk m levels (length ws) → not t ≡ true
-          → (n ≡ numberOf (Refused BadShape)) × (out₁ ≡ drainOut 0 false out) → beat n ws rs mark out₁ ≡ clockedDrain m levels ws rs mark budget out
-      unfolding clockedDrain drains
-      drain-shape t n out₁ p f told =
-          rw (sym tested ∙ not-false b e, sym p ∙ not-true t f)
-          (λ i. record { number = told .0 i; store = ws; records = rs; mark = mark; out = told .1 i })
-
-      pub drain-done : (state : State) (a : Answer) (cycles : ℕ) (left : Bool) (after : List ℕ) (s : State) (n : ℕ) (rs₁ mark₁ out₁ : List ℕ)
-          → state ≡ stateIn levels rs mark → drainOutcome a cycles left after s ≡ drains m levels budget state ws
-          → Back (levels - 1) rs mark (ltb 0 cycles) s rs₁ mark₁ → (n ≡ numberOf a) × (out₁ ≡ drainOut cycles left out)
-          → beat n after rs₁ mark₁ out₁ ≡ clockedDrain m levels ws rs mark budget out
+    module _ (room : 2 ≤ length out) (b : Bool) (tested : b ≡ taken m levels (length ws) rs mark 0) where
+      pub drain-refused : not b ≡ true → (n : ℕ) (out₁ : List ℕ) → (n ≡ numberOf (Refused BadShape)) × (out₁ ≡ drainOut 0 false out)
+          → clockedAfterOut n ws rs mark out₁ ≡ clockedDrain m levels ws rs mark budget out
       unfolding clockedDrain
-      drain-done state a cycles left after s n rs₁ mark₁ out₁ k o back told =
-          rw (sym tested ∙ not-false b e)
-          ((λ i. record { number = told .0 i; store = after; records = back .0 i; mark = back .1 i; out = told .1 i })
-          ∙ ap (λ (o : DrainOutcome). drainOf levels rs mark o out) (o ∙ ap (λ (s : State). drains m levels budget s ws) k))
+      drain-refused e n out₁ told = rw (le-leb 2 (length out) room, sym tested ∙ not-true b e) (no-zeros out room n out₁ (told .0) (told .1))
+
+      module _ (e : not b ≡ false) where
+        pub drain-done : (state : State) (a : Answer) (cycles : ℕ) (left : Bool) (after : List ℕ) (s : State) (n : ℕ) (rs₁ mark₁ out₁ : List ℕ)
+            → state ≡ stateIn levels rs mark → drainOutcome a cycles left after s ≡ drains m levels budget state ws
+            → Back (levels - 1) rs mark (ltb 0 cycles) s rs₁ mark₁ → (n ≡ numberOf a) × (out₁ ≡ drainOut cycles left out)
+            → clockedAfterOut n after rs₁ mark₁ out₁ ≡ clockedDrain m levels ws rs mark budget out
+        unfolding clockedDrain
+        drain-done state a cycles left after s n rs₁ mark₁ out₁ k o back told =
+            rw (le-leb 2 (length out) room, sym tested ∙ not-false b e)
+            ((λ i. record { number = told .0 i; store = after; records = back .0 i; mark = back .1 i; out = told .1 i })
+            ∙ ap (λ (o : DrainOutcome). drainOf levels rs mark o out) (o ∙ ap (λ (s : State). drains m levels budget s ws) k))
 
 -- no more cycles than the budget
 pub drain-few : (m levels : ℕ) (ws : List ℕ) (budget : ℕ) (state : State) (a : Answer) (cycles : ℕ) (left : Bool) (after : List ℕ) (s : State)

@@ -5,35 +5,35 @@ use mathlib.Core.Bool.{_&&_, Bool, cond, not}
 use mathlib.Core.List.{List}
 use lib.Dec.{eqb, leb, ltb}
 use lib.ListN.{length, set}
+use Rattle.card.specs.Out.{answerOut, badShape, CountAfter, countAnswered, refusedOut}
 use Rattle.card_records.specs.Records.{markWritten, readable, roomy, stateRead, worksWritten}
-use Rattle.card.specs.Out.{answerOut, badShape, Counted, countTold}
 use Rattle.clocked_model.specs.Calls.{CycleOutcome, DrainOutcome, drains, restarted, ticked}
 use Rattle.clocked_model.specs.declared.State.{State}
 use Rattle.strip.specs.Answers.{element, numberOf}
 use Rattle.strip.specs.declared.Request.{Request}
 use Rattle.strip.specs.declared.Request.the-variants.{Idle, Pop, Push, Replace}
-use Rattle.tree_model.specs.Calls.{counted}
+use Rattle.tree_model.specs.Calls.{counted, shapeOk}
 
 -- ---- clear: the number, and all words afterwards
-pub record Restart : Type 0 where
+pub record ClockedAfter : Type 0 where
   pub number : ℕ
   pub store : List ℕ
   pub records : List ℕ
   pub mark : List ℕ
 
-abbrev pub restart : ℕ → List ℕ → List ℕ → List ℕ → Restart
-restart n ws rs mark = record { number = n; store = ws; records = rs; mark = mark }
+abbrev pub clockedAfter : ℕ → List ℕ → List ℕ → List ℕ → ClockedAfter
+clockedAfter n ws rs mark = record { number = n; store = ws; records = rs; mark = mark }
 
 -- ---- cycle and drain: the number, and all words afterwards
-pub record Beat : Type 0 where
+pub record ClockedAfterOut : Type 0 where
   pub number : ℕ
   pub store : List ℕ
   pub records : List ℕ
   pub mark : List ℕ
   pub out : List ℕ
 
-abbrev pub beat : ℕ → List ℕ → List ℕ → List ℕ → List ℕ → Beat
-beat n ws rs mark out = record { number = n; store = ws; records = rs; mark = mark; out = out }
+abbrev pub clockedAfterOut : ℕ → List ℕ → List ℕ → List ℕ → List ℕ → ClockedAfterOut
+clockedAfterOut n ws rs mark out = record { number = n; store = ws; records = rs; mark = mark; out = out }
 
 -- the request of a number: 0 idle, 1 push, 2 pop, 3 replace
 unfoldable pub requestOf : ℕ → ℕ → ℕ → Request
@@ -44,9 +44,9 @@ requestOf n rank tag =
 abbrev pub ran : ℕ → Bool
 ran n = not (eqb n 1) && not (eqb n 2)
 
--- does the boundary take the call? Two words of `out`, a request, and records and mark that can be read
-unfoldable pub taken : ℕ → ℕ → List ℕ → List ℕ → ℕ → ℕ → Bool
-taken m levels rs mark request n = (leb 2 n && leb request 3) && readable m levels rs mark
+-- does the boundary take a call on a store of n words? A shape, a request, and records and mark that can be read
+unfoldable pub taken : ℕ → ℕ → ℕ → List ℕ → List ℕ → ℕ → Bool
+taken m levels n rs mark request = shapeOk m levels n && (leb request 3 && readable (levels - 1) rs mark)
 
 -- `out` of a drain: the cycles run, and 1 where work is left
 abbrev pub drainOut : ℕ → Bool → List ℕ → List ℕ
@@ -65,30 +65,37 @@ module _ (levels : ℕ) (rs mark : List ℕ) where
   markBack r s = cond r (markWritten s mark) mark
 
   -- what a clear, a cycle and a drain come to
-  abbrev pub restartOf : CycleOutcome → Restart
-  restartOf o =
-      restart (numberOf (o .answer)) (o .words) (recordsBack (ran (numberOf (o .answer))) (o .state)) (markBack (ran (numberOf (o .answer))) (o .state))
+  abbrev pub clearOf : CycleOutcome → ClockedAfter
+  clearOf o =
+      clockedAfter (numberOf (o .answer)) (o .words) (recordsBack (ran (numberOf (o .answer))) (o .state)) (markBack (ran (numberOf (o .answer))) (o .state))
 
-  abbrev pub cycleOf : CycleOutcome → List ℕ → Beat
+  abbrev pub cycleOf : CycleOutcome → List ℕ → ClockedAfterOut
   cycleOf o out =
-      beat (numberOf (o .answer)) (o .words) (recordsBack (ran (numberOf (o .answer))) (o .state)) (markBack (ran (numberOf (o .answer))) (o .state)) (answerOut (o .answer) out)
+      clockedAfterOut (numberOf (o .answer)) (o .words) (recordsBack (ran (numberOf (o .answer))) (o .state)) (markBack (ran (numberOf (o .answer))) (o .state)) (answerOut (o .answer) out)
 
-  abbrev pub drainOf : DrainOutcome → List ℕ → Beat
+  abbrev pub drainOf : DrainOutcome → List ℕ → ClockedAfterOut
   drainOf o out =
-      beat (numberOf (o .answer)) (o .words) (recordsBack (ltb 0 (o .cycles)) (o .state)) (markBack (ltb 0 (o .cycles)) (o .state)) (drainOut (o .cycles) (o .left) out)
+      clockedAfterOut (numberOf (o .answer)) (o .words) (recordsBack (ltb 0 (o .cycles)) (o .state)) (markBack (ltb 0 (o .cycles)) (o .state)) (drainOut (o .cycles) (o .left) out)
 
 -- ---- the calls
 module _ (m levels : ℕ) (ws rs mark : List ℕ) where
-  unfoldable pub clockedClear : Restart
-  clockedClear = cond (roomy m levels rs mark) (restartOf levels rs mark (restarted m levels ws)) (restart badShape ws rs mark)
+  unfoldable pub clockedClear : ClockedAfter
+  clockedClear =
+      cond (shapeOk m levels (length ws) && roomy (levels - 1) rs mark) (clearOf levels rs mark (restarted m levels ws)) (clockedAfter badShape ws rs mark)
 
-  unfoldable pub clockedCycle : ℕ → ℕ → ℕ → List ℕ → Beat
+  -- where the boundary says no, all stands but `out`, which gets zeros if it is long enough
+  abbrev pub saysNo : List ℕ → ClockedAfterOut
+  saysNo out = clockedAfterOut badShape ws rs mark (refusedOut out)
+
+  unfoldable pub clockedCycle : ℕ → ℕ → ℕ → List ℕ → ClockedAfterOut
   clockedCycle request rank tag out =
-      cond (taken m levels rs mark request (length out)) (cycleOf levels rs mark (ticked m levels (requestOf request rank tag) (stateIn levels rs mark) ws) out) (beat badShape ws rs mark out)
+      cond (leb 2 (length out) && taken m levels (length ws) rs mark request)
+      (cycleOf levels rs mark (ticked m levels (requestOf request rank tag) (stateIn levels rs mark) ws) out) (saysNo out)
 
-  unfoldable pub clockedDrain : ℕ → List ℕ → Beat
+  unfoldable pub clockedDrain : ℕ → List ℕ → ClockedAfterOut
   clockedDrain budget out =
-      cond (taken m levels rs mark 0 (length out)) (drainOf levels rs mark (drains m levels budget (stateIn levels rs mark) ws) out) (beat badShape ws rs mark out)
+      cond (leb 2 (length out) && taken m levels (length ws) rs mark 0)
+      (drainOf levels rs mark (drains m levels budget (stateIn levels rs mark) ws) out) (saysNo out)
 
-abbrev pub clockedHeld : ℕ → ℕ → List ℕ → List ℕ → Counted
-clockedHeld m levels ws out = countTold (counted m levels ws) out
+abbrev pub clockedHeld : ℕ → ℕ → List ℕ → List ℕ → CountAfter
+clockedHeld m levels ws out = countAnswered (counted m levels ws) out

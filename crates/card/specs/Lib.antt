@@ -2,3 +2,4 @@ pub mod Out
 pub mod Tree
 pub mod Bucket
 pub mod Clocked
+pub mod History

@@ -1,13 +1,13 @@
 // The static library for C and Rust: the three queues over numbers and slices. Each function returns 01's number, 0 where nothing is
-// refused, and writes what it answers to `out`. An `out` that is too short is refusal 1, and nothing changes.
+// refused, and writes what it answers to `out`, zeros on a refusal. An `out` that is too short is refusal 1, and nothing changes.
 ghost use mathlib.Core.Path.{_≡_};
 ghost use Prim.Native.Nat.{_≤_};
 ghost use lib.ListN.{length, set};
 ghost use Rattle.strip.specs.Answers.{numberOf, countNumber, countOf};
-ghost use Rattle.card.specs.Out.{answerOut, tally};
-ghost use Rattle.card.specs.Tree.{treeStored, treeTold, treeClear, treePush, treePop, treeReplace, treeHeld};
-ghost use Rattle.card.specs.Bucket.{pooled, drawn, bucketClear, bucketPush, bucketPop, bucketReplace, bucketHeld};
-ghost use Rattle.card.specs.Clocked.{restart, beat, requestOf, ran, taken, drainOut, clockedClear, clockedCycle, clockedDrain, clockedHeld};
+ghost use Rattle.card.specs.Out.{answerOut, countAfter};
+ghost use Rattle.card.specs.Tree.{treeAfter, treeAfterOut, treeClear, treePush, treePop, treeReplace, treeHeld};
+ghost use Rattle.card.specs.Bucket.{bucketAfter, bucketAfterOut, bucketClear, bucketPush, bucketPop, bucketReplace, bucketHeld};
+ghost use Rattle.card.specs.Clocked.{clockedAfter, clockedAfterOut, requestOf, ran, taken, drainOut, clockedClear, clockedCycle, clockedDrain, clockedHeld};
 use card_records::bit;
 use card_records::hand_back;
 use card_records::is_readable;
@@ -27,6 +27,9 @@ use strip::given;
 use strip::number;
 
 // ---- what `out` receives
+
+// The words of an answer: rank and tag, or cycles run and whether work is left.
+const OUT: usize = 2;
 
 // Writes an answer's rank and tag, 0 and 0 on a refusal, and returns its number.
 fn tell(out: &mut [u32], answer: Answer) -> u32
@@ -54,7 +57,7 @@ fn tell_count(out: &mut [u32], count: Count) -> u32
 
 #[no_mangle]
 pub extern "C" fn card_tree_clear(store: &mut [u32], order: u32, levels: u32) -> u32
-    ensures { λ r. ⌜ treeStored r (now (store .exit)) ≡ treeClear order levels (now (store .entry)) ⌝ }
+    ensures { λ r. ⌜ treeAfter r (now (store .exit)) ≡ treeClear order levels (now (store .entry)) ⌝ }
 {
     number(tree::clear(store, order as usize, levels as usize))
 }
@@ -67,16 +70,16 @@ pub extern "C" fn card_tree_push(
     rank: u32,
     tag: u32,
 ) -> u32
-    ensures { λ r. ⌜ treeStored r (now (store .exit)) ≡ treePush order levels (now (store .entry)) rank tag ⌝ }
+    ensures { λ r. ⌜ treeAfter r (now (store .exit)) ≡ treePush order levels (now (store .entry)) rank tag ⌝ }
 {
     number(tree::push(store, order as usize, levels as usize, Rank(rank), Tag(tag)))
 }
 
 #[no_mangle]
 pub extern "C" fn card_tree_pop(store: &mut [u32], order: u32, levels: u32, out: &mut [u32]) -> u32
-    ensures { λ r. ⌜ treeTold r (now (store .exit)) (now (out .exit)) ≡ treePop order levels (now (store .entry)) (now (out .entry)) ⌝ }
+    ensures { λ r. ⌜ treeAfterOut r (now (store .exit)) (now (out .exit)) ≡ treePop order levels (now (store .entry)) (now (out .entry)) ⌝ }
 {
-    if out.len() < 2 {
+    if out.len() < OUT {
         return 1;
     }
     let answer = tree::pop(store, order as usize, levels as usize);
@@ -92,9 +95,9 @@ pub extern "C" fn card_tree_replace(
     tag: u32,
     out: &mut [u32],
 ) -> u32
-    ensures { λ r. ⌜ treeTold r (now (store .exit)) (now (out .exit)) ≡ treeReplace order levels (now (store .entry)) rank tag (now (out .entry)) ⌝ }
+    ensures { λ r. ⌜ treeAfterOut r (now (store .exit)) (now (out .exit)) ≡ treeReplace order levels (now (store .entry)) rank tag (now (out .entry)) ⌝ }
 {
-    if out.len() < 2 {
+    if out.len() < OUT {
         return 1;
     }
     let answer = tree::replace(store, order as usize, levels as usize, Rank(rank), Tag(tag));
@@ -103,7 +106,7 @@ pub extern "C" fn card_tree_replace(
 
 #[no_mangle]
 pub extern "C" fn card_tree_held(store: &[u32], order: u32, levels: u32, out: &mut [u32]) -> u32
-    ensures { λ r. ⌜ tally r (now (out .exit)) ≡ treeHeld order levels (now (store .entry)) (now (out .entry)) ⌝ }
+    ensures { λ r. ⌜ countAfter r (now (out .exit)) ≡ treeHeld order levels (now (store .entry)) (now (out .entry)) ⌝ }
 {
     if out.len() < 1 {
         return 1;
@@ -116,7 +119,7 @@ pub extern "C" fn card_tree_held(store: &[u32], order: u32, levels: u32, out: &m
 
 #[no_mangle]
 pub extern "C" fn card_bucket_clear(bits: &mut [u64], words: &mut [u32], nodes: u32) -> u32
-    ensures { λ r. ⌜ pooled r (now (bits .exit)) (now (words .exit)) ≡ bucketClear (now (bits .entry)) (now (words .entry)) nodes ⌝ }
+    ensures { λ r. ⌜ bucketAfter r (now (bits .exit)) (now (words .exit)) ≡ bucketClear (now (bits .entry)) (now (words .entry)) nodes ⌝ }
 {
     number(bucket::clear(bits, words, nodes))
 }
@@ -129,7 +132,7 @@ pub extern "C" fn card_bucket_push(
     rank: u32,
     tag: u32,
 ) -> u32
-    ensures { λ r. ⌜ pooled r (now (bits .exit)) (now (words .exit)) ≡ bucketPush (now (bits .entry)) (now (words .entry)) nodes rank tag ⌝ }
+    ensures { λ r. ⌜ bucketAfter r (now (bits .exit)) (now (words .exit)) ≡ bucketPush (now (bits .entry)) (now (words .entry)) nodes rank tag ⌝ }
 {
     number(bucket::push(bits, words, nodes, Rank(rank), Tag(tag)))
 }
@@ -141,9 +144,9 @@ pub extern "C" fn card_bucket_pop(
     nodes: u32,
     out: &mut [u32],
 ) -> u32
-    ensures { λ r. ⌜ drawn r (now (bits .exit)) (now (words .exit)) (now (out .exit)) ≡ bucketPop (now (bits .entry)) (now (words .entry)) nodes (now (out .entry)) ⌝ }
+    ensures { λ r. ⌜ bucketAfterOut r (now (bits .exit)) (now (words .exit)) (now (out .exit)) ≡ bucketPop (now (bits .entry)) (now (words .entry)) nodes (now (out .entry)) ⌝ }
 {
-    if out.len() < 2 {
+    if out.len() < OUT {
         return 1;
     }
     let answer = bucket::pop(bits, words, nodes);
@@ -159,9 +162,9 @@ pub extern "C" fn card_bucket_replace(
     tag: u32,
     out: &mut [u32],
 ) -> u32
-    ensures { λ r. ⌜ drawn r (now (bits .exit)) (now (words .exit)) (now (out .exit)) ≡ bucketReplace (now (bits .entry)) (now (words .entry)) nodes rank tag (now (out .entry)) ⌝ }
+    ensures { λ r. ⌜ bucketAfterOut r (now (bits .exit)) (now (words .exit)) (now (out .exit)) ≡ bucketReplace (now (bits .entry)) (now (words .entry)) nodes rank tag (now (out .entry)) ⌝ }
 {
-    if out.len() < 2 {
+    if out.len() < OUT {
         return 1;
     }
     let answer = bucket::replace(bits, words, nodes, Rank(rank), Tag(tag));
@@ -170,7 +173,7 @@ pub extern "C" fn card_bucket_replace(
 
 #[no_mangle]
 pub extern "C" fn card_bucket_held(bits: &[u64], words: &[u32], nodes: u32, out: &mut [u32]) -> u32
-    ensures { λ r. ⌜ tally r (now (out .exit)) ≡ bucketHeld (now (bits .entry)) (now (words .entry)) nodes (now (out .entry)) ⌝ }
+    ensures { λ r. ⌜ countAfter r (now (out .exit)) ≡ bucketHeld (now (bits .entry)) (now (words .entry)) nodes (now (out .entry)) ⌝ }
 {
     if out.len() < 1 {
         return 1;
@@ -181,19 +184,22 @@ pub extern "C" fn card_bucket_held(bits: &[u64], words: &[u32], nodes: u32, out:
 
 // ---- the clocked tree
 
-// Whether the boundary takes a call: two words of `out`, a request, and records and mark that can be read.
+// Whether the boundary takes a call on a store of so many words: a shape, a request, and records and mark that can be read.
 fn is_taken(
     order: usize,
     levels: usize,
+    words: usize,
     records: &[u32],
     mark: &[u32],
     request: u32,
-    room: usize,
 ) -> bool
-    ensures { λ r. ⌜ r ≡ taken order levels (now (records .entry)) (now (mark .entry)) request room ⌝ }
+    ensures { λ r. ⌜ r ≡ taken order levels words (now (records .entry)) (now (mark .entry)) request ⌝ }
 {
-    let readable = is_readable(order, levels, records, mark);
-    (2 <= room) & (request <= 3) & readable
+    if !shape_ok(order, levels, words) {
+        return false;
+    }
+    let readable = is_readable(records, mark, levels - 1);
+    (request <= 3) & readable
 }
 
 fn request_of(request: u32, rank: u32, tag: u32) -> Request
@@ -241,14 +247,14 @@ pub extern "C" fn card_clocked_clear(
     records: &mut [u32],
     mark: &mut [u32],
 ) -> u32
-    ensures { λ r. ⌜ restart r (now (store .exit)) (now (records .exit)) (now (mark .exit)) ≡ clockedClear order levels (now (store .entry)) (now (records .entry)) (now (mark .entry)) ⌝ }
+    ensures { λ r. ⌜ clockedAfter r (now (store .exit)) (now (records .exit)) (now (mark .exit)) ≡ clockedClear order levels (now (store .entry)) (now (records .entry)) (now (mark .entry)) ⌝ }
 {
     let m = order as usize;
     let l = levels as usize;
-    if !is_roomy(m, l, records, mark) {
+    if !shape_ok(m, l, store.len()) {
         return 1;
     }
-    if !shape_ok(m, l, store.len()) {
+    if !is_roomy(records, mark, l - 1) {
         return 1;
     }
     let done = clocked::clear(store, m, l);
@@ -271,14 +277,14 @@ pub extern "C" fn card_clocked_cycle(
     tag: u32,
     out: &mut [u32],
 ) -> u32
-    ensures { λ r. ⌜ beat r (now (store .exit)) (now (records .exit)) (now (mark .exit)) (now (out .exit)) ≡ clockedCycle order levels (now (store .entry)) (now (records .entry)) (now (mark .entry)) request rank tag (now (out .entry)) ⌝ }
+    ensures { λ r. ⌜ clockedAfterOut r (now (store .exit)) (now (records .exit)) (now (mark .exit)) (now (out .exit)) ≡ clockedCycle order levels (now (store .entry)) (now (records .entry)) (now (mark .entry)) request rank tag (now (out .entry)) ⌝ }
 {
     let m = order as usize;
     let l = levels as usize;
-    if !is_taken(m, l, records, mark, request, out.len()) {
+    if out.len() < OUT {
         return 1;
     }
-    if !shape_ok(m, l, store.len()) {
+    if !is_taken(m, l, store.len(), records, mark, request) {
         return tell(out, Answer::Refused(Refusal::BadShape));
     }
     let state = read_state(records, mark, l - 1);
@@ -301,14 +307,14 @@ pub extern "C" fn card_clocked_drain(
     budget: u32,
     out: &mut [u32],
 ) -> u32
-    ensures { λ r. ⌜ beat r (now (store .exit)) (now (records .exit)) (now (mark .exit)) (now (out .exit)) ≡ clockedDrain order levels (now (store .entry)) (now (records .entry)) (now (mark .entry)) budget (now (out .entry)) ⌝ }
+    ensures { λ r. ⌜ clockedAfterOut r (now (store .exit)) (now (records .exit)) (now (mark .exit)) (now (out .exit)) ≡ clockedDrain order levels (now (store .entry)) (now (records .entry)) (now (mark .entry)) budget (now (out .entry)) ⌝ }
 {
     let m = order as usize;
     let l = levels as usize;
-    if !is_taken(m, l, records, mark, 0, out.len()) {
+    if out.len() < OUT {
         return 1;
     }
-    if !shape_ok(m, l, store.len()) {
+    if !is_taken(m, l, store.len(), records, mark, 0) {
         return tell_drain(out, 0, false, Answer::Refused(Refusal::BadShape));
     }
     let state = read_state(records, mark, l - 1);
@@ -322,7 +328,7 @@ pub extern "C" fn card_clocked_drain(
 
 #[no_mangle]
 pub extern "C" fn card_clocked_held(store: &[u32], order: u32, levels: u32, out: &mut [u32]) -> u32
-    ensures { λ r. ⌜ tally r (now (out .exit)) ≡ clockedHeld order levels (now (store .entry)) (now (out .entry)) ⌝ }
+    ensures { λ r. ⌜ countAfter r (now (out .exit)) ≡ clockedHeld order levels (now (store .entry)) (now (out .entry)) ⌝ }
 {
     if out.len() < 1 {
         return 1;

@@ -2,20 +2,23 @@
 use Prim.Native.Nat.{_*_, _+_, _<_, _≤_, suc, zero, ℕ}
 use native.Mathlib.Nat.{eq-or-lt-of-le, le-of-suc-le-suc, not-suc-le-zero}
 use native.Mathlib.Omega.{arith}
-use mathlib.Core.Bool.{Bool, cond, false, true}
+use mathlib.Core.Bool.{_&&_, Bool, cond, false, true}
 use mathlib.Core.List.{List}
 use mathlib.Core.Logic.{⊎-elim}
 use mathlib.Core.Path.{_∙_, _≡_, ap, ap₂, refl, sym}
-use lib.Dec.{eqb}
+use lib.Dec.{eqb, leb}
 use lib.ListN.{getD, length, length-set, set}
 use lib.Seq.{getD-set-other, getD-set-same}
+use borrow.Author.Tests.{le-leb}
 use Rattle.card_records.proofs.Nodes.{works-few}
-use Rattle.card_records.specs.Records.{carried, kindOf, markWritten, nodeWord, recordWords, stateRead, workOf, workRead, worksRead, worksWritten, workWritten}
+use Rattle.card_records.proofs.Records.{roomy-mark, roomy-words}
+use Rattle.card_records.specs.Records.{carried, kindOf, kindsOk, markWritten, nodeWord, readable, recordWords, roomy, stateRead, workOf, workRead, worksRead, worksWritten, workWritten}
 use Rattle.clocked_model.proofs.Turn.{plain-work}
 use Rattle.clocked_model.specs.Calls.{recordCount}
 use Rattle.clocked_model.specs.Cycle.{Works}
 use Rattle.clocked_model.specs.Records.{recordAt, worksOf}
 use Rattle.clocked_model.specs.declared.State.{State}
+use Rattle.laws.specs.Tests.{and-true}
 use Rattle.strip.specs.declared.Element.{Element}
 use Rattle.tree_model.specs.Levels.{idle, work}
 use Rattle.tree_model.specs.declared.Op.{Op}
@@ -149,3 +152,46 @@ mark-on k s rs mark h = ap (λ (n : ℕ). eqb n 1) (getD-set-same mark 0 (cond (
     go : (b : Bool) → eqb (cond b 1 0) 1 ≡ b
     go true = refl
     go false = refl
+
+-- ---- what was written can be read again
+kind-low : (o : Op) → kindOf o ≤ 3
+kind-low Nothing = omega arith
+kind-low (Put x) = omega arith
+kind-low Take = omega arith
+kind-low (Swap x) = omega arith
+
+kinds-before : (rs : List ℕ) (i : ℕ) (w : Work) (j : ℕ) → j ≤ i → kindsOk j (workWritten rs i w) ≡ kindsOk j rs
+unfolding kindsOk workWritten
+kinds-before rs i w zero h = refl
+kinds-before rs i w (suc j) h =
+    ap₂ (λ (b : Bool) (n : ℕ). b && leb n 3) (kinds-before rs i w j (omega arith))
+    (four-other rs (recordWords * i) (kindOf (w .op)) (nodeWord (w .op) (w .node)) (carried (w .op) .rank .0) (carried (w .op) .tag .0) (recordWords * j) (omega arith))
+
+kinds-written : (k : ℕ) (vs : List Work) (rs : List ℕ) → recordWords * k ≤ length rs → kindsOk k (worksWritten k vs rs) ≡ true
+unfolding kindsOk worksWritten workWritten
+kinds-written zero vs rs h = refl
+kinds-written (suc k) vs rs h =
+    let w : Work = getD vs k idle in
+    let before : List ℕ = worksWritten k vs rs in
+    let here : getD (workWritten before k w) (recordWords * k) 0 ≡ kindOf (w .op) =
+    four-0 before (recordWords * k) (kindOf (w .op)) (nodeWord (w .op) (w .node)) (carried (w .op) .rank .0) (carried (w .op) .tag .0) (omega (arith, works-length k vs rs)) in
+    ap₂ (λ (b : Bool) (n : ℕ). b && leb n 3) (kinds-before before k w k (omega arith) ∙ kinds-written k vs rs (omega arith)) here ∙ le-leb (kindOf (w .op)) 3 (kind-low (w .op))
+
+-- READABLE: the words of records and mark that a call writes
+pub readable-again : (k : ℕ) (s : State) (rs mark : List ℕ) → roomy k rs mark ≡ true → readable k (worksWritten k (s .records) rs) (markWritten s mark) ≡ true
+unfolding readable roomy
+readable-again k s rs mark e =
+    let some : 1 ≤ length mark = roomy-mark k rs mark e in
+    let words : recordWords * k ≤ length rs = roomy-words k rs mark e in
+    let marked : getD (markWritten s mark) 0 0 ≡ cond (s .mark) 1 0 = getD-set-same mark 0 (cond (s .mark) 1 0) 0 some in
+    and-true (leb 1 (length (markWritten s mark)) && leb (recordWords * k) (length (worksWritten k (s .records) rs))) (leb (getD (markWritten s mark) 0 0) 1 && kindsOk k (worksWritten k (s .records) rs))
+    (and-true (leb 1 (length (markWritten s mark))) (leb (recordWords * k) (length (worksWritten k (s .records) rs)))
+    (le-leb 1 (length (markWritten s mark)) (omega (arith, length-set mark 0 (cond (s .mark) 1 0))))
+    (le-leb (recordWords * k) (length (worksWritten k (s .records) rs)) (omega (arith, works-length k (s .records) rs))))
+    (and-true (leb (getD (markWritten s mark) 0 0) 1) (kindsOk k (worksWritten k (s .records) rs))
+    (ap (λ (n : ℕ). leb n 1) marked ∙ bit-low (s .mark))
+    (kinds-written k (s .records) rs words))
+  where
+    bit-low : (b : Bool) → leb (cond b 1 0) 1 ≡ true
+    bit-low true = refl
+    bit-low false = refl

@@ -2,3 +2,4 @@
 pub mod Records
 pub mod Nodes
 pub mod Handed
+pub mod Alike

@@ -1,24 +1,19 @@
 -- Records read and written one after the other, and what the tests of them say. Assumes nothing.
-use Prim.Native.Nat.{_*_, _+_, _-_, _<_, _≤_, ℕ}
+use Prim.Native.Nat.{_*_, _+_, _/_, _≤_, ℕ}
 use native.Mathlib.Numerals.{add-one}
 use native.Mathlib.Omega.{arith}
-use mathlib.Core.Bool.{_&&_, _||_, Bool, cond, false, not, true}
+use mathlib.Core.Bool.{_&&_, Bool, cond, false, not, true}
 use mathlib.Core.List.{List}
 use mathlib.Core.Path.{_∙_, _≡_, ap, refl, sym}
 use lib.Dec.{leb}
 use lib.ListN.{getD, length, replicate, set}
-use lib.Seq.{slice}
-use borrow.Author.Tests.{eq-eqb, le-leb, leb-true, lt-leb, ne-eqb, not-false, not-true}
-use Rattle.card_records.specs.Records.{carried, kindOf, kindsOk, legal, Lent, nodeWord, readable, recordWords, roomy, workOf, workRead, worksRead, worksWritten, workWritten}
-use Rattle.clocked_model.proofs.Demand.{few-levels}
+use borrow.Author.Tests.{eq-eqb, le-leb, leb-false, leb-true, lt-leb, ne-eqb, not-false, not-true}
+use Rattle.card_records.specs.Records.{carried, kindOf, kindsOk, Lent, nodeWord, readable, recordWords, roomy, workOf, workRead, worksRead, worksWritten, workWritten}
 use Rattle.clocked_model.specs.Calls.{recordCount}
-use Rattle.laws.specs.Tests.{and-left, and-right, sub-one}
+use Rattle.laws.specs.Tests.{and-left, and-right}
 use Rattle.strip.specs.Answers.{element}
 use Rattle.strip.specs.declared.Element.{Element}
-use Rattle.tree_model.proofs.Exactly.{is-shape, shape-is}
-use Rattle.tree_model.specs.Calls.{shapeOk, slotLimit}
 use Rattle.tree_model.specs.Levels.{idle}
-use Rattle.tree_model.specs.Words.{width}
 use Rattle.tree_model.specs.declared.Op.the-variants.{Put, Swap, Take}
 use Rattle.tree_model.specs.declared.Work.{Work}
 
@@ -78,78 +73,43 @@ pub kinds-more : (rs : List ℕ) (i : ℕ) (b : Bool) → b ≡ kindsOk i rs →
 unfolding kindsOk
 kinds-more rs i b e = rw (add-one, ← e)
 
-pub shape-few : (m levels len : ℕ) → shapeOk m levels len ≡ true → (1 ≤ levels) × (levels - 1 ≤ recordCount)
-shape-few m levels len e =
-    let sh = shape-is m levels len e in
-    (sh .some, omega (arith, few-levels m levels len sh, sub-one levels))
+pub roomy-is : (k : ℕ) (rs mark : List ℕ) → (leb 1 (length mark) && leb k (length rs / recordWords)) ≡ roomy k rs mark
+unfolding roomy
+roomy-is k rs mark = ap (λ (b : Bool). leb 1 (length mark) && b) (go (leb (recordWords * k) (length rs)) refl)
+  where
+    go : (b : Bool) → leb (recordWords * k) (length rs) ≡ b → leb k (length rs / recordWords) ≡ b
+    go true e = le-leb k (length rs / recordWords) (omega (arith, leb-true (recordWords * k) (length rs) e))
+    go false e = lt-leb k (length rs / recordWords) (omega (arith, leb-false (recordWords * k) (length rs) e))
 
-pub shape-legal : (m levels len : ℕ) → shapeOk m levels len ≡ true → legal m levels ≡ true
-shape-legal m levels len e =
-    let sh = shape-is m levels len e in
-    is-shape m levels (width * slotLimit) (record { order = sh .order; some = sh .some; capacity = sh .capacity; slice = omega (arith, sh .capacity) })
-
-module _ (m levels : ℕ) (t : Bool) (tested : t ≡ legal m levels) where
-  pub legal-few : not t ≡ false → (1 ≤ levels) × (levels - 1 ≤ recordCount)
-  legal-few e = shape-few m levels (width * slotLimit) (sym tested ∙ not-false t e)
-
-module _ (m levels : ℕ) (rs mark : List ℕ) where
-  pub roomy-bare : length mark < 1 → false ≡ roomy m levels rs mark
-  unfolding roomy
-  roomy-bare h = rw (lt-leb 1 (length mark) h)
-
-  module _ (h : 1 ≤ length mark) (t : Bool) (tested : t ≡ legal m levels) where
-    pub roomy-any : not t ≡ true → true ≡ roomy m levels rs mark
-    unfolding roomy
-    roomy-any e = rw (le-leb 1 (length mark) h, ← tested, not-true t e)
-
-    pub roomy-words : not t ≡ false → leb (recordWords * (levels - 1)) (length rs) ≡ roomy m levels rs mark
-    unfolding roomy
-    roomy-words e = rw (le-leb 1 (length mark) h, ← tested, not-false t e)
-
+module _ (k : ℕ) (rs mark : List ℕ) where
   -- ---- what a passed test says
-  module _ (e : roomy m levels rs mark ≡ true) where
-    pub roomy-mark : 1 ≤ length mark
-    unfolding roomy
-    roomy-mark = leb-true 1 (length mark) (and-left (leb 1 (length mark)) (not (legal m levels) || leb (recordWords * (levels - 1)) (length rs)) e)
+  pub roomy-mark : roomy k rs mark ≡ true → 1 ≤ length mark
+  unfolding roomy
+  roomy-mark e = leb-true 1 (length mark) (and-left (leb 1 (length mark)) (leb (recordWords * k) (length rs)) e)
 
-    pub roomy-records : legal m levels ≡ true → recordWords * (levels - 1) ≤ length rs
-    unfolding roomy
-    roomy-records l =
-        leb-true (recordWords * (levels - 1)) (length rs)
-        (rw l at (and-right (leb 1 (length mark)) (not (legal m levels) || leb (recordWords * (levels - 1)) (length rs)) e))
+  pub roomy-words : roomy k rs mark ≡ true → recordWords * k ≤ length rs
+  unfolding roomy
+  roomy-words e = leb-true (recordWords * k) (length rs) (and-right (leb 1 (length mark)) (leb (recordWords * k) (length rs)) e)
 
-    pub lent : (len : ℕ) → shapeOk m levels len ≡ true → Lent (levels - 1) rs mark
-    lent len s =
-        record { few = shape-few m levels len s .1; words = roomy-records (shape-legal m levels len s); marked = roomy-mark }
-
-  pub readable-roomy : readable m levels rs mark ≡ true → roomy m levels rs mark ≡ true
+  pub readable-roomy : readable k rs mark ≡ true → roomy k rs mark ≡ true
   unfolding readable
-  readable-roomy e = and-left (roomy m levels rs mark) (leb (getD mark 0 0) 1 && (not (legal m levels) || kindsOk (levels - 1) rs)) e
+  readable-roomy e = and-left (roomy k rs mark) (leb (getD mark 0 0) 1 && kindsOk k rs) e
 
-  module _ (b : Bool) (had : b ≡ roomy m levels rs mark) where
-    pub unreadable : not b ≡ true → false ≡ readable m levels rs mark
+  pub lent : k ≤ recordCount → roomy k rs mark ≡ true → Lent k rs mark
+  lent few e = record { few = few; words = roomy-words e; marked = roomy-mark e }
+
+  module _ (b : Bool) (had : b ≡ roomy k rs mark) where
+    pub unreadable : not b ≡ true → false ≡ readable k rs mark
     unfolding readable
     unreadable e = rw (← had, not-true b e)
 
     module _ (e : not b ≡ false) where
-      pub is-roomy : roomy m levels rs mark ≡ true
+      pub is-roomy : roomy k rs mark ≡ true
       is-roomy = sym had ∙ not-false b e
 
-      pub unmarked : 1 < getD mark 0 0 → false ≡ readable m levels rs mark
+      pub readable-is : (r : Bool) → r ≡ kindsOk k rs → (leb (getD mark 0 0) 1 && r) ≡ readable k rs mark
       unfolding readable
-      unmarked h = rw (is-roomy, lt-leb (getD mark 0 0) 1 h)
-
-      module _ (h : getD mark 0 0 ≤ 1) (t : Bool) (tested : t ≡ legal m levels) where
-        pub readable-any : not t ≡ true → true ≡ readable m levels rs mark
-        unfolding readable
-        readable-any f = rw (is-roomy, le-leb (getD mark 0 0) 1 h, ← tested, not-true t f)
-
-        pub readable-kinds : (r : Bool) → not t ≡ false → r ≡ kindsOk (levels - 1) rs → r ≡ readable m levels rs mark
-        unfolding readable
-        readable-kinds r f p = rw (is-roomy, le-leb (getD mark 0 0) 1 h, ← tested, not-false t f) p
-
-        pub kinds-room : not t ≡ false → (levels - 1 ≤ recordCount) × (recordWords * (levels - 1) ≤ length rs)
-        kinds-room f = (legal-few m levels t tested f .1, roomy-records is-roomy (sym tested ∙ not-false t f))
+      readable-is r p = rw is-roomy (ap (λ (r : Bool). leb (getD mark 0 0) 1 && r) p)
 
 -- ---- handing back
 pub back-stands : {A : Type 0} (ran : Bool) (x y : A) → not ran ≡ true → y ≡ cond ran x y

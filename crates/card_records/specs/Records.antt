@@ -1,7 +1,7 @@
 -- The pending records and the mark as words: "4 words for each level from 2: kind (0 nothing, 1 put, 2 take, 3 swap), node, rank, tag".
 -- Assumes nothing: these are definitions.
-use Prim.Native.Nat.{_*_, _+_, _-_, _<_, _≤_, suc, zero, ℕ}
-use mathlib.Core.Bool.{_&&_, _||_, Bool, cond, not, true}
+use Prim.Native.Nat.{_*_, _+_, _<_, _≤_, suc, zero, ℕ}
+use mathlib.Core.Bool.{_&&_, Bool, cond, true}
 use mathlib.Core.List.{List}
 use lib.Dec.{eqb, leb}
 use lib.ListN.{getD, length, replicate, set}
@@ -10,9 +10,7 @@ use Rattle.clocked_model.specs.Cycle.{Works}
 use Rattle.clocked_model.specs.declared.State.{State}
 use Rattle.strip.specs.Answers.{blank, element}
 use Rattle.strip.specs.declared.Element.{Element}
-use Rattle.tree_model.specs.Calls.{shapeOk, slotLimit}
 use Rattle.tree_model.specs.Levels.{idle}
-use Rattle.tree_model.specs.Words.{width}
 use Rattle.tree_model.specs.declared.Op.{Op}
 use Rattle.tree_model.specs.declared.Op.the-variants.{Nothing, Put, Swap, Take}
 use Rattle.tree_model.specs.declared.Work.{Work}
@@ -89,22 +87,18 @@ abbrev pub markWritten : State → List ℕ → List ℕ
 markWritten s mark = set mark 0 (cond (s .mark) 1 0)
 
 -- ---- what is handed in
--- some slice would do for this order and these levels
-abbrev pub legal : ℕ → ℕ → Bool
-legal m levels = shapeOk m levels (width * slotLimit)
-
 -- the kinds of the first k records are kinds
 unfoldable pub kindsOk : ℕ → List ℕ → Bool
 kindsOk zero rs = true
 kindsOk (suc k) rs = kindsOk k rs && leb (getD rs (recordWords * k) 0) 3
 
--- there is a word of mark, and there are words for all records; how many there are is known where order and levels are good
-unfoldable pub roomy : ℕ → ℕ → List ℕ → List ℕ → Bool
-roomy m levels rs mark = leb 1 (length mark) && (not (legal m levels) || leb (recordWords * (levels - 1)) (length rs))
+-- there is a word of mark, and there are words for k records
+unfoldable pub roomy : ℕ → List ℕ → List ℕ → Bool
+roomy k rs mark = leb 1 (length mark) && leb (recordWords * k) (length rs)
 
 -- .. and they hold a mark and kinds
-unfoldable pub readable : ℕ → ℕ → List ℕ → List ℕ → Bool
-readable m levels rs mark = roomy m levels rs mark && (leb (getD mark 0 0) 1 && (not (legal m levels) || kindsOk (levels - 1) rs))
+unfoldable pub readable : ℕ → List ℕ → List ℕ → Bool
+readable k rs mark = roomy k rs mark && (leb (getD mark 0 0) 1 && kindsOk k rs)
 
 -- k records and a mark lie within these words
 pub record Lent (k : ℕ) (rs mark : List ℕ) : Type 0 where

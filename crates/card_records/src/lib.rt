@@ -8,7 +8,6 @@ ghost use Rattle.clocked_model.specs.Calls.{recordCount};
 ghost use Rattle.clocked_model.specs.Records.{worksOf};
 ghost use Rattle.card_records.specs.Records.{recordWords, workOf, workRead, worksRead, stateRead, kindOf, carried, nodeWord, workWritten, worksWritten, markWritten, kindsOk, roomy, readable, wordLimit, Fit, Lent};
 use clocked_model::State;
-use node::shape_ok;
 use strip::Element;
 use strip::Rank;
 use strip::Tag;
@@ -181,7 +180,7 @@ pub fn hand_back(records: &mut [u32], mark: &mut [u32], count: usize, state: Sta
 // ---- what is handed in
 
 fn kinds_ok(records: &[u32], count: usize) -> bool
-    requires { ⌜ (count ≤ recordCount) × (recordWords * count ≤ length (now records)) ⌝ }
+    requires { ⌜ recordWords * count ≤ length (now records) ⌝ }
     ensures { λ r. ⌜ r ≡ kindsOk count (now (records .entry)) ⌝ }
 {
     let mut ok = true;
@@ -193,31 +192,20 @@ fn kinds_ok(records: &[u32], count: usize) -> bool
     ok
 }
 
-// Whether the mark has a word, and the records four for each level from 2. How many levels there are is known where order and levels are good.
-pub fn is_roomy(order: usize, levels: usize, records: &[u32], mark: &[u32]) -> bool
-    ensures { λ r. ⌜ r ≡ roomy order levels (now (records .entry)) (now (mark .entry)) ⌝ }
+// Whether the mark has a word, and each of so many records four.
+pub fn is_roomy(records: &[u32], mark: &[u32], count: usize) -> bool
+    ensures { λ r. ⌜ r ≡ roomy count (now (records .entry)) (now (mark .entry)) ⌝ }
 {
-    if mark.len() < 1 {
-        return false;
-    }
-    if !shape_ok(order, levels, 16380) {
-        return true;
-    }
-    4 * (levels - 1) <= records.len()
+    (1 <= mark.len()) & (count <= records.len() / 4)
 }
 
 // .. and whether they hold a mark and kinds.
-pub fn is_readable(order: usize, levels: usize, records: &[u32], mark: &[u32]) -> bool
-    ensures { λ r. ⌜ r ≡ readable order levels (now (records .entry)) (now (mark .entry)) ⌝ }
+pub fn is_readable(records: &[u32], mark: &[u32], count: usize) -> bool
+    ensures { λ r. ⌜ r ≡ readable count (now (records .entry)) (now (mark .entry)) ⌝ }
 {
-    if !is_roomy(order, levels, records, mark) {
+    if !is_roomy(records, mark, count) {
         return false;
     }
-    if mark[0] > 1 {
-        return false;
-    }
-    if !shape_ok(order, levels, 16380) {
-        return true;
-    }
-    kinds_ok(records, levels - 1)
+    let kinds = kinds_ok(records, count);
+    (mark[0] <= 1) & kinds
 }

@@ -1,97 +1,124 @@
-// Plays a trace from standard input to standard output: the work is `trace`'s, in pieces of 4,096 records, whatever the input's length.
-use clocked_model::State;
-use trace::Header;
+// Plays a trace from standard input to standard output, in pieces of 4,096 records, whatever the input's length. The work is `trace`'s,
+// with every choice in it; here it is read and written. Where a read or a write fails nothing more is read, and standard error says so.
+ghost use Prim.Native.Nat.{_≤_};
+ghost use mathlib.Core.Path.{_≡_};
+ghost use lib.Dec.{ltb};
+ghost use lib.ListN.{length};
+ghost use Rattle.io.specs.Counts.{Counts};
+ghost use Rattle.trace.specs.Play.{Makes, outBytes, pieceBytes, pieceRun, programRecords};
+use trace::Piece;
+use trace::Playing;
 
-// What a piece leaves for the next, and whether it was the last.
-struct Next {
-    state: State,
-    number: u64,
-    last: bool,
+// A store for every shape that the program takes.
+const STORE: usize = 12282;
+
+// The header's bytes.
+const HEAD: usize = 7;
+
+// The bytes of 4,096 records, and room for a line of each and one more.
+const BYTES: usize = 36864;
+
+const OUT: usize = 294984;
+
+// How many bytes were read, and whether no read failed.
+struct Filled {
+    bytes: usize,
+    good: bool,
 }
 
-// Writes the first bytes of the buffer.
-fn write_first(out: &[u8], n: usize) {
-    if n <= out.len() {
-        io::write_all(1, &out[..n]);
+// Reads until the buffer is full, the input ends or a read fails.
+fn fill(buf: &mut [u8]) -> Filled
+    ensures { λ r. ⌜ Counts (r .bytes) (now (buf .exit)) ⌝ }
+{
+    let mut bytes = 0;
+    while bytes < buf.len() {
+        let got = libc::read(0, &mut buf[bytes..]);
+        let n = io::count(got, &buf[bytes..]);
+        if n == 0 {
+            return Filled {
+                bytes,
+                good: got == 0,
+            };
+        }
+        bytes += n;
     }
+    Filled { bytes, good: true }
 }
 
-fn ended(state: State, number: u64) -> Next {
-    Next {
+// Writes the first bytes of the buffer, and answers whether that was done.
+fn write_first(out: &[u8], n: usize) -> bool {
+    if out.len() < n {
+        return false;
+    }
+    io::write_all(1, &out[..n])
+}
+
+// The play, ended where a read or a write failed.
+fn stopped(play: Playing, why: &[u8]) -> Playing {
+    io::write_all(2, why);
+    let state = play.state;
+    Playing {
+        order: play.order,
+        levels: play.levels,
         state,
-        number,
-        last: true,
+        number: play.number,
+        live: false,
     }
 }
 
-// Reads a piece, plays it, and writes its lines. A piece that is not full is the last: a bad or cut record ends it, else the drain does.
-fn piece(
-    store: &mut [u32],
-    order: usize,
-    levels: usize,
-    state: State,
-    number: u64,
-    bytes: &mut [u8],
-    out: &mut [u8],
-) -> Next {
-    let n = io::read_full(0, bytes);
-    let full = n == bytes.len();
-    let p = trace::play(store, order, levels, state, number, &bytes[..n], out);
-    let next = p.state;
-    write_first(out, p.written);
-    if p.bad | (n % 9 != 0) {
-        let end = trace::put_bad(out, std::num::wrapping_add_u64(p.number, 1));
-        write_first(out, end);
-        return ended(next, p.number);
+// Plays what was read. A piece that is not full is the last, and the buffer has room for all its lines.
+fn play_read(store: &mut [u32], play: Playing, bytes: &[u8], out: &mut [u8]) -> Piece
+    requires { ⌜ (length (now bytes) ≤ pieceBytes programRecords) × (length (now out) ≡ outBytes programRecords) ⌝ }
+    ensures { λ r. ⌜ Makes (pieceRun (now (bytes .entry)) (ltb (length (now (bytes .entry))) (pieceBytes programRecords)) play (now (store .entry))) 0 (now (out .entry)) r (now (store .exit)) (now (out .exit)) ⌝ }
+{
+    trace::play(store, play, bytes, bytes.len() < BYTES, out)
+}
+
+// Reads a piece, plays it and writes its lines.
+fn piece(store: &mut [u32], play: Playing, bytes: &mut [u8], out: &mut [u8]) -> Playing
+    requires { ⌜ (length (now bytes) ≡ pieceBytes programRecords) × (length (now out) ≡ outBytes programRecords) ⌝ }
+{
+    let read = fill(bytes);
+    if !read.good {
+        return stopped(play, b"play: a read failed\n");
     }
-    if !full {
-        let end = trace::finish(store, order, levels, next, out);
-        write_first(out, end);
-        return ended(next, p.number);
+    let n = read.bytes;
+    let done = play_read(store, play, &bytes[..n], out);
+    let next = done.play;
+    if !write_first(out, done.written) {
+        return stopped(next, b"play: a write failed\n");
     }
-    Next {
-        state: next,
-        number: p.number,
-        last: false,
+    next
+}
+
+// Reads the header, begins the play and writes what it says.
+fn begin(store: &mut [u32], out: &mut [u8]) -> Playing {
+    let mut head = [0u8; HEAD];
+    let read = fill(&mut head);
+    let n = read.bytes;
+    let done = trace::begin(store, &head[..n], out);
+    let play = done.play;
+    if !read.good {
+        return stopped(play, b"play: a read failed\n");
     }
+    if !write_first(out, done.written) {
+        return stopped(play, b"play: a write failed\n");
+    }
+    play
 }
 
 // What bounds the loop is a number of pieces that no input reaches.
-fn run(order: usize, levels: usize) {
-    let mut store = [0u32; 12282];
-    let mut bytes = [0u8; 36864];
-    let mut out = [0u8; 294912];
-    let cleared = clocked::clear(&mut store, order, levels);
-    let mut state = cleared.state;
-    let mut number: u64 = 0;
+fn main() {
+    let mut store = [0u32; STORE];
+    let mut bytes = [0u8; BYTES];
+    let mut out = [0u8; OUT];
+    let mut play = begin(&mut store, &mut out);
     let mut left: u64 = 18446744073709551615;
     while left > 0 {
-        let p = piece(
-            &mut store,
-            order,
-            levels,
-            state,
-            number,
-            &mut bytes,
-            &mut out,
-        );
-        if p.last {
+        if !play.live {
             return;
         }
-        state = p.state;
-        number = p.number;
+        play = piece(&mut store, play, &mut bytes, &mut out);
         left -= 1;
-    }
-}
-
-fn main() {
-    let mut head = [0u8; 7];
-    let n = io::read_full(0, &mut head);
-    let header = trace::read_header(&head[..n]);
-    match header {
-        Header::Wrong => {
-            io::write_all(1, b"bad trace\n");
-        }
-        Header::Shape(order, levels) => run(order, levels),
     }
 }

@@ -22,6 +22,11 @@ pub overlay-one : (s : List ℕ) (i : ℕ) (xs : List ℕ) (x : ℕ) → overlay
 unfolding overlay
 overlay-one s i xs x = overlay-append s i xs (x ∷ [])
 
+pub overlay-length : (s : List ℕ) (i : ℕ) (t : List ℕ) → length (overlay s i t) ≡ length s
+unfolding overlay
+overlay-length s i [] = refl
+overlay-length s i (x ∷ t) = overlay-length (set s i x) (suc i) t ∙ length-set s i x
+
 pub decimal-short : (k n : ℕ) → length (decimalBy k n) ≤ k
 unfolding decimalBy
 decimal-short zero n = omega arith
@@ -74,6 +79,9 @@ bytes-next s r b i j h e =
 -- ---- texts laid one behind the other
 pub laid-same : (s : List ℕ) (i : ℕ) (t t′ r : List ℕ) (p : ℕ) → t ≡ t′ → Laid s i t r p → Laid s i t′ r p
 laid-same s i t t′ r p e l = subst (λ (t : List ℕ). Laid s i t r p) e l
+
+pub laid-to : (s : List ℕ) (i : ℕ) (t t′ r : List ℕ) (p q : ℕ) → t ≡ t′ → q ≡ p → Laid s i t r p → Laid s i t′ r q
+laid-to s i t t′ r p q e n l = subst (λ (t : List ℕ). Laid s i t r q) e (n ∙ l .0, l .1)
 
 pub laid-none : (s : List ℕ) (i : ℕ) (t : List ℕ) → t ≡ [] → Laid s i t s i
 unfolding overlay

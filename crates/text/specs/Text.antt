@@ -1,12 +1,20 @@
--- Text as lists of bytes: numbers in decimal, and a text laid into a buffer. Assumes nothing: these are definitions.
--- the bytes of a text laid over a buffer from a place on
+-- Text as lists of bytes: quoted texts, numbers in decimal, and a text laid into a buffer. Assumes nothing: these are definitions.
+use Prim.Native.Char.{code}
 use Prim.Native.Nat.{_%_, _*_, _+_, _-_, _/_, suc, zero, ℕ}
+use Prim.Native.String.{String}
+use Prim.Native.String as string
 use mathlib.Core.Bool.{cond}
 use mathlib.Core.List.{[], _++_, _∷_, List}
 use mathlib.Core.Path.{_≡_}
 use lib.Dec.{ltb}
 use lib.ListN.{length, set}
 
+-- the bytes of a quoted text
+abbrev pub bytesOf : String → List ℕ
+bytesOf string.[] = []
+bytesOf (string._∷_ c s) = code c ∷ bytesOf s
+
+-- the bytes of a text laid over a buffer from a place on
 unfoldable pub overlay : List ℕ → ℕ → List ℕ → List ℕ
 overlay s i [] = s
 overlay s i (x ∷ xs) = overlay (set s i x) (suc i) xs

@@ -16,7 +16,7 @@ use Rattle.strip.specs.declared.Request.{Request}
 use Rattle.strip.specs.declared.Request.the-variants.{Idle, Pop, Push, Replace}
 use Rattle.text.proofs.Laws.{decimal-short}
 use Rattle.text.specs.Text.{decimal}
-use Rattle.trace.specs.Format.{byteAt, doneWord, entryOf, headerOf, lineOf, longestLine, longestWord, markOk, onlyBlank, outWord, refusalWord, traceLimit, traceShape, wordOf}
+use Rattle.trace.specs.Format.{badLine, byteAt, doneWord, endLine, entryOf, headerOf, lineOf, longestLine, longestWord, markOk, onlyBlank, outWord, refusalWord, traceLimit, traceShape, wordOf}
 use Rattle.trace.specs.declared.Header.the-variants.{Shape, Wrong}
 use Rattle.trace.specs.declared.Record.{Record}
 use Rattle.trace.specs.declared.Record.the-variants.{Bad, Good}
@@ -45,6 +45,14 @@ word-short r (Refused Empty) = omega arith
 pub line-short : (n : ℕ) (r : Request) (a : Answer) → length (lineOf n r a) ≤ longestLine
 unfolding lineOf decimal
 line-short n r a = rw (length-append, length-append, length-append) (omega (arith, decimal-short 20 n, word-short r a))
+
+pub bad-short : (n : ℕ) → length (badLine n) ≤ longestLine
+unfolding badLine decimal
+bad-short n = rw (length-append, length-append) (omega (arith, decimal-short 20 n))
+
+pub end-short : (h d : ℕ) → length (endLine h d) ≤ longestLine
+unfolding endLine decimal
+end-short h d = rw (length-append, length-append, length-append, length-append) (omega (arith, decimal-short 20 h, decimal-short 20 d))
 
 -- ---- the header
 pub shape-off : (m levels : ℕ) (t : Bool) → t ≡ orderOk m → not t ≡ true → false ≡ traceShape m levels

@@ -1,20 +1,22 @@
--- A trace played in pieces is the trace played whole. Assumes nothing.
-use Prim.Native.Nat.{_*_, _+_, _<_, _≤_, suc, zero, ℕ}
-use native.Mathlib.Nat.{add-assoc, add-zero, suc-add, zero-add}
+-- Played in the program's pieces, a trace gives the text that the whole program is defined by. Assumes nothing.
+use Prim.Native.Nat.{_%_, _*_, _+_, _/_, _<_, _≤_, suc, zero, ℕ}
+use native.Mathlib.Nat.{add-assoc, add-zero, le-of-lt, zero-add}
 use native.Mathlib.Omega.{arith}
-use mathlib.Core.Bool.{Bool, cond, false, false≢true, true, true≢false}
-use mathlib.Core.List.{[], _++_, append-assoc, append-nil, List}
-use mathlib.Core.Path.{_∙_, _≡_, ap, ap₂, refl, subst, sym}
-use lib.ListN.{getD, length, List·getD-append}
-use lib.Seq.{getD-append-add}
-use Rattle.clocked_model.specs.Calls.{CycleOutcome, ticked}
-use Rattle.clocked_model.specs.declared.State.{State}
+use mathlib.Core.Bool.{_&&_, Bool, cond, false, not, true}
+use mathlib.Core.List.{[], _++_, _∷_, append-assoc, append-nil, List}
+use mathlib.Core.Path.{_∙_, _≡_, ap, ap₂, refl, sym}
+use lib.Dec.{eqb, leb, ltb}
+use lib.ListN.{drop, getD, length, length-append, length-drop, List·getD-append, take, take-append-drop}
+use lib.Seq.{getD-append-add, getD-take, length-take-le, take-all}
+use borrow.Author.Tests.{le-leb, leb-false, leb-true, lt-ltb, ltb-false, ltb-true}
 use Rattle.strip.specs.Answers.{element}
-use Rattle.strip.specs.declared.Request.{Request}
-use Rattle.trace.proofs.Run.{kept}
-use Rattle.trace.specs.Format.{entryAt, entryOf, lineOf, numberAt}
-use Rattle.trace.specs.Play.{begun, cycleTurn, nextNumber, ranTo, Run, Turn, turnBy, turnOf}
-use Rattle.trace.specs.declared.Played.{Played}
+use Rattle.trace.proofs.Runs.{after-after, after-stands, closing-ended, played-append, played-ended, stands-after}
+use Rattle.trace.specs.Format.{cutRecord, entryAt, entryOf, headerBytes, headerOf, longestLine, markOk, numberAt, recordBytes, recordsFrom, recordsOf, traceShape}
+use Rattle.trace.specs.Play.{after, begun, closing, ending, inPieces, opening, outBytes, pieceBytes, pieceOf, pieceRun, piecesText, played, run, Run, shut, stands, Step, turn, whileLive}
+use Rattle.trace.specs.Program.{emptyStore, endOf, textFrom, textOf, traceText}
+use Rattle.trace.specs.declared.Header.{Header}
+use Rattle.trace.specs.declared.Header.the-variants.{Shape, Wrong}
+use Rattle.trace.specs.declared.Playing.{Playing}
 use Rattle.trace.specs.declared.Record.{Record}
 use Rattle.trace.specs.declared.Record.the-variants.{Bad, Good}
 
@@ -42,121 +44,218 @@ module _ (a b : List ℕ) where
   entry-second : (i : ℕ) → entryAt (a ++ b) (length a + i) ≡ entryAt b i
   entry-second i = entry-ext (a ++ b) b (length a + i) i (λ d l. ap (λ (k : ℕ). getD (a ++ b) k 0) (add-assoc (length a) i d) ∙ getD-append-add a b (i + d) 0)
 
--- ---- a turn of a whole trace and of its piece
--- the same but for where each stands in its bytes and its text
-pub record Same (from before : ℕ) (p q : Played) : Type 0 where
-  pub state : p .state ≡ q .state
-  pub number : p .number ≡ q .number
-  pub bad : p .bad ≡ q .bad
-  pub read : p .read ≡ from + q .read
-  pub written : p .written ≡ before + q .written
+  records-first : (k i : ℕ) → i + 9 * k ≤ length a → recordsFrom k i (a ++ b) ≡ recordsFrom k i a
+  unfolding recordsFrom
+  records-first zero i h = refl
+  records-first (suc k) i h = ap₂ (λ (e : Record) (es : List Record). e ∷ es) (entry-first i (omega arith)) (records-first k (i + recordBytes) (omega arith))
 
-record Alike (from before : ℕ) (t u : Turn) : Type 0 where
-  words : t .words ≡ u .words
-  line : t .line ≡ u .line
-  run : Same from before (t .run) (u .run)
+  records-second : (k i : ℕ) → recordsFrom k (length a + i) (a ++ b) ≡ recordsFrom k i b
+  unfolding recordsFrom
+  records-second zero i = refl
+  records-second (suc k) i =
+      ap₂ (λ (e : Record) (es : List Record). e ∷ es) (entry-second i)
+      (ap (λ (j : ℕ). recordsFrom k j (a ++ b)) (add-assoc (length a) i recordBytes) ∙ records-second k (i + recordBytes))
 
-module _ (m levels from before : ℕ) where
-  cycle-alike : (r : Request) (p q : Played) (ws : List ℕ) → Same from before p q → Alike from before (cycleTurn m levels r p ws) (cycleTurn m levels r q ws)
-  unfolding cycleTurn
-  cycle-alike r p q ws s =
-      let o : ticked m levels r (p .state) ws ≡ ticked m levels r (q .state) ws = ap (λ (x : State). ticked m levels r x ws) (s .state) in
-      let n : nextNumber (p .number) ≡ nextNumber (q .number) = ap nextNumber (s .number) in
-      let l : lineOf (nextNumber (p .number)) r (ticked m levels r (p .state) ws .answer) ≡ lineOf (nextNumber (q .number)) r (ticked m levels r (q .state) ws .answer) =
-      ap₂ (λ (n : ℕ) (o : CycleOutcome). lineOf n r (o .answer)) n o in
-      record {
-        words = ap (λ (o : CycleOutcome). o .words) o;
-        line = l;
-        run = record {
-          state = ap (λ (o : CycleOutcome). o .state) o;
-          number = n;
-          bad = refl;
-          read = omega (arith, s .read);
-          written = omega (arith, s .written, ap length l);
-        };
-      }
+records-more : (k j i : ℕ) (bs : List ℕ) → recordsFrom (k + j) i bs ≡ recordsFrom k i bs ++ recordsFrom j (i + 9 * k) bs
+unfolding recordsFrom
+records-more zero j i bs =
+    let e : i + 9 * 0 ≡ i = omega arith in
+    ap (λ (k : ℕ). recordsFrom k i bs) (zero-add j) ∙ ap (λ (i : ℕ). recordsFrom j i bs) (sym e)
+records-more (suc k) j i bs =
+    let s : suc k + j ≡ suc (k + j) = omega arith in
+    let e : i + recordBytes + 9 * k ≡ i + 9 * suc k = omega arith in
+    ap (λ (n : ℕ). recordsFrom n i bs) s
+    ∙ ap (λ (es : List Record). entryAt bs i ∷ es) (records-more k j (i + recordBytes) bs ∙ ap (λ (n : ℕ). recordsFrom k (i + recordBytes) bs ++ recordsFrom j n bs) e)
 
-  by-alike : (x : Record) (p q : Played) (ws : List ℕ) → Same from before p q → Alike from before (turnBy m levels x p ws) (turnBy m levels x q ws)
-  unfolding turnBy
-  by-alike Bad p q ws s =
-      record { words = refl; line = refl; run = record { state = s .state; number = s .number; bad = refl; read = s .read; written = s .written } }
-  by-alike (Good r) p q ws s = cycle-alike r p q ws s
+-- the records of whole records and what comes behind them
+module _ (a b : List ℕ) (k : ℕ) (whole : length a ≡ 9 * k) where
+  records-whole : recordsOf a ≡ recordsFrom k 0 a
+  unfolding recordsOf cutRecord
+  records-whole =
+      let q : length a / 9 ≡ k = omega arith in
+      let r : length a % 9 ≡ 0 = omega arith in
+      rw (q, r) (append-nil (recordsFrom k 0 a))
 
-  turn-alike : (bs cs : List ℕ) (p q : Played) (ws : List ℕ) → Same from before p q → entryAt bs (p .read) ≡ entryAt cs (q .read)
-      → Alike from before (turnOf m levels bs p ws) (turnOf m levels cs q ws)
-  unfolding turnOf
-  turn-alike bs cs p q ws s e = go (p .bad) (q .bad) (s .bad)
+  records-append : recordsOf (a ++ b) ≡ recordsOf a ++ recordsOf b
+  unfolding recordsOf
+  records-append =
+      let long : length (a ++ b) ≡ 9 * k + length b = length-append a b ∙ ap (λ (n : ℕ). n + length b) whole in
+      let q : length (a ++ b) / 9 ≡ k + length b / 9 = omega arith in
+      let r : length (a ++ b) % 9 ≡ length b % 9 = omega arith in
+      let from : 0 + 9 * k ≡ length a + 0 = omega arith in
+      let c : List Record = cutRecord (not (eqb (length b % 9) 0)) in
+      ap₂ (λ (n m : ℕ). recordsFrom n 0 (a ++ b) ++ cutRecord (not (eqb m 0))) q r
+      ∙ ap (λ (es : List Record). es ++ c)
+      (records-more k (length b / 9) 0 (a ++ b)
+      ∙ ap₂ (λ (es fs : List Record). es ++ fs) (records-first a b k 0 (omega arith)) (ap (λ (i : ℕ). recordsFrom (length b / 9) i (a ++ b)) from ∙ records-second a b (length b / 9) 0))
+      ∙ append-assoc (recordsFrom k 0 a) (recordsFrom (length b / 9) 0 b) c
+      ∙ ap (λ (es : List Record). es ++ recordsOf b) (sym records-whole)
+
+-- ---- steps
+after-same : (u : Run) (f g : Step) → f (u .play) (u .words) ≡ g (u .play) (u .words) → after u f ≡ after u g
+unfolding after
+after-same u f g e = ap (λ (v : Run). run (v .words) (v .play) (u .text ++ v .text)) e
+
+ended-after : (u : Run) (f : Step) → u .play .live ≡ false → after u (whileLive f) ≡ u
+unfolding whileLive
+ended-after u f e =
+    after-same u (whileLive f) stands (ap (λ (b : Bool). cond b (f (u .play) (u .words)) (stands (u .play) (u .words))) e) ∙ after-stands u
+
+live-same : (f g : Step) (p : Playing) (ws : List ℕ) → f p ws ≡ g p ws → whileLive f p ws ≡ whileLive g p ws
+unfolding whileLive
+live-same f g p ws e = ap (λ (u : Run). cond (p .live) u (stands p ws)) e
+
+-- a piece that is the last ends the play
+last-ends : (bs : List ℕ) (p : Playing) (ws : List ℕ) → pieceRun bs true p ws .play .live ≡ false
+unfolding pieceRun after closing whileLive ending
+last-ends bs p ws = let u : Run = played (recordsOf bs) p ws in closing-ends (u .play) (u .words)
+  where
+    closing-ends : (p : Playing) (ws : List ℕ) → closing true p ws .play .live ≡ false
+    closing-ends p ws = go (p .live) refl
+      where
+        go : (b : Bool) → p .live ≡ b → cond b (ending p ws) (stands p ws) .play .live ≡ false
+        go true e = refl
+        go false e = e
+
+-- an ended play is not gone on with
+piece-ended : (bs : List ℕ) (last : Bool) (p : Playing) (ws : List ℕ) → p .live ≡ false → pieceRun bs last p ws ≡ stands p ws
+unfolding pieceRun
+piece-ended bs last p ws e =
+    ap (λ (u : Run). after u (closing last)) (played-ended (recordsOf bs) p ws e) ∙ stands-after p ws (closing last) ∙ closing-ended last p ws e
+
+live-piece : (bs : List ℕ) (last : Bool) (p : Playing) (ws : List ℕ) → whileLive (pieceRun bs last) p ws ≡ pieceRun bs last p ws
+unfolding whileLive
+live-piece bs last p ws = go (p .live) refl
+  where
+    go : (b : Bool) → p .live ≡ b → cond b (pieceRun bs last p ws) (stands p ws) ≡ pieceRun bs last p ws
+    go true e = refl
+    go false e = sym (piece-ended bs last p ws e)
+
+-- TWO PIECES: whole records, and what comes behind them
+pub two-pieces : (a b : List ℕ) (k : ℕ) → length a ≡ 9 * k → (last : Bool) (p : Playing) (ws : List ℕ)
+    → pieceRun (a ++ b) last p ws ≡ after (pieceRun a false p ws) (pieceRun b last)
+unfolding pieceRun closing
+two-pieces a b k whole last p ws =
+    ap (λ (es : List Record). after (played es p ws) (closing last)) (records-append a b k whole)
+    ∙ ap (λ (u : Run). after u (closing last)) (played-append (recordsOf a) (recordsOf b) p ws)
+    ∙ after-after (played (recordsOf a) p ws) (played (recordsOf b)) (closing last)
+    ∙ ap (λ (u : Run). after u (pieceRun b last)) (sym (after-stands (played (recordsOf a) p ws)))
+
+-- ---- in pieces of r records
+module _ (r : ℕ) (some : 0 < r) where
+  -- ROOM: the buffer has room for every piece
+  pub room-enough : (bs : List ℕ) (last : Bool) (p : Playing) (ws : List ℕ) → length bs ≤ pieceBytes r → pieceOf bs last (outBytes r) p ws ≡ pieceRun bs last p ws
+  unfolding pieceOf
+  room-enough bs last p ws h =
+      let few : length bs / recordBytes < outBytes r / longestLine = omega arith in
+      ap (λ (b : Bool). cond b (pieceRun bs last p ws) (stands p ws)) (lt-ltb (length bs / recordBytes) (outBytes r / longestLine) few)
+
+  pieces-run : (k : ℕ) (bs : List ℕ) (p : Playing) (ws : List ℕ) → length bs < k → inPieces r k bs p ws ≡ pieceRun bs true p ws
+  unfolding inPieces
+  pieces-run zero bs p ws h = absurd (omega arith)
+  pieces-run (suc k) bs p ws h = go (ltb (length bs) (pieceBytes r)) refl (pieces-run k (drop (pieceBytes r) bs))
     where
-      at-entry : Alike from before (turnBy m levels (entryAt bs (p .read)) p ws) (turnBy m levels (entryAt cs (q .read)) q ws)
-      at-entry = subst (λ (x : Record). Alike from before (turnBy m levels (entryAt bs (p .read)) p ws) (turnBy m levels x q ws)) e (by-alike (entryAt bs (p .read)) p q ws s)
+      a : List ℕ
+      a = take (pieceBytes r) bs
 
-      go : (x y : Bool) → x ≡ y
-          → Alike from before (cond x (record { words = ws; run = p; line = [] }) (turnBy m levels (entryAt bs (p .read)) p ws))
-          (cond y (record { words = ws; run = q; line = [] }) (turnBy m levels (entryAt cs (q .read)) q ws))
-      go true true e = record { words = refl; line = refl; run = s }
-      go true false e = absurd (true≢false e)
-      go false true e = absurd (false≢true e)
-      go false false e = at-entry
+      b : List ℕ
+      b = drop (pieceBytes r) bs
 
--- ---- records of the first piece
-module _ (m levels : ℕ) (a b : List ℕ) (s : State) (n : ℕ) (ws : List ℕ) where
-  first-same : (k : ℕ) → 9 * k ≤ length a → ranTo m levels (a ++ b) k (begun s n ws) ≡ ranTo m levels a k (begun s n ws)
-  unfolding ranTo turnOf
-  first-same zero h = refl
-  first-same (suc k) h =
-      let v : Run = ranTo m levels a k (begun s n ws) in
-      let e : entryAt (a ++ b) (v .run .read) ≡ entryAt a (v .run .read) = entry-first a b (v .run .read) (omega (arith, kept m levels a k s n ws .read)) in
-      ap (λ (v : Run). let t = turnOf m levels (a ++ b) (v .run) (v .words) in record { words = t .words; run = t .run; text = v .text ++ t .line }) (first-same k (omega arith))
-      ∙ ap (λ (x : Record). let t = cond {A = Turn} (v .run .bad) (record { words = v .words; run = v .run; line = [] }) (turnBy m levels x (v .run) (v .words)) in record { words = t .words; run = t .run; text = v .text ++ t .line }) e
+      go : (t : Bool) → ltb (length bs) (pieceBytes r) ≡ t → ((q : Playing) (vs : List ℕ) → length b < k → inPieces r k b q vs ≡ pieceRun b true q vs)
+          → after (pieceOf a t (outBytes r) p ws) (whileLive (inPieces r k b)) ≡ pieceRun bs true p ws
+      go true e ih =
+          let short : length bs < pieceBytes r = ltb-true (length bs) (pieceBytes r) e in
+          let all : a ≡ bs = take-all (pieceBytes r) bs (omega arith) in
+          ap (λ (a : List ℕ). after (pieceOf a true (outBytes r) p ws) (whileLive (inPieces r k b))) all
+          ∙ ap (λ (u : Run). after u (whileLive (inPieces r k b))) (room-enough bs true p ws (omega arith))
+          ∙ ended-after (pieceRun bs true p ws) (inPieces r k b) (last-ends bs p ws)
+      go false e ih =
+          let full : pieceBytes r ≤ length bs = ltb-false (length bs) (pieceBytes r) e in
+          let whole : length a ≡ pieceBytes r = length-take-le (pieceBytes r) bs full in
+          let u : Run = pieceRun a false p ws in
+          ap (λ (u : Run). after u (whileLive (inPieces r k b))) (room-enough a false p ws (omega arith))
+          ∙ after-same u (whileLive (inPieces r k b)) (pieceRun b true)
+          (live-same (inPieces r k b) (pieceRun b true) (u .play) (u .words) (ih (u .play) (u .words) (omega (arith, length-drop (pieceBytes r) bs)))
+          ∙ live-piece b true (u .play) (u .words))
+          ∙ sym (two-pieces a b r (omega arith) true p ws)
+          ∙ ap (λ (bs : List ℕ). pieceRun bs true p ws) (take-append-drop (pieceBytes r) bs)
 
--- a run that met no bad record stands behind the last one
-module _ (m levels : ℕ) (bs : List ℕ) where
-  turn-good : (p : Played) (ws : List ℕ) → turnOf m levels bs p ws .run .bad ≡ false → (p .bad ≡ false) × (turnOf m levels bs p ws .run .read ≡ p .read + 9)
-  unfolding turnOf turnBy cycleTurn
-  turn-good p ws h = go (p .bad) refl (entryAt bs (p .read)) h
-    where
-      go : (x : Bool) → p .bad ≡ x → (y : Record) → cond x (record { words = ws; run = p; line = [] }) (turnBy m levels y p ws) .run .bad ≡ false
-          → (x ≡ false) × (cond x (record { words = ws; run = p; line = [] }) (turnBy m levels y p ws) .run .read ≡ p .read + 9)
-      go true e y h = absurd (true≢false (sym e ∙ h))
-      go false e Bad h = absurd (true≢false h)
-      go false e (Good r) h = (refl, refl)
+-- ---- the whole text
+after-text : (u : Run) (f : Step) → after u f .text ≡ u .text ++ f (u .play) (u .words) .text
+unfolding after
+after-text u f = refl
 
-  good-read : (k : ℕ) (s : State) (n : ℕ) (ws : List ℕ) → ranTo m levels bs k (begun s n ws) .run .bad ≡ false → ranTo m levels bs k (begun s n ws) .run .read ≡ 9 * k
-  unfolding ranTo
-  good-read zero s n ws h = omega arith
-  good-read (suc k) s n ws h =
-      let v : Run = ranTo m levels bs k (begun s n ws) in
-      let g = turn-good (v .run) (v .words) h in
-      omega (arith, g .1, good-read k s n ws (g .0))
+closing-text : (p : Playing) (ws : List ℕ) → p .live ≡ true → closing true p ws .text ≡ endOf (p .order) (p .levels) (p .state) ws
+unfolding closing whileLive ending
+closing-text p ws e = ap (λ (b : Bool). cond b (ending p ws) (stands p ws) .text) e
 
--- PIECES: the first piece has k whole records and no bad one; so many more are played as the second piece plays them, with state and number handed on
-module _ (m levels k : ℕ) (a b : List ℕ) (s : State) (n : ℕ) (ws : List ℕ) (whole : length a ≡ 9 * k) where
-  abbrev pub one : Run
-  one = ranTo m levels a k (begun s n ws)
+text-next : (x : Record) (es : List Record) (p : Playing) (ws : List ℕ) → p .live ≡ true
+    → after (played (x ∷ es) p ws) (closing true) .text ≡ turn x p ws .text ++ after (played es (turn x p ws .play) (turn x p ws .words)) (closing true) .text
+unfolding played whileLive
+text-next x es p ws e =
+    ap (λ (b : Bool). after (after (cond b (turn x p ws) (stands p ws)) (played es)) (closing true) .text) e
+    ∙ ap (λ (u : Run). u .text) (after-after (turn x p ws) (played es) (closing true))
+    ∙ after-text (turn x p ws) (λ q vs. after (played es q vs) (closing true))
 
-  abbrev pub two : ℕ → Run
-  two j = ranTo m levels b j (begun (one .run .state) (one .run .number) (one .words))
+text-from : (es : List Record) (p : Playing) (ws : List ℕ) → p .live ≡ true
+    → after (played es p ws) (closing true) .text ≡ textFrom (p .order) (p .levels) (p .number) (p .state) ws es
+unfolding played textFrom turn
+text-from [] p ws e = ap (λ (u : Run). u .text) (stands-after p ws (closing true)) ∙ closing-text p ws e
+text-from (Bad ∷ es) p ws e =
+    text-next Bad es p ws e
+    ∙ ap (λ (u : Run). turn Bad p ws .text ++ after u (closing true) .text) (played-ended es (turn Bad p ws .play) ws refl)
+    ∙ ap (λ (u : Run). turn Bad p ws .text ++ u .text) (stands-after (turn Bad p ws .play) ws (closing true) ∙ closing-ended true (turn Bad p ws .play) ws refl)
+    ∙ append-nil (turn Bad p ws .text)
+text-from (Good r ∷ es) p ws e =
+    text-next (Good r) es p ws e
+    ∙ ap (λ (t : List ℕ). turn (Good r) p ws .text ++ t) (text-from es (turn (Good r) p ws .play) (turn (Good r) p ws .words) refl)
 
-  -- a run u of the whole trace goes with a run v of the second piece
-  abbrev pub With : Run → Run → Type 0
-  With u v = (u .words ≡ v .words) × (u .text ≡ one .text ++ v .text) × Same (length a) (one .run .written) (u .run) (v .run)
+header-long : (bs : List ℕ) → headerBytes ≤ length bs → headerOf (take headerBytes bs) ≡ headerOf bs
+unfolding headerOf markOk
+header-long bs h =
+    let same : (i : ℕ) → i < headerBytes → getD (take headerBytes bs) i 0 ≡ getD bs i 0 = λ i l. getD-take headerBytes bs i 0 l in
+    let long : leb headerBytes (length (take headerBytes bs)) ≡ leb headerBytes (length bs) =
+    ap (leb headerBytes) (length-take-le headerBytes bs h) ∙ sym (le-leb headerBytes (length bs) h) in
+    let b0 = same 0 (omega arith) in
+    let b1 = same 1 (omega arith) in
+    let b2 = same 2 (omega arith) in
+    let b3 = same 3 (omega arith) in
+    let b4 = same 4 (omega arith) in
+    let b5 = same 5 (omega arith) in
+    let b6 = same 6 (omega arith) in
+    λ k. cond (long k && ((eqb (b0 k) 80 && (eqb (b1 k) 70 && (eqb (b2 k) 84 && (eqb (b3 k) 1 && eqb (b4 k) 0)))) && traceShape (b5 k) (b6 k))) (Shape (b5 k) (b6 k)) Wrong
 
-  with-next : (u v : Run) → With u v
-      → With (record { words = turnOf m levels (a ++ b) (u .run) (u .words) .words; run = turnOf m levels (a ++ b) (u .run) (u .words) .run; text = u .text ++ turnOf m levels (a ++ b) (u .run) (u .words) .line })
-      (record { words = turnOf m levels b (v .run) (v .words) .words; run = turnOf m levels b (v .run) (v .words) .run; text = v .text ++ turnOf m levels b (v .run) (v .words) .line })
-  with-next u v w =
-      let e : entryAt (a ++ b) (u .run .read) ≡ entryAt b (v .run .read) = ap (entryAt (a ++ b)) (w .2 .read) ∙ entry-second a b (v .run .read) in
-      let t = turn-alike m levels (length a) (one .run .written) (a ++ b) b (u .run) (v .run) (u .words) (w .2) e in
-      let x : turnOf m levels b (v .run) (u .words) ≡ turnOf m levels b (v .run) (v .words) = ap (turnOf m levels b (v .run)) (w .0) in (
-        t .words ∙ ap (λ (t : Turn). t .words) x,
-        ap₂ (λ (x y : List ℕ). x ++ y) (w .1) (t .line ∙ ap (λ (t : Turn). t .line) x) ∙ append-assoc (one .text) (v .text) (turnOf m levels b (v .run) (v .words) .line),
-        subst (λ (q : Played). Same (length a) (one .run .written) (turnOf m levels (a ++ b) (u .run) (u .words) .run) q) (ap (λ (t : Turn). t .run) x) (t .run),
-      )
+-- the header's bytes are enough for the header
+header-first : (bs : List ℕ) → headerOf (take headerBytes bs) ≡ headerOf bs
+header-first bs = go (leb headerBytes (length bs)) refl
+  where
+    go : (b : Bool) → leb headerBytes (length bs) ≡ b → headerOf (take headerBytes bs) ≡ headerOf bs
+    go true e = header-long bs (leb-true headerBytes (length bs) e)
+    go false e = ap headerOf (take-all headerBytes bs (le-of-lt (leb-false headerBytes (length bs) e)))
 
-  with-start : one .run .bad ≡ false → With one (begun (one .run .state) (one .run .number) (one .words))
-  with-start good = (refl, sym (append-nil (one .text)), record { state = refl; number = refl; bad = good; read = omega (arith, good-read m levels a k s n ws good); written = omega arith })
+whole-text : (bs : List ℕ) (p : Playing) (ws : List ℕ) → p .live ≡ true → pieceRun bs true p ws .text ≡ textFrom (p .order) (p .levels) (p .number) (p .state) ws (recordsOf bs)
+unfolding pieceRun
+whole-text bs p ws e = text-from (recordsOf bs) p ws e
 
-  pub pieces : one .run .bad ≡ false → (j : ℕ) → With (ranTo m levels (a ++ b) (j + k) (begun s n ws)) (two j)
-  unfolding ranTo
-  pieces good zero = subst (λ (u : Run). With u (begun (one .run .state) (one .run .number) (one .words))) (sym (ap (λ (i : ℕ). ranTo m levels (a ++ b) i (begun s n ws)) (zero-add k) ∙ first-same m levels a b s n ws k (omega arith))) (with-start good)
-  pieces good (suc j) = rw suc-add (with-next (ranTo m levels (a ++ b) (j + k) (begun s n ws)) (two j) (pieces good j))
+by-header : (r : ℕ) → 0 < r → (h : Header) (rest : List ℕ)
+    → after (opening h emptyStore) (whileLive (inPieces r (suc (length rest)) rest)) .text ≡ textOf h (recordsOf rest)
+unfolding opening textOf
+by-header r some Wrong rest = ap (λ (u : Run). u .text) (ended-after (opening Wrong emptyStore) (inPieces r (suc (length rest)) rest) refl)
+by-header r some (Shape m levels) rest =
+    let u : Run = opening (Shape m levels) emptyStore in
+    ap (λ (v : Run). v .text) (after-same u (whileLive (inPieces r (suc (length rest)) rest)) (pieceRun rest true)
+    (live-same (inPieces r (suc (length rest)) rest) (pieceRun rest true) (u .play) (u .words) (pieces-run r some (suc (length rest)) rest (u .play) (u .words) (omega arith))
+    ∙ live-piece rest true (u .play) (u .words)))
+    ∙ after-text u (pieceRun rest true)
+    ∙ whole-text rest (u .play) (u .words) refl
+
+-- THE PROGRAM: read in pieces of any number of records, it writes the text that the whole is defined by
+pub pieces : (r : ℕ) → 0 < r → (bs : List ℕ) → piecesText r bs ≡ traceText bs
+unfolding piecesText traceText begun
+pieces r some bs =
+    let rest : List ℕ = drop headerBytes bs in
+    let ws : List ℕ = emptyStore in
+    let room : longestLine ≤ outBytes r = omega arith in
+    ap (λ (b : Bool). after (cond b (opening (headerOf (take headerBytes bs)) ws) (run ws shut [])) (whileLive (inPieces r (suc (length rest)) rest)) .text) (le-leb longestLine (outBytes r) room)
+    ∙ ap (λ (h : Header). after (opening h ws) (whileLive (inPieces r (suc (length rest)) rest)) .text) (header-first bs)
+    ∙ by-header r some (headerOf bs) rest

@@ -1,6 +1,6 @@
 -- The trace's bytes: header, records, and the text of a line. Assumes nothing: these are definitions.
-use Prim.Native.Nat.{_*_, _+_, ℕ}
-use mathlib.Core.Bool.{_&&_, Bool, cond}
+use Prim.Native.Nat.{_%_, _*_, _+_, _/_, suc, zero, ℕ}
+use mathlib.Core.Bool.{_&&_, Bool, cond, not}
 use mathlib.Core.List.{[], _++_, _∷_, List}
 use lib.Dec.{eqb, leb}
 use lib.ListN.{getD, length}
@@ -12,7 +12,7 @@ use Rattle.strip.specs.declared.Refusal.{Refusal}
 use Rattle.strip.specs.declared.Refusal.the-variants.{BadRank, BadShape, Damaged, Empty, Full, TooSoon}
 use Rattle.strip.specs.declared.Request.{Request}
 use Rattle.strip.specs.declared.Request.the-variants.{Idle, Pop, Push, Replace}
-use Rattle.text.specs.Text.{decimal}
+use Rattle.text.specs.Text.{bytesOf, decimal}
 use Rattle.trace.specs.declared.Header.{Header}
 use Rattle.trace.specs.declared.Header.the-variants.{Shape, Wrong}
 use Rattle.trace.specs.declared.Record.{Record}
@@ -23,8 +23,8 @@ use Rattle.tree_model.specs.Damage.{room}
 -- ---- text
 -- "Other words: idle, full, empty"
 unfoldable pub doneWord : Request → List ℕ
-doneWord Idle = 105 ∷ 100 ∷ 108 ∷ 101 ∷ []
-doneWord (Push x) = 112 ∷ 117 ∷ 115 ∷ 104 ∷ 101 ∷ 100 ∷ []
+doneWord Idle = bytesOf "idle"
+doneWord (Push x) = bytesOf "pushed"
 doneWord Pop = []
 doneWord (Replace x) = []
 
@@ -32,14 +32,14 @@ doneWord (Replace x) = []
 unfoldable pub refusalWord : Refusal → List ℕ
 refusalWord BadShape = []
 refusalWord Damaged = []
-refusalWord TooSoon = 116 ∷ 111 ∷ 111 ∷ 32 ∷ 115 ∷ 111 ∷ 111 ∷ 110 ∷ []
+refusalWord TooSoon = bytesOf "too soon"
 refusalWord BadRank = []
-refusalWord Full = 102 ∷ 117 ∷ 108 ∷ 108 ∷ []
-refusalWord Empty = 101 ∷ 109 ∷ 112 ∷ 116 ∷ 121 ∷ []
+refusalWord Full = bytesOf "full"
+refusalWord Empty = bytesOf "empty"
 
 -- out R T
 unfoldable pub outWord : Element → List ℕ
-outWord e = (111 ∷ 117 ∷ 116 ∷ 32 ∷ []) ++ (decimal (e .rank .0) ++ ((32 ∷ []) ++ decimal (e .tag .0)))
+outWord e = bytesOf "out " ++ (decimal (e .rank .0) ++ (bytesOf " " ++ decimal (e .tag .0)))
 
 unfoldable pub wordOf : Request → Answer → List ℕ
 wordOf r Done = doneWord r
@@ -48,7 +48,18 @@ wordOf r (Refused n) = refusalWord n
 
 -- a record's number, a space, the word, and a newline
 unfoldable pub lineOf : ℕ → Request → Answer → List ℕ
-lineOf n r a = decimal n ++ ((32 ∷ []) ++ (wordOf r a ++ (10 ∷ [])))
+lineOf n r a = decimal n ++ (bytesOf " " ++ (wordOf r a ++ bytesOf "\n"))
+
+-- held H drained D
+unfoldable pub endLine : ℕ → ℕ → List ℕ
+endLine h d = bytesOf "held " ++ (decimal h ++ (bytesOf " drained " ++ (decimal d ++ bytesOf "\n")))
+
+-- bad record N
+unfoldable pub badLine : ℕ → List ℕ
+badLine n = bytesOf "bad record " ++ (decimal n ++ bytesOf "\n")
+
+abbrev pub badTrace : List ℕ
+badTrace = bytesOf "bad trace\n"
 
 -- more than any word and any line has
 abbrev pub longestWord : ℕ
@@ -58,6 +69,9 @@ abbrev pub longestLine : ℕ
 longestLine = 72
 
 -- ---- the header: "PFT", a 16-bit version 1 (low byte first), one byte order, one byte levels
+abbrev pub headerBytes : ℕ
+headerBytes = 7
+
 abbrev pub byteAt : List ℕ → ℕ → ℕ
 byteAt bs i = getD bs i 0
 
@@ -72,7 +86,7 @@ unfoldable pub traceShape : ℕ → ℕ → Bool
 traceShape m levels = orderOk m && (leb 1 levels && leb (room m levels) traceLimit)
 
 unfoldable pub headerOf : List ℕ → Header
-headerOf bs = cond (leb 7 (length bs) && (markOk bs && traceShape (byteAt bs 5) (byteAt bs 6))) (Shape (byteAt bs 5) (byteAt bs 6)) Wrong
+headerOf bs = cond (leb headerBytes (length bs) && (markOk bs && traceShape (byteAt bs 5) (byteAt bs 6))) (Shape (byteAt bs 5) (byteAt bs 6)) Wrong
 
 -- ---- records "of 9 bytes: code, rank, tag, low bytes first"
 abbrev pub recordBytes : ℕ
@@ -94,3 +108,16 @@ entryOf code e =
 
 unfoldable pub entryAt : List ℕ → ℕ → Record
 entryAt bs i = entryOf (byteAt bs i) (element (numberAt bs (i + 1)) (numberAt bs (i + 5)))
+
+-- so many whole records, the first of them at i
+unfoldable pub recordsFrom : ℕ → ℕ → List ℕ → List Record
+recordsFrom zero i bs = []
+recordsFrom (suc k) i bs = entryAt bs i ∷ recordsFrom k (i + recordBytes) bs
+
+-- "and so is .. a cut record"
+unfoldable pub cutRecord : Bool → List Record
+cutRecord cut = cond cut (Bad ∷ []) []
+
+-- all records of these bytes; what is left over is one that is cut
+unfoldable pub recordsOf : List ℕ → List Record
+recordsOf bs = recordsFrom (length bs / recordBytes) 0 bs ++ cutRecord (not (eqb (length bs % recordBytes) 0))

@@ -1,2 +1,5 @@
 pub mod Format
+pub mod Program
 pub mod Play
+pub mod Example
+pub mod Promise

@@ -1,93 +1,126 @@
--- A run of records: "It runs one cycle a record and writes a line each". Assumes nothing: these are definitions.
-use Prim.Native.Nat.{_%_, _+_, _/_, _^_, min, suc, zero, ℕ}
-use mathlib.Core.Bool.{cond, false, true}
+-- The program's steps: what is carried from one to the next, and the text that each writes. Assumes nothing: these are definitions.
+use Prim.Native.Nat.{_*_, _+_, _/_, _≤_, suc, zero, ℕ}
+use mathlib.Core.Bool.{Bool, cond, false, true}
 use mathlib.Core.List.{[], _++_, _∷_, List}
-use lib.Dec.{leb}
-use lib.ListN.{length}
-use Rattle.clocked_model.specs.Calls.{drains, ticked}
+use mathlib.Core.Path.{_≡_}
+use lib.Dec.{leb, ltb}
+use lib.ListN.{drop, length, take}
+use Rattle.clocked_model.specs.Calls.{drains, fresh, restarted, ticked}
 use Rattle.clocked_model.specs.declared.State.{State}
-use Rattle.strip.specs.Answers.{countOf}
-use Rattle.strip.specs.declared.Request.{Request}
-use Rattle.text.specs.Text.{decimal}
-use Rattle.trace.specs.Format.{entryAt, lineOf, longestLine, recordBytes}
-use Rattle.trace.specs.declared.Played.{Played}
+use Rattle.text.specs.Text.{overlay}
+use Rattle.trace.specs.Format.{badLine, badTrace, headerBytes, headerOf, lineOf, longestLine, recordBytes, recordsOf}
+use Rattle.trace.specs.Program.{emptyStore, endOf, nextNumber}
+use Rattle.trace.specs.declared.Header.{Header}
+use Rattle.trace.specs.declared.Header.the-variants.{Shape, Wrong}
+use Rattle.trace.specs.declared.Piece.{Piece}
+use Rattle.trace.specs.declared.Playing.{Playing}
 use Rattle.trace.specs.declared.Record.{Record}
 use Rattle.trace.specs.declared.Record.the-variants.{Bad, Good}
-use Rattle.tree_model.specs.Calls.{counted}
-use Rattle.tree_model.specs.Damage.{room}
 
--- the number of the record after the one numbered n, in 64 bits
-abbrev pub nextNumber : ℕ → ℕ
-nextNumber n = (n + 1) % 2 ^ 64
-
--- one record: the words, what is carried on, and the line written
-pub record Turn : Type 0 where
-  pub words : List ℕ
-  pub run : Played
-  pub line : List ℕ
-
-abbrev pub stoppedAt : Played → Played
-stoppedAt p = record { state = p .state; number = p .number; read = p .read; written = p .written; bad = true }
-
-module _ (m levels : ℕ) where
-  -- a good record is a cycle and a line
-  unfoldable pub cycleTurn : Request → Played → List ℕ → Turn
-  cycleTurn r p ws =
-      let o = ticked m levels r (p .state) ws in
-      let line = lineOf (nextNumber (p .number)) r (o .answer) in
-      record {
-        words = o .words;
-        run = record { state = o .state; number = nextNumber (p .number); read = p .read + recordBytes; written = p .written + length line; bad = false };
-        line = line;
-      }
-
-  -- a bad one ends it
-  unfoldable pub turnBy : Record → Played → List ℕ → Turn
-  turnBy Bad p ws = record { words = ws; run = stoppedAt p; line = [] }
-  turnBy (Good r) p ws = cycleTurn r p ws
-
-  unfoldable pub turnOf : List ℕ → Played → List ℕ → Turn
-  turnOf bs p ws = cond (p .bad) (record { words = ws; run = p; line = [] }) (turnBy (entryAt bs (p .read)) p ws)
-
--- so many records of a buffer: the words, what is carried on, and the text written
+-- what a step leaves: the words of the store, the play that is carried on, and the text that it writes
 pub record Run : Type 0 where
   pub words : List ℕ
-  pub run : Played
+  pub play : Playing
   pub text : List ℕ
 
-abbrev pub begun : State → ℕ → List ℕ → Run
-begun s n ws = record { words = ws; run = record { state = s; number = n; read = 0; written = 0; bad = false }; text = [] }
+abbrev pub run : List ℕ → Playing → List ℕ → Run
+run ws p t = record { words = ws; play = p; text = t }
 
-unfoldable pub ranTo : ℕ → ℕ → List ℕ → ℕ → Run → Run
-ranTo m levels bs zero u = u
-ranTo m levels bs (suc k) u =
-    let v = ranTo m levels bs k u in
-    let t = turnOf m levels bs (v .run) (v .words) in
-    record { words = t .words; run = t .run; text = v .text ++ t .line }
+abbrev pub Step : Type 0
+Step = Playing → List ℕ → Run
 
--- as many whole records as the bytes have, and as many lines as surely have room
-abbrev pub fits : ℕ → ℕ → ℕ
-fits len room = min (len / recordBytes) (room / longestLine)
+-- nothing is done
+abbrev pub stands : Step
+stands p ws = run ws p []
 
--- the buffer played: what a run of its whole records makes of store and state, and the text
-unfoldable pub playedAs : ℕ → ℕ → State → ℕ → List ℕ → ℕ → List ℕ → Run
-playedAs m levels s n bs room ws = ranTo m levels bs (fits (length bs) room) (begun s n ws)
+-- a step after a run
+unfoldable pub after : Run → Step → Run
+after u f =
+    let v = f (u .play) (u .words) in
+    run (v .words) (v .play) (u .text ++ v .text)
 
--- ---- the last line
--- held H drained D
-unfoldable pub endLine : ℕ → ℕ → List ℕ
-endLine h d = (104 ∷ 101 ∷ 108 ∷ 100 ∷ 32 ∷ []) ++ (decimal h ++ ((32 ∷ 100 ∷ 114 ∷ 97 ∷ 105 ∷ 110 ∷ 101 ∷ 100 ∷ 32 ∷ []) ++ (decimal d ++ (10 ∷ []))))
+-- a play that has ended stands
+unfoldable pub whileLive : Step → Step
+whileLive f p ws = cond (p .live) (f p ws) (stands p ws)
 
--- bad record N
-unfoldable pub badLine : ℕ → List ℕ
-badLine n = (98 ∷ 97 ∷ 100 ∷ 32 ∷ 114 ∷ 101 ∷ 99 ∷ 111 ∷ 114 ∷ 100 ∷ 32 ∷ []) ++ (decimal n ++ (10 ∷ []))
+-- ---- the records
+-- the play with this state, behind so many records, live or ended
+abbrev pub carry : Playing → State → ℕ → Bool → Playing
+carry p s n live = record { order = p .order; levels = p .levels; state = s; number = n; live = live }
 
--- a line goes into a buffer that has room for any
-abbrev pub ifRoom : List ℕ → List ℕ → List ℕ
-ifRoom out line = cond (leb longestLine (length out)) line []
+-- a good record is a cycle and its line; a bad one ends the play
+unfoldable pub turn : Record → Step
+turn Bad p ws = run ws (carry p (p .state) (p .number) false) (badLine (nextNumber (p .number)))
+turn (Good r) p ws =
+    let o = ticked (p .order) (p .levels) r (p .state) ws in
+    let n = nextNumber (p .number) in
+    run (o .words) (carry p (o .state) n true) (lineOf n r (o .answer))
 
--- "then it drains": the drain is given a cycle for each level, and what is held is asked afterwards
-abbrev pub endOf : ℕ → ℕ → State → List ℕ → List ℕ
-endOf m levels s ws =
-    let d = drains m levels levels s ws in
-    endLine (countOf (counted m levels (d .words))) (d .cycles)
+unfoldable pub played : List Record → Step
+played [] p ws = stands p ws
+played (e ∷ es) p ws = after (whileLive (turn e) p ws) (played es)
+
+-- the drain, and the last line
+unfoldable pub ending : Step
+ending p ws =
+    let d = drains (p .order) (p .levels) (p .levels) (p .state) ws in
+    run (d .words) (carry p (d .state) (p .number) false) (endOf (p .order) (p .levels) (p .state) ws)
+
+-- the end of the input drains; other pieces go on
+unfoldable pub closing : Bool → Step
+closing last p ws = cond last (whileLive ending p ws) (stands p ws)
+
+-- ---- the two calls
+-- a play that was never live
+abbrev pub shut : Playing
+shut = record { order = 0; levels = 0; state = fresh; number = 0; live = false }
+
+-- the header: the line bad trace, or a cleared machine
+unfoldable pub opening : Header → List ℕ → Run
+opening Wrong ws = run ws shut badTrace
+opening (Shape m levels) ws =
+    let c = restarted m levels ws in
+    run (c .words) (record { order = m; levels = levels; state = c .state; number = 0; live = true }) []
+
+-- the buffer has room for any line; without it nothing is begun
+unfoldable pub begun : List ℕ → ℕ → List ℕ → Run
+begun bs room ws = cond (leb longestLine room) (opening (headerOf bs) ws) (run ws shut [])
+
+-- a piece of the input, whole records or the last of it: its records, and the drain where it is the last
+unfoldable pub pieceRun : List ℕ → Bool → Step
+pieceRun bs last p ws = after (played (recordsOf bs) p ws) (closing last)
+
+-- the buffer has room for a line of each record and one more; without it nothing is played
+unfoldable pub pieceOf : List ℕ → Bool → ℕ → Step
+pieceOf bs last room p ws = cond (ltb (length bs / recordBytes) (room / longestLine)) (pieceRun bs last p ws) (stands p ws)
+
+-- a call that answers r and leaves these words and this buffer makes the run u, with its text in the buffer out from i on
+pub record Makes (u : Run) (i : ℕ) (out : List ℕ) (r : Piece) (ws after : List ℕ) : Type 0 where
+  pub play : r .play ≡ u .play
+  pub words : ws ≡ u .words
+  pub written : r .written ≡ i + length (u .text)
+  pub text : after ≡ overlay out i (u .text)
+  pub within : r .written ≤ length out
+
+-- ---- in pieces of r records: the header's bytes are read first, and a piece that is not full is the last
+module _ (r : ℕ) where
+  abbrev pub pieceBytes : ℕ
+  pieceBytes = r * recordBytes
+
+  abbrev pub outBytes : ℕ
+  outBytes = suc r * longestLine
+
+  -- so many pieces, unless the play ends before
+  unfoldable pub inPieces : ℕ → List ℕ → Step
+  inPieces zero bs p ws = stands p ws
+  inPieces (suc k) bs p ws = after (pieceOf (take pieceBytes bs) (ltb (length bs) pieceBytes) outBytes p ws) (whileLive (inPieces k (drop pieceBytes bs)))
+
+  -- the text that is written in all; there are not more pieces than bytes and one
+  unfoldable pub piecesText : List ℕ → List ℕ
+  piecesText bs =
+      let rest = drop headerBytes bs in
+      after (begun (take headerBytes bs) outBytes emptyStore) (whileLive (inPieces (suc (length rest)) rest)) .text
+
+-- the program's pieces
+abbrev pub programRecords : ℕ
+programRecords = 4096

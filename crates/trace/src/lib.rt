@@ -1,11 +1,14 @@
-// The trace program's work: the header's test, a record's test, the text of a line, and a run of records played into a buffer.
+// The trace program's work, all but reading and writing: the header's test, a record's test, the text of a line, and a trace played
+// piece by piece into a buffer.
 ghost use mathlib.Core.Path.{_≡_};
-ghost use Prim.Native.Nat.{_+_, _^_, _<_, _≤_, min};
+ghost use mathlib.Core.Bool.{false};
+ghost use Prim.Native.Nat.{_+_, _*_, _/_, _<_, _≤_};
 ghost use lib.ListN.{length};
-ghost use Rattle.text.specs.Text.{overlay};
-ghost use Rattle.trace.specs.Format.{longestLine, longestWord, recordBytes, numberAt, markOk, traceShape, headerOf, onlyBlank, entryAt, entryOf, doneWord, refusalWord, outWord, wordOf, lineOf};
-ghost use Rattle.clocked_model.specs.Calls.{drains};
-ghost use Rattle.trace.specs.Play.{cycleTurn, stoppedAt, turnOf, playedAs, badLine, endLine, endOf, ifRoom};
+ghost use Rattle.clocked_model.specs.Calls.{fresh};
+ghost use Rattle.text.specs.Text.{overlay, Laid};
+ghost use Rattle.trace.specs.Format.{longestLine, longestWord, headerBytes, recordBytes, numberAt, markOk, traceShape, headerOf, onlyBlank, entryAt, entryOf, recordsFrom, cutRecord, doneWord, refusalWord, outWord, wordOf, lineOf, badLine, badTrace, endLine};
+ghost use Rattle.trace.specs.Play.{Makes, after, carry, whileLive, turn, played, ending, closing, shut, opening, begun, pieceOf};
+ghost use Rattle.trace.specs.Program.{nextNumber};
 use clocked_model::State;
 use node::capacity;
 use strip::Answer;
@@ -16,6 +19,14 @@ use strip::Request;
 use strip::Tag;
 use text::put_bytes;
 use text::put_number;
+use tree_model::Op;
+use tree_model::Work;
+
+// More bytes than any line has.
+const LINE: usize = 72;
+
+// A record's bytes.
+const RECORD: usize = 9;
 
 // What a trace's first bytes say: nothing that is a header, or order and levels.
 pub enum Header {
@@ -111,7 +122,7 @@ fn shape_taken(order: usize, levels: usize) -> bool
     (1 <= levels) & (capacity(order, levels) <= 4094)
 }
 
-pub fn read_header(bytes: &[u8]) -> Header
+fn read_header(bytes: &[u8]) -> Header
     ensures { λ r. ⌜ r ≡ headerOf (now (bytes .entry)) ⌝ }
 {
     if bytes.len() < 7 {
@@ -181,139 +192,106 @@ fn record_at(bytes: &[u8], at: usize) -> Record
     record_of(bytes[at], e)
 }
 
-// ---- a run of records
+// ---- the play
 
-// What is carried from record to record: the machine's state, how many records were played, how many bytes were read and written, and
-// whether a bad record was met. From there on nothing is played.
-pub struct Played {
+// What is carried from piece to piece: the shape, the machine's state, how many records were played, and whether the play goes on.
+pub struct Playing {
+    pub order: usize,
+    pub levels: usize,
     pub state: State,
     pub number: u64,
-    pub read: usize,
-    pub written: usize,
-    pub bad: bool,
+    pub live: bool,
 }
+
+// .. and how many bytes of text a call has put into its buffer.
+pub struct Piece {
+    pub play: Playing,
+    pub written: usize,
+}
+
+// The play with another state, behind so many records, live or ended.
+fn carried(play: Playing, state: State, number: u64, live: bool, written: usize) -> Piece
+    ensures { λ r. ⌜ (r .play ≡ carry play state number live) × (r .written ≡ written) ⌝ }
+{
+    let play = Playing {
+        order: play.order,
+        levels: play.levels,
+        state,
+        number,
+        live,
+    };
+    Piece { play, written }
+}
+
+// ---- the records
 
 // One cycle, and its line.
-fn play_cycle(
-    store: &mut [u32],
-    order: usize,
-    levels: usize,
-    run: Played,
-    request: Request,
-    out: &mut [u8],
-) -> Played
-    requires { ⌜ (run .read + recordBytes < 2 ^ 64) × (run .written + longestLine ≤ length (now out)) ⌝ }
-    ensures { λ r. ⌜ (r ≡ cycleTurn order levels request run (now (store .entry)) .run) × (now (store .exit) ≡ cycleTurn order levels request run (now (store .entry)) .words) × (now (out .exit) ≡ overlay (now (out .entry)) (run .written) (cycleTurn order levels request run (now (store .entry)) .line)) ⌝ }
+fn play_good(store: &mut [u32], play: Playing, request: Request, at: usize, out: &mut [u8]) -> Piece
+    requires { ⌜ at + longestLine ≤ length (now out) ⌝ }
+    ensures { λ r. ⌜ Makes (turn (Record.Good request) play (now (store .entry))) at (now (out .entry)) r (now (store .exit)) (now (out .exit)) ⌝ }
 {
-    let state = run.state;
-    let done = clocked::cycle(store, order, levels, state, request);
+    let state = play.state;
+    let done = clocked::cycle(store, play.order, play.levels, state, request);
     let answer = done.answer;
-    let number = std::num::wrapping_add_u64(run.number, 1);
-    let written = put_line(out, run.written, number, request, answer);
-    let read = run.read + 9;
     let next = done.state;
-    Played {
-        state: next,
-        number,
-        read,
-        written,
-        bad: false,
-    }
+    let number = std::num::wrapping_add_u64(play.number, 1);
+    let written = put_line(out, at, number, request, answer);
+    carried(play, next, number, true, written)
 }
 
-fn stopped(run: Played) -> Played
-    ensures { λ r. ⌜ r ≡ stoppedAt run ⌝ }
+// The line of a bad record, which ends the play.
+fn play_bad(play: Playing, at: usize, out: &mut [u8]) -> Piece
+    requires { ⌜ at + longestLine ≤ length (now out) ⌝ }
+    ensures { λ r. ⌜ (r .play ≡ carry play (play .state) (play .number) false) × Laid (now (out .entry)) at (badLine (nextNumber (play .number))) (now (out .exit)) (r .written) ⌝ }
 {
-    let state = run.state;
-    Played {
-        state,
-        number: run.number,
-        read: run.read,
-        written: run.written,
-        bad: true,
-    }
-}
-
-// The next record, unless a bad one was met before.
-fn play_record(
-    store: &mut [u32],
-    order: usize,
-    levels: usize,
-    run: Played,
-    bytes: &[u8],
-    out: &mut [u8],
-) -> Played
-    requires { ⌜ (run .read + recordBytes ≤ length (now bytes)) × (run .written + longestLine ≤ length (now out)) ⌝ }
-    ensures { λ r. ⌜ (r ≡ turnOf order levels (now (bytes .entry)) run (now (store .entry)) .run) × (now (store .exit) ≡ turnOf order levels (now (bytes .entry)) run (now (store .entry)) .words) × (now (out .exit) ≡ overlay (now (out .entry)) (run .written) (turnOf order levels (now (bytes .entry)) run (now (store .entry)) .line)) ⌝ }
-{
-    if run.bad {
-        return run;
-    }
-    let found = record_at(bytes, run.read);
-    match found {
-        Record::Bad => stopped(run),
-        Record::Good(request) => play_cycle(store, order, levels, run, request, out),
-    }
-}
-
-fn fewer(a: usize, b: usize) -> usize
-    ensures { λ r. ⌜ r ≡ min a b ⌝ }
-{
-    if a <= b {
-        return a;
-    }
-    b
-}
-
-// Plays the whole records of a buffer, as many as their lines surely fit into the other.
-pub fn play(
-    store: &mut [u32],
-    order: usize,
-    levels: usize,
-    state: State,
-    number: u64,
-    bytes: &[u8],
-    out: &mut [u8],
-) -> Played
-    ensures { λ r. ⌜ (r ≡ playedAs order levels state number (now (bytes .entry)) (length (now (out .entry))) (now (store .entry)) .run) × (now (store .exit) ≡ playedAs order levels state number (now (bytes .entry)) (length (now (out .entry))) (now (store .entry)) .words) × (now (out .exit) ≡ overlay (now (out .entry)) 0 (playedAs order levels state number (now (bytes .entry)) (length (now (out .entry))) (now (store .entry)) .text)) × (r .written ≤ length (now (out .entry))) ⌝ }
-{
-    let records = fewer(bytes.len() / 9, out.len() / 72);
-    let mut run = Played {
-        state,
-        number,
-        read: 0,
-        written: 0,
-        bad: false,
-    };
-    let mut i = 0;
-    while i < records {
-        run = play_record(store, order, levels, run, bytes, out);
-        i += 1;
-    }
-    run
-}
-
-// ---- the last line
-
-// The line of a bad record. A buffer without room for any line is left alone.
-pub fn put_bad(out: &mut [u8], number: u64) -> usize
-    ensures { λ r. ⌜ (r ≡ length (ifRoom (now (out .entry)) (badLine number))) × (now (out .exit) ≡ overlay (now (out .entry)) 0 (ifRoom (now (out .entry)) (badLine number))) × (r ≤ length (now (out .entry))) ⌝ }
-{
-    if out.len() < 72 {
-        return 0;
-    }
-    let a = put_bytes(out, 0, b"bad record ");
+    let number = std::num::wrapping_add_u64(play.number, 1);
+    let a = put_bytes(out, at, b"bad record ");
     let b = put_number(out, a, number);
-    put_bytes(out, b, b"\n")
+    let written = put_bytes(out, b, b"\n");
+    let state = play.state;
+    carried(play, state, play.number, false, written)
 }
 
-fn put_end(out: &mut [u8], held: u32, cycles: usize) -> usize
-    ensures { λ r. ⌜ (r ≡ length (ifRoom (now (out .entry)) (endLine held cycles))) × (now (out .exit) ≡ overlay (now (out .entry)) 0 (ifRoom (now (out .entry)) (endLine held cycles))) × (r ≤ length (now (out .entry))) ⌝ }
+// The record at a place of the input, unless the play has ended.
+fn play_record(store: &mut [u32], piece: Piece, bytes: &[u8], at: usize, out: &mut [u8]) -> Piece
+    requires { ⌜ (at + recordBytes ≤ length (now bytes)) × (piece .written + longestLine ≤ length (now out)) ⌝ }
+    ensures { λ r. ⌜ Makes (whileLive (turn (entryAt (now (bytes .entry)) at)) (piece .play) (now (store .entry))) (piece .written) (now (out .entry)) r (now (store .exit)) (now (out .exit)) ⌝ }
 {
-    if out.len() < 72 {
-        return 0;
+    let play = piece.play;
+    if !play.live {
+        return piece;
     }
-    let a = put_bytes(out, 0, b"held ");
+    let found = record_at(bytes, at);
+    match found {
+        Record::Bad => play_bad(play, piece.written, out),
+        Record::Good(request) => play_good(store, play, request, piece.written, out),
+    }
+}
+
+// The whole records, one after the other.
+fn play_records(store: &mut [u32], play: Playing, bytes: &[u8], out: &mut [u8]) -> Piece
+    requires { ⌜ longestLine * (length (now bytes) / recordBytes) ≤ length (now out) ⌝ }
+    ensures { λ r. ⌜ Makes (played (recordsFrom (length (now (bytes .entry)) / recordBytes) 0 (now (bytes .entry))) play (now (store .entry))) 0 (now (out .entry)) r (now (store .exit)) (now (out .exit)) ⌝ }
+    ensures { λ r. ⌜ r .written ≤ longestLine * (length (now (bytes .entry)) / recordBytes) ⌝ }
+{
+    let mut piece = Piece { play, written: 0 };
+    let mut at = 0;
+    let mut left = bytes.len() / RECORD;
+    while left > 0 {
+        piece = play_record(store, piece, bytes, at, out);
+        at += RECORD;
+        left -= 1;
+    }
+    piece
+}
+
+// ---- the end
+
+fn put_end(out: &mut [u8], at: usize, held: u32, cycles: usize) -> usize
+    requires { ⌜ at + longestLine ≤ length (now out) ⌝ }
+    ensures { λ r. ⌜ Laid (now (out .entry)) at (endLine held cycles) (now (out .exit)) r ⌝ }
+{
+    let a = put_bytes(out, at, b"held ");
     let b = put_number(out, a, held as u64);
     let c = put_bytes(out, b, b" drained ");
     let d = put_number(out, c, cycles as u64);
@@ -321,10 +299,107 @@ fn put_end(out: &mut [u8], held: u32, cycles: usize) -> usize
 }
 
 // Drains the machine, and says how many are held and how many cycles that took.
-pub fn finish(store: &mut [u32], order: usize, levels: usize, state: State, out: &mut [u8]) -> usize
-    ensures { λ r. ⌜ (r ≡ length (ifRoom (now (out .entry)) (endOf order levels state (now (store .entry))))) × (now (store .exit) ≡ drains order levels levels state (now (store .entry)) .words) × (now (out .exit) ≡ overlay (now (out .entry)) 0 (ifRoom (now (out .entry)) (endOf order levels state (now (store .entry))))) × (r ≤ length (now (out .entry))) ⌝ }
+fn play_end(store: &mut [u32], play: Playing, at: usize, out: &mut [u8]) -> Piece
+    requires { ⌜ at + longestLine ≤ length (now out) ⌝ }
+    ensures { λ r. ⌜ Makes (ending play (now (store .entry))) at (now (out .entry)) r (now (store .exit)) (now (out .exit)) ⌝ }
 {
-    let d = clocked::drain(store, order, levels, state, levels);
+    let order = play.order;
+    let levels = play.levels;
+    let state = play.state;
+    let done = clocked::drain(store, order, levels, state, levels);
     let held = strip::counted(clocked::held(store, order, levels));
-    put_end(out, held, d.cycles)
+    let written = put_end(out, at, held, done.cycles);
+    let next = done.state;
+    carried(play, next, play.number, false, written)
+}
+
+// What comes behind the whole records: one that is cut is bad, and the end of the input drains.
+fn play_rest(store: &mut [u32], piece: Piece, cut: bool, last: bool, out: &mut [u8]) -> Piece
+    requires { ⌜ piece .written + longestLine ≤ length (now out) ⌝ }
+    ensures { λ r. ⌜ Makes (after (played (cutRecord cut) (piece .play) (now (store .entry))) (closing last)) (piece .written) (now (out .entry)) r (now (store .exit)) (now (out .exit)) ⌝ }
+{
+    let play = piece.play;
+    if !play.live {
+        return piece;
+    }
+    if cut {
+        return play_bad(play, piece.written, out);
+    }
+    if last {
+        return play_end(store, play, piece.written, out);
+    }
+    piece
+}
+
+// ---- the calls
+
+fn no_state() -> State
+    ensures { λ r. ⌜ r ≡ fresh ⌝ }
+{
+    let nothing = Work {
+        op: Op::Nothing,
+        node: 0,
+    };
+    let records = [nothing; 10];
+    State {
+        records,
+        mark: false,
+    }
+}
+
+// A play that was never live.
+fn closed(written: usize) -> Piece
+    ensures { λ r. ⌜ (r .play ≡ shut) × (r .written ≡ written) ⌝ }
+{
+    let state = no_state();
+    let play = Playing {
+        order: 0,
+        levels: 0,
+        state,
+        number: 0,
+        live: false,
+    };
+    Piece { play, written }
+}
+
+// A play on a cleared machine.
+fn opened(store: &mut [u32], order: usize, levels: usize) -> Piece
+    ensures { λ r. ⌜ (r .play ≡ opening (Header.Shape order levels) (now (store .entry)) .play) × (now (store .exit) ≡ opening (Header.Shape order levels) (now (store .entry)) .words) × (r .written ≡ 0) ⌝ }
+{
+    let cleared = clocked::clear(store, order, levels);
+    let state = cleared.state;
+    let play = Playing {
+        order,
+        levels,
+        state,
+        number: 0,
+        live: true,
+    };
+    Piece { play, written: 0 }
+}
+
+// Begins a play: what the header says, from the input's first bytes. A buffer without room for a line is left alone.
+pub fn begin(store: &mut [u32], head: &[u8], out: &mut [u8]) -> Piece
+    ensures { λ r. ⌜ Makes (begun (now (head .entry)) (length (now (out .entry))) (now (store .entry))) 0 (now (out .entry)) r (now (store .exit)) (now (out .exit)) ⌝ }
+{
+    if out.len() < LINE {
+        return closed(0);
+    }
+    let header = read_header(head);
+    match header {
+        Header::Wrong => closed(put_bytes(out, 0, b"bad trace\n")),
+        Header::Shape(order, levels) => opened(store, order, levels),
+    }
+}
+
+// Plays a piece of the input, the last or one of whole records. A buffer without room for a line of each record and one more is left
+// alone, and so is everything else.
+pub fn play(store: &mut [u32], play: Playing, bytes: &[u8], last: bool, out: &mut [u8]) -> Piece
+    ensures { λ r. ⌜ Makes (pieceOf (now (bytes .entry)) last (length (now (out .entry))) play (now (store .entry))) 0 (now (out .entry)) r (now (store .exit)) (now (out .exit)) ⌝ }
+{
+    if out.len() / LINE <= bytes.len() / RECORD {
+        return Piece { play, written: 0 };
+    }
+    let whole = play_records(store, play, bytes, out);
+    play_rest(store, whole, bytes.len() % RECORD != 0, last, out)
 }

@@ -1,5 +1,4 @@
 // Traces of every kind, good and bad, played through the library; what they give is held to what an independent model gives.
-use trace::Header;
 
 fn write_first(out: &[u8], n: usize) {
     if n <= out.len() {
@@ -7,35 +6,33 @@ fn write_first(out: &[u8], n: usize) {
     }
 }
 
-// The records of a trace, all in one piece.
-fn records(order: usize, levels: usize, bytes: &[u8]) {
+// A trace read in two pieces, the first of whole records behind the header, and the rest the last.
+fn run_in_two(first: &[u8], rest: &[u8]) {
     let mut store = [0u32; 12282];
     let mut out = [0u8; 4096];
-    let cleared = clocked::clear(&mut store, order, levels);
-    let state = cleared.state;
-    let p = trace::play(&mut store, order, levels, state, 0, bytes, &mut out);
-    write_first(&out, p.written);
-    if p.bad | (bytes.len() % 9 != 0) {
-        let end = trace::put_bad(&mut out, std::num::wrapping_add_u64(p.number, 1));
-        write_first(&out, end);
-        return;
+    let begun = trace::begin(&mut store, first, &mut out);
+    write_first(&out, begun.written);
+    if 7 <= first.len() {
+        let play = begun.play;
+        let done = trace::play(&mut store, play, &first[7..], false, &mut out);
+        write_first(&out, done.written);
+        let next = done.play;
+        let last = trace::play(&mut store, next, rest, true, &mut out);
+        write_first(&out, last.written);
     }
-    let next = p.state;
-    let end = trace::finish(&mut store, order, levels, next, &mut out);
-    write_first(&out, end);
+    io::write_all(1, b"--\n");
 }
 
+// A trace read in one piece, which is the last.
 fn run(bytes: &[u8]) {
-    let header = trace::read_header(bytes);
-    match header {
-        Header::Wrong => {
-            io::write_all(1, b"bad trace\n");
-        }
-        Header::Shape(order, levels) => {
-            if 7 <= bytes.len() {
-                records(order, levels, &bytes[7..]);
-            }
-        }
+    let mut store = [0u32; 12282];
+    let mut out = [0u8; 4096];
+    let begun = trace::begin(&mut store, bytes, &mut out);
+    write_first(&out, begun.written);
+    if 7 <= bytes.len() {
+        let play = begun.play;
+        let last = trace::play(&mut store, play, &bytes[7..], true, &mut out);
+        write_first(&out, last.written);
     }
     io::write_all(1, b"--\n");
 }
@@ -157,6 +154,43 @@ fn words() {
     );
 }
 
+// A trace that ends with a full piece, one record before and one behind; a bad or cut record there; a wrong header before two pieces.
+fn pieces() {
+    run_in_two(
+        b"PFT\x01\x00\x02\x02\x01\x05\x00\x00\x00\x32\x00\x00\x00\x02\x00\x00\x00\x00\x00\x00\x00\x00",
+        b"",
+    );
+    run(b"PFT\x01\x00\x02\x02\x01\x05\x00\x00\x00\x32\x00\x00\x00");
+    run_in_two(
+        b"PFT\x01\x00\x02\x02\x01\x05\x00\x00\x00\x32\x00\x00\x00\x02\x00\x00\x00\x00\x00\x00\x00\x00",
+        b"\x02\x00\x00\x00\x00\x00\x00\x00\x00",
+    );
+    run_in_two(
+        b"PFT\x01\x00\x02\x02\x01\x05\x00\x00\x00\x32\x00\x00\x00\x04\x00\x00\x00\x00\x00\x00\x00\x00",
+        b"\x02\x00\x00\x00\x00\x00\x00\x00\x00",
+    );
+    run_in_two(
+        b"PFT\x01\x00\x02\x02\x01\x05\x00\x00\x00\x32\x00\x00\x00\x02\x00\x00\x00\x00\x00\x00\x00\x00",
+        b"\x04\x00\x00\x00\x00\x00\x00\x00\x00",
+    );
+    run_in_two(
+        b"PFT\x01\x00\x02\x02\x01\x05\x00\x00\x00\x32\x00\x00\x00\x02\x00\x00\x00\x00\x00\x00\x00\x00",
+        b"\x02",
+    );
+    run_in_two(
+        b"PFT\x01\x00\x02\x02\x01\x05\x00\x00\x00\x32\x00\x00\x00\x02\x00\x00\x00\x00\x00\x00\x00\x00",
+        b"\x02\x00\x00\x00\x00\x00\x00\x00",
+    );
+    run_in_two(
+        b"PFT\x01\x00\x02\x02\x01\x05\x00\x00\x00\x32\x00\x00\x00\x02\x00\x00\x00\x00\x00\x00\x00\x00",
+        b"\x02\x00\x00\x00\x00\x00\x00\x00\x00\x00\x00\x00",
+    );
+    run_in_two(
+        b"PFT\x02\x00\x02\x02\x01\x05\x00\x00\x00\x32\x00\x00\x00",
+        b"\x02\x00\x00\x00\x00\x00\x00\x00\x00",
+    );
+}
+
 fn main() {
     cut_headers();
     wrong_marks();
@@ -165,4 +199,5 @@ fn main() {
     cut_records();
     bad_records();
     words();
+    pieces();
 }

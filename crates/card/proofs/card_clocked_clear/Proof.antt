@@ -1,7 +1,7 @@
 -- `card::card_clocked_clear` meets its contract. Assumes nothing.
 use lib.ListN.{length}
 use borrow.Author.Needs.{needs}
-use Rattle.card.proofs.Clocked.{fresh-fits, restart-bare, restart-done, restart-shape, roomy-lent, some-levels}
+use Rattle.card.proofs.Clocked.{fresh-fits, clear-bare, clear-done, clear-shape, roomy-lent, shape-some}
 use Rattle.card.proofs.card_clocked_clear.Statement.{statement}
 use Rattle.card.proofs.card_clocked_clear.Tie as tie
 use Rattle.card.proofs.card_clocked_clear.Reads as reads
@@ -13,6 +13,15 @@ use Rattle.clocked.proofs.clear.Reads as clear-reads
 use Rattle.node.proofs.shape_ok.Reads as shape-ok-reads
 use Rattle.strip.proofs.number.Reads as number-reads
 
+shape-ok-requires : tie.Need-shape-ok-requires
+shape-ok-requires c κs = search needs
+
+returns : tie.Need-returns
+returns c = clear-shape _ _ _ _ _ _ (c .before .shape-ok .ensures) (c .if1 .taken)
+
+sub-is-roomy : tie.Need-sub-is-roomy
+sub-is-roomy c = let a = c .before .before .before .before .before .before .before .args in shape-some (a .order) (a .levels) (length (a .store .now)) _ (c .before .before .before .shape-ok .ensures) (c .before .before .if1 .left)
+
 is-roomy-requires : tie.Need-is-roomy-requires
 is-roomy-requires c κs = search needs
 
@@ -22,20 +31,8 @@ same-length c = search needs
 same-length-2 : tie.Need-same-length-2
 same-length-2 c = search needs
 
-returns : tie.Need-returns
-returns c = restart-bare _ _ _ _ _ _ (c .before .is-roomy .ensures) (c .if1 .taken)
-
-shape-ok-requires : tie.Need-shape-ok-requires
-shape-ok-requires c κs = search needs
-
-same-length-3 : tie.Need-same-length-3
-same-length-3 c = search needs
-
-same-length-4 : tie.Need-same-length-4
-same-length-4 c = search needs
-
 returns-2 : tie.Need-returns-2
-returns-2 c = restart-shape _ _ _ _ _ _ (c .before .before .before .is-roomy .ensures) (c .before .before .if1 .left) _ (c .before .shape-ok .ensures) (c .if2 .taken)
+returns-2 c = clear-bare _ _ _ _ _ _ (c .before .before .before .before .before .shape-ok .ensures) (c .before .before .before .before .if1 .left) _ (c .before .is-roomy .ensures) (c .if2 .taken)
 
 clear-requires : tie.Need-clear-requires
 clear-requires c κs = search needs
@@ -44,44 +41,43 @@ has-run-requires : tie.Need-has-run-requires
 has-run-requires c κs = search needs
 
 sub-hand-back : tie.Need-sub-hand-back
-sub-hand-back c = some-levels (c .before .before .before .before .before .before .before .before .before .before .before .before .before .before .before .before .before .args .order) (c .before .before .before .before .before .before .before .before .before .before .before .before .before .before .before .before .before .args .levels) (length (c .before .before .before .before .before .before .before .before .before .before .before .before .before .before .before .before .before .args .store .now)) _ (c .before .before .before .before .before .before .before .before .before .shape-ok .ensures) (c .before .before .before .before .before .before .before .before .if2 .left)
+sub-hand-back c = let a = c .before .before .before .before .before .before .before .before .before .before .before .before .before .before .before .before .before .args in shape-some (a .order) (a .levels) (length (a .store .now)) _ (c .before .before .before .before .before .before .before .before .before .before .before .before .before .shape-ok .ensures) (c .before .before .before .before .before .before .before .before .before .before .before .before .if1 .left)
 
 hand-back-requires : tie.Need-hand-back-requires
-hand-back-requires c κs = (roomy-lent _ _ _ _ _ (c .before .before .before .before .before .before .before .before .before .before .before .is-roomy .ensures) (c .before .before .before .before .before .before .before .before .before .before .if1 .left) _ _ (c .before .before .before .before .before .before .before .before .before .shape-ok .ensures) (c .before .before .before .before .before .before .before .before .if2 .left), fresh-fits (c .before .before .before .before .before .before .before .before .before .before .before .before .before .before .before .before .before .args .order) (c .before .before .before .before .before .before .before .before .before .before .before .before .before .before .before .before .before .args .levels) (c .before .before .before .before .before .before .before .before .before .before .before .before .before .before .before .before .before .args .store .now) (c .before .before .before .before .before .before .before .before .before .before .before .before .before .before .before .before .before .args .records .now) (c .before .before .before .before .before .before .before .before .before .before .before .before .before .before .before .before .before .args .mark .now) _ _ _ (roomy-lent _ _ _ _ _ (c .before .before .before .before .before .before .before .before .before .before .before .is-roomy .ensures) (c .before .before .before .before .before .before .before .before .before .before .if1 .left) _ _ (c .before .before .before .before .before .before .before .before .before .shape-ok .ensures) (c .before .before .before .before .before .before .before .before .if2 .left)) (c .before .before .before .before .before .before .clear .ensures))
+hand-back-requires c κs = let a = c .before .before .before .before .before .before .before .before .before .before .before .before .before .before .before .before .before .args in let l = roomy-lent (a .order) (a .levels) (a .store .now) (a .records .now) (a .mark .now) _ (c .before .before .before .before .before .before .before .before .before .before .before .before .before .shape-ok .ensures) (c .before .before .before .before .before .before .before .before .before .before .before .before .if1 .left) _ (c .before .before .before .before .before .before .before .before .before .is-roomy .ensures) (c .before .before .before .before .before .before .before .before .if2 .left) in (l, fresh-fits (a .order) (a .levels) (a .store .now) (a .records .now) (a .mark .now) _ _ _ l (c .before .before .before .before .before .before .clear .ensures))
 
 number-requires : tie.Need-number-requires
 number-requires c κs = search needs
 
+same-length-3 : tie.Need-same-length-3
+same-length-3 c = search needs
+
+same-length-4 : tie.Need-same-length-4
+same-length-4 c = search needs
+
 same-length-5 : tie.Need-same-length-5
 same-length-5 c = search needs
 
-same-length-6 : tie.Need-same-length-6
-same-length-6 c = search needs
-
-same-length-7 : tie.Need-same-length-7
-same-length-7 c = search needs
-
 returns-3 : tie.Need-returns-3
-returns-3 c = restart-done _ _ _ _ _ _ (c .before .before .before .before .before .before .before .before .before .before .before .before .before .before .before .before .before .is-roomy .ensures) (c .before .before .before .before .before .before .before .before .before .before .before .before .before .before .before .before .if1 .left) _ _ _ _ _ _ _ (c .before .before .before .before .before .before .before .before .before .before .before .before .clear .ensures) (c .before .before .before .before .before .before .before .before .has-run .ensures) (c .before .before .before .before .before .hand-back .ensures) (c .number .ensures)
+returns-3 c = clear-done _ _ _ _ _ _ (c .before .before .before .before .before .before .before .before .before .before .before .before .before .before .before .before .before .before .before .shape-ok .ensures) (c .before .before .before .before .before .before .before .before .before .before .before .before .before .before .before .before .before .before .if1 .left) _ (c .before .before .before .before .before .before .before .before .before .before .before .before .before .before .before .is-roomy .ensures) (c .before .before .before .before .before .before .before .before .before .before .before .before .before .before .if2 .left) _ _ _ _ _ _ _ (c .before .before .before .before .before .before .before .before .before .before .before .before .clear .ensures) (c .before .before .before .before .before .before .before .before .has-run .ensures) (c .before .before .before .before .before .hand-back .ensures) (c .number .ensures)
 
 pub card-clocked-clear-spec : {M : Type 1} → statement M
 card-clocked-clear-spec =
     tie.close
     (tie.spec
+    shape-ok-requires
+    returns
+    sub-is-roomy
     is-roomy-requires
     same-length
     same-length-2
-    returns
-    shape-ok-requires
-    same-length-3
-    same-length-4
     returns-2
     clear-requires
     has-run-requires
     sub-hand-back
     hand-back-requires
     number-requires
+    same-length-3
+    same-length-4
     same-length-5
-    same-length-6
-    same-length-7
     returns-3)

@@ -1,17 +1,13 @@
 -- `trace::put_end` meets its contract. Assumes nothing.
 use borrow.Author.Needs.{needs}
 use Rattle.text.proofs.Laws.{laid-then}
-use Rattle.trace.proofs.Run.{end-short, no-line, some-line}
-use Rattle.trace.specs.Play.{endLine}
+use Rattle.trace.specs.Format.{endLine}
 use Rattle.trace.proofs.put_end.Statement.{statement}
 use Rattle.trace.proofs.put_end.Tie as tie
 use Rattle.trace.proofs.put_end.Reads as reads
 use Rattle.trace.proofs.put_end.Lts as lts
 use Rattle.text.proofs.put_bytes.Reads as put-bytes-reads
 use Rattle.text.proofs.put_number.Reads as put-number-reads
-
-returns : tie.Need-returns
-returns c = no-line _ _ (c .if1 .taken)
 
 slice-aggregate-put-bytes : tie.Need-slice-aggregate-put-bytes
 slice-aggregate-put-bytes c = search needs
@@ -40,15 +36,14 @@ put-bytes-requires-3 c κs = search needs
 same-length : tie.Need-same-length
 same-length c = search needs
 
-returns-2 : tie.Need-returns-2
+returns : tie.Need-returns
 unfolding endLine
-returns-2 c = some-line _ _ _ _ (c .before .before .before .before .before .before .before .before .before .before .before .before .before .before .before .before .before .before .before .before .before .before .before .if1 .left) (end-short _ _) (laid-then _ _ _ _ _ _ _ _ (c .before .before .before .before .before .before .before .before .before .before .before .before .before .before .before .before .before .before .before .before .put-bytes .ensures) (laid-then _ _ _ _ _ _ _ _ (c .before .before .before .before .before .before .before .before .before .before .before .before .before .before .before .before .put-number .ensures .0, c .before .before .before .before .before .before .before .before .before .before .before .before .before .before .before .before .put-number .ensures .2) (laid-then _ _ _ _ _ _ _ _ (c .before .before .before .before .before .before .before .before .before .before .before .put-bytes2 .ensures) (laid-then _ _ _ _ _ _ _ _ (c .before .before .before .before .before .before .before .put-number2 .ensures .0, c .before .before .before .before .before .before .before .put-number2 .ensures .2) (c .before .before .put-bytes3 .ensures)))))
+returns c = laid-then _ _ _ _ _ _ _ _ (c .before .before .before .before .before .before .before .before .before .before .before .before .before .before .before .before .before .before .before .before .put-bytes .ensures) (laid-then _ _ _ _ _ _ _ _ (c .before .before .before .before .before .before .before .before .before .before .before .before .before .before .before .before .put-number .ensures .0, c .before .before .before .before .before .before .before .before .before .before .before .before .before .before .before .before .put-number .ensures .2) (laid-then _ _ _ _ _ _ _ _ (c .before .before .before .before .before .before .before .before .before .before .before .put-bytes2 .ensures) (laid-then _ _ _ _ _ _ _ _ (c .before .before .before .before .before .before .before .put-number2 .ensures .0, c .before .before .before .before .before .before .before .put-number2 .ensures .2) (c .before .before .put-bytes3 .ensures))))
 
 pub put-end-spec : {M : Type 1} → statement M
 put-end-spec =
     tie.close
     (tie.spec
-    returns
     slice-aggregate-put-bytes
     put-bytes-requires
     put-number-requires
@@ -58,4 +53,4 @@ put-end-spec =
     slice-aggregate-put-bytes-3
     put-bytes-requires-3
     same-length
-    returns-2)
+    returns)

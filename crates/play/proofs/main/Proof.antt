@@ -1,0 +1,81 @@
+-- `play::main` meets its contract. Assumes nothing.
+use Prim.Native.Nat.{_-_, _<_, ℕ}
+use native.Mathlib.Omega.{arith}
+use mathlib.Core.Path.{_∙_, _≡_, sym}
+use lib.ListN.{length, length-replicate}
+use borrow.Author.Needs.{needs}
+use Rattle.trace.specs.Play.{outBytes, pieceBytes, programRecords}
+use Rattle.play.proofs.main.Statement.{statement}
+use Rattle.play.proofs.main.Tie as tie
+use Rattle.play.proofs.main.Reads as reads
+use Rattle.play.proofs.main.Lts as lts
+use Rattle.play.proofs.begin.Reads as begin-reads
+use Rattle.play.proofs.piece.Reads as piece-reads
+
+fewer : (n : ℕ) → 0 < n → n - 1 < n
+fewer n h = omega arith
+
+abbrev Inv-loop : tie.InvT-loop
+Inv-loop store₀ bytes₀ out₀ play₀ left₀ store bytes out play left = (length store ≡ 12282) × (length bytes ≡ pieceBytes programRecords) × (length out ≡ outBytes programRecords)
+
+abbrev μ-loop : tie.MeasureT-loop
+μ-loop store₀ bytes₀ out₀ play₀ left₀ store bytes out play left = left
+
+slice-aggregate-begin : tie.Need-slice-aggregate-begin Inv-loop μ-loop
+slice-aggregate-begin c = sym (length-replicate {A = ℕ} 12282 0)
+
+slice-aggregate-begin-2 : tie.Need-slice-aggregate-begin-2 Inv-loop μ-loop
+slice-aggregate-begin-2 c = sym (length-replicate {A = ℕ} 294984 0)
+
+begin-requires : tie.Need-begin-requires Inv-loop μ-loop
+begin-requires c κs = search needs
+
+loop-holds : tie.Need-loop-holds Inv-loop μ-loop
+loop-holds c = (c .before .before .begin .kept .0 ∙ length-replicate {A = ℕ} 12282 0, length-replicate {A = ℕ} 36864 0, c .before .before .begin .kept .1 .0 ∙ length-replicate {A = ℕ} 294984 0)
+
+returns : tie.Need-returns Inv-loop μ-loop
+returns c = search needs
+
+slice-aggregate-piece : tie.Need-slice-aggregate-piece Inv-loop μ-loop
+slice-aggregate-piece c = sym (c .before .before .before .before .loop .inv .0)
+
+slice-aggregate-piece-2 : tie.Need-slice-aggregate-piece-2 Inv-loop μ-loop
+slice-aggregate-piece-2 c = sym (c .before .before .before .before .before .loop .inv .1)
+
+slice-aggregate-piece-3 : tie.Need-slice-aggregate-piece-3 Inv-loop μ-loop
+slice-aggregate-piece-3 c = sym (c .before .before .before .before .before .before .loop .inv .2)
+
+piece-requires : tie.Need-piece-requires Inv-loop μ-loop
+piece-requires c κs = (c .before .before .before .before .before .before .loop .inv .1, c .before .before .before .before .before .before .loop .inv .2)
+
+sub-left : tie.Need-sub-left Inv-loop μ-loop
+sub-left c = c .before .before .before .before .before .before .before .before .before .loop-test .taken
+
+loop-less : tie.Need-loop-less Inv-loop μ-loop
+loop-less c = fewer _ (c .before .before .before .before .before .before .before .before .before .loop-test .taken)
+
+loop-again : tie.Need-loop-again Inv-loop μ-loop
+loop-again c = (c .before .before .before .piece .kept .0 ∙ c .before .before .before .before .before .before .before .before .before .before .loop .inv .0, c .before .before .before .piece .kept .1 .1 .0 ∙ c .before .before .before .before .before .before .before .before .before .before .loop .inv .1, c .before .before .before .piece .kept .1 .1 .1 .0 ∙ c .before .before .before .before .before .before .before .before .before .before .loop .inv .2)
+
+returns-2 : tie.Need-returns-2 Inv-loop μ-loop
+returns-2 c = search needs
+
+pub main-spec : {M : Type 1} → statement M
+main-spec =
+    tie.close
+    (tie.spec
+    Inv-loop
+    μ-loop
+    slice-aggregate-begin
+    slice-aggregate-begin-2
+    begin-requires
+    loop-holds
+    returns
+    slice-aggregate-piece
+    slice-aggregate-piece-2
+    slice-aggregate-piece-3
+    piece-requires
+    sub-left
+    loop-less
+    loop-again
+    returns-2)

@@ -1,0 +1,173 @@
+-- Every line of a played trace has a word: from a cleared machine no cycle is refused 1, 2 or 4. The last line says how many are stored.
+-- Assumes nothing.
+use Prim.Native.Nat.{_*_, _≤_, pred, suc, zero, ℕ}
+use native.Mathlib.Omega.{arith}
+use mathlib.Core.Bool.{_&&_, _||_, Bool, cond, false, true}
+use mathlib.Core.List.{[], _++_, _∷_, List}
+use mathlib.Core.Path.{_∙_, _≡_, ap, ap₂, refl, subst, sym}
+use lib.Dec.{eqb, leb, ltb}
+use lib.ListN.{drop, length, length-replicate}
+use borrow.Author.Tests.{le-leb, leb-true}
+use Rattle.clocked_model.proofs.Demand.{ran}
+use Rattle.clocked_model.proofs.Drain.{drain-left, drain-state}
+use Rattle.clocked_model.proofs.Exactly.{exactly-cycle, no-damage-sound, ticked-fine}
+use Rattle.clocked_model.proofs.Promises.{drained-fine, drained-left, held-says, shape-kept, undamaged}
+use Rattle.clocked_model.specs.Calls.{CycleOutcome, DrainOutcome, drains, heard, isRefused, pending, popsOrReplaces, restarted, runs, ticked, turned}
+use Rattle.clocked_model.specs.declared.State.{State}
+use Rattle.laws.specs.Tests.{and-left, and-right, and-true}
+use Rattle.strip.specs.Answers.{countOf, key}
+use Rattle.strip.specs.declared.Answer.the-variants.{Done, Out, Refused}
+use Rattle.strip.specs.declared.Count.{Count}
+use Rattle.strip.specs.declared.Count.the-variants.{Held}
+use Rattle.strip.specs.declared.Refusal.{Refusal}
+use Rattle.strip.specs.declared.Refusal.the-variants.{BadRank, BadShape, Damaged, Empty, Full, TooSoon}
+use Rattle.strip.specs.declared.Request.{Request}
+use Rattle.strip.specs.declared.Request.the-variants.{Idle, Pop, Push, Replace}
+use Rattle.trace.specs.Format.{byteAt, doneWord, endLine, headerBytes, headerOf, markOk, outWord, recordsOf, refusalWord, traceLimit, traceShape, wordOf}
+use Rattle.trace.specs.Program.{emptyStore, endOf, storeWords}
+use Rattle.trace.specs.Promise.{Silent, TraceWorded, Worded, WordedBy}
+use Rattle.trace.specs.declared.Header.{Header}
+use Rattle.trace.specs.declared.Header.the-variants.{Shape as Shaped, Wrong}
+use Rattle.trace.specs.declared.Record.{Record}
+use Rattle.trace.specs.declared.Record.the-variants.{Bad, Good}
+use Rattle.tree_model.proofs.Exactly.{is-shape, shape-is}
+use Rattle.tree_model.specs.Calls.{counted, orderOk, rule, ruling, shapeOk, slotLimit}
+use Rattle.tree_model.specs.Damage.{room}
+use Rattle.tree_model.specs.Node.{low, sumCounts}
+use Rattle.tree_model.specs.Promise.{Shape, stored}
+use Rattle.tree_model.specs.Tree.{always}
+use Rattle.tree_model.specs.Words.{width}
+use Rattle.tree_model.specs.declared.Op.the-variants.{Nothing, Put, Swap, Take}
+use Rattle.tree_model.specs.declared.Slot.{Slot}
+
+-- ---- what a request comes to has a word
+heard-word : (mark : Bool) (r : Request) (c : ℕ) (nd : List Slot) → wordOf r (heard mark r (rule c r nd) .answer) ≡ [] → ⊥
+unfolding heard rule popsOrReplaces wordOf doneWord refusalWord outWord
+heard-word true Idle c nd e = absurd (omega (arith, ap length e))
+heard-word false Idle c nd e = absurd (omega (arith, ap length e))
+heard-word true (Push x) c nd e = pushed (ltb (sumCounts nd) c) e
+  where
+    pushed : (b : Bool) → wordOf (Push x) (cond b (ruling Done (Put x)) (ruling (Refused Full) Nothing) .answer) ≡ [] → ⊥
+    pushed true e = absurd (omega (arith, ap length e))
+    pushed false e = absurd (omega (arith, ap length e))
+heard-word false (Push x) c nd e = pushed (ltb (sumCounts nd) c) e
+  where
+    pushed : (b : Bool) → wordOf (Push x) (cond b (ruling Done (Put x)) (ruling (Refused Full) Nothing) .answer) ≡ [] → ⊥
+    pushed true e = absurd (omega (arith, ap length e))
+    pushed false e = absurd (omega (arith, ap length e))
+heard-word true Pop c nd e = absurd (omega (arith, ap length e))
+heard-word false Pop c nd e = popped (eqb (sumCounts nd) 0) e
+  where
+    popped : (b : Bool) → wordOf Pop (cond b (ruling (Refused Empty) Nothing) (ruling (Out (low nd)) Take) .answer) ≡ [] → ⊥
+    popped true e = absurd (omega (arith, ap length e))
+    popped false e = absurd (omega (arith, ap length e))
+heard-word true (Replace x) c nd e = absurd (omega (arith, ap length e))
+heard-word false (Replace x) c nd e = replaced (eqb (sumCounts nd) 0 || ltb (key x) (key (low nd))) e
+  where
+    replaced : (b : Bool) → wordOf (Replace x) (cond b (ruling (Out x) Nothing) (ruling (Out (low nd)) (Swap x)) .answer) ≡ [] → ⊥
+    replaced true e = absurd (omega (arith, ap length e))
+    replaced false e = absurd (omega (arith, ap length e))
+
+pred-le : (n : ℕ) → pred n ≤ n
+pred-le zero = omega arith
+pred-le (suc n) = omega arith
+
+-- ---- one request more
+module _ (m levels : ℕ) where
+  run-next : (rs : List Request) (r : Request) (s : State) (ws : List ℕ)
+      → (runs m levels (rs ++ (r ∷ [])) s ws .state ≡ ticked m levels r (runs m levels rs s ws .state) (runs m levels rs s ws .words) .state)
+      × (runs m levels (rs ++ (r ∷ [])) s ws .words ≡ ticked m levels r (runs m levels rs s ws .state) (runs m levels rs s ws .words) .words)
+  unfolding runs
+  run-next [] r s ws = (refl, refl)
+  run-next (x ∷ rs) r s ws = run-next rs r (ticked m levels x s ws .state) (ticked m levels x s ws .words)
+
+-- ---- from a cleared machine, whatever the words before, with a shape
+module _ (m levels : ℕ) (ws : List ℕ) (sh : Shape m levels (length ws)) where
+  abbrev stateAt : List Request → State
+  stateAt rs = ran m levels rs ws .state
+
+  abbrev wordsAt : List Request → List ℕ
+  wordsAt rs = ran m levels rs ws .words
+
+  -- NONE SILENT: after any list of cycles no cycle is refused 1, 2 or 4
+  pub none-silent : (rs : List Request) (r : Request) (n : Refusal) → Silent n → ticked m levels r (stateAt rs) (wordsAt rs) .answer ≡ Refused n → ⊥
+  none-silent rs r BadShape q e = exactly-cycle m levels r (stateAt rs) (wordsAt rs) BadShape .0 e (shape-kept m ws rs levels sh)
+  none-silent rs r Damaged q e = undamaged m ws rs levels sh r (exactly-cycle m levels r (stateAt rs) (wordsAt rs) Damaged .0 e .1)
+  none-silent rs r TooSoon q e = q
+  none-silent rs r BadRank q e = exactly-cycle m levels r (stateAt rs) (wordsAt rs) BadRank .0 e
+  none-silent rs r Full q e = q
+  none-silent rs r Empty q e = q
+
+  word-some : (rs : List Request) (r : Request) → wordOf r (ticked m levels r (stateAt rs) (wordsAt rs) .answer) ≡ [] → ⊥
+  unfolding turned
+  word-some rs r e =
+      heard-word (stateAt rs .mark) r (room m levels) _
+      (sym (ap (λ (o : CycleOutcome). wordOf r (o .answer)) (ticked-fine m levels r (stateAt rs) (wordsAt rs)
+      (is-shape m levels (length (wordsAt rs)) (shape-kept m ws rs levels sh))
+      (no-damage-sound m levels r (stateAt rs) (wordsAt rs) (undamaged m ws rs levels sh r)))) ∙ e)
+
+  worded-from : (es : List Record) (rs : List Request) → Worded m levels (stateAt rs) (wordsAt rs) es
+  worded-from [] rs = tt
+  worded-from (Bad ∷ es) rs = tt
+  worded-from (Good r ∷ es) rs =
+      let n = run-next m levels rs r (restarted m levels ws .state) (restarted m levels ws .words) in
+      (word-some rs r, subst (λ (x : State × List ℕ). Worded m levels (x .0) (x .1) es) (ap₂ (λ (s : State) (w : List ℕ). (s, w)) (n .0) (n .1)) (worded-from es (rs ++ (r ∷ []))))
+
+  -- THE LAST LINE: after any list of cycles the drain is not refused and leaves no work, and the line says how many are stored
+  abbrev drained : List Request → DrainOutcome
+  drained rs = drains m levels levels (stateAt rs) (wordsAt rs)
+
+  pub end-done : (rs : List Request) → (isRefused (drained rs .answer) ≡ false) × (drained rs .left ≡ false)
+  end-done rs = (drained-fine m ws rs levels sh levels (pred-le levels), drained-left m ws rs levels sh levels (pred-le levels))
+
+  pub end-says : (rs : List Request) → endOf m levels (stateAt rs) (wordsAt rs) ≡ endLine (stored (room m levels) (drained rs .words) always) (drained rs .cycles)
+  unfolding endOf
+  end-says rs = ap (λ (c : Count). endLine (countOf c) (drained rs .cycles)) (held-at rs)
+    where
+      held-at : (rs : List Request) → counted m levels (drained rs .words) ≡ Held (stored (room m levels) (drained rs .words) always)
+      held-at rs =
+          let d = drain-state m levels levels (stateAt rs) (wordsAt rs) in
+          subst (λ (v : List ℕ). counted m levels v ≡ Held (stored (room m levels) v always)) (sym (d .0))
+          (held-says m ws rs levels sh (drained rs .cycles)
+          (ap (pending m levels) (sym (d .1)) ∙ sym (drain-left m levels levels (stateAt rs) (wordsAt rs) (shape-kept m ws rs levels sh)) ∙ end-done rs .1))
+
+-- ---- the program's shapes
+trace-shape : (m levels : ℕ) → traceShape m levels ≡ true → Shape m levels storeWords
+unfolding traceShape shapeOk
+trace-shape m levels e =
+    let ord = and-left (orderOk m) (leb 1 levels && leb (room m levels) traceLimit) e in
+    let rest = and-right (orderOk m) (leb 1 levels && leb (room m levels) traceLimit) e in
+    let few : room m levels ≤ traceLimit = leb-true (room m levels) traceLimit (and-right (leb 1 levels) (leb (room m levels) traceLimit) rest) in
+    shape-is m levels storeWords
+    (and-true (orderOk m) (leb 1 levels && (leb (room m levels) slotLimit && leb (width * room m levels) storeWords)) ord
+    (and-true (leb 1 levels) (leb (room m levels) slotLimit && leb (width * room m levels) storeWords) (and-left (leb 1 levels) (leb (room m levels) traceLimit) rest)
+    (and-true (leb (room m levels) slotLimit) (leb (width * room m levels) storeWords) (le-leb (room m levels) slotLimit (omega arith)) (le-leb (width * room m levels) storeWords (omega arith)))))
+
+-- a header of a shape is one of the program's
+pub header-shaped : (bs : List ℕ) (m levels : ℕ) → headerOf bs ≡ Shaped m levels → Shape m levels storeWords
+unfolding headerOf
+header-shaped bs m levels e = go (leb headerBytes (length bs) && (markOk bs && traceShape (byteAt bs 5) (byteAt bs 6))) refl e
+  where
+    go : (b : Bool) → (leb headerBytes (length bs) && (markOk bs && traceShape (byteAt bs 5) (byteAt bs 6))) ≡ b → cond b (Shaped (byteAt bs 5) (byteAt bs 6)) Wrong ≡ Shaped m levels → Shape m levels storeWords
+    go true t p =
+        let e5 : byteAt bs 5 ≡ m = cc in
+        let e6 : byteAt bs 6 ≡ levels = cc in
+        let ok = and-right (markOk bs) (traceShape (byteAt bs 5) (byteAt bs 6)) (and-right (leb headerBytes (length bs)) (markOk bs && traceShape (byteAt bs 5) (byteAt bs 6)) t) in
+        trace-shape m levels (sym (ap₂ traceShape e5 e6) ∙ ok)
+    go false t p = let z : _≡_ {A = ℕ} 0 1 = cc in absurd (omega arith)
+
+store-length : length emptyStore ≡ storeWords
+unfolding emptyStore
+store-length = length-replicate {A = ℕ} storeWords 0
+
+at-first : (m levels : ℕ) (ws : List ℕ) → Shape m levels (length ws) → (es : List Record) → Worded m levels (restarted m levels ws .state) (restarted m levels ws .words) es
+unfolding runs
+at-first m levels ws sh es = worded-from m levels ws sh es []
+
+-- WORDED: every line of every trace has a word
+pub worded : (bs : List ℕ) → TraceWorded bs
+worded bs = go (headerOf bs) refl
+  where
+    go : (h : Header) → headerOf bs ≡ h → WordedBy h (recordsOf (drop headerBytes bs))
+    go Wrong e = tt
+    go (Shaped m levels) e = at-first m levels emptyStore (subst (Shape m levels) (sym store-length) (header-shaped bs m levels e)) (recordsOf (drop headerBytes bs))

@@ -1,0 +1,15 @@
+-- 01's worked trace, and what it gives. Assumes nothing: these are definitions.
+use Prim.Native.Nat.{ℕ}
+use mathlib.Core.List.{[], _++_, _∷_, List}
+use Rattle.text.specs.Text.{bytesOf}
+
+-- a record of nine bytes, of a small rank and tag
+abbrev small : ℕ → ℕ → ℕ → List ℕ
+small code rank tag = code ∷ rank ∷ 0 ∷ 0 ∷ 0 ∷ tag ∷ 0 ∷ 0 ∷ 0 ∷ []
+
+-- "Order 2, levels 2, records push 5/50, pop, pop, pop"
+abbrev pub example : List ℕ
+example = bytesOf "PFT" ++ ((1 ∷ 0 ∷ 2 ∷ 2 ∷ []) ++ (small 1 5 50 ++ (small 2 0 0 ++ (small 2 0 0 ++ small 2 0 0))))
+
+abbrev pub exampleSays : List ℕ
+exampleSays = bytesOf "1 pushed\n2 too soon\n3 out 5 50\n4 too soon\nheld 0 drained 0\n"

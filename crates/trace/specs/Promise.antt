@@ -1,0 +1,40 @@
+-- What is promised of a played trace beside its text. Assumes nothing: these are definitions.
+use Prim.Native.Nat.{ℕ}
+use mathlib.Core.List.{[], _∷_, List}
+use mathlib.Core.Path.{_≡_}
+use lib.ListN.{drop}
+use Rattle.clocked_model.specs.Calls.{restarted, ticked}
+use Rattle.clocked_model.specs.declared.State.{State}
+use Rattle.strip.specs.declared.Refusal.{Refusal}
+use Rattle.strip.specs.declared.Refusal.the-variants.{BadRank, BadShape, Damaged, Empty, Full, TooSoon}
+use Rattle.trace.specs.Format.{headerBytes, headerOf, recordsOf, wordOf}
+use Rattle.trace.specs.Program.{emptyStore}
+use Rattle.trace.specs.declared.Header.{Header}
+use Rattle.trace.specs.declared.Header.the-variants.{Shape, Wrong}
+use Rattle.trace.specs.declared.Record.{Record}
+use Rattle.trace.specs.declared.Record.the-variants.{Bad, Good}
+
+-- refusals 1, 2 and 4, which have no word
+abbrev pub Silent : Refusal → Type 0
+Silent BadShape = Unit {0}
+Silent Damaged = Unit {0}
+Silent TooSoon = ⊥
+Silent BadRank = Unit {0}
+Silent Full = ⊥
+Silent Empty = ⊥
+
+-- every line that these records write has a word
+abbrev pub Worded : ℕ → ℕ → State → List ℕ → List Record → Type 0
+Worded m levels s ws [] = Unit {0}
+Worded m levels s ws (Bad ∷ es) = Unit {0}
+Worded m levels s ws (Good r ∷ es) =
+    (wordOf r (ticked m levels r s ws .answer) ≡ [] → ⊥) × Worded m levels (ticked m levels r s ws .state) (ticked m levels r s ws .words) es
+
+abbrev pub WordedBy : Header → List Record → Type 0
+WordedBy Wrong es = Unit {0}
+WordedBy (Shape m levels) es =
+    Worded m levels (restarted m levels emptyStore .state) (restarted m levels emptyStore .words) es
+
+-- .. of a whole trace
+abbrev pub TraceWorded : List ℕ → Type 0
+TraceWorded bs = WordedBy (headerOf bs) (recordsOf (drop headerBytes bs))
