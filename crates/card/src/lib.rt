@@ -72,7 +72,11 @@ pub extern "C" fn card_tree_push(
 ) -> u32
     ensures { λ r. ⌜ treeAfter r (now (store .exit)) ≡ treePush order levels (now (store .entry)) rank tag ⌝ }
 {
-    number(tree::push(store, order as usize, levels as usize, Rank(rank), Tag(tag)))
+    let x = Element {
+        rank: Rank(rank),
+        tag: Tag(tag),
+    };
+    number(tree::push(store, order as usize, levels as usize, x))
 }
 
 #[no_mangle]
@@ -100,7 +104,11 @@ pub extern "C" fn card_tree_replace(
     if out.len() < OUT {
         return 1;
     }
-    let answer = tree::replace(store, order as usize, levels as usize, Rank(rank), Tag(tag));
+    let x = Element {
+        rank: Rank(rank),
+        tag: Tag(tag),
+    };
+    let answer = tree::replace(store, order as usize, levels as usize, x);
     tell(out, answer)
 }
 

@@ -34,8 +34,15 @@ fn say_words(words: &[u32]) {
     io::write_all(1, b"\n");
 }
 
+fn element(rank: u32, tag: u32) -> Element {
+    Element {
+        rank: Rank(rank),
+        tag: Tag(tag),
+    }
+}
+
 fn push(store: &mut [u32], rank: u32, tag: u32) {
-    say_answer(b"push ", tree::push(store, 2, 2, Rank(rank), Tag(tag)));
+    say_answer(b"push ", tree::push(store, 2, 2, element(rank, tag)));
 }
 
 fn pop(store: &mut [u32]) {
@@ -62,7 +69,7 @@ fn popped(store: &mut [u32]) {
 
 fn replaced(store: &mut [u32], rank: u32) {
     fill(store);
-    say_answer(b"replace ", tree::replace(store, 2, 2, Rank(rank), Tag(7)));
+    say_answer(b"replace ", tree::replace(store, 2, 2, element(rank, 7)));
     say_words(store);
 }
 

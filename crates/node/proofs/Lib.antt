@@ -1,4 +1,5 @@
 pub mod Scan
-pub mod Steps
 pub mod Looks
+pub mod Steps
 pub mod Rulings
+pub mod Moves

@@ -1,19 +1,20 @@
 -- The scans that keep the best number read so far choose the same places. Assumes nothing.
-use Prim.Native.Nat.{_*_, _+_, _-_, _/_, _<_, _≤_, pred, suc, zero, ℕ}
-use native.Mathlib.Nat.{add-mul-div-right, div-eq-of-lt, mul-comm, mul-le-mul-right, mul-suc, zero-add}
+use Prim.Native.Nat.{_*_, _+_, _-_, _/_, _<_, _≤_, suc, zero, ℕ}
+use native.Mathlib.Nat.{add-mul-div-right, div-eq-of-lt, mul-comm, mul-suc, zero-add}
 use native.Mathlib.Numerals.{add-one}
 use native.Mathlib.Omega.{arith}
 use mathlib.Core.Bool.{_&&_, _||_, Bool, cond, false, not, true}
 use mathlib.Core.List.{List}
 use mathlib.Core.Path.{_∙_, _≡_, ap, ap₂, refl, subst, sym}
-use lib.Dec.{eqb, leb, ltb}
+use lib.Dec.{leb, ltb}
 use lib.ListN.{length}
-use borrow.Author.Tests.{eq-eqb, le-leb, le-ltb, leb-false, leb-true, lt-leb, lt-ltb, ltb-false, ltb-true, ne-eqb}
-use Rattle.node.specs.Scan.{beats, bestKey, fewest, keyOr, most, RoomUnder, scanLeast, scanLow}
+use borrow.Author.Tests.{le-leb, le-ltb, lt-leb, lt-ltb}
+use Rattle.node.proofs.Scan.{bestKey, everyTo, fewest, low-end, node-ok-end, scan-least, scanLeast, scanLow}
+use Rattle.node.specs.Scan.{beats, keyOr, most}
 use Rattle.strip.specs.Answers.{key}
 use Rattle.tree_model.proofs.Words.{node-length, node-slot}
-use Rattle.tree_model.specs.Damage.{room}
-use Rattle.tree_model.specs.Node.{isEmpty, slotAt}
+use Rattle.tree_model.specs.Damage.{nodeOk, slotOk}
+use Rattle.tree_model.specs.Node.{isEmpty, leastCount, lowest, slotAt}
 use Rattle.tree_model.specs.Words.{nodeOf, slotOf}
 use Rattle.tree_model.specs.declared.Slot.{Slot}
 
@@ -99,18 +100,19 @@ module _ (m : ℕ) (ws : List ℕ) (i : ℕ) where
   unfolding bestKey
   low-key-start = sym (ap (λ (t : Bool). cond t most (key (slotAt nd m .element))) (le-leb (length nd) m (omega (arith, node-length m ws i))))
 
+  -- ---- where the scan has come to the end
+  module _ (r j best : ℕ) (ok : Bool) (end : j ≡ m) (tested : ok ≡ everyTo (slotOk r) nd j) where
+    pub least-looked : 0 < m → best ≡ scanLeast nd j → (ok ≡ nodeOk r nd) × ((best ≡ leastCount nd) × (best < m))
+    least-looked h e =
+        let p = scan-least m ws i h in
+        let b : best ≡ scanLeast nd m = e ∙ ap (scanLeast nd) end in
+        (node-ok-end m ws i r j ok end tested, (b ∙ p .0, omega (arith, p .1)))
+
+    pub low-looked : best ≡ scanLow nd j → best ≤ m → (ok ≡ nodeOk r nd) × ((best ≡ lowest nd) × (best ≤ m))
+    low-looked e h = (node-ok-end m ws i r j ok end tested, (low-end m ws i j best end e, h))
+
 -- ---- the room below the next level's slots
-under-div : (m r q : ℕ) → 0 < m → r ≡ m * suc q → (r - 1) / m ≡ q
+pub under-div : (m r q : ℕ) → 0 < m → r ≡ m * suc q → (r - 1) / m ≡ q
 under-div m r q h e =
     let s : r - 1 ≡ (m - 1) + q * m = omega (arith, mul-suc m q, mul-comm m q) in
     ap (λ (n : ℕ). n / m) s ∙ add-mul-div-right (m - 1) q h ∙ ap (λ (n : ℕ). n + q) (div-eq-of-lt (omega arith)) ∙ zero-add q
-
-pub under-none : (m r : ℕ) → 0 < m → r ≡ 0 → RoomUnder m r 0
-unfolding room
-under-none m r h z zero e = refl
-under-none m r h z (suc k) e = absurd (omega (arith, mul-le-mul-right (suc (room m k)) h))
-
-pub under-some : (m d r : ℕ) → 0 < m → m ≡ d → (r ≡ 0 → ⊥) → RoomUnder m r ((r - 1) / d)
-unfolding room
-under-some m d r h s z zero e = absurd (z e)
-under-some m d r h s z (suc k) e = ap (λ (d : ℕ). (r - 1) / d) (sym s) ∙ under-div m r (room m k) h e

@@ -1,5 +1,4 @@
 -- The scans find the places that the rules choose. Assumes nothing.
--- below j, or j
 use Prim.Native.Nat.{_+_, _<_, _≤_, suc, zero, ℕ}
 use native.Mathlib.Nat.{le-of-eq, le-of-lt, not-suc-le-zero}
 use native.Mathlib.Numerals.{add-one}
@@ -8,19 +7,46 @@ use mathlib.Core.Bool.{_&&_, _||_, Bool, cond, false, not, true}
 use mathlib.Core.List.{[], _∷_, List}
 use mathlib.Core.Path.{_∙_, _≡_, ap, refl, subst, sym}
 use lib.Dec.{leb, ltb}
-use lib.ListN.{length, List·getD-eq-default}
-use borrow.Author.Tests.{eq-eqb, le-leb, le-ltb, leb-false, leb-true, lt-leb, lt-ltb, ltb-false, ltb-true, ne-eqb}
+use lib.ListN.{length}
+use borrow.Author.Tests.{leb-false, leb-true, ltb-false, ltb-true}
 use Rattle.laws.specs.Tests.{and-assoc, and-unit}
-use Rattle.node.specs.Scan.{beats, everyTo, scanLeast, scanLow, sumCountsTo}
-use Rattle.strip.specs.Answers.{blank, key}
+use Rattle.node.specs.Scan.{beats, most}
+use Rattle.strip.specs.Answers.{key}
 use Rattle.tree_model.proofs.Choice.{filled, least-unique, lowest-none, lowest-unique, void}
 use Rattle.tree_model.proofs.Hang.{past}
 use Rattle.tree_model.proofs.Words.{node-length, node-slot}
 use Rattle.tree_model.specs.Damage.{nodeOk, slotOk}
-use Rattle.tree_model.specs.Node.{every, isEmpty, leastCount, low, lowest, slotAt, sumCounts, vacant}
+use Rattle.tree_model.specs.Node.{every, isEmpty, leastCount, low, lowest, slotAt, sumCounts}
 use Rattle.tree_model.specs.Words.{nodeOf, slotOf}
 use Rattle.tree_model.specs.declared.Slot.{Slot}
 
+-- ---- the scans, over the first j places
+unfoldable pub scanLeast : List Slot → ℕ → ℕ
+scanLeast nd zero = 0
+scanLeast nd (suc j) = cond (ltb (slotAt nd j .count) (slotAt nd (scanLeast nd j) .count)) j (scanLeast nd j)
+
+unfoldable pub scanLow : List Slot → ℕ → ℕ
+scanLow nd zero = length nd
+scanLow nd (suc j) = cond (beats nd j (scanLow nd j)) j (scanLow nd j)
+
+-- the first j slots pass a test, and the sum of their counts
+unfoldable pub everyTo : (Slot → Bool) → List Slot → ℕ → Bool
+everyTo f nd zero = true
+everyTo f nd (suc j) = everyTo f nd j && f (slotAt nd j)
+
+unfoldable pub sumCountsTo : List Slot → ℕ → ℕ
+sumCountsTo nd zero = 0
+sumCountsTo nd (suc j) = sumCountsTo nd j + slotAt nd j .count
+
+-- the best number read so far, above every number where there is none: the smallest of the first j counts, and the rank of the best place
+unfoldable pub fewest : List Slot → ℕ → ℕ
+fewest nd zero = most
+fewest nd (suc j) = slotAt nd (scanLeast nd (suc j)) .count
+
+unfoldable pub bestKey : List Slot → ℕ → ℕ
+bestKey nd b = cond (leb (length nd) b) most (key (slotAt nd b .element))
+
+-- below j, or j
 last-case : (a j : ℕ) (P : Type 0) → a < suc j → (a < j → P) → (a ≡ j → P) → P
 last-case a j P h f g = go (ltb a j) refl
   where
@@ -150,45 +176,6 @@ module _ (m : ℕ) (ws : List ℕ) (i : ℕ) where
   abbrev nd : List Slot
   nd = nodeOf m ws i
 
-  least-next : (j b : ℕ) (x y : Slot) → j < m → b < m → b ≡ scanLeast nd j → x ≡ slotOf ws (i + j) → y ≡ slotOf ws (i + b)
-      → cond (ltb (x .count) (y .count)) j b ≡ scanLeast nd (j + 1)
-  unfolding scanLeast
-  least-next j b x y hj hb e ex ey = rw (add-one, ← e, node-slot m ws i j hj, node-slot m ws i b hb, ← ex, ← ey)
-
-  pub least-taken : (j b : ℕ) (x y : Slot) → j < m → b < m → b ≡ scanLeast nd j → x ≡ slotOf ws (i + j) → y ≡ slotOf ws (i + b)
-      → x .count < y .count → (r : ℕ) → r ≡ j → r ≡ scanLeast nd (j + 1)
-  least-taken j b x y hj hb e ex ey lt r er = er ∙ sym (ap (λ (t : Bool). cond t j b) (lt-ltb (x .count) (y .count) lt)) ∙ least-next j b x y hj hb e ex ey
-
-  pub least-stays : (j b : ℕ) (x y : Slot) → j < m → b < m → b ≡ scanLeast nd j → x ≡ slotOf ws (i + j) → y ≡ slotOf ws (i + b)
-      → y .count ≤ x .count → (r : ℕ) → r ≡ b → r ≡ scanLeast nd (j + 1)
-  least-stays j b x y hj hb e ex ey le r er = er ∙ sym (ap (λ (t : Bool). cond t j b) (le-ltb (x .count) (y .count) le)) ∙ least-next j b x y hj hb e ex ey
-
-  -- better
-  pub beats-none : (j b : ℕ) (x : Slot) → j < m → x ≡ slotOf ws (i + j) → x .count ≡ 0 → false ≡ beats nd j b
-  unfolding beats isEmpty
-  beats-none j b x hj ex z = rw (node-slot m ws i j hj, ← ex, eq-eqb (x .count) 0 z)
-
-  pub beats-first : (j b : ℕ) (x : Slot) → j < m → x ≡ slotOf ws (i + j) → (x .count ≡ 0 → ⊥) → b ≡ m → true ≡ beats nd j b
-  unfolding beats isEmpty
-  beats-first j b x hj ex z e = rw (node-slot m ws i j hj, ← ex, ne-eqb (x .count) 0 z, le-leb (length nd) b (omega (arith, node-length m ws i)))
-
-  pub beats-lower : (j b : ℕ) (x y : Slot) (r : Bool) → j < m → x ≡ slotOf ws (i + j) → (x .count ≡ 0 → ⊥) → b < m → y ≡ slotOf ws (i + b)
-      → r ≡ ltb (key (x .element)) (key (y .element)) → r ≡ beats nd j b
-  unfolding beats isEmpty
-  beats-lower j b x y r hj ex z hb ey er =
-      er ∙ sym (rw (node-slot m ws i j hj, ← ex, ne-eqb (x .count) 0 z, lt-leb (length nd) b (omega (arith, node-length m ws i)), node-slot m ws i b hb, ← ey))
-
-  -- the scan for the lowest
-  low-next : (j b : ℕ) (t : Bool) → b ≡ scanLow nd j → t ≡ beats nd j b → cond t j b ≡ scanLow nd (j + 1)
-  unfolding scanLow
-  low-next j b t e et = rw (add-one, ← e, ← et)
-
-  pub low-taken : (j b : ℕ) (t : Bool) → b ≡ scanLow nd j → t ≡ beats nd j b → t ≡ true → (r : ℕ) → r ≡ j → r ≡ scanLow nd (j + 1)
-  low-taken j b t e et tt′ r er = er ∙ sym (ap (λ (t : Bool). cond t j b) tt′) ∙ low-next j b t e et
-
-  pub low-stays : (j b : ℕ) (t : Bool) → b ≡ scanLow nd j → t ≡ beats nd j b → t ≡ false → (r : ℕ) → r ≡ b → r ≡ scanLow nd (j + 1)
-  low-stays j b t e et ff r er = er ∙ sym (ap (λ (t : Bool). cond t j b) ff) ∙ low-next j b t e et
-
   pub low-start : m ≡ scanLow nd 0
   unfolding scanLow
   low-start = sym (node-length m ws i)
@@ -200,10 +187,6 @@ module _ (m : ℕ) (ws : List ℕ) (i : ℕ) where
   pub low-found : (j : ℕ) (x : Slot) → j ≡ lowest nd → j < m → x ≡ slotOf ws (i + j) → x .element ≡ low nd
   unfolding low
   low-found j x e hj ex = ap (λ (s : Slot). s .element) (ex ∙ sym (node-slot m ws i j hj)) ∙ ap (λ (j : ℕ). slotAt nd j .element) e
-
-  pub low-none : (j : ℕ) → j ≡ lowest nd → j ≡ m → blank ≡ low nd
-  unfolding low slotAt vacant
-  low-none j e h = sym (ap (λ (s : Slot). s .element) (List·getD-eq-default nd vacant (omega (arith, node-length m ws i))))
 
   -- tests and sums
   pub every-next : (f : Slot → Bool) (j : ℕ) (x : Slot) (t u : Bool) → j < m → t ≡ everyTo f nd j → x ≡ slotOf ws (i + j) → u ≡ f x → (t && u) ≡ everyTo f nd (j + 1)

@@ -1,23 +1,23 @@
 -- What the code of a node's tests and steps has read makes the test's answer and the step. Assumes nothing.
 use Prim.Native.Nat.{_*_, _+_, _-_, _<_, _≤_, pred, suc, zero, ℕ}
-use native.Mathlib.Nat.{mul-le-mul, mul-le-mul-right, pos-of-ne-zero, suc-add, zero-add}
+use native.Mathlib.Nat.{mul-le-mul-right, pos-of-ne-zero, suc-add, zero-add}
 use native.Mathlib.Numerals.{add-one}
 use native.Mathlib.Omega.{arith}
-use mathlib.Core.Bool.{_&&_, _||_, Bool, cond, false, false≢true, not, true}
+use mathlib.Core.Bool.{_&&_, _||_, Bool, false, false≢true, not, true}
 use mathlib.Core.List.{List}
 use mathlib.Core.Path.{_∙_, _≡_, ap, ap₂, refl, subst, sym}
 use lib.Dec.{eqb, leb, ltb}
 use lib.ListN.{length}
 use borrow.Author.Tests.{eqb-true, le-leb, le-ltb, leb-false, leb-true, lt-leb, lt-ltb, not-false, not-true}
 use Rattle.laws.specs.Lists.{All}
-use Rattle.laws.specs.Tests.{and-right, and-unit, sub-one}
-use Rattle.node.specs.Scan.{Capacity, childOf, ChildrenIn, Doable, liftOk, lowBelow, NodeIn}
+use Rattle.laws.specs.Tests.{and-unit, sub-one}
+use Rattle.node.specs.Scan.{Capacity, childOf, liftOk, lowBelow}
 use Rattle.strip.specs.Answers.{blank, key}
 use Rattle.strip.specs.declared.Element.{Element}
 use Rattle.tree_model.proofs.Choice.{all-slotAt, every-all, least-empty, least-full, least-in, lowest-is, lowest-none, void}
 use Rattle.tree_model.proofs.Exactly.{room-fails, slot-limit}
 use Rattle.tree_model.proofs.Place.{least-room}
-use Rattle.tree_model.proofs.Words.{has-sum, node-length, node-slot, some-sum}
+use Rattle.tree_model.proofs.Words.{node-length, node-slot, some-sum}
 use Rattle.tree_model.specs.Calls.{orderOk, shapeOk, slotLimit}
 use Rattle.tree_model.specs.Damage.{hasRoom, hasSome, lifts, nodeOk, readOk, room, slotOk, stepOk}
 use Rattle.tree_model.specs.Node.{every, firstEmpty, isEmpty, keep, leastCount, low, lowest, move, opMove, pass, putBy, putMove, slotAt, sumCounts, swapBy, swapMove, takeBy, takeMove}
@@ -48,12 +48,6 @@ capacity-end m levels i r e p =
 pub capacity-above : (m levels i r : ℕ) → 0 < m → i ≤ levels → slotLimit < r → r ≡ room m i → Capacity m levels r
 capacity-above m levels i r h l a p = record { within = λ w. absurd (omega (arith, room-up m i levels h l)); above = λ w. a }
 
-pub child-in : (m f j : ℕ) (ws : List ℕ) → 0 < m → j < m → ChildrenIn m f ws → NodeIn m (f + j * m) ws
-child-in m f j ws h lt c = record { order = h; words = omega (arith, mul-le-mul-right m lt) }
-
-pub child-small : (m j : ℕ) → m ≤ 8 → j < m → j * m ≤ 64
-child-small m j h lt = omega (arith, mul-le-mul h h, mul-le-mul-right m lt)
-
 -- a slot's count by its words
 module _ (m : ℕ) (ws : List ℕ) (i : ℕ) (j : ℕ) (a : Slot) (inside : j < m) (read : a ≡ slotOf ws (i + j)) where
   abbrev nd : List Slot
@@ -64,11 +58,8 @@ module _ (m : ℕ) (ws : List ℕ) (i : ℕ) (j : ℕ) (a : Slot) (inside : j < 
 
   -- ---- put
   module _ (at-least : j ≡ leastCount nd) where
-    least-count-is : slotAt nd (leastCount nd) .count ≡ a .count
+    pub least-count-is : slotAt nd (leastCount nd) .count ≡ a .count
     least-count-is = ap (λ (s : Slot). s .count) (read-slot (leastCount nd) at-least)
-
-    pub least-small : slotAt nd (leastCount nd) .count ≤ slotLimit → a .count ≤ slotLimit
-    least-small h = omega (arith, least-count-is)
 
     pub put-first : (x : Element) (v : Move) → a .count ≡ 0 → v ≡ move j x 1 Nothing → v ≡ putMove x nd
     unfolding putMove putBy
@@ -84,19 +75,6 @@ module _ (m : ℕ) (ws : List ℕ) (i : ℕ) (j : ℕ) (a : Slot) (inside : j < 
         ap (λ (b : Bool). putBy b x nd) (le-ltb (firstEmpty nd) (length nd) (least-full nd (λ z. n (sym least-count-is ∙ z))))
         ∙ ap (λ (p : ℕ). move p (keep x (slotAt nd p .element)) (suc (slotAt nd p .count)) (Put (pass x (slotAt nd p .element)))) (sym at-least)
         ∙ ap (λ (s : Slot). move j (keep x (s .element)) (suc (s .count)) (Put (pass x (s .element)))) (read-slot j refl)
-
-    put-by : (x : Element) (b : Bool) → ltb (key x) (key (a .element)) ≡ b → (a .count ≡ 0 → ⊥)
-        → move j (cond b x (a .element)) (a .count + 1) (Put (cond b (a .element) x)) ≡ putMove x nd
-    unfolding keep pass
-    put-by x b t n = sym (put-full x n ∙ ap₂ (λ (b : Bool) (c : ℕ). move j (cond b x (a .element)) c (Put (cond b (a .element) x))) t (sym (add-one (a .count))))
-
-    pub put-lower : (x : Element) (b : Bool) (v : Move) → b ≡ ltb (key x) (key (a .element)) → b ≡ true → (a .count ≡ 0 → ⊥)
-        → v ≡ move j x (a .count + 1) (Put (a .element)) → v ≡ putMove x nd
-    put-lower x b v t e n p = p ∙ put-by x true (sym t ∙ e) n
-
-    pub put-higher : (x : Element) (b : Bool) (v : Move) → b ≡ ltb (key x) (key (a .element)) → b ≡ false → (a .count ≡ 0 → ⊥)
-        → v ≡ move j (a .element) (a .count + 1) (Put x) → v ≡ putMove x nd
-    put-higher x b v t e n p = p ∙ put-by x false (sym t ∙ e) n
 
     -- the test: the smallest count leaves room exactly where not every count is at its limit
     room-test : (r : ℕ) → nodeOk r nd ≡ true → leb (a .count) r ≡ hasRoom r nd
@@ -120,7 +98,7 @@ module _ (m : ℕ) (ws : List ℕ) (i : ℕ) (j : ℕ) (a : Slot) (inside : j < 
     abbrev child : ℕ → List Slot
     child = childOf m f ws
 
-    low-count : slotAt nd (lowest nd) .count ≡ a .count
+    pub low-count : slotAt nd (lowest nd) .count ≡ a .count
     low-count = ap (λ (s : Slot). s .count) (read-slot (lowest nd) at-lowest)
 
     pub take-ends : (b : Element) (v : Move) → a .count ≤ 1 → b ≡ blank → v ≡ move j b 0 Nothing → v ≡ takeMove nd (lowBelow m f ws)
@@ -161,10 +139,6 @@ module _ (m : ℕ) (ws : List ℕ) (i : ℕ) (j : ℕ) (a : Slot) (inside : j < 
         ∙ ap (λ (p : ℕ). move p (low (child p)) (slotAt nd (lowest nd) .count) (Swap x)) at-lowest
         ∙ sym (swap-as x false (rw (lt-leb (a .count) 1 h, ← eu, ← t, eb)))
 
-    -- the node below, where the count is above 1
-    pub child-node : 0 < m → (1 < slotAt nd (lowest nd) .count → ChildrenIn m f ws) → 1 < a .count → NodeIn m (f + j * m) ws
-    child-node h g lt = child-in m f j ws h inside (g (omega (arith, low-count)))
-
     -- ---- the tests of a take or swap
     lifts-is : (b : Bool) → leb (a .count) 1 ≡ b → lifts Take nd ≡ not b
     unfolding lifts
@@ -189,21 +163,6 @@ module _ (m : ℕ) (ws : List ℕ) (i : ℕ) (j : ℕ) (a : Slot) (inside : j < 
         absurd (omega (arith, slot-limit 0 (slotAt nd (lowest nd)) lim, low-count))
     below-some (suc k) ok h = omega arith
 
--- the first test of a take or swap, by the capacity that was counted
-module _ (m k cap : ℕ) (nd : List Slot) (t : Bool) (counted : Capacity m k cap) (limit : room m k ≤ slotLimit) (read : t ≡ (nodeOk cap nd && hasSome nd)) where
-  read-as : t ≡ (nodeOk (room m k) nd && hasSome nd)
-  read-as = read ∙ ap (λ (n : ℕ). nodeOk n nd && hasSome nd) (counted .within limit)
-
-  pub read-yes : not t ≡ false → (nodeOk (room m k) nd && hasSome nd) ≡ true
-  read-yes e = sym read-as ∙ not-false t e
-
-  pub read-no : (child : ℕ → List Slot) → not t ≡ true → false ≡ liftOk m k nd child
-  unfolding liftOk stepOk readOk
-  read-no child e = rw (← read-as, not-true t e)
-
-  pub read-again : (n : ℕ) → k ≡ n → t ≡ (nodeOk (room m n) nd && hasSome nd)
-  read-again n e = read-as ∙ ap (λ (n : ℕ). nodeOk (room m n) nd && hasSome nd) e
-
 -- some slot is occupied exactly where the scan finds one
 pub some-test : (m : ℕ) (ws : List ℕ) (i j : ℕ) (r : ℕ) (t : Bool) → j ≡ lowest (nodeOf m ws i) → t ≡ nodeOk r (nodeOf m ws i)
     → (t && ltb j m) ≡ (nodeOk r (nodeOf m ws i) && hasSome (nodeOf m ws i))
@@ -219,9 +178,6 @@ some-test m ws i j r t e et = rw et (ap (λ (b : Bool). nodeOk r (nodeOf m ws i)
 
 pub lowest-in : (m : ℕ) (ws : List ℕ) (i j : ℕ) → 0 < sumCounts (nodeOf m ws i) → j ≡ lowest (nodeOf m ws i) → j < m
 lowest-in m ws i j h e = omega (arith, lowest-is (nodeOf m ws i) h .inside, node-length m ws i)
-
-pub some-in : (m : ℕ) (ws : List ℕ) (i j r : ℕ) → (nodeOk r (nodeOf m ws i) && hasSome (nodeOf m ws i)) ≡ true → j ≡ lowest (nodeOf m ws i) → j < m
-some-in m ws i j r ok e = lowest-in m ws i j (has-sum (nodeOf m ws i) (and-right (nodeOk r (nodeOf m ws i)) (hasSome (nodeOf m ws i)) ok)) e
 
 -- ---- any operation
 module _ (m k : ℕ) (o : Op) (nd : List Slot) (child : ℕ → List Slot) where
@@ -260,10 +216,6 @@ module _ (m : ℕ) (o : Op) (i f : ℕ) (ws : List ℕ) (v : Move) where
   pub move-swap : (x : Element) → o ≡ Swap x → v ≡ swapMove x (nodeOf m ws i) (lowBelow m f ws) → v ≡ nodeMove m o i f ws
   unfolding nodeMove opMove
   move-swap x e p = p ∙ ap (λ (o : Op). nodeMove m o i f ws) (sym e)
-
--- what an operation needs, by its kind
-pub needs-of : (m : ℕ) (o o′ : Op) (i f : ℕ) (ws : List ℕ) → o ≡ o′ → Doable m o i f ws → Doable m o′ i f ws
-needs-of m o o′ i f ws e d = subst (λ (o : Op). Doable m o i f ws) e d
 
 -- ---- the shape
 pub order-range : (m : ℕ) → orderOk m ≡ true → (0 < m) × (m ≤ 8)

@@ -1,7 +1,6 @@
--- What a node's functions ask of the words, and the scans by which they choose a slot. Assumes nothing: these are definitions.
--- a node of m slots lies within the words
-use Prim.Native.Nat.{_*_, _+_, _<_, _≤_, pred, suc, zero, ℕ}
-use mathlib.Core.Bool.{_&&_, _||_, Bool, cond, not, true}
+-- What a node's functions ask of the words. Assumes nothing: these are definitions.
+use Prim.Native.Nat.{_*_, _+_, _<_, _≤_, pred, ℕ}
+use mathlib.Core.Bool.{_&&_, _||_, Bool, cond, not}
 use mathlib.Core.List.{List}
 use mathlib.Core.Path.{_≡_}
 use lib.Dec.{leb, ltb}
@@ -16,6 +15,7 @@ use Rattle.tree_model.specs.declared.Op.{Op}
 use Rattle.tree_model.specs.declared.Op.the-variants.{Nothing, Put, Swap, Take}
 use Rattle.tree_model.specs.declared.Slot.{Slot}
 
+-- a node of m slots lies within the words
 pub record NodeIn (m i : ℕ) (ws : List ℕ) : Type 0 where
   pub order : 0 < m
   pub words : width * (i + m) ≤ length ws
@@ -58,41 +58,13 @@ pub record Capacity (m levels r : ℕ) : Type 0 where
 abbrev pub RoomUnder : ℕ → ℕ → ℕ → Type 0
 RoomUnder m r u = (k : ℕ) → r ≡ room m k → u ≡ room m (pred k)
 
--- ---- the scan for the smallest count, over the first j places
-unfoldable pub scanLeast : List Slot → ℕ → ℕ
-scanLeast nd zero = 0
-scanLeast nd (suc j) = cond (ltb (slotAt nd j .count) (slotAt nd (scanLeast nd j) .count)) j (scanLeast nd j)
-
--- ---- the scan for the lowest: slot j is occupied, and there is no best yet or its rank is lower
+-- ---- slot j is occupied, and there is no best yet or its rank is lower
 unfoldable pub beats : List Slot → ℕ → ℕ → Bool
 beats nd j b = not (isEmpty (slotAt nd j)) && (leb (length nd) b || ltb (key (slotAt nd j .element)) (key (slotAt nd b .element)))
 
-unfoldable pub scanLow : List Slot → ℕ → ℕ
-scanLow nd zero = length nd
-scanLow nd (suc j) = cond (beats nd j (scanLow nd j)) j (scanLow nd j)
-
--- ---- the first j slots pass a test, and the sum of their counts
-unfoldable pub everyTo : (Slot → Bool) → List Slot → ℕ → Bool
-everyTo f nd zero = true
-everyTo f nd (suc j) = everyTo f nd j && f (slotAt nd j)
-
-unfoldable pub sumCountsTo : List Slot → ℕ → ℕ
-sumCountsTo nd zero = 0
-sumCountsTo nd (suc j) = sumCountsTo nd j + slotAt nd j .count
-
--- ---- the scans that keep the best number read so far; above every number where there is none
+-- ---- the rank of an occupied slot; for an empty one a number above every rank
 abbrev pub most : ℕ
 most = 4294967296
 
--- the smallest of the first j counts
-unfoldable pub fewest : List Slot → ℕ → ℕ
-fewest nd zero = most
-fewest nd (suc j) = slotAt nd (scanLeast nd (suc j)) .count
-
--- the rank of an occupied slot
 unfoldable pub keyOr : Slot → ℕ
 keyOr s = cond (isEmpty s) most (key (s .element))
-
--- .. and of the best place
-unfoldable pub bestKey : List Slot → ℕ → ℕ
-bestKey nd b = cond (leb (length nd) b) most (key (slotAt nd b .element))

@@ -21,6 +21,9 @@ use tree_model::Slot;
 // The largest capacity of a tree.
 pub const SLOT_LIMIT: usize = 5460;
 
+// The largest order. A scan that says so is laid out flat by the compiler, with no loop left.
+const ORDER_LIMIT: usize = 8;
+
 // ---- words
 
 pub fn slot_at(s: &[u32], i: usize) -> Slot
@@ -53,9 +56,176 @@ pub fn write_slot(s: &mut [u32], i: usize, slot: Slot)
     s[at + 2] = slot.count;
 }
 
-// ---- choices
+// ---- elements
 
-// The slot with the smallest count, leftmost on a tie. An empty slot has count 0, so where there is one this is the first of them.
+// Whether a's rank is strictly lower than b's.
+pub fn lower(a: Element, b: Element) -> bool
+    ensures { λ r. ⌜ r ≡ ltb (key a) (key b) ⌝ }
+{
+    let p = a.rank;
+    let q = b.rank;
+    p.0 < q.0
+}
+
+// Of a newcomer and a slot's element: the one that stays.
+pub fn stays(x: Element, y: Element) -> Element
+    ensures { λ r. ⌜ r ≡ keep x y ⌝ }
+{
+    if lower(x, y) {
+        return x;
+    }
+    y
+}
+
+// .. and the one that goes down
+pub fn goes_down(x: Element, y: Element) -> Element
+    ensures { λ r. ⌜ r ≡ pass x y ⌝ }
+{
+    if lower(x, y) {
+        return y;
+    }
+    x
+}
+
+// ---- one scan of a node, for both questions: is it whole, and which place
+
+// Whether a slot is not damaged, with room for so many below it.
+fn slot_ok(a: Slot, room: usize) -> bool
+    requires { ⌜ room ≤ slotLimit ⌝ }
+    ensures { λ r. ⌜ r ≡ slotOk room a ⌝ }
+{
+    let element = a.element;
+    let rank = element.rank;
+    let tag = element.tag;
+    let count = a.count as usize;
+    (count <= room + 1) & ((count != 0) | ((rank.0 == 0) & (tag.0 == 0)))
+}
+
+// Whether no slot of the node is damaged, and the chosen place.
+pub struct Look {
+    pub ok: bool,
+    pub place: usize,
+}
+
+// The place of the smallest count, leftmost on a tie. An empty slot has count 0, so where there is one this is the first of them.
+pub fn look_least(s: &[u32], at: usize, order: usize, room: usize) -> Look
+    requires { ⌜ NodeIn order at (now s) × (order ≤ 8) × (room ≤ slotLimit) ⌝ }
+    ensures whole { λ r. ⌜ r .ok ≡ nodeOk room (nodeOf order (now (s .entry)) at) ⌝ }
+    ensures place { λ r. ⌜ r .place ≡ leastCount (nodeOf order (now (s .entry)) at) ⌝ }
+    ensures within { λ r. ⌜ r .place < order ⌝ }
+{
+    let mut ok = true;
+    let mut best = 0;
+    let mut few: u64 = 4294967296;
+    let mut j = 0;
+    while j < order && j < ORDER_LIMIT {
+        let a = slot_at(s, at + j);
+        ok = ok & slot_ok(a, room);
+        let c = a.count as u64;
+        if c < few {
+            best = j;
+            few = c;
+        }
+        j += 1;
+    }
+    Look { ok, place: best }
+}
+
+// The rank of an occupied slot; for an empty one a number above every rank.
+fn key_or(a: Slot) -> u64
+    ensures key { λ r. ⌜ r ≡ keyOr a ⌝ }
+    ensures most { λ r. ⌜ r ≤ 4294967296 ⌝ }
+{
+    if a.count == 0 {
+        return 4294967296;
+    }
+    let element = a.element;
+    let rank = element.rank;
+    rank.0 as u64
+}
+
+// The place of the occupied slot of lowest rank, leftmost on a tie; the order where all are empty.
+pub fn look_low(s: &[u32], at: usize, order: usize, room: usize) -> Look
+    requires { ⌜ NodeIn order at (now s) × (order ≤ 8) × (room ≤ slotLimit) ⌝ }
+    ensures whole { λ r. ⌜ r .ok ≡ nodeOk room (nodeOf order (now (s .entry)) at) ⌝ }
+    ensures place { λ r. ⌜ r .place ≡ lowest (nodeOf order (now (s .entry)) at) ⌝ }
+    ensures within { λ r. ⌜ r .place ≤ order ⌝ }
+{
+    let mut ok = true;
+    let mut best = order;
+    let mut low: u64 = 4294967296;
+    let mut j = 0;
+    while j < order && j < ORDER_LIMIT {
+        let a = slot_at(s, at + j);
+        ok = ok & slot_ok(a, room);
+        let k = key_or(a);
+        if k < low {
+            best = j;
+            low = k;
+        }
+        j += 1;
+    }
+    Look { ok, place: best }
+}
+
+// ---- the shape
+
+// The sum of a node's counts.
+pub fn sum_counts(s: &[u32], at: usize, order: usize) -> usize
+    requires { ⌜ NodeIn order at (now s) × (order ≤ 8) ⌝ }
+    ensures { λ r. ⌜ r ≡ sumCounts (nodeOf order (now (s .entry)) at) ⌝ }
+{
+    let mut sum: usize = 0;
+    let mut j = 0;
+    while j < order {
+        let a = slot_at(s, at + j);
+        sum += a.count as usize;
+        j += 1;
+    }
+    sum
+}
+
+// How many elements so many levels under one slot hold, where that is within the limit; else a number above the limit.
+pub fn capacity(order: usize, levels: usize) -> usize
+    requires { ⌜ (0 < order) × (order ≤ 8) ⌝ }
+    ensures { λ r. ⌜ Capacity order levels r ⌝ }
+{
+    let mut slots: usize = 0;
+    let mut i = 0;
+    while i < levels && slots <= SLOT_LIMIT {
+        slots = order * (slots + 1);
+        i += 1;
+    }
+    slots
+}
+
+pub fn order_ok(order: usize) -> bool
+    ensures { λ r. ⌜ r ≡ orderOk order ⌝ }
+{
+    (order == 2) | ((order == 4) | (order == 8))
+}
+
+// Whether order, levels and the slice's length are those of a tree. No number of levels, however large, wraps: the count of slots stops
+// once it is above the limit.
+pub fn shape_ok(order: usize, levels: usize, len: usize) -> bool
+    ensures { λ r. ⌜ r ≡ shapeOk order levels len ⌝ }
+{
+    if !order_ok(order) {
+        return false;
+    }
+    if levels == 0 {
+        return false;
+    }
+    let slots = capacity(order, levels);
+    if SLOT_LIMIT < slots {
+        return false;
+    }
+    3 * slots <= len
+}
+
+// ---- the step of any operation, a scan for each question
+
+// The slot with the smallest count, leftmost on a tie.
 pub fn least_count(s: &[u32], at: usize, order: usize) -> usize
     requires { ⌜ NodeIn order at (now s) ⌝ }
     ensures place { λ r. ⌜ r ≡ leastCount (nodeOf order (now (s .entry)) at) ⌝ }
@@ -70,15 +240,6 @@ pub fn least_count(s: &[u32], at: usize, order: usize) -> usize
         j += 1;
     }
     best
-}
-
-// Whether a's rank is strictly lower than b's.
-pub fn lower(a: Element, b: Element) -> bool
-    ensures { λ r. ⌜ r ≡ ltb (key a) (key b) ⌝ }
-{
-    let p = a.rank;
-    let q = b.rank;
-    p.0 < q.0
 }
 
 // Whether slot j is occupied, and there is no best yet or its rank is lower than the best one's.
@@ -127,34 +288,6 @@ pub fn lowest_element(s: &[u32], at: usize, order: usize) -> Element
     a.element
 }
 
-// The sum of a node's counts.
-pub fn sum_counts(s: &[u32], at: usize, order: usize) -> usize
-    requires { ⌜ NodeIn order at (now s) × (order ≤ 8) ⌝ }
-    ensures { λ r. ⌜ r ≡ sumCounts (nodeOf order (now (s .entry)) at) ⌝ }
-{
-    let mut sum: usize = 0;
-    let mut j = 0;
-    while j < order {
-        let a = slot_at(s, at + j);
-        sum += a.count as usize;
-        j += 1;
-    }
-    sum
-}
-
-// ---- tests for damage
-
-fn slot_ok(a: Slot, room: usize) -> bool
-    requires { ⌜ room ≤ slotLimit ⌝ }
-    ensures { λ r. ⌜ r ≡ slotOk room a ⌝ }
-{
-    let element = a.element;
-    let rank = element.rank;
-    let tag = element.tag;
-    let count = a.count as usize;
-    (count <= room + 1) & ((count != 0) | ((rank.0 == 0) & (tag.0 == 0)))
-}
-
 // Whether no slot of a node is damaged, with room for so many below each.
 pub fn node_ok(s: &[u32], at: usize, order: usize, room: usize) -> bool
     requires { ⌜ NodeIn order at (now s) × (room ≤ slotLimit) ⌝ }
@@ -188,93 +321,6 @@ fn take_ok(s: &[u32], at: usize, order: usize, room: usize) -> bool
     node_ok(s, at, order, room) & (j < order)
 }
 
-// One scan of a node: whether no slot of it is damaged, and the chosen place.
-pub struct Look {
-    pub ok: bool,
-    pub place: usize,
-}
-
-// .. for the smallest count
-pub fn look_least(s: &[u32], at: usize, order: usize, room: usize) -> Look
-    requires { ⌜ NodeIn order at (now s) × (room ≤ slotLimit) ⌝ }
-    ensures whole { λ r. ⌜ r .ok ≡ nodeOk room (nodeOf order (now (s .entry)) at) ⌝ }
-    ensures place { λ r. ⌜ r .place ≡ leastCount (nodeOf order (now (s .entry)) at) ⌝ }
-    ensures within { λ r. ⌜ r .place < order ⌝ }
-{
-    let mut ok = true;
-    let mut best = 0;
-    let mut few: u64 = 4294967296;
-    let mut j = 0;
-    while j < order {
-        let a = slot_at(s, at + j);
-        ok = ok & slot_ok(a, room);
-        let c = a.count as u64;
-        if c < few {
-            best = j;
-            few = c;
-        }
-        j += 1;
-    }
-    Look { ok, place: best }
-}
-
-// The rank of an occupied slot; for an empty one a number above every rank.
-fn key_or(a: Slot) -> u64
-    ensures key { λ r. ⌜ r ≡ keyOr a ⌝ }
-    ensures most { λ r. ⌜ r ≤ 4294967296 ⌝ }
-{
-    if a.count == 0 {
-        return 4294967296;
-    }
-    let element = a.element;
-    let rank = element.rank;
-    rank.0 as u64
-}
-
-// .. for the occupied slot of lowest rank; the order where all are empty
-pub fn look_low(s: &[u32], at: usize, order: usize, room: usize) -> Look
-    requires { ⌜ NodeIn order at (now s) × (room ≤ slotLimit) ⌝ }
-    ensures whole { λ r. ⌜ r .ok ≡ nodeOk room (nodeOf order (now (s .entry)) at) ⌝ }
-    ensures place { λ r. ⌜ r .place ≡ lowest (nodeOf order (now (s .entry)) at) ⌝ }
-    ensures within { λ r. ⌜ r .place ≤ order ⌝ }
-{
-    let mut ok = true;
-    let mut best = order;
-    let mut low: u64 = 4294967296;
-    let mut j = 0;
-    while j < order {
-        let a = slot_at(s, at + j);
-        ok = ok & slot_ok(a, room);
-        let k = key_or(a);
-        if k < low {
-            best = j;
-            low = k;
-        }
-        j += 1;
-    }
-    Look { ok, place: best }
-}
-
-// Of a newcomer and a slot's element: the one that stays.
-pub fn stays(x: Element, y: Element) -> Element
-    ensures { λ r. ⌜ r ≡ keep x y ⌝ }
-{
-    if lower(x, y) {
-        return x;
-    }
-    y
-}
-
-// .. and the one that goes down
-pub fn goes_down(x: Element, y: Element) -> Element
-    ensures { λ r. ⌜ r ≡ pass x y ⌝ }
-{
-    if lower(x, y) {
-        return y;
-    }
-    x
-}
-
 // The room below a slot of the next level, by the room below a slot of this one.
 pub fn room_under(order: usize, room: usize) -> usize
     requires { ⌜ 0 < order ⌝ }
@@ -293,20 +339,6 @@ pub fn room_under(order: usize, room: usize) -> usize
         return (room - 1) / 8;
     }
     (room - 1) / order
-}
-
-// How many elements so many levels under one slot hold, where that is within the limit; else a number above the limit.
-pub fn capacity(order: usize, levels: usize) -> usize
-    requires { ⌜ (0 < order) × (order ≤ 8) ⌝ }
-    ensures { λ r. ⌜ Capacity order levels r ⌝ }
-{
-    let mut slots: usize = 0;
-    let mut i = 0;
-    while i < levels && slots <= SLOT_LIMIT {
-        slots = order * (slots + 1);
-        i += 1;
-    }
-    slots
 }
 
 // Whether the node, and the one below the chosen place where a take or swap lifts from there, are in order, with `below` levels below.
@@ -337,8 +369,6 @@ pub fn step_ok(s: &[u32], at: usize, first: usize, order: usize, below: usize, o
         Op::Swap(_) => lift_ok(s, at, first, order, below),
     }
 }
-
-// ---- steps
 
 fn step(place: usize, element: Element, count: u32, rest: Op) -> Move
     ensures { λ r. ⌜ r ≡ move place element count rest ⌝ }
@@ -403,30 +433,4 @@ pub fn move_of(s: &[u32], at: usize, first: usize, order: usize, op: Op) -> Move
         Op::Take => take_move(s, at, first, order),
         Op::Swap(x) => swap_move(s, at, first, order, x),
     }
-}
-
-// ---- the shape
-
-pub fn order_ok(order: usize) -> bool
-    ensures { λ r. ⌜ r ≡ orderOk order ⌝ }
-{
-    (order == 2) | ((order == 4) | (order == 8))
-}
-
-// Whether order, levels and the slice's length are those of a tree. No number of levels, however large, wraps: the count of slots stops
-// once it is above the limit.
-pub fn shape_ok(order: usize, levels: usize, len: usize) -> bool
-    ensures { λ r. ⌜ r ≡ shapeOk order levels len ⌝ }
-{
-    if !order_ok(order) {
-        return false;
-    }
-    if levels == 0 {
-        return false;
-    }
-    let slots = capacity(order, levels);
-    if SLOT_LIMIT < slots {
-        return false;
-    }
-    3 * slots <= len
 }

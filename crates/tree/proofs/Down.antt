@@ -1,30 +1,24 @@
--- One level down: what a level's step and the rest of the work below make together. Assumes nothing.
+-- The numbers of a level, and what a step at one of its nodes needs. Assumes nothing.
 use Prim.Native.Nat.{_*_, _+_, _-_, _<_, _≤_, suc, zero, ℕ}
 use native.Mathlib.Nat.{add-mul, mul-le-mul-left, mul-le-mul-right, not-suc-le-zero, suc-mul}
 use native.Mathlib.Omega.{arith}
-use mathlib.Core.Bool.{_&&_, Bool, false, not, true}
+use mathlib.Core.Bool.{_&&_, Bool, not, true}
 use mathlib.Core.List.{List}
-use mathlib.Core.Path.{_∙_, _≡_, ap, ap₂, refl, subst, sym}
+use mathlib.Core.Path.{_≡_, ap, refl, subst}
 use lib.ListN.{length}
-use borrow.Author.Tests.{lt-leb, not-true}
+use borrow.Author.Tests.{lt-leb}
 use Rattle.laws.specs.Tests.{and-left, and-right}
 use Rattle.node.specs.Scan.{childOf, ChildrenIn, Doable, StepIn}
-use Rattle.tree_model.proofs.Exactly.{words-none}
-use Rattle.tree_model.proofs.Nothing.{op-work}
-use Rattle.tree_model.proofs.Path.{path-none}
-use Rattle.tree_model.proofs.Place.{above-one, fine-here, least-room, place-here, rest-here, write-here}
-use Rattle.tree_model.proofs.Words.{has-sum, levels-before, node-length, size-room, write-length}
+use Rattle.tree_model.proofs.Place.{above-one, least-room}
+use Rattle.tree_model.proofs.Words.{has-sum, node-length, size-room}
 use Rattle.tree_model.specs.Calls.{slotLimit}
-use Rattle.tree_model.specs.Damage.{fine, hasRoom, hasSome, lifts, nodeOk, pathOk, readOk, room, stepOk}
-use Rattle.tree_model.specs.Levels.{top, work}
-use Rattle.tree_model.specs.Node.{isNothing, lowest, slotAt}
-use Rattle.tree_model.specs.Words.{applyWords, levelOf, levelsOf, nodeMove, nodeOf, restWords, size, stepWords, under, width, write}
-use Rattle.tree_model.specs.declared.Move.{Move}
+use Rattle.tree_model.specs.Damage.{hasRoom, hasSome, lifts, nodeOk, readOk, room, stepOk}
+use Rattle.tree_model.specs.Node.{lowest, slotAt}
+use Rattle.tree_model.specs.Words.{nodeOf, size, width}
 use Rattle.tree_model.specs.declared.Op.{Op}
 use Rattle.tree_model.specs.declared.Op.the-variants.{Nothing, Put, Swap, Take}
 use Rattle.tree_model.specs.declared.Slot.{Slot}
-use Rattle.tree_model.specs.declared.Work.{Work}
-use Rattle.tree.specs.Down.{Lies, Ready}
+use Rattle.tree.specs.Down.{Lies}
 
 pub not-zero : {n : ℕ} → 1 ≤ n → n ≡ 0 → ⊥
 not-zero h e = omega arith
@@ -84,48 +78,8 @@ module _ (m b c n : ℕ) (ws : List ℕ) where
           below-in zero l v h = absurd (not-suc-le-zero h)
           below-in (suc k) l v h = omega (arith, size-step m (suc k) c, size-step m k (c * m), l .words, v .child)
 
-  -- ---- the path
-  module _ (o : Op) where
-    abbrev pub tested : ℕ → Bool
-    tested k = stepOk m k o (nodeOf m ws (b + n * m)) (childOf m (b + c * m + n * m * m) ws)
-
-    abbrev pub moved : Move
-    moved = nodeMove m o (b + n * m) (b + c * m + n * m * m) ws
-
-    abbrev path : ℕ → Bool
-    path left = pathOk m left (work o n) (levelsOf m left ws b c)
-
-    path-suc : (k : ℕ) → n < c → tested k ≡ true → path (suc k) ≡ pathOk m k (work (moved .rest) (n * m + moved .place)) (levelsOf m k ws (b + c * m) (c * m))
-    unfolding pathOk levelsOf
-    path-suc k h ok =
-        ap (λ (t : Bool). t && pathOk m k (restWords m k (work o n) b c ws) (under m k ws b c)) (fine-here m k b c n ws h o ∙ ok)
-        ∙ ap (λ (w : Work). pathOk m k w (under m k ws b c)) (rest-here m k b c n ws h o ok)
-
-    pub path-end : (left : ℕ) → left ≡ 0 → true ≡ path left
-    unfolding pathOk
-    path-end zero e = refl
-    path-end (suc k) e = absurd (omega arith)
-
-    pub path-off : (left : ℕ) → n < c → (left ≡ 0 → ⊥) → (t : Bool) → t ≡ tested (left - 1) → not t ≡ true → false ≡ path left
-    unfolding pathOk levelsOf
-    path-off left h ne t e p = at-level (λ left k. t ≡ tested k → false ≡ path left) go left ne e
-      where
-        go : (k : ℕ) → t ≡ tested k → false ≡ path (suc k)
-        go k e = sym (ap (λ (t : Bool). t && pathOk m k (restWords m k (work o n) b c ws) (under m k ws b c)) (fine-here m k b c n ws h o ∙ sym e ∙ not-true t p))
-
-    pub path-stops : (left : ℕ) → n < c → (left ≡ 0 → ⊥) → tested (left - 1) ≡ true → (v : Move) → v ≡ moved → v .rest ≡ Nothing → true ≡ path left
-    path-stops left h ne ok v e r = at-level (λ left k. tested k ≡ true → true ≡ path left) go left ne ok
-      where
-        go : (k : ℕ) → tested k ≡ true → true ≡ path (suc k)
-        go k ok = sym (path-suc k h ok ∙ path-none m k (work (moved .rest) (n * m + moved .place)) _ (op-work (moved .rest) _ ∙ ap (λ (v : Move). v .rest) (sym e) ∙ r))
-
-    pub path-goes : (left : ℕ) → n < c → (left ≡ 0 → ⊥) → tested (left - 1) ≡ true → (v : Move) → v ≡ moved → (q : Bool)
-        → q ≡ pathOk m (left - 1) (work (v .rest) (n * m + v .place)) (levelsOf m (left - 1) ws (b + c * m) (c * m)) → q ≡ path left
-    path-goes left h ne ok v e q p =
-        at-level (λ left k. tested k ≡ true → q ≡ pathOk m k (work (v .rest) (n * m + v .place)) (levelsOf m k ws (b + c * m) (c * m)) → q ≡ path left) go left ne ok p
-      where
-        go : (k : ℕ) → tested k ≡ true → q ≡ pathOk m k (work (v .rest) (n * m + v .place)) (levelsOf m k ws (b + c * m) (c * m)) → q ≡ path (suc k)
-        go k ok p = p ∙ ap (λ (v : Move). pathOk m k (work (v .rest) (n * m + v .place)) (levelsOf m k ws (b + c * m) (c * m))) e ∙ sym (path-suc k h ok)
+  abbrev tested : Op → ℕ → Bool
+  tested o k = stepOk m k o (nodeOf m ws (b + n * m)) (childOf m (b + c * m + n * m * m) ws)
 
   -- a test that is in order makes the step's needs
   take-doable : (k : ℕ) → StepIn m (b + n * m) (b + c * m + n * m * m) k ws → tested Take k ≡ true → Doable m Take (b + n * m) (b + c * m + n * m * m) ws
@@ -144,90 +98,3 @@ module _ (m b c n : ℕ) (ws : List ℕ) where
       omega (arith, s .limit, least-room (room m k) nd (omega (arith, node-length m ws (b + n * m), s .node .order)) (and-left (nodeOk (room m k) nd) (hasRoom (room m k) nd) ok) (and-right (nodeOk (room m k) nd) (hasRoom (room m k) nd) ok))
   doable k Take s e = take-doable k s e
   doable k (Swap x) s e = take-doable k s e
-
-  -- ---- the three operations, at a level whose path is in order
-  module _ (left : ℕ) (o : Op) (some : isNothing o ≡ false) (ne : left ≡ 0 → ⊥) (ready : Ready m left b c n o ws) where
-    path-here : (k : ℕ) → Ready m (suc k) b c n o ws → tested o k ≡ true
-    unfolding pathOk levelsOf
-    path-here k r = sym (fine-here m k b c n ws (r .lies .node) o) ∙ and-left (fine m k (work o n) (levelOf m ws b c) (top k (under m k ws b c))) _ (r .path)
-
-    pub ready-test : tested o (left - 1) ≡ true
-    ready-test = at-level (λ left k. Ready m left b c n o ws → tested o k ≡ true) path-here left ne ready
-
-    pub ready-move : Doable m o (b + n * m) (b + c * m + n * m * m) ws
-    ready-move = doable (left - 1) o (step-in left (ready .lies) ne) ready-test
-
-    module _ (v : Move) (is : v ≡ moved o) where
-      pub place-in : v .place < m
-      place-in = subst (λ (v : Move). v .place < m) (sym is) (place-here m (left - 1) b c n ws (ready .lies .node) o ready-test (ready .lies .order) some)
-
-      module _ (r : List ℕ) (written : r ≡ write ws (b + n * m + v .place) (v .slot)) where
-        step-written : (k : ℕ) → tested o k ≡ true → stepWords m k (work o n) b c ws ≡ r
-        step-written k ok = write-here m k b c n ws (ready .lies .node) o ok some ∙ ap (λ (v : Move). write ws (b + n * m + v .place) (v .slot)) (sym is) ∙ sym written
-
-        apply-suc : (k : ℕ) → tested o k ≡ true → applyWords m (suc k) (work o n) b c ws ≡ applyWords m k (work (v .rest) (n * m + v .place)) (b + c * m) (c * m) r
-        unfolding applyWords
-        apply-suc k ok =
-            ap₂ (λ (w : Work) (r : List ℕ). applyWords m k w (b + c * m) (c * m) r)
-            (rest-here m k b c n ws (ready .lies .node) o ok ∙ ap (λ (v : Move). work (v .rest) (n * m + v .place)) (sym is)) (step-written k ok)
-
-        pub ends : v .rest ≡ Nothing → r ≡ applyWords m left (work o n) b c ws
-        ends e = at-level (λ left k. tested o k ≡ true → r ≡ applyWords m left (work o n) b c ws) go left ne ready-test
-          where
-            go : (k : ℕ) → tested o k ≡ true → r ≡ applyWords m (suc k) (work o n) b c ws
-            go k ok = sym (apply-suc k ok ∙ words-none m k (work (v .rest) (n * m + v .place)) (b + c * m) (c * m) r (op-work (v .rest) _ ∙ e))
-
-        pub goes : (o′ : Op) (q : List ℕ) → v .rest ≡ o′ → q ≡ applyWords m (left - 1) (work o′ (n * m + v .place)) (b + c * m) (c * m) r → q ≡ applyWords m left (work o n) b c ws
-        goes o′ q e p =
-            at-level (λ left k. tested o k ≡ true → q ≡ applyWords m k (work o′ (n * m + v .place)) (b + c * m) (c * m) r → q ≡ applyWords m left (work o n) b c ws) go left ne ready-test p
-          where
-            go : (k : ℕ) → tested o k ≡ true → q ≡ applyWords m k (work o′ (n * m + v .place)) (b + c * m) (c * m) r → q ≡ applyWords m (suc k) (work o n) b c ws
-            go k ok p = p ∙ ap (λ (o : Op). applyWords m k (work o (n * m + v .place)) (b + c * m) (c * m) r) (sym e) ∙ sym (apply-suc k ok)
-
-        pub ready-below : (o′ : Op) → v .rest ≡ o′ → Ready m (left - 1) (b + c * m) (c * m) (n * m + v .place) o′ r
-        ready-below o′ e = at-level (λ left k. Ready m left b c n o ws → tested o k ≡ true → Ready m k (b + c * m) (c * m) (n * m + v .place) o′ r) go left ne ready ready-test
-          where
-            deeper-same : (k : ℕ) → Ready m (suc k) b c n o ws → tested o k ≡ true → levelsOf m k r (b + c * m) (c * m) ≡ levelsOf m k ws (b + c * m) (c * m)
-            deeper-same k l ok =
-                ap (λ (r : List ℕ). levelsOf m k r (b + c * m) (c * m)) written
-                ∙ levels-before m k ws (b + c * m) (c * m) (b + n * m + v .place) (v .slot)
-                (omega (arith, level-of m (suc k) b c n ws (l .lies) (λ e. omega arith) .own, place-in))
-
-            go : (k : ℕ) → Ready m (suc k) b c n o ws → tested o k ≡ true → Ready m k (b + c * m) (c * m) (n * m + v .place) o′ r
-            go k l ok =
-                let s = size-step m k c in
-                let len : length r ≡ length ws = ap length written ∙ write-length ws _ _ in
-                record {
-                  lies = record {
-                    order = l .lies .order;
-                    few = l .lies .few;
-                    node = omega (arith, level-of m (suc k) b c n ws (l .lies) (λ e. omega arith) .own, place-in);
-                    words = omega (arith, l .lies .words, len);
-                    small = omega (arith, l .lies .small);
-                  };
-                  path =
-                      ap (λ (o : Op). pathOk m k (work o (n * m + v .place)) (levelsOf m k r (b + c * m) (c * m))) (sym e)
-                      ∙ ap (pathOk m k (work (v .rest) (n * m + v .place))) (deeper-same k l ok)
-                      ∙ ap (λ (v : Move). pathOk m k (work (v .rest) (n * m + v .place)) (levelsOf m k ws (b + c * m) (c * m))) is
-                      ∙ sym (path-suc o k (l .lies .node) ok) ∙ l .path;
-                }
-
-  -- .. and of the test alone
-  pub lies-below : (left : ℕ) (v : Move) → Lies m left b c n ws → (left ≡ 0 → ⊥) → v .place < m → Lies m (left - 1) (b + c * m) (c * m) (n * m + v .place) ws
-  lies-below left v lies ne h = at-level (λ left k. Lies m left b c n ws → Lies m k (b + c * m) (c * m) (n * m + v .place) ws) go left ne lies
-    where
-      go : (k : ℕ) → Lies m (suc k) b c n ws → Lies m k (b + c * m) (c * m) (n * m + v .place) ws
-      go k l =
-          let s = size-step m k c in
-          record {
-            order = l .order;
-            few = l .few;
-            node = omega (arith, level-of m (suc k) b c n ws l (λ e. omega arith) .own);
-            words = omega (arith, l .words);
-            small = omega (arith, l .small);
-          }
-
-pub apply-end : (m left b c n : ℕ) (o : Op) (ws : List ℕ) → left ≡ 0 → ws ≡ applyWords m left (work o n) b c ws
-unfolding applyWords
-apply-end m zero b c n o ws e = refl
-apply-end m (suc k) b c n o ws e = absurd (omega arith)

@@ -22,22 +22,32 @@ pub record Lies (m k b c n : ℕ) (ws : List ℕ) : Type 0 where
   pub words : width * (b + size m k c) ≤ length ws
   pub small : b + size m k c ≤ slotLimit
 
--- .. and an operation's whole path there is in order
-pub record Ready (m k b c n : ℕ) (o : Op) (ws : List ℕ) : Type 0 where
+-- .. and its first slot is slot `at`. Every level above is whole, so that the node below slot i of this level begins at slot (i + 1) * m
+pub record Placed (m k at b c n : ℕ) (ws : List ℕ) : Type 0 where
   pub lies : Lies m k b c n ws
-  pub path : pathOk m k (work o n) (levelsOf m k ws b c) ≡ true
+  pub above : b + c * m ≡ (b + 1) * m
+  pub first : at ≡ b + n * m
 
--- what an operation at a node answers and leaves: whether its whole path is in order and, where it is, all of its writes done
-abbrev pub Carried : ℕ → ℕ → ℕ → ℕ → ℕ → Op → List ℕ → Bool → List ℕ → Type 0
-Carried m k b c n o ws r ws′ = (r ≡ pathOk m k (work o n) (levelsOf m k ws b c)) × (ws′ ≡ cond r (applyWords m k (work o n) b c ws) ws)
-
--- node n of the level at slot b has been looked at: it is whole, with room for `cap` below each slot, and j is its lowest place
-pub record Seen (m k b n j cap : ℕ) (ws : List ℕ) : Type 0 where
+-- what put asks: there is such a node, with its own level at least left, and `cap` is the room below each of its slots
+pub record Stands (m k at cap : ℕ) (ws : List ℕ) : Type 0 where
+  pub base : ℕ
+  pub nodes : ℕ
+  pub node : ℕ
+  pub placed : Placed m k at base nodes node ws
   pub some : 1 ≤ k
   pub fits : cap ≡ room m (k - 1)
-  pub whole : nodeOk cap (nodeOf m ws (b + n * m)) ≡ true
-  pub place : j ≡ lowest (nodeOf m ws (b + n * m))
+
+-- what take and swap ask: the node has been looked at, is whole, and j is its lowest place
+pub record Looked (m k at j cap : ℕ) (ws : List ℕ) : Type 0 where
+  pub stands : Stands m k at cap ws
+  pub whole : nodeOk cap (nodeOf m ws at) ≡ true
+  pub place : j ≡ lowest (nodeOf m ws at)
   pub inside : j < m
+
+-- what an operation at a node answers and leaves: whether its whole path is in order and, where it is, all of its writes done
+abbrev pub Carried : ℕ → ℕ → ℕ → Op → List ℕ → Bool → List ℕ → Type 0
+Carried m k at o ws r ws′ =
+    (b c n : ℕ) → Placed m k at b c n ws → (r ≡ pathOk m k (work o n) (levelsOf m k ws b c)) × (ws′ ≡ cond r (applyWords m k (work o n) b c ws) ws)
 
 -- the element of a rank and a tag
 abbrev pub pair : Rank → Tag → Element

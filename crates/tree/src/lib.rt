@@ -1,18 +1,15 @@
-// The multi-way tree, one operation at a time, over lent words. A level is named by the number of its first slot and how many nodes it has.
+// The multi-way tree, one operation at a time, over lent words. A node is named by its first slot.
 ghost use mathlib.Core.Path.{_≡_};
 ghost use mathlib.Core.List.{_++_};
-ghost use Prim.Native.Nat.{_≤_, _-_};
+ghost use Prim.Native.Nat.{_≤_};
 ghost use lib.ListN.{length, drop, replicate};
-ghost use Rattle.tree_model.specs.Damage.{room};
 ghost use Rattle.tree_model.specs.Calls.{outcome, called, cleared, counted};
-ghost use Rattle.tree.specs.Down.{Carried, Lies, Seen, pair};
+ghost use Rattle.tree.specs.Down.{Carried, Looked, Stands};
 use node::capacity;
 use node::goes_down;
 use node::look_least;
 use node::look_low;
 use node::lower;
-use node::node_ok;
-use node::room_under;
 use node::shape_ok;
 use node::slot_at;
 use node::stays;
@@ -21,44 +18,27 @@ use node::write_slot;
 use strip::Answer;
 use strip::Count;
 use strip::Element;
-use strip::Rank;
 use strip::Refusal;
 use strip::Request;
-use strip::Tag;
 use strip::no_element;
 use tree_model::Op;
 use tree_model::Slot;
 
 // ---- the three operations: own step, then the same rule one level down, with the levels left falling
 
-// Tested on the way down, written on the way back. `cap` is the room below a slot of this level.
-fn put(
-    s: &mut [u32],
-    order: usize,
-    left: usize,
-    base: usize,
-    width: usize,
-    node: usize,
-    cap: usize,
-    x: Element,
-) -> bool
-    requires { ⌜ Lies order left base width node (now s) × (cap ≡ room order (left - 1)) ⌝ }
-    ensures { λ r. ⌜ Carried order left base width node (Op.Put x) (now (s .entry)) r (now (s .exit)) ⌝ }
+// All three test on the way down and write on the way back, so that every test comes before the first write. They answer whether the
+// whole path is in order; where it is not, nothing is written.
+// A node is named by its first slot: all levels above it are whole, so that the node below slot i begins at slot (i + 1) * order.
+// `cap` is the room below a slot of this level.
+fn put(s: &mut [u32], order: usize, left: usize, at: usize, cap: usize, x: Element) -> bool
+    requires { ⌜ Stands order left at cap (now s) ⌝ }
+    ensures { λ r. ⌜ Carried order left at (Op.Put x) (now (s .entry)) r (now (s .exit)) ⌝ }
 {
-    if left == 0 {
-        return true;
-    }
-    let first = node * order;
-    let at = base + first;
     let v = look_least(s, at, order, cap);
-    if !v.ok {
-        return false;
-    }
-    let j = v.place;
-    let i = at + j;
+    let i = at + v.place;
     let a = slot_at(s, i);
     let count = a.count;
-    if cap < count as usize {
+    if !v.ok | (cap < count as usize) {
         return false;
     }
     if count == 0 {
@@ -72,18 +52,9 @@ fn put(
     let y = a.element;
     let down = goes_down(x, y);
     let up = stays(x, y);
-    let under = room_under(order, cap);
-    let wide = width * order;
-    if !put(
-        s,
-        order,
-        left - 1,
-        base + wide,
-        wide,
-        first + j,
-        under,
-        down,
-    ) {
+    let below = (i + 1) * order;
+    let under = (cap - 1) / order;
+    if !put(s, order, left - 1, below, under, down) {
         return false;
     }
     let more = count + 1;
@@ -95,22 +66,12 @@ fn put(
     true
 }
 
-// The node has been looked at, and its place is known: the node below is looked at before the work goes there.
-fn take(
-    s: &mut [u32],
-    order: usize,
-    left: usize,
-    base: usize,
-    width: usize,
-    node: usize,
-    j: usize,
-    cap: usize,
-) -> bool
-    requires { ⌜ Lies order left base width node (now s) × Seen order left base node j cap (now s) ⌝ }
-    ensures { λ r. ⌜ Carried order left base width node Op.Take (now (s .entry)) r (now (s .exit)) ⌝ }
+// The node has been looked at, and j is the place to take from: the node below is looked at before the work goes there.
+fn take(s: &mut [u32], order: usize, left: usize, at: usize, j: usize, cap: usize) -> bool
+    requires { ⌜ Looked order left at j cap (now s) ⌝ }
+    ensures { λ r. ⌜ Carried order left at Op.Take (now (s .entry)) r (now (s .exit)) ⌝ }
 {
-    let first = node * order;
-    let i = base + first + j;
+    let i = at + j;
     let a = slot_at(s, i);
     let count = a.count;
     if count <= 1 {
@@ -122,22 +83,16 @@ fn take(
         write_slot(s, i, gone);
         return true;
     }
-    let wide = width * order;
-    let next = base + wide;
-    let child = first + j;
-    let at = next + child * order;
-    let under = room_under(order, cap);
-    let v = look_low(s, at, order, under);
-    if !v.ok {
-        return false;
-    }
+    let below = (i + 1) * order;
+    let under = (cap - 1) / order;
+    let v = look_low(s, below, order, under);
     let p = v.place;
-    if p == order {
+    if !v.ok | (p == order) {
         return false;
     }
-    let k = slot_at(s, at + p);
+    let k = slot_at(s, below + p);
     let up = k.element;
-    if !take(s, order, left - 1, next, wide, child, p, under) {
+    if !take(s, order, left - 1, below, p, under) {
         return false;
     }
     let fewer = count - 1;
@@ -153,18 +108,15 @@ fn swap(
     s: &mut [u32],
     order: usize,
     left: usize,
-    base: usize,
-    width: usize,
-    node: usize,
+    at: usize,
     j: usize,
     cap: usize,
     x: Element,
 ) -> bool
-    requires { ⌜ Lies order left base width node (now s) × Seen order left base node j cap (now s) ⌝ }
-    ensures { λ r. ⌜ Carried order left base width node (Op.Swap x) (now (s .entry)) r (now (s .exit)) ⌝ }
+    requires { ⌜ Looked order left at j cap (now s) ⌝ }
+    ensures { λ r. ⌜ Carried order left at (Op.Swap x) (now (s .entry)) r (now (s .exit)) ⌝ }
 {
-    let first = node * order;
-    let i = base + first + j;
+    let i = at + j;
     let a = slot_at(s, i);
     let count = a.count;
     if count <= 1 {
@@ -172,27 +124,21 @@ fn swap(
         write_slot(s, i, new);
         return true;
     }
-    let wide = width * order;
-    let next = base + wide;
-    let child = first + j;
-    let at = next + child * order;
-    let under = room_under(order, cap);
-    let v = look_low(s, at, order, under);
-    if !v.ok {
-        return false;
-    }
+    let below = (i + 1) * order;
+    let under = (cap - 1) / order;
+    let v = look_low(s, below, order, under);
     let p = v.place;
-    if p == order {
+    if !v.ok | (p == order) {
         return false;
     }
-    let k = slot_at(s, at + p);
+    let k = slot_at(s, below + p);
     let up = k.element;
     if !lower(up, x) {
         let new = Slot { element: x, count };
         write_slot(s, i, new);
         return true;
     }
-    if !swap(s, order, left - 1, next, wide, child, p, under, x) {
+    if !swap(s, order, left - 1, below, p, under, x) {
         return false;
     }
     let kept = Slot { element: up, count };
@@ -202,39 +148,42 @@ fn swap(
 
 // ---- the calls
 
-// How many are held, by the root alone; the other calls begin with its tests.
+// How many are held, by the root alone.
 pub fn held(store: &[u32], order: usize, levels: usize) -> Count
     ensures { λ r. ⌜ r ≡ counted order levels (now (store .entry)) ⌝ }
 {
     if !shape_ok(order, levels, store.len()) {
         return Count::Unknown(Refusal::BadShape);
     }
-    if !node_ok(store, 0, order, capacity(order, levels - 1)) {
+    let v = look_low(store, 0, order, capacity(order, levels - 1));
+    if !v.ok {
         return Count::Unknown(Refusal::Damaged);
     }
     Count::Held(sum_counts(store, 0, order) as u32)
 }
 
-pub fn push(store: &mut [u32], order: usize, levels: usize, rank: Rank, tag: Tag) -> Answer
-    ensures { λ r. ⌜ outcome r (now (store .exit)) ≡ called order levels (Request.Push (pair rank tag)) (now (store .entry)) ⌝ }
+// The put comes first: where it is done there was room, and the root was read once.
+pub fn push(store: &mut [u32], order: usize, levels: usize, x: Element) -> Answer
+    ensures { λ r. ⌜ outcome r (now (store .exit)) ≡ called order levels (Request.Push x) (now (store .entry)) ⌝ }
 {
     if !shape_ok(order, levels, store.len()) {
         return Answer::Refused(Refusal::BadShape);
     }
-    let x = Element { rank, tag };
     let cap = capacity(order, levels - 1);
-    if put(store, order, levels, 0, 1, 0, cap, x) {
+    if put(store, order, levels, 0, cap, x) {
         return Answer::Done;
     }
-    // not done, and nothing written: why
-    if !node_ok(store, 0, order, cap) {
-        return Answer::Refused(Refusal::Damaged);
+    // nothing is written: the root, and how many it holds, say why
+    let all = held(store, order, levels);
+    match all {
+        Count::Unknown(why) => Answer::Refused(why),
+        Count::Held(n) => {
+            if (n as usize) < capacity(order, levels) {
+                return Answer::Refused(Refusal::Damaged);
+            }
+            Answer::Refused(Refusal::Full)
+        }
     }
-    let sum = sum_counts(store, 0, order);
-    if sum < capacity(order, levels) {
-        return Answer::Refused(Refusal::Damaged);
-    }
-    Answer::Refused(Refusal::Full)
 }
 
 pub fn pop(store: &mut [u32], order: usize, levels: usize) -> Answer
@@ -254,15 +203,15 @@ pub fn pop(store: &mut [u32], order: usize, levels: usize) -> Answer
     }
     let a = slot_at(store, j);
     let low = a.element;
-    if !take(store, order, levels, 0, 1, 0, j, cap) {
+    if !take(store, order, levels, 0, j, cap) {
         return Answer::Refused(Refusal::Damaged);
     }
     Answer::Out(low)
 }
 
 // A newcomer of a rank below all held comes straight back, and the store stands.
-pub fn replace(store: &mut [u32], order: usize, levels: usize, rank: Rank, tag: Tag) -> Answer
-    ensures { λ r. ⌜ outcome r (now (store .exit)) ≡ called order levels (Request.Replace (pair rank tag)) (now (store .entry)) ⌝ }
+pub fn replace(store: &mut [u32], order: usize, levels: usize, x: Element) -> Answer
+    ensures { λ r. ⌜ outcome r (now (store .exit)) ≡ called order levels (Request.Replace x) (now (store .entry)) ⌝ }
 {
     if !shape_ok(order, levels, store.len()) {
         return Answer::Refused(Refusal::BadShape);
@@ -272,7 +221,6 @@ pub fn replace(store: &mut [u32], order: usize, levels: usize, rank: Rank, tag: 
     if !v.ok {
         return Answer::Refused(Refusal::Damaged);
     }
-    let x = Element { rank, tag };
     let j = v.place;
     if j == order {
         return Answer::Out(x);
@@ -282,7 +230,7 @@ pub fn replace(store: &mut [u32], order: usize, levels: usize, rank: Rank, tag: 
     if lower(x, low) {
         return Answer::Out(x);
     }
-    if !swap(store, order, levels, 0, 1, 0, j, cap, x) {
+    if !swap(store, order, levels, 0, j, cap, x) {
         return Answer::Refused(Refusal::Damaged);
     }
     Answer::Out(low)

@@ -25,7 +25,7 @@ use Rattle.tree_model.specs.declared.Op.{Op}
 use Rattle.tree_model.specs.declared.Op.the-variants.{Nothing, Put, Swap, Take}
 use Rattle.tree_model.specs.declared.Slot.{Slot}
 
-room-deep : (m k : ℕ) → 0 < room m k → 1 ≤ k
+pub room-deep : (m k : ℕ) → 0 < room m k → 1 ≤ k
 unfolding room
 room-deep m zero h = absurd (not-suc-le-zero h)
 room-deep m (suc k) h = omega arith

@@ -1,12 +1,8 @@
 -- `node::better` meets its contract. Assumes nothing.
 use borrow.Author.Needs.{needs}
-use Rattle.node.proofs.Scan.{beats-first, beats-lower, beats-none}
+use Rattle.node.proofs.Moves.{beats-first, beats-lower, beats-none}
 use Rattle.node.proofs.better.Statement.{statement}
 use Rattle.node.proofs.better.Tie as tie
-use Rattle.node.proofs.better.Reads as reads
-use Rattle.node.proofs.better.Lts as lts
-use Rattle.node.proofs.lower.Reads as lower-reads
-use Rattle.node.proofs.slot_at.Reads as slot-at-reads
 
 add-slot-at : tie.Need-add-slot-at
 add-slot-at c = search needs

@@ -10,8 +10,6 @@ use Rattle.tree_model.specs.Damage.{room}
 use Rattle.tree_model.specs.Tree.{slots}
 use Rattle.node.proofs.capacity.Statement.{statement}
 use Rattle.node.proofs.capacity.Tie as tie
-use Rattle.node.proofs.capacity.Reads as reads
-use Rattle.node.proofs.capacity.Lts as lts
 
 abbrev Inv-loop : tie.InvT-loop
 Inv-loop order levels slots₀ i₀ slots i = (i ≤ levels) × (slots ≡ room order i)

@@ -4,20 +4,14 @@ use Rattle.tree_model.specs.Node.{pass}
 use borrow.Author.Needs.{needs}
 use Rattle.node.proofs.goes_down.Statement.{statement}
 use Rattle.node.proofs.goes_down.Tie as tie
-use Rattle.node.proofs.goes_down.Reads as reads
-use Rattle.node.proofs.goes_down.Lts as lts
-use Rattle.node.proofs.lower.Reads as lower-reads
 
--- src/lib.rt:272:8
 lower-requires : tie.Need-lower-requires
 lower-requires c κs = search needs
 
--- src/lib.rt:273:9
 returns : tie.Need-returns
 unfolding pass
 returns c = rw (← sym (c .if1 .taken) ∙ c .before .lower .ensures)
 
--- src/lib.rt:269:1
 returns-2 : tie.Need-returns-2
 unfolding pass
 returns-2 c = rw (← sym (c .if1 .left) ∙ c .before .lower .ensures)

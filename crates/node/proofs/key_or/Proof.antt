@@ -7,19 +7,14 @@ use Rattle.tree_model.specs.Node.{isEmpty}
 use borrow.Author.Needs.{needs}
 use Rattle.node.proofs.key_or.Statement.{statement}
 use Rattle.node.proofs.key_or.Tie as tie
-use Rattle.node.proofs.key_or.Reads as reads
-use Rattle.node.proofs.key_or.Lts as lts
 
--- src/lib.rt:227:9
 returns : tie.Need-returns
 unfolding keyOr isEmpty
 returns c = (rw (eq-eqb (c .before .before .args .a .count) 0 (c .if1 .taken)), omega arith)
 
--- src/lib.rt:231:5
 cast-result : tie.Need-cast-result
 cast-result c = search needs
 
--- src/lib.rt:222:1
 returns-2 : tie.Need-returns-2
 unfolding keyOr isEmpty key
 returns-2 c = (rw (ne-eqb (c .before .before .before .before .before .args .a .count) 0 (c .before .before .before .if1 .left)), omega arith)

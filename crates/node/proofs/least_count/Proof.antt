@@ -4,14 +4,11 @@ use native.Mathlib.Omega.{arith}
 use mathlib.Core.Logic.{⊎-elim}
 use mathlib.Core.Path.{_∙_, _≡_, ap}
 use borrow.Author.Needs.{needs}
-use Rattle.node.proofs.Scan.{least-stays, least-taken, scan-least}
-use Rattle.node.specs.Scan.{scanLeast}
+use Rattle.node.proofs.Moves.{least-stays, least-taken}
+use Rattle.node.proofs.Scan.{scan-least, scanLeast}
 use Rattle.tree_model.specs.Words.{nodeOf}
 use Rattle.node.proofs.least_count.Statement.{statement}
 use Rattle.node.proofs.least_count.Tie as tie
-use Rattle.node.proofs.least_count.Reads as reads
-use Rattle.node.proofs.least_count.Lts as lts
-use Rattle.node.proofs.slot_at.Reads as slot-at-reads
 
 abbrev Inv-loop : tie.InvT-loop
 Inv-loop s at order best₀ j₀ best j = (j ≤ order) × (best < order) × (best ≡ scanLeast (nodeOf order s at) j)

@@ -4,16 +4,11 @@ use native.Mathlib.Omega.{arith}
 use mathlib.Core.Path.{refl}
 use borrow.Author.Needs.{needs}
 use Rattle.laws.specs.Tests.{and-left}
-use Rattle.node.proofs.Steps.{below-some, child-in, child-small, lift-ends, lift-reads, read-again, read-no, read-yes, room-up, some-in}
+use Rattle.node.proofs.Moves.{child-in, child-small, read-again, read-no, read-yes, some-in}
+use Rattle.node.proofs.Steps.{below-some, lift-ends, lift-reads, room-up}
 use Rattle.tree_model.specs.Damage.{nodeOk}
 use Rattle.node.proofs.lift_ok.Statement.{statement}
 use Rattle.node.proofs.lift_ok.Tie as tie
-use Rattle.node.proofs.lift_ok.Reads as reads
-use Rattle.node.proofs.lift_ok.Lts as lts
-use Rattle.node.proofs.capacity.Reads as capacity-reads
-use Rattle.node.proofs.lowest_slot.Reads as lowest-slot-reads
-use Rattle.node.proofs.slot_at.Reads as slot-at-reads
-use Rattle.node.proofs.take_ok.Reads as take-ok-reads
 
 capacity-requires : tie.Need-capacity-requires
 capacity-requires c κs = search needs

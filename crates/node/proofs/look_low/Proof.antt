@@ -1,22 +1,17 @@
-use Rattle.strip.specs.Answers.{key}
 -- `node::look_low` meets its contract. Assumes nothing.
-use Prim.Native.Nat.{_-_, _<_, _≤_, ℕ}
+use Prim.Native.Nat.{_-_, _≤_}
 use native.Mathlib.Omega.{arith}
 use mathlib.Core.Logic.{⊎-elim}
-use mathlib.Core.Path.{_∙_, _≡_, ap, refl}
+use mathlib.Core.Path.{_≡_, refl}
 use borrow.Author.Needs.{needs}
+use borrow.Author.Tests.{ltb-false}
+use Rattle.strip.specs.Answers.{key}
 use Rattle.tree_model.specs.Damage.{slotOk}
 use Rattle.tree_model.specs.Words.{nodeOf}
-use Rattle.node.proofs.Looks.{key-stays, key-taken, low-key-start}
-use Rattle.node.proofs.Scan.{every-next, low-end, low-start, node-ok-end}
-use Rattle.node.specs.Scan.{bestKey, everyTo, scanLow}
+use Rattle.node.proofs.Looks.{key-stays, key-taken, low-key-start, low-looked}
+use Rattle.node.proofs.Scan.{bestKey, every-next, everyTo, low-start, scanLow}
 use Rattle.node.proofs.look_low.Statement.{statement}
 use Rattle.node.proofs.look_low.Tie as tie
-use Rattle.node.proofs.look_low.Reads as reads
-use Rattle.node.proofs.look_low.Lts as lts
-use Rattle.node.proofs.key_or.Reads as key-or-reads
-use Rattle.node.proofs.slot_at.Reads as slot-at-reads
-use Rattle.node.proofs.slot_ok.Reads as slot-ok-reads
 
 abbrev Inv-loop : tie.InvT-loop
 Inv-loop s at order room ok₀ best₀ low₀ j₀ ok best low j = (j ≤ order) × (ok ≡ everyTo (slotOk room) (nodeOf order s at) j) × (best ≡ scanLow (nodeOf order s at) j) × (low ≡ bestKey (nodeOf order s at) best) × (low ≤ 4294967296) × (best ≤ order)
@@ -24,48 +19,49 @@ Inv-loop s at order room ok₀ best₀ low₀ j₀ ok best low j = (j ≤ order)
 abbrev μ-loop : tie.MeasureT-loop
 μ-loop s at order room ok₀ best₀ low₀ j₀ ok best low j = order - j
 
--- src/lib.rt:245:5
 loop-holds : tie.Need-loop-holds Inv-loop μ-loop
 unfolding everyTo
 loop-holds c = (omega arith, refl, low-start _ _ _, low-key-start _ _ _, omega arith, omega arith)
 
--- src/lib.rt:246:28
 add-slot-at : tie.Need-add-slot-at Inv-loop μ-loop
 add-slot-at c = search needs
 
--- src/lib.rt:246:13
 slot-at-requires : tie.Need-slot-at-requires Inv-loop μ-loop
 slot-at-requires c κs = search needs
 
--- src/lib.rt:247:19
 slot-ok-requires : tie.Need-slot-ok-requires Inv-loop μ-loop
 slot-ok-requires c κs = search needs
 
--- src/lib.rt:248:13
 key-or-requires : tie.Need-key-or-requires Inv-loop μ-loop
 key-or-requires c κs = search needs
 
--- src/lib.rt:253:9
 add-j : tie.Need-add-j Inv-loop μ-loop
 add-j c = search needs
 
--- src/lib.rt:245:5
 loop-less : tie.Need-loop-less Inv-loop μ-loop
 loop-less c = search needs
 
--- src/lib.rt:245:5
 loop-again : tie.Need-loop-again Inv-loop μ-loop
 unfolding key
 loop-again c =
-    let ok = every-next _ _ _ _ _ _ _ _ (search needs) (c .before .before .before .before .before .loop .inv .1) (c .before .before .before .slot-at .ensures) (c .before .before .slot-ok .ensures) in
+    let at-loop = c .before .before .before .before .before .before in
+    let inv = at-loop .loop .inv in
+    let read = c .before .before .before .slot-at .ensures in
+    let keyed = c .before .key-or .ensures in
+    let ok = every-next _ _ _ _ _ _ _ _ (search needs) (inv .1) read (c .before .before .slot-ok .ensures) in
     ⊎-elim
-    (λ w. let p = key-taken _ _ _ _ _ _ _ _ (search needs) (c .before .before .before .before .before .loop .inv .2) (c .before .before .before .before .before .loop .inv .3) (c .before .before .before .before .before .loop .inv .4) (c .before .before .before .slot-at .ensures) (c .before .key-or .ensures .0) (c .before .key-or .ensures .1) (search needs) (w .0 .taken) _ _ (w .1) (w .2) in (omega arith, ok, p .0, p .1, omega arith, omega arith))
-    (λ w. let p = key-stays _ _ _ _ _ _ _ _ (search needs) (c .before .before .before .before .before .loop .inv .2) (c .before .before .before .before .before .loop .inv .3) (c .before .before .before .before .before .loop .inv .4) (c .before .before .before .slot-at .ensures) (c .before .key-or .ensures .0) (c .before .key-or .ensures .1) (search needs) (w .0 .left) _ _ (w .1) (w .2) in (omega arith, ok, p .0, p .1, omega arith, omega arith))
-    (c .if1 .came)
+    (λ w. let p = key-taken _ _ _ _ _ _ _ _ (search needs) (inv .2) (inv .3) (inv .4) read (keyed .0) (keyed .1) (search needs) (w .0 .taken) _ _ (w .1) (w .2) in (omega arith, ok, p .0, p .1, omega arith, omega arith))
+    (λ w. let p = key-stays _ _ _ _ _ _ _ _ (search needs) (inv .2) (inv .3) (inv .4) read (keyed .0) (keyed .1) (search needs) (w .0 .left) _ _ (w .1) (w .2) in (omega arith, ok, p .0, p .1, omega arith, omega arith))
+    (c .if2 .came)
 
--- src/lib.rt:235:1
 returns : tie.Need-returns Inv-loop μ-loop
-returns c = (node-ok-end _ _ _ _ _ _ (omega arith) (c .before .loop .inv .1), (low-end _ _ _ _ _ (omega arith) (c .before .loop .inv .2), omega arith))
+returns c =
+    let at-loop = c .before .before in
+    let inv = at-loop .loop .inv in
+    low-looked _ _ _ _ _ _ _ (omega (arith, ltb-false (at-loop .loop .j) 8 (c .if1 .left))) (inv .1) (inv .2) (inv .5)
+
+returns-2 : tie.Need-returns-2 Inv-loop μ-loop
+returns-2 c = let inv = c .before .loop .inv in low-looked _ _ _ _ _ _ _ (omega arith) (inv .1) (inv .2) (inv .5)
 
 pub look-low-spec : {M : Type 1} → statement M
 look-low-spec =
@@ -81,4 +77,5 @@ look-low-spec =
     add-j
     loop-less
     loop-again
-    returns)
+    returns
+    returns-2)

@@ -3,8 +3,6 @@ use borrow.Author.Needs.{needs}
 use Rattle.strip.specs.Answers.{key}
 use Rattle.node.proofs.lower.Statement.{statement}
 use Rattle.node.proofs.lower.Tie as tie
-use Rattle.node.proofs.lower.Reads as reads
-use Rattle.node.proofs.lower.Lts as lts
 
 returns : tie.Need-returns
 unfolding key

@@ -1,14 +1,10 @@
 -- `node::lowest_element` meets its contract. Assumes nothing.
 use mathlib.Core.Path.{_∙_}
 use borrow.Author.Needs.{needs}
-use Rattle.node.proofs.Scan.{low-found, low-none}
+use Rattle.node.proofs.Moves.{low-none}
+use Rattle.node.proofs.Scan.{low-found}
 use Rattle.node.proofs.lowest_element.Statement.{statement}
 use Rattle.node.proofs.lowest_element.Tie as tie
-use Rattle.node.proofs.lowest_element.Reads as reads
-use Rattle.node.proofs.lowest_element.Lts as lts
-use Rattle.node.proofs.lowest_slot.Reads as lowest-slot-reads
-use Rattle.node.proofs.slot_at.Reads as slot-at-reads
-use Rattle.strip.proofs.no_element.Reads as no-element-reads
 
 lowest-slot-requires : tie.Need-lowest-slot-requires
 lowest-slot-requires c κs = search needs

@@ -4,14 +4,11 @@ use native.Mathlib.Omega.{arith}
 use mathlib.Core.Logic.{⊎-elim}
 use mathlib.Core.Path.{_≡_}
 use borrow.Author.Needs.{needs}
-use Rattle.node.proofs.Scan.{low-end, low-start, low-stays, low-taken}
-use Rattle.node.specs.Scan.{scanLow}
+use Rattle.node.proofs.Moves.{low-stays, low-taken}
+use Rattle.node.proofs.Scan.{low-end, low-start, scanLow}
 use Rattle.tree_model.specs.Words.{nodeOf}
 use Rattle.node.proofs.lowest_slot.Statement.{statement}
 use Rattle.node.proofs.lowest_slot.Tie as tie
-use Rattle.node.proofs.lowest_slot.Reads as reads
-use Rattle.node.proofs.lowest_slot.Lts as lts
-use Rattle.node.proofs.better.Reads as better-reads
 
 abbrev Inv-loop : tie.InvT-loop
 Inv-loop s at order best₀ j₀ best j = (j ≤ order) × (best ≤ order) × (best ≡ scanLow (nodeOf order s at) j)

@@ -1,15 +1,9 @@
 -- `node::move_of` meets its contract. Assumes nothing.
 use borrow.Author.Needs.{needs}
-use Rattle.node.proofs.Steps.{move-nothing, move-put, move-swap, move-take, needs-of}
+use Rattle.node.proofs.Moves.{needs-of}
+use Rattle.node.proofs.Steps.{move-nothing, move-put, move-swap, move-take}
 use Rattle.node.proofs.move_of.Statement.{statement}
 use Rattle.node.proofs.move_of.Tie as tie
-use Rattle.node.proofs.move_of.Reads as reads
-use Rattle.node.proofs.move_of.Lts as lts
-use Rattle.node.proofs.put_move.Reads as put-move-reads
-use Rattle.node.proofs.step.Reads as step-reads
-use Rattle.node.proofs.swap_move.Reads as swap-move-reads
-use Rattle.node.proofs.take_move.Reads as take-move-reads
-use Rattle.strip.proofs.no_element.Reads as no-element-reads
 
 enum-told : tie.Need-enum-told
 enum-told c = search needs

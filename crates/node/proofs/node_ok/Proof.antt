@@ -3,16 +3,11 @@ use Prim.Native.Nat.{_-_, _≤_}
 use native.Mathlib.Omega.{arith}
 use mathlib.Core.Path.{_≡_}
 use borrow.Author.Needs.{needs}
-use Rattle.node.proofs.Scan.{every-next, node-ok-end}
-use Rattle.node.specs.Scan.{everyTo}
+use Rattle.node.proofs.Scan.{every-next, everyTo, node-ok-end}
 use Rattle.tree_model.specs.Damage.{room, slotOk}
 use Rattle.tree_model.specs.Words.{nodeOf}
 use Rattle.node.proofs.node_ok.Statement.{statement}
 use Rattle.node.proofs.node_ok.Tie as tie
-use Rattle.node.proofs.node_ok.Reads as reads
-use Rattle.node.proofs.node_ok.Lts as lts
-use Rattle.node.proofs.slot_at.Reads as slot-at-reads
-use Rattle.node.proofs.slot_ok.Reads as slot-ok-reads
 
 abbrev Inv-loop : tie.InvT-loop
 Inv-loop s at order room ok₀ j₀ ok j = (j ≤ order) × (ok ≡ everyTo (slotOk room) (nodeOf order s at) j)

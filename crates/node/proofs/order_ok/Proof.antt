@@ -3,8 +3,6 @@ use mathlib.Core.Path.{refl}
 use Rattle.tree_model.specs.Calls.{orderOk}
 use Rattle.node.proofs.order_ok.Statement.{statement}
 use Rattle.node.proofs.order_ok.Tie as tie
-use Rattle.node.proofs.order_ok.Reads as reads
-use Rattle.node.proofs.order_ok.Lts as lts
 
 returns : tie.Need-returns
 unfolding orderOk

@@ -1,15 +1,10 @@
 -- `node::put_move` meets its contract. Assumes nothing.
 use native.Mathlib.Omega.{arith}
 use borrow.Author.Needs.{needs}
-use Rattle.node.proofs.Steps.{least-small, put-first, put-higher, put-lower}
+use Rattle.node.proofs.Moves.{least-small, put-higher, put-lower}
+use Rattle.node.proofs.Steps.{put-first}
 use Rattle.node.proofs.put_move.Statement.{statement}
 use Rattle.node.proofs.put_move.Tie as tie
-use Rattle.node.proofs.put_move.Reads as reads
-use Rattle.node.proofs.put_move.Lts as lts
-use Rattle.node.proofs.least_count.Reads as least-count-reads
-use Rattle.node.proofs.lower.Reads as lower-reads
-use Rattle.node.proofs.slot_at.Reads as slot-at-reads
-use Rattle.node.proofs.step.Reads as step-reads
 
 least-count-requires : tie.Need-least-count-requires
 least-count-requires c κs = search needs

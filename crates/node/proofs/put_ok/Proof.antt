@@ -3,11 +3,6 @@ use borrow.Author.Needs.{needs}
 use Rattle.node.proofs.Steps.{put-test}
 use Rattle.node.proofs.put_ok.Statement.{statement}
 use Rattle.node.proofs.put_ok.Tie as tie
-use Rattle.node.proofs.put_ok.Reads as reads
-use Rattle.node.proofs.put_ok.Lts as lts
-use Rattle.node.proofs.least_count.Reads as least-count-reads
-use Rattle.node.proofs.node_ok.Reads as node-ok-reads
-use Rattle.node.proofs.slot_at.Reads as slot-at-reads
 
 least-count-requires : tie.Need-least-count-requires
 least-count-requires c κs = search needs

@@ -3,10 +3,6 @@ use borrow.Author.Needs.{needs}
 use Rattle.node.proofs.Steps.{shape-above, shape-levels, shape-order, shape-range, shape-slice}
 use Rattle.node.proofs.shape_ok.Statement.{statement}
 use Rattle.node.proofs.shape_ok.Tie as tie
-use Rattle.node.proofs.shape_ok.Reads as reads
-use Rattle.node.proofs.shape_ok.Lts as lts
-use Rattle.node.proofs.capacity.Reads as capacity-reads
-use Rattle.node.proofs.order_ok.Reads as order-ok-reads
 
 order-ok-requires : tie.Need-order-ok-requires
 order-ok-requires c κs = search needs

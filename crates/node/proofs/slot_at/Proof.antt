@@ -3,8 +3,6 @@ use borrow.Author.Needs.{needs}
 use Rattle.tree_model.specs.Words.{slotOf}
 use Rattle.node.proofs.slot_at.Statement.{statement}
 use Rattle.node.proofs.slot_at.Tie as tie
-use Rattle.node.proofs.slot_at.Reads as reads
-use Rattle.node.proofs.slot_at.Lts as lts
 
 mul-at : tie.Need-mul-at
 mul-at c = search needs

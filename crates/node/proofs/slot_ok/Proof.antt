@@ -5,8 +5,6 @@ use Rattle.tree_model.specs.Damage.{isBlank, slotOk}
 use Rattle.tree_model.specs.Node.{isEmpty}
 use Rattle.node.proofs.slot_ok.Statement.{statement}
 use Rattle.node.proofs.slot_ok.Tie as tie
-use Rattle.node.proofs.slot_ok.Reads as reads
-use Rattle.node.proofs.slot_ok.Lts as lts
 
 cast-count : tie.Need-cast-count
 cast-count c = search needs

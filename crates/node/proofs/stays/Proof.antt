@@ -4,20 +4,14 @@ use Rattle.tree_model.specs.Node.{keep}
 use borrow.Author.Needs.{needs}
 use Rattle.node.proofs.stays.Statement.{statement}
 use Rattle.node.proofs.stays.Tie as tie
-use Rattle.node.proofs.stays.Reads as reads
-use Rattle.node.proofs.stays.Lts as lts
-use Rattle.node.proofs.lower.Reads as lower-reads
 
--- src/lib.rt:262:8
 lower-requires : tie.Need-lower-requires
 lower-requires c κs = search needs
 
--- src/lib.rt:263:9
 returns : tie.Need-returns
 unfolding keep
 returns c = rw (← sym (c .if1 .taken) ∙ c .before .lower .ensures)
 
--- src/lib.rt:259:1
 returns-2 : tie.Need-returns-2
 unfolding keep
 returns-2 c = rw (← sym (c .if1 .left) ∙ c .before .lower .ensures)

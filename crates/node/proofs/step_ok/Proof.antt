@@ -4,11 +4,6 @@ use borrow.Author.Needs.{needs}
 use Rattle.node.proofs.Steps.{step-nothing, step-put, step-swap, step-take}
 use Rattle.node.proofs.step_ok.Statement.{statement}
 use Rattle.node.proofs.step_ok.Tie as tie
-use Rattle.node.proofs.step_ok.Reads as reads
-use Rattle.node.proofs.step_ok.Lts as lts
-use Rattle.node.proofs.capacity.Reads as capacity-reads
-use Rattle.node.proofs.lift_ok.Reads as lift-ok-reads
-use Rattle.node.proofs.put_ok.Reads as put-ok-reads
 
 enum-told : tie.Need-enum-told
 enum-told c = search needs

@@ -3,14 +3,10 @@ use Prim.Native.Nat.{_*_, _-_, _≤_}
 use native.Mathlib.Omega.{arith}
 use mathlib.Core.Path.{_≡_}
 use borrow.Author.Needs.{needs}
-use Rattle.node.proofs.Scan.{sum-end, sum-next}
-use Rattle.node.specs.Scan.{sumCountsTo}
+use Rattle.node.proofs.Scan.{sum-end, sum-next, sumCountsTo}
 use Rattle.tree_model.specs.Words.{nodeOf}
 use Rattle.node.proofs.sum_counts.Statement.{statement}
 use Rattle.node.proofs.sum_counts.Tie as tie
-use Rattle.node.proofs.sum_counts.Reads as reads
-use Rattle.node.proofs.sum_counts.Lts as lts
-use Rattle.node.proofs.slot_at.Reads as slot-at-reads
 
 abbrev Inv-loop : tie.InvT-loop
 Inv-loop s at order sum₀ j₀ sum j = (j ≤ order) × (sum ≤ 4294967296 * j) × (sum ≡ sumCountsTo (nodeOf order s at) j)

@@ -1,16 +1,10 @@
 -- `node::swap_move` meets its contract. Assumes nothing.
 use native.Mathlib.Omega.{arith}
 use borrow.Author.Needs.{needs}
-use Rattle.node.proofs.Steps.{child-node, lowest-in, swap-ends, swap-lifts, swap-stays}
+use Rattle.node.proofs.Moves.{child-node}
+use Rattle.node.proofs.Steps.{lowest-in, swap-ends, swap-lifts, swap-stays}
 use Rattle.node.proofs.swap_move.Statement.{statement}
 use Rattle.node.proofs.swap_move.Tie as tie
-use Rattle.node.proofs.swap_move.Reads as reads
-use Rattle.node.proofs.swap_move.Lts as lts
-use Rattle.node.proofs.lower.Reads as lower-reads
-use Rattle.node.proofs.lowest_element.Reads as lowest-element-reads
-use Rattle.node.proofs.lowest_slot.Reads as lowest-slot-reads
-use Rattle.node.proofs.slot_at.Reads as slot-at-reads
-use Rattle.node.proofs.step.Reads as step-reads
 
 lowest-slot-requires : tie.Need-lowest-slot-requires
 lowest-slot-requires c κs = search needs

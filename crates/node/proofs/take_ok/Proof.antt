@@ -3,10 +3,6 @@ use borrow.Author.Needs.{needs}
 use Rattle.node.proofs.Steps.{some-test}
 use Rattle.node.proofs.take_ok.Statement.{statement}
 use Rattle.node.proofs.take_ok.Tie as tie
-use Rattle.node.proofs.take_ok.Reads as reads
-use Rattle.node.proofs.take_ok.Lts as lts
-use Rattle.node.proofs.lowest_slot.Reads as lowest-slot-reads
-use Rattle.node.proofs.node_ok.Reads as node-ok-reads
 
 lowest-slot-requires : tie.Need-lowest-slot-requires
 lowest-slot-requires c κs = search needs

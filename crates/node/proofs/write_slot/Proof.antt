@@ -5,8 +5,6 @@ use borrow.Author.Needs.{needs}
 use Rattle.tree_model.specs.Words.{write}
 use Rattle.node.proofs.write_slot.Statement.{statement}
 use Rattle.node.proofs.write_slot.Tie as tie
-use Rattle.node.proofs.write_slot.Reads as reads
-use Rattle.node.proofs.write_slot.Lts as lts
 
 mul-at : tie.Need-mul-at
 mul-at c = search needs

@@ -1,9 +1,8 @@
 -- `tree::put` meets its contract. Assumes nothing.
 use native.Mathlib.Omega.{arith}
-use mathlib.Core.Path.{_∙_, _≡_, refl}
+use mathlib.Core.Path.{_∙_}
 use borrow.Author.Needs.{needs}
-use Rattle.tree.proofs.Down.{level-of, step-in}
-use Rattle.tree.proofs.Once.{below-lies, cap-limit, none-left, put-crowded, put-damaged, put-ends, put-fails, put-passes, under-room}
+use Rattle.tree.proofs.Once.{below-small, look-in, numbers, put-stands, put-cap, put-ends, put-fails, put-off, put-passes, put-room}
 use Prim.Native.Nat.{ℕ, _<_}
 use borrow.Fn.Kinds.{In}
 use borrow.Fn.PlainCycle.{Measures, is, falls, and}
@@ -12,13 +11,13 @@ use Rattle.tree.proofs.put.Kinds as put-kinds
 use Rattle.tree.proofs.+put.Lts-put as put-lts
 use Rattle.node.proofs.goes_down.Reads as goes-down-reads
 use Rattle.node.proofs.look_least.Reads as look-least-reads
-use Rattle.node.proofs.room_under.Reads as room-under-reads
 use Rattle.node.proofs.slot_at.Reads as slot-at-reads
 use Rattle.node.proofs.stays.Reads as stays-reads
 use Rattle.node.proofs.write_slot.Reads as write-slot-reads
 use Rattle.tree.proofs.+put.{statement}
 use Rattle.tree.proofs.+put.Tie.{close}
 
+-- the levels left fall
 abbrev μ-put : Measures 1 put-kinds.ps ℕ
 μ-put κs a = a .1 .1 .0
 
@@ -29,121 +28,131 @@ abbrev put-below : ℕ → In 1 put-kinds.ps
 put-below t = and 1 put-kinds.ps (falls 1 put-kinds.ps _<_ μ-put t) put.Pre
 
 abbrev cs : ℕ → put-lts.Claims
-cs t = (look-least-reads.Asked, look-least-reads.Learnt, slot-at-reads.Asked, slot-at-reads.Learnt, write-slot-reads.Asked, write-slot-reads.Learnt, goes-down-reads.Asked, goes-down-reads.Learnt, stays-reads.Asked, stays-reads.Learnt, room-under-reads.Asked, room-under-reads.Learnt, put-below t, put.Post)
+cs t = (look-least-reads.Asked, look-least-reads.Learnt, slot-at-reads.Asked, slot-at-reads.Learnt, write-slot-reads.Asked, write-slot-reads.Learnt, goes-down-reads.Asked, goes-down-reads.Learnt, stays-reads.Asked, stays-reads.Learnt, put-below t, put.Post)
 
-put-returns : (t : ℕ) → put-lts.Need-returns (cs t) (put-at t) put.Post
-put-returns t c = none-left _ _ _ _ _ _ _ (c .if1 .taken)
+look-least-requires : (t : ℕ) → put-lts.Need-look-least-requires (cs t) (put-at t) put.Post
+look-least-requires t c κs = look-in (c .before .before .pre .1)
 
-put-mul-first : (t : ℕ) → put-lts.Need-mul-first (cs t) (put-at t) put.Post
-put-mul-first t c = omega (arith, level-of (c .before .before .args .order) (c .before .before .args .left) (c .before .before .args .base) (c .before .before .args .width) (c .before .before .args .node) (c .before .before .args .s .now) (c .before .before .pre .1 .0) (c .if1 .left))
+add-i : (t : ℕ) → put-lts.Need-add-i (cs t) (put-at t) put.Post
+add-i t c = omega (arith, numbers (c .before .before .before .before .pre .1), c .before .look-least .ensures .1 .1)
 
-put-add-at : (t : ℕ) → put-lts.Need-add-at (cs t) (put-at t) put.Post
-put-add-at t c = omega (arith, level-of (c .before .before .args .order) (c .before .before .args .left) (c .before .before .args .base) (c .before .before .args .width) (c .before .before .args .node) (c .before .before .args .s .now) (c .before .before .pre .1 .0) (c .if1 .left))
+slot-at-requires : (t : ℕ) → put-lts.Need-slot-at-requires (cs t) (put-at t) put.Post
+slot-at-requires t c κs = omega (arith, numbers (c .before .before .before .before .before .pre .1), c .before .before .look-least .ensures .1 .1)
 
-put-look-least-requires : (t : ℕ) → put-lts.Need-look-least-requires (cs t) (put-at t) put.Post
-put-look-least-requires t c κs = (step-in (c .before .before .before .args .order) (c .before .before .before .args .base) (c .before .before .before .args .width) (c .before .before .before .args .node) (c .before .before .before .args .s .now) (c .before .before .before .args .left) (c .before .before .before .pre .1 .0) (c .before .if1 .left) .node, cap-limit (c .before .before .before .args .order) (c .before .before .before .args .base) (c .before .before .before .args .width) (c .before .before .before .args .node) (c .before .before .before .args .s .now) (c .before .before .before .args .left) (c .before .if1 .left) (c .before .before .before .pre .1 .0) (c .before .before .before .args .cap) (c .before .before .before .pre .1 .1))
+cast-if1 : (t : ℕ) → put-lts.Need-cast-if1 (cs t) (put-at t) put.Post
+cast-if1 t c = search needs
 
-put-same-length : (t : ℕ) → put-lts.Need-same-length (cs t) (put-at t) put.Post
-put-same-length t c = search needs
+same-length : (t : ℕ) → put-lts.Need-same-length (cs t) (put-at t) put.Post
+same-length t c = search needs
 
-put-returns-2 : (t : ℕ) → put-lts.Need-returns-2 (cs t) (put-at t) put.Post
-put-returns-2 t c = put-damaged (c .before .before .before .before .before .before .args .order) (c .before .before .before .before .before .before .args .base) (c .before .before .before .before .before .before .args .width) (c .before .before .before .before .before .before .args .node) (c .before .before .before .before .before .before .args .s .now) (c .before .before .before .before .before .before .args .left) (c .before .before .before .before .if1 .left) (c .before .before .before .before .before .before .pre .1 .0) (c .before .before .before .before .before .before .args .x) (c .before .before .before .before .before .before .args .cap) _ _ (c .before .before .before .before .before .before .pre .1 .1) (c .before .before .look-least .ensures .0) (c .before .before .look-least .ensures .1 .0) (c .before .before .look-least .ensures .1 .1) (c .if2 .taken)
+returns : (t : ℕ) → put-lts.Need-returns (cs t) (put-at t) put.Post
+returns t c =
+    let at-slot = c .before .before in
+    let at-look = at-slot .before .before .before in
+    let start = at-look .before .before .before in
+    put-off (start .pre .1) (start .args .x) _ _ (at-look .look-least .ensures .0) (at-look .look-least .ensures .1 .0) (at-look .look-least .ensures .1 .1) _ (at-slot .slot-at .ensures) (c .if1 .taken)
 
-put-add-i : (t : ℕ) → put-lts.Need-add-i (cs t) (put-at t) put.Post
-put-add-i t c = omega (arith, level-of (c .before .before .before .before .before .before .args .order) (c .before .before .before .before .before .before .args .left) (c .before .before .before .before .before .before .args .base) (c .before .before .before .before .before .before .args .width) (c .before .before .before .before .before .before .args .node) (c .before .before .before .before .before .before .args .s .now) (c .before .before .before .before .before .before .pre .1 .0) (c .before .before .before .before .if1 .left), c .before .before .look-least .ensures .1 .1)
+write-slot-requires : (t : ℕ) → put-lts.Need-write-slot-requires (cs t) (put-at t) put.Post
+write-slot-requires t c κs = omega (arith, numbers (c .before .before .before .before .before .before .before .before .before .before .pre .1), c .before .before .before .before .before .before .before .look-least .ensures .1 .1)
 
-put-slot-at-requires : (t : ℕ) → put-lts.Need-slot-at-requires (cs t) (put-at t) put.Post
-put-slot-at-requires t c κs = omega (arith, level-of (c .before .before .before .before .before .before .before .args .order) (c .before .before .before .before .before .before .before .args .left) (c .before .before .before .before .before .before .before .args .base) (c .before .before .before .before .before .before .before .args .width) (c .before .before .before .before .before .before .before .args .node) (c .before .before .before .before .before .before .before .args .s .now) (c .before .before .before .before .before .before .before .pre .1 .0) (c .before .before .before .before .before .if1 .left), c .before .before .before .look-least .ensures .1 .1)
+same-length-2 : (t : ℕ) → put-lts.Need-same-length-2 (cs t) (put-at t) put.Post
+same-length-2 t c = c .before .before .write-slot .kept .0
 
-put-cast-if3 : (t : ℕ) → put-lts.Need-cast-if3 (cs t) (put-at t) put.Post
-put-cast-if3 t c = search needs
+returns-2 : (t : ℕ) → put-lts.Need-returns-2 (cs t) (put-at t) put.Post
+returns-2 t c =
+    let at-wrote = c .before .before in
+    let at-if2 = at-wrote .before .before in
+    let at-if1 = at-if2 .before in
+    let at-slot = at-if1 .before .before in
+    let at-look = at-slot .before .before .before in
+    let start = at-look .before .before .before in
+    put-ends (start .pre .1) (start .args .x) _ _ (at-look .look-least .ensures .0) (at-look .look-least .ensures .1 .0) (at-look .look-least .ensures .1 .1) _ (at-slot .slot-at .ensures) (at-if1 .if1 .left) (at-if2 .if2 .taken) _ (at-wrote .write-slot .ensures)
 
-put-same-length-2 : (t : ℕ) → put-lts.Need-same-length-2 (cs t) (put-at t) put.Post
-put-same-length-2 t c = search needs
+goes-down-requires : (t : ℕ) → put-lts.Need-goes-down-requires (cs t) (put-at t) put.Post
+goes-down-requires t c κs = search needs
 
-put-returns-3 : (t : ℕ) → put-lts.Need-returns-3 (cs t) (put-at t) put.Post
-put-returns-3 t c = put-crowded (c .before .before .before .before .before .before .before .before .before .args .order) (c .before .before .before .before .before .before .before .before .before .args .base) (c .before .before .before .before .before .before .before .before .before .args .width) (c .before .before .before .before .before .before .before .before .before .args .node) (c .before .before .before .before .before .before .before .before .before .args .s .now) (c .before .before .before .before .before .before .before .before .before .args .left) (c .before .before .before .before .before .before .before .if1 .left) (c .before .before .before .before .before .before .before .before .before .pre .1 .0) (c .before .before .before .before .before .before .before .before .before .args .x) (c .before .before .before .before .before .before .before .before .before .args .cap) _ _ (c .before .before .before .before .before .before .before .before .before .pre .1 .1) (c .before .before .before .before .before .look-least .ensures .0) (c .before .before .before .before .before .look-least .ensures .1 .0) (c .before .before .before .before .before .look-least .ensures .1 .1) _ (c .before .slot-at .ensures) (c .if3 .taken)
+stays-requires : (t : ℕ) → put-lts.Need-stays-requires (cs t) (put-at t) put.Post
+stays-requires t c κs = search needs
 
-put-write-slot-requires : (t : ℕ) → put-lts.Need-write-slot-requires (cs t) (put-at t) put.Post
-put-write-slot-requires t c κs = omega (arith, level-of (c .before .before .before .before .before .before .before .before .before .before .before .args .order) (c .before .before .before .before .before .before .before .before .before .before .before .args .left) (c .before .before .before .before .before .before .before .before .before .before .before .args .base) (c .before .before .before .before .before .before .before .before .before .before .before .args .width) (c .before .before .before .before .before .before .before .before .before .before .before .args .node) (c .before .before .before .before .before .before .before .before .before .before .before .args .s .now) (c .before .before .before .before .before .before .before .before .before .before .before .pre .1 .0) (c .before .before .before .before .before .before .before .before .before .if1 .left), c .before .before .before .before .before .before .before .look-least .ensures .1 .1)
+add-below : (t : ℕ) → put-lts.Need-add-below (cs t) (put-at t) put.Post
+add-below t c = omega (arith, numbers (c .before .before .before .before .before .before .before .before .before .before .before .before .pre .1), c .before .before .before .before .before .before .before .before .before .look-least .ensures .1 .1)
 
-put-same-length-3 : (t : ℕ) → put-lts.Need-same-length-3 (cs t) (put-at t) put.Post
-put-same-length-3 t c = c .before .before .write-slot .kept .0
+mul-below : (t : ℕ) → put-lts.Need-mul-below (cs t) (put-at t) put.Post
+mul-below t c =
+    let at-look = c .before .before .before .before .before .before .before .before .before in
+    let start = at-look .before .before .before in
+    omega (arith, below-small (start .pre .1) (at-look .look-least .result .place) (at-look .look-least .ensures .1 .1))
 
-put-returns-4 : (t : ℕ) → put-lts.Need-returns-4 (cs t) (put-at t) put.Post
-put-returns-4 t c = put-ends (c .before .before .before .before .before .before .before .before .before .before .before .before .before .before .args .order) (c .before .before .before .before .before .before .before .before .before .before .before .before .before .before .args .base) (c .before .before .before .before .before .before .before .before .before .before .before .before .before .before .args .width) (c .before .before .before .before .before .before .before .before .before .before .before .before .before .before .args .node) (c .before .before .before .before .before .before .before .before .before .before .before .before .before .before .args .s .now) (c .before .before .before .before .before .before .before .before .before .before .before .before .before .before .args .left) (c .before .before .before .before .before .before .before .before .before .before .before .before .if1 .left) (c .before .before .before .before .before .before .before .before .before .before .before .before .before .before .pre .1 .0) (c .before .before .before .before .before .before .before .before .before .before .before .before .before .before .args .x) (c .before .before .before .before .before .before .before .before .before .before .before .before .before .before .args .cap) _ _ (c .before .before .before .before .before .before .before .before .before .before .before .before .before .before .pre .1 .1) (c .before .before .before .before .before .before .before .before .before .before .look-least .ensures .0) (c .before .before .before .before .before .before .before .before .before .before .look-least .ensures .1 .0) (c .before .before .before .before .before .before .before .before .before .before .look-least .ensures .1 .1) _ (c .before .before .before .before .before .before .slot-at .ensures) (c .before .before .before .before .before .before .before .before .if2 .left) (c .before .before .before .before .before .if3 .left) (c .before .before .before .before .if4 .taken) _ (c .before .before .write-slot .ensures)
+sub-under : (t : ℕ) → put-lts.Need-sub-under (cs t) (put-at t) put.Post
+sub-under t c =
+    let at-if2 = c .before .before .before in
+    let at-if1 = at-if2 .before in
+    let at-slot = at-if1 .before .before in
+    let at-look = at-slot .before .before .before in
+    let start = at-look .before .before .before in
+    put-cap (start .pre .1) (start .args .x) _ _ (at-look .look-least .ensures .0) (at-look .look-least .ensures .1 .0) (at-look .look-least .ensures .1 .1) _ (at-slot .slot-at .ensures) (at-if1 .if1 .left) (at-if2 .if2 .left)
 
-put-goes-down-requires : (t : ℕ) → put-lts.Need-goes-down-requires (cs t) (put-at t) put.Post
-put-goes-down-requires t c κs = search needs
+div-under : (t : ℕ) → put-lts.Need-div-under (cs t) (put-at t) put.Post
+div-under t c = omega (arith, numbers (c .before .before .before .before .before .before .before .before .before .before .before .before .pre .1))
 
-put-stays-requires : (t : ℕ) → put-lts.Need-stays-requires (cs t) (put-at t) put.Post
-put-stays-requires t c κs = search needs
+sub-put : (t : ℕ) → put-lts.Need-sub-put (cs t) (put-at t) put.Post
+sub-put t c = omega (arith, c .before .before .before .before .before .before .before .before .before .before .before .before .before .pre .1 .some)
 
-put-room-under-requires : (t : ℕ) → put-lts.Need-room-under-requires (cs t) (put-at t) put.Post
-put-room-under-requires t c κs = c .before .before .before .before .before .before .before .before .before .before .before .before .before .pre .1 .0 .order
+put-requires : (t : ℕ) → put-lts.Need-put-requires (cs t) (put-at t) put.Post
+put-requires t c κs =
+    let at-if2 = c .before .before .before .before in
+    let at-if1 = at-if2 .before in
+    let at-slot = at-if1 .before .before in
+    let at-look = at-slot .before .before .before in
+    let start = at-look .before .before .before in
+    (omega (arith, start .pre .0, start .pre .1 .some), put-stands (start .pre .1) (start .args .x) _ _ (at-look .look-least .ensures .0) (at-look .look-least .ensures .1 .0) (at-look .look-least .ensures .1 .1) _ (at-slot .slot-at .ensures) (at-if1 .if1 .left) (at-if2 .if2 .left))
 
-put-mul-wide : (t : ℕ) → put-lts.Need-mul-wide (cs t) (put-at t) put.Post
-put-mul-wide t c = omega (arith, level-of (c .before .before .before .before .before .before .before .before .before .before .before .before .before .before .args .order) (c .before .before .before .before .before .before .before .before .before .before .before .before .before .before .args .left) (c .before .before .before .before .before .before .before .before .before .before .before .before .before .before .args .base) (c .before .before .before .before .before .before .before .before .before .before .before .before .before .before .args .width) (c .before .before .before .before .before .before .before .before .before .before .before .before .before .before .args .node) (c .before .before .before .before .before .before .before .before .before .before .before .before .before .before .args .s .now) (c .before .before .before .before .before .before .before .before .before .before .before .before .before .before .pre .1 .0) (c .before .before .before .before .before .before .before .before .before .before .before .before .if1 .left))
+same-length-3 : (t : ℕ) → put-lts.Need-same-length-3 (cs t) (put-at t) put.Post
+same-length-3 t c = c .before .before .before .put .kept .0
 
-put-sub-put : (t : ℕ) → put-lts.Need-sub-put (cs t) (put-at t) put.Post
-put-sub-put t c = let h : c .before .before .before .before .before .before .before .before .before .before .before .before .before .before .before .args .left ≡ 0 → ⊥ = c .before .before .before .before .before .before .before .before .before .before .before .before .before .if1 .left in omega arith
+returns-3 : (t : ℕ) → put-lts.Need-returns-3 (cs t) (put-at t) put.Post
+returns-3 t c =
+    let at-below = c .before .before .before in
+    let at-up = at-below .before .before in
+    let at-down = at-up .before in
+    let at-if2 = at-down .before .before in
+    let at-if1 = at-if2 .before in
+    let at-slot = at-if1 .before .before in
+    let at-look = at-slot .before .before .before in
+    let start = at-look .before .before .before in
+    put-fails (start .pre .1) (start .args .x) _ _ (at-look .look-least .ensures .0) (at-look .look-least .ensures .1 .0) (at-look .look-least .ensures .1 .1) _ (at-slot .slot-at .ensures) (at-if1 .if1 .left) (at-if2 .if2 .left) _ _ (at-up .stays .ensures) (at-down .goes-down .ensures) _ _ (at-below .put .ensures) (c .if3 .taken)
 
-put-add-put : (t : ℕ) → put-lts.Need-add-put (cs t) (put-at t) put.Post
-put-add-put t c = omega (arith, level-of (c .before .before .before .before .before .before .before .before .before .before .before .before .before .before .before .args .order) (c .before .before .before .before .before .before .before .before .before .before .before .before .before .before .before .args .left) (c .before .before .before .before .before .before .before .before .before .before .before .before .before .before .before .args .base) (c .before .before .before .before .before .before .before .before .before .before .before .before .before .before .before .args .width) (c .before .before .before .before .before .before .before .before .before .before .before .before .before .before .before .args .node) (c .before .before .before .before .before .before .before .before .before .before .before .before .before .before .before .args .s .now) (c .before .before .before .before .before .before .before .before .before .before .before .before .before .before .before .pre .1 .0) (c .before .before .before .before .before .before .before .before .before .before .before .before .before .if1 .left), c .before .before .before .before .before .before .before .before .before .before .before .look-least .ensures .1 .1)
+add-more : (t : ℕ) → put-lts.Need-add-more (cs t) (put-at t) put.Post
+add-more t c =
+    let at-if1 = c .before .before .before .before .before .before .before .before .before in
+    let at-slot = at-if1 .before .before in
+    let at-look = at-slot .before .before .before in
+    let start = at-look .before .before .before in
+    omega (arith, numbers (start .pre .1), put-room (start .pre .1) (start .args .x) (at-look .look-least .result .place) (at-look .look-least .result .ok) (at-look .look-least .ensures .0) (at-look .look-least .ensures .1 .0) (at-look .look-least .ensures .1 .1) (at-slot .slot-at .result) (at-slot .slot-at .ensures) (at-if1 .if1 .left))
 
-put-add-put-2 : (t : ℕ) → put-lts.Need-add-put-2 (cs t) (put-at t) put.Post
-put-add-put-2 t c = omega (arith, level-of (c .before .before .before .before .before .before .before .before .before .before .before .before .before .before .before .args .order) (c .before .before .before .before .before .before .before .before .before .before .before .before .before .before .before .args .left) (c .before .before .before .before .before .before .before .before .before .before .before .before .before .before .before .args .base) (c .before .before .before .before .before .before .before .before .before .before .before .before .before .before .before .args .width) (c .before .before .before .before .before .before .before .before .before .before .before .before .before .before .before .args .node) (c .before .before .before .before .before .before .before .before .before .before .before .before .before .before .before .args .s .now) (c .before .before .before .before .before .before .before .before .before .before .before .before .before .before .before .pre .1 .0) (c .before .before .before .before .before .before .before .before .before .before .before .before .before .if1 .left), c .before .before .before .before .before .before .before .before .before .before .before .look-least .ensures .1 .1)
+write-slot-requires-2 : (t : ℕ) → put-lts.Need-write-slot-requires-2 (cs t) (put-at t) put.Post
+write-slot-requires-2 t c κs =
+    let at-below = c .before .before .before .before in
+    let at-look = at-below .before .before .before .before .before .before .before .before .before .before .before in
+    let start = at-look .before .before .before in
+    omega (arith, numbers (start .pre .1), at-look .look-least .ensures .1 .1, at-below .put .kept .0)
 
-put-put-requires : (t : ℕ) → put-lts.Need-put-requires (cs t) (put-at t) put.Post
-put-put-requires t c κs = (let h : c .before .before .before .before .before .before .before .before .before .before .before .before .before .before .before .args .left ≡ 0 → ⊥ = c .before .before .before .before .before .before .before .before .before .before .before .before .before .if1 .left in omega (arith, c .before .before .before .before .before .before .before .before .before .before .before .before .before .before .before .pre .0), (below-lies (c .before .before .before .before .before .before .before .before .before .before .before .before .before .before .before .args .order) (c .before .before .before .before .before .before .before .before .before .before .before .before .before .before .before .args .base) (c .before .before .before .before .before .before .before .before .before .before .before .before .before .before .before .args .width) (c .before .before .before .before .before .before .before .before .before .before .before .before .before .before .before .args .node) (c .before .before .before .before .before .before .before .before .before .before .before .before .before .before .before .args .s .now) (c .before .before .before .before .before .before .before .before .before .before .before .before .before .before .before .args .left) (c .before .before .before .before .before .before .before .before .before .before .before .before .before .if1 .left) (c .before .before .before .before .before .before .before .before .before .before .before .before .before .before .before .pre .1 .0) (c .before .before .before .before .before .before .before .before .before .before .before .before .before .before .before .args .x) (c .before .before .before .before .before .before .before .before .before .before .before .before .before .before .before .args .cap) _ _ (c .before .before .before .before .before .before .before .before .before .before .before .before .before .before .before .pre .1 .1) (c .before .before .before .before .before .before .before .before .before .before .before .look-least .ensures .0) (c .before .before .before .before .before .before .before .before .before .before .before .look-least .ensures .1 .0) (c .before .before .before .before .before .before .before .before .before .before .before .look-least .ensures .1 .1), under-room _ _ _ _ (c .before .before .before .before .before .before .before .before .before .before .before .before .before .before .before .pre .1 .1) (c .before .room-under .ensures)))
+same-length-4 : (t : ℕ) → put-lts.Need-same-length-4 (cs t) (put-at t) put.Post
+same-length-4 t c = c .before .before .write-slot2 .kept .0 ∙ c .before .before .before .before .before .before .before .put .kept .0
 
-put-same-length-4 : (t : ℕ) → put-lts.Need-same-length-4 (cs t) (put-at t) put.Post
-put-same-length-4 t c = c .before .before .before .put .kept .0
-
-put-returns-5 : (t : ℕ) → put-lts.Need-returns-5 (cs t) (put-at t) put.Post
-put-returns-5 t c = put-fails (c .before .before .before .before .before .before .before .before .before .before .before .before .before .before .before .before .before .before .before .args .order) (c .before .before .before .before .before .before .before .before .before .before .before .before .before .before .before .before .before .before .before .args .base) (c .before .before .before .before .before .before .before .before .before .before .before .before .before .before .before .before .before .before .before .args .width) (c .before .before .before .before .before .before .before .before .before .before .before .before .before .before .before .before .before .before .before .args .node) (c .before .before .before .before .before .before .before .before .before .before .before .before .before .before .before .before .before .before .before .args .s .now) (c .before .before .before .before .before .before .before .before .before .before .before .before .before .before .before .before .before .before .before .args .left) (c .before .before .before .before .before .before .before .before .before .before .before .before .before .before .before .before .before .if1 .left) (c .before .before .before .before .before .before .before .before .before .before .before .before .before .before .before .before .before .before .before .pre .1 .0) (c .before .before .before .before .before .before .before .before .before .before .before .before .before .before .before .before .before .before .before .args .x) (c .before .before .before .before .before .before .before .before .before .before .before .before .before .before .before .before .before .before .before .args .cap) _ _ (c .before .before .before .before .before .before .before .before .before .before .before .before .before .before .before .before .before .before .before .pre .1 .1) (c .before .before .before .before .before .before .before .before .before .before .before .before .before .before .before .look-least .ensures .0) (c .before .before .before .before .before .before .before .before .before .before .before .before .before .before .before .look-least .ensures .1 .0) (c .before .before .before .before .before .before .before .before .before .before .before .before .before .before .before .look-least .ensures .1 .1) _ (c .before .before .before .before .before .before .before .before .before .before .before .slot-at .ensures) (c .before .before .before .before .before .before .before .before .before .before .before .before .before .if2 .left) (c .before .before .before .before .before .before .before .before .before .before .if3 .left) (c .before .before .before .before .before .before .before .before .before .if4 .left) _ _ (c .before .before .before .before .before .before .stays .ensures) (c .before .before .before .before .before .before .before .goes-down .ensures) _ _ (c .before .before .before .put .ensures) (c .if5 .taken)
-
-put-add-more : (t : ℕ) → put-lts.Need-add-more (cs t) (put-at t) put.Post
-put-add-more t c = omega (arith, cap-limit (c .before .before .before .before .before .before .before .before .before .before .before .before .before .before .before .before .before .before .before .args .order) (c .before .before .before .before .before .before .before .before .before .before .before .before .before .before .before .before .before .before .before .args .base) (c .before .before .before .before .before .before .before .before .before .before .before .before .before .before .before .before .before .before .before .args .width) (c .before .before .before .before .before .before .before .before .before .before .before .before .before .before .before .before .before .before .before .args .node) (c .before .before .before .before .before .before .before .before .before .before .before .before .before .before .before .before .before .before .before .args .s .now) (c .before .before .before .before .before .before .before .before .before .before .before .before .before .before .before .before .before .before .before .args .left) (c .before .before .before .before .before .before .before .before .before .before .before .before .before .before .before .before .before .if1 .left) (c .before .before .before .before .before .before .before .before .before .before .before .before .before .before .before .before .before .before .before .pre .1 .0) (c .before .before .before .before .before .before .before .before .before .before .before .before .before .before .before .before .before .before .before .args .cap) (c .before .before .before .before .before .before .before .before .before .before .before .before .before .before .before .before .before .before .before .pre .1 .1), c .before .before .before .before .before .before .before .before .before .before .if3 .left)
-
-put-write-slot-requires-2 : (t : ℕ) → put-lts.Need-write-slot-requires-2 (cs t) (put-at t) put.Post
-put-write-slot-requires-2 t c κs = omega (arith, level-of (c .before .before .before .before .before .before .before .before .before .before .before .before .before .before .before .before .before .before .before .before .args .order) (c .before .before .before .before .before .before .before .before .before .before .before .before .before .before .before .before .before .before .before .before .args .left) (c .before .before .before .before .before .before .before .before .before .before .before .before .before .before .before .before .before .before .before .before .args .base) (c .before .before .before .before .before .before .before .before .before .before .before .before .before .before .before .before .before .before .before .before .args .width) (c .before .before .before .before .before .before .before .before .before .before .before .before .before .before .before .before .before .before .before .before .args .node) (c .before .before .before .before .before .before .before .before .before .before .before .before .before .before .before .before .before .before .before .before .args .s .now) (c .before .before .before .before .before .before .before .before .before .before .before .before .before .before .before .before .before .before .before .before .pre .1 .0) (c .before .before .before .before .before .before .before .before .before .before .before .before .before .before .before .before .before .before .if1 .left), c .before .before .before .before .before .before .before .before .before .before .before .before .before .before .before .before .look-least .ensures .1 .1, c .before .before .before .before .put .kept .0)
-
-put-same-length-5 : (t : ℕ) → put-lts.Need-same-length-5 (cs t) (put-at t) put.Post
-put-same-length-5 t c = c .before .before .write-slot2 .kept .0 ∙ c .before .before .before .before .before .before .before .put .kept .0
-
-put-returns-6 : (t : ℕ) → put-lts.Need-returns-6 (cs t) (put-at t) put.Post
-put-returns-6 t c = put-passes (c .before .before .before .before .before .before .before .before .before .before .before .before .before .before .before .before .before .before .before .before .before .before .before .args .order) (c .before .before .before .before .before .before .before .before .before .before .before .before .before .before .before .before .before .before .before .before .before .before .before .args .base) (c .before .before .before .before .before .before .before .before .before .before .before .before .before .before .before .before .before .before .before .before .before .before .before .args .width) (c .before .before .before .before .before .before .before .before .before .before .before .before .before .before .before .before .before .before .before .before .before .before .before .args .node) (c .before .before .before .before .before .before .before .before .before .before .before .before .before .before .before .before .before .before .before .before .before .before .before .args .s .now) (c .before .before .before .before .before .before .before .before .before .before .before .before .before .before .before .before .before .before .before .before .before .before .before .args .left) (c .before .before .before .before .before .before .before .before .before .before .before .before .before .before .before .before .before .before .before .before .before .if1 .left) (c .before .before .before .before .before .before .before .before .before .before .before .before .before .before .before .before .before .before .before .before .before .before .before .pre .1 .0) (c .before .before .before .before .before .before .before .before .before .before .before .before .before .before .before .before .before .before .before .before .before .before .before .args .x) (c .before .before .before .before .before .before .before .before .before .before .before .before .before .before .before .before .before .before .before .before .before .before .before .args .cap) _ _ (c .before .before .before .before .before .before .before .before .before .before .before .before .before .before .before .before .before .before .before .before .before .before .before .pre .1 .1) (c .before .before .before .before .before .before .before .before .before .before .before .before .before .before .before .before .before .before .before .look-least .ensures .0) (c .before .before .before .before .before .before .before .before .before .before .before .before .before .before .before .before .before .before .before .look-least .ensures .1 .0) (c .before .before .before .before .before .before .before .before .before .before .before .before .before .before .before .before .before .before .before .look-least .ensures .1 .1) _ (c .before .before .before .before .before .before .before .before .before .before .before .before .before .before .before .slot-at .ensures) (c .before .before .before .before .before .before .before .before .before .before .before .before .before .before .before .before .before .if2 .left) (c .before .before .before .before .before .before .before .before .before .before .before .before .before .before .if3 .left) (c .before .before .before .before .before .before .before .before .before .before .before .before .before .if4 .left) _ _ (c .before .before .before .before .before .before .before .before .before .before .stays .ensures) (c .before .before .before .before .before .before .before .before .before .before .before .goes-down .ensures) _ _ (c .before .before .before .before .before .before .before .put .ensures) (c .before .before .before .before .if5 .left) _ (c .before .before .write-slot2 .ensures)
+returns-4 : (t : ℕ) → put-lts.Need-returns-4 (cs t) (put-at t) put.Post
+returns-4 t c =
+    let at-wrote = c .before .before in
+    let at-if3 = at-wrote .before .before in
+    let at-below = at-if3 .before .before .before in
+    let at-up = at-below .before .before in
+    let at-down = at-up .before in
+    let at-if2 = at-down .before .before in
+    let at-if1 = at-if2 .before in
+    let at-slot = at-if1 .before .before in
+    let at-look = at-slot .before .before .before in
+    let start = at-look .before .before .before in
+    put-passes (start .pre .1) (start .args .x) _ _ (at-look .look-least .ensures .0) (at-look .look-least .ensures .1 .0) (at-look .look-least .ensures .1 .1) _ (at-slot .slot-at .ensures) (at-if1 .if1 .left) (at-if2 .if2 .left) _ _ (at-up .stays .ensures) (at-down .goes-down .ensures) _ _ (at-below .put .ensures) (at-if3 .if3 .left) _ (at-wrote .write-slot2 .ensures)
 
 pub +put-spec : {M : Type 1} → statement M
-+put-spec = close μ-put λ t. put-lts.spec (cs t)
-    (put-at t)
-    put.Post
-    (put-returns t)
-    (put-mul-first t)
-    (put-add-at t)
-    (put-look-least-requires t)
-    (put-same-length t)
-    (put-returns-2 t)
-    (put-add-i t)
-    (put-slot-at-requires t)
-    (put-cast-if3 t)
-    (put-same-length-2 t)
-    (put-returns-3 t)
-    (put-write-slot-requires t)
-    (put-same-length-3 t)
-    (put-returns-4 t)
-    (put-goes-down-requires t)
-    (put-stays-requires t)
-    (put-room-under-requires t)
-    (put-mul-wide t)
-    (put-sub-put t)
-    (put-add-put t)
-    (put-add-put-2 t)
-    (put-put-requires t)
-    (put-same-length-4 t)
-    (put-returns-5 t)
-    (put-add-more t)
-    (put-write-slot-requires-2 t)
-    (put-same-length-5 t)
-    (put-returns-6 t)
++put-spec = close μ-put λ t. put-lts.spec (cs t) (put-at t) put.Post (look-least-requires t) (add-i t) (slot-at-requires t) (cast-if1 t) (same-length t) (returns t) (write-slot-requires t) (same-length-2 t) (returns-2 t) (goes-down-requires t) (stays-requires t) (add-below t) (mul-below t) (sub-under t) (div-under t) (sub-put t) (put-requires t) (same-length-3 t) (returns-3 t) (add-more t) (write-slot-requires-2 t) (same-length-4 t) (returns-4 t)

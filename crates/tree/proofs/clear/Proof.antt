@@ -4,41 +4,46 @@ use borrow.Author.Needs.{needs}
 use Rattle.tree.proofs.Calls.{clear-done, clear-fits, clear-shape, shape-few}
 use Rattle.tree.proofs.clear.Statement.{statement}
 use Rattle.tree.proofs.clear.Tie as tie
-use Rattle.tree.proofs.clear.Reads as reads
-use Rattle.tree.proofs.clear.Lts as lts
-use Rattle.node.proofs.capacity.Reads as capacity-reads
-use Rattle.node.proofs.shape_ok.Reads as shape-ok-reads
-use Rattle.tree.proofs.zero_words.Reads as zero-words-reads
 
 shape-ok-requires : tie.Need-shape-ok-requires
 shape-ok-requires c κs = search needs
 
 returns : tie.Need-returns
-returns c = clear-shape _ _ _ _ (c .before .shape-ok .ensures) (c .if1 .taken)
+returns c =
+    let at-shape = c .before in
+    clear-shape _ _ _ _ (at-shape .shape-ok .ensures) (c .if1 .taken)
 
 capacity-requires : tie.Need-capacity-requires
-capacity-requires c κs = shape-few (c .before .before .before .before .args .order) (c .before .before .before .before .args .levels) (c .before .before .before .before .args .store .now) _ (c .before .before .shape-ok .ensures) (c .before .if1 .left)
+capacity-requires c κs =
+    let at-if1 = c .before in
+    let at-shape = at-if1 .before in
+    let start = at-shape .before .before in
+    shape-few (start .args .order) (start .args .levels) (start .args .store .now) _ (at-shape .shape-ok .ensures) (at-if1 .if1 .left)
 
 mul-zero-words : tie.Need-mul-zero-words
-mul-zero-words c = omega (arith, clear-fits (c .before .before .before .before .before .args .order) (c .before .before .before .before .before .args .levels) (c .before .before .before .before .before .args .store .now) _ (c .before .before .before .shape-ok .ensures) (c .before .before .if1 .left) _ (c .capacity .ensures))
+mul-zero-words c =
+    let at-if1 = c .before .before in
+    let at-shape = at-if1 .before in
+    let start = at-shape .before .before in
+    omega (arith, clear-fits (start .args .order) (start .args .levels) (start .args .store .now) _ (at-shape .shape-ok .ensures) (at-if1 .if1 .left) (c .capacity .result) (c .capacity .ensures))
 
 zero-words-requires : tie.Need-zero-words-requires
-zero-words-requires c κs = clear-fits (c .before .before .before .before .before .args .order) (c .before .before .before .before .before .args .levels) (c .before .before .before .before .before .args .store .now) _ (c .before .before .before .shape-ok .ensures) (c .before .before .if1 .left) _ (c .capacity .ensures) .0
+zero-words-requires c κs =
+    let at-if1 = c .before .before in
+    let at-shape = at-if1 .before in
+    let start = at-shape .before .before in
+    clear-fits (start .args .order) (start .args .levels) (start .args .store .now) _ (at-shape .shape-ok .ensures) (at-if1 .if1 .left) _ (c .capacity .ensures) .0
 
 same-length : tie.Need-same-length
-same-length c = c .before .before .zero-words .kept .0
+same-length c = search needs
 
 returns-2 : tie.Need-returns-2
-returns-2 c = clear-done _ _ _ _ (c .before .before .before .before .before .before .shape-ok .ensures) (c .before .before .before .before .before .if1 .left) _ (c .before .before .before .capacity .ensures) _ (c .before .before .zero-words .ensures)
+returns-2 c =
+    let at-zero-words = c .before .before in
+    let at-cap = at-zero-words .before in
+    let at-if1 = at-cap .before .before in
+    let at-shape = at-if1 .before in
+    clear-done _ _ _ _ (at-shape .shape-ok .ensures) (at-if1 .if1 .left) _ (at-cap .capacity .ensures) _ (at-zero-words .zero-words .ensures)
 
 pub clear-spec : {M : Type 1} → statement M
-clear-spec =
-    tie.close
-    (tie.spec
-    shape-ok-requires
-    returns
-    capacity-requires
-    mul-zero-words
-    zero-words-requires
-    same-length
-    returns-2)
+clear-spec = tie.close (tie.spec shape-ok-requires returns capacity-requires mul-zero-words zero-words-requires same-length returns-2)

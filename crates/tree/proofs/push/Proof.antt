@@ -1,16 +1,17 @@
 -- `tree::push` meets its contract. Assumes nothing.
 use native.Mathlib.Omega.{arith}
-use Rattle.tree.proofs.Calls.{called-shape, first-cap, first-lies, push-below, push-done, push-over, push-root, root-cap, shape-few, shape-here, shape-root}
+use mathlib.Core.Path.{_∙_, sym}
 use borrow.Author.Needs.{needs}
+use Rattle.tree.proofs.Calls.{called-shape, Fit, fit, push-below, push-done, push-over, push-root, root-stands, shape-few, shape-here}
 use Rattle.tree.proofs.push.Statement.{statement}
 use Rattle.tree.proofs.push.Tie as tie
-use Rattle.tree.proofs.push.Reads as reads
-use Rattle.tree.proofs.push.Lts as lts
-use Rattle.node.proofs.capacity.Reads as capacity-reads
-use Rattle.node.proofs.node_ok.Reads as node-ok-reads
-use Rattle.node.proofs.shape_ok.Reads as shape-ok-reads
-use Rattle.node.proofs.sum_counts.Reads as sum-counts-reads
-use Rattle.tree.proofs.put.Reads as put-reads
+
+-- the shape is tested, and the room below the root counted
+abbrev start : tie.After-capacity → tie.Start
+start c = c .before .before .before .before
+
+fitting : (c : tie.After-capacity) → Fit (start c .args .order) (start c .args .levels) (c .capacity .result) (start c .args .store .now)
+fitting c = fit _ _ _ _ (c .before .before .shape-ok .ensures) (c .before .if1 .left) _ (c .capacity .ensures)
 
 shape-ok-requires : tie.Need-shape-ok-requires
 shape-ok-requires c κs = search needs
@@ -19,64 +20,69 @@ returns : tie.Need-returns
 returns c = called-shape _ _ _ _ _ (c .before .shape-ok .ensures) (c .if1 .taken)
 
 sub-capacity : tie.Need-sub-capacity
-sub-capacity c = shape-here (c .before .before .before .args .order) (c .before .before .before .args .levels) (c .before .before .before .args .store .now) _ (c .before .shape-ok .ensures) (c .if1 .left) .some
+sub-capacity c = omega (arith, shape-here (c .before .before .before .args .order) (c .before .before .before .args .levels) (c .before .before .before .args .store .now) _ (c .before .shape-ok .ensures) (c .if1 .left))
 
 capacity-requires : tie.Need-capacity-requires
 capacity-requires c κs = shape-few (c .before .before .before .args .order) (c .before .before .before .args .levels) (c .before .before .before .args .store .now) _ (c .before .shape-ok .ensures) (c .if1 .left)
 
 put-requires : tie.Need-put-requires
-put-requires c κs = (first-lies (c .before .before .before .before .before .args .order) (c .before .before .before .before .before .args .levels) (c .before .before .before .before .before .args .store .now) _ (c .before .before .before .shape-ok .ensures) (c .before .before .if1 .left) (c .before .capacity .result) (c .before .capacity .ensures), first-cap (c .before .before .before .before .before .args .order) (c .before .before .before .before .before .args .levels) (c .before .before .before .before .before .args .store .now) _ (c .before .before .before .shape-ok .ensures) (c .before .before .if1 .left) (c .before .capacity .result) (c .before .capacity .ensures))
+put-requires c κs = root-stands (fitting (c .before))
 
 same-length : tie.Need-same-length
-same-length c = c .before .before .before .put .kept .0
+same-length c = search needs
 
 returns-2 : tie.Need-returns-2
-returns-2 c = push-done (c .before .before .before .before .before .before .before .before .before .args .order) (c .before .before .before .before .before .before .before .before .before .args .levels) (c .before .before .before .before .before .before .before .before .before .args .store .now) _ (c .before .before .before .before .before .before .before .shape-ok .ensures) (c .before .before .before .before .before .before .if1 .left) (c .before .before .before .before .before .capacity .result) (c .before .before .before .before .before .capacity .ensures) _ _ _ (c .before .before .before .put .ensures) (c .if2 .taken)
+returns-2 c = push-done (fitting (c .before .before .before .before .before)) (start (c .before .before .before .before .before) .args .x) _ _ (c .before .before .before .put .ensures) (c .if2 .taken)
 
-node-ok-requires : tie.Need-node-ok-requires
-node-ok-requires c κs = (record { order = shape-few (c .before .before .before .before .before .before .before .before .before .before .args .order) (c .before .before .before .before .before .before .before .before .before .before .args .levels) (c .before .before .before .before .before .before .before .before .before .before .args .store .now) _ (c .before .before .before .before .before .before .before .before .shape-ok .ensures) (c .before .before .before .before .before .before .before .if1 .left) .0; words = omega (arith, shape-root (c .before .before .before .before .before .before .before .before .before .before .args .order) (c .before .before .before .before .before .before .before .before .before .before .args .levels) (c .before .before .before .before .before .before .before .before .before .before .args .store .now) _ (c .before .before .before .before .before .before .before .before .shape-ok .ensures) (c .before .before .before .before .before .before .before .if1 .left) .words, c .before .before .before .before .put .kept .0) }, root-cap (c .before .before .before .before .before .before .before .before .before .before .args .order) (c .before .before .before .before .before .before .before .before .before .before .args .levels) (c .before .before .before .before .before .before .before .before .before .before .args .store .now) _ (c .before .before .before .before .before .before .before .before .shape-ok .ensures) (c .before .before .before .before .before .before .before .if1 .left) (c .before .before .before .before .before .before .capacity .result) (c .before .before .before .before .before .before .capacity .ensures))
+held-requires : tie.Need-held-requires
+held-requires c κs = search needs
 
-same-length-2 : tie.Need-same-length-2
-same-length-2 c = c .before .before .before .before .before .before .put .kept .0
+enum-known-all : tie.Need-enum-known-all
+enum-known-all c = search needs
 
-returns-3 : tie.Need-returns-3
-returns-3 c = push-root (c .before .before .before .before .before .before .before .before .before .before .before .before .args .order) (c .before .before .before .before .before .before .before .before .before .before .before .before .args .levels) (c .before .before .before .before .before .before .before .before .before .before .before .before .args .store .now) _ (c .before .before .before .before .before .before .before .before .before .before .shape-ok .ensures) (c .before .before .before .before .before .before .before .before .before .if1 .left) (c .before .before .before .before .before .before .before .before .capacity .result) (c .before .before .before .before .before .before .before .before .capacity .ensures) _ _ _ (c .before .before .before .before .before .before .put .ensures) (c .before .before .before .if2 .left) _ (c .before .node-ok .ensures) (c .if3 .taken)
+enum-known-all-2 : tie.Need-enum-known-all-2
+enum-known-all-2 c = search needs
 
-sum-counts-requires : tie.Need-sum-counts-requires
-sum-counts-requires c κs = (record { order = shape-few (c .before .before .before .before .before .before .before .before .before .before .before .before .before .args .order) (c .before .before .before .before .before .before .before .before .before .before .before .before .before .args .levels) (c .before .before .before .before .before .before .before .before .before .before .before .before .before .args .store .now) _ (c .before .before .before .before .before .before .before .before .before .before .before .shape-ok .ensures) (c .before .before .before .before .before .before .before .before .before .before .if1 .left) .0; words = omega (arith, shape-root (c .before .before .before .before .before .before .before .before .before .before .before .before .before .args .order) (c .before .before .before .before .before .before .before .before .before .before .before .before .before .args .levels) (c .before .before .before .before .before .before .before .before .before .before .before .before .before .args .store .now) _ (c .before .before .before .before .before .before .before .before .before .before .before .shape-ok .ensures) (c .before .before .before .before .before .before .before .before .before .before .if1 .left) .words, c .before .before .before .before .before .before .before .put .kept .0) }, shape-few (c .before .before .before .before .before .before .before .before .before .before .before .before .before .args .order) (c .before .before .before .before .before .before .before .before .before .before .before .before .before .args .levels) (c .before .before .before .before .before .before .before .before .before .before .before .before .before .args .store .now) _ (c .before .before .before .before .before .before .before .before .before .before .before .shape-ok .ensures) (c .before .before .before .before .before .before .before .before .before .before .if1 .left) .1)
+cast-if3 : tie.Need-cast-if3
+cast-if3 c = search needs
 
 capacity-requires-2 : tie.Need-capacity-requires-2
-capacity-requires-2 c κs = shape-few (c .before .before .before .before .before .before .before .before .before .before .before .before .before .before .args .order) (c .before .before .before .before .before .before .before .before .before .before .before .before .before .before .args .levels) (c .before .before .before .before .before .before .before .before .before .before .before .before .before .before .args .store .now) _ (c .before .before .before .before .before .before .before .before .before .before .before .before .shape-ok .ensures) (c .before .before .before .before .before .before .before .before .before .before .before .if1 .left)
+capacity-requires-2 c κs = fitting (c .before .before .before .before .before .before .before .before .before .before) .few
+
+same-length-2 : tie.Need-same-length-2
+same-length-2 c = search needs
+
+returns-3 : tie.Need-returns-3
+returns-3 c =
+    let at-most = c .before in
+    let at-count = at-most .before .before in
+    let at-told = at-count .before .before in
+    let at-if2 = at-told .before .before in
+    let at-done = at-if2 .before .before .before in
+    push-below (fitting (c .before .before .before .before .before .before .before .before .before .before .before .before)) (start (c .before .before .before .before .before .before .before .before .before .before .before .before) .args .x) _ _ (at-done .put .ensures) (at-if2 .if2 .left) _ (sym (at-count .all2 .given .1) ∙ at-told .held .ensures) _ (at-most .capacity2 .ensures) (c .if3 .taken)
 
 same-length-3 : tie.Need-same-length-3
-same-length-3 c = c .before .before .before .before .before .before .before .before .before .before .put .kept .0
+same-length-3 c = search needs
 
 returns-4 : tie.Need-returns-4
-returns-4 c = push-below (c .before .before .before .before .before .before .before .before .before .before .before .before .before .before .before .before .args .order) (c .before .before .before .before .before .before .before .before .before .before .before .before .before .before .before .before .args .levels) (c .before .before .before .before .before .before .before .before .before .before .before .before .before .before .before .before .args .store .now) _ (c .before .before .before .before .before .before .before .before .before .before .before .before .before .before .shape-ok .ensures) (c .before .before .before .before .before .before .before .before .before .before .before .before .before .if1 .left) (c .before .before .before .before .before .before .before .before .before .before .before .before .capacity .result) (c .before .before .before .before .before .before .before .before .before .before .before .before .capacity .ensures) _ _ _ (c .before .before .before .before .before .before .before .before .before .before .put .ensures) (c .before .before .before .before .before .before .before .if2 .left) _ (c .before .before .before .before .before .node-ok .ensures) (c .before .before .before .before .if3 .left) _ (c .before .before .sum-counts .ensures) _ (c .before .capacity2 .ensures) (c .if4 .taken)
+returns-4 c =
+    let at-count = c .before in
+    let at-told = at-count .before .before in
+    let at-if2 = at-told .before .before in
+    let at-done = at-if2 .before .before .before in
+    push-root (fitting (c .before .before .before .before .before .before .before .before .before .before)) (start (c .before .before .before .before .before .before .before .before .before .before) .args .x) _ _ (at-done .put .ensures) (at-if2 .if2 .left) _ (sym (at-count .all .given .1) ∙ at-told .held .ensures)
 
 same-length-4 : tie.Need-same-length-4
-same-length-4 c = c .before .before .before .before .before .before .before .before .before .before .put .kept .0
+same-length-4 c = search needs
 
 returns-5 : tie.Need-returns-5
-returns-5 c = push-over (c .before .before .before .before .before .before .before .before .before .before .before .before .before .before .before .before .args .order) (c .before .before .before .before .before .before .before .before .before .before .before .before .before .before .before .before .args .levels) (c .before .before .before .before .before .before .before .before .before .before .before .before .before .before .before .before .args .store .now) _ (c .before .before .before .before .before .before .before .before .before .before .before .before .before .before .shape-ok .ensures) (c .before .before .before .before .before .before .before .before .before .before .before .before .before .if1 .left) (c .before .before .before .before .before .before .before .before .before .before .before .before .capacity .result) (c .before .before .before .before .before .before .before .before .before .before .before .before .capacity .ensures) _ _ _ (c .before .before .before .before .before .before .before .before .before .before .put .ensures) (c .before .before .before .before .before .before .before .if2 .left) _ (c .before .before .before .before .before .node-ok .ensures) (c .before .before .before .before .if3 .left) _ (c .before .before .sum-counts .ensures) _ (c .before .capacity2 .ensures) (c .if4 .left)
+returns-5 c =
+    let at-most = c .before in
+    let at-count = at-most .before .before in
+    let at-told = at-count .before .before in
+    let at-if2 = at-told .before .before in
+    let at-done = at-if2 .before .before .before in
+    push-over (fitting (c .before .before .before .before .before .before .before .before .before .before .before .before)) (start (c .before .before .before .before .before .before .before .before .before .before .before .before) .args .x) _ _ (at-done .put .ensures) (at-if2 .if2 .left) _ (sym (at-count .all2 .given .1) ∙ at-told .held .ensures) _ (at-most .capacity2 .ensures) (c .if3 .left)
 
 pub push-spec : {M : Type 1} → statement M
-push-spec =
-    tie.close
-    (tie.spec
-    shape-ok-requires
-    returns
-    sub-capacity
-    capacity-requires
-    put-requires
-    same-length
-    returns-2
-    node-ok-requires
-    same-length-2
-    returns-3
-    sum-counts-requires
-    capacity-requires-2
-    same-length-3
-    returns-4
-    same-length-4
-    returns-5)
+push-spec = tie.close (tie.spec shape-ok-requires returns sub-capacity capacity-requires put-requires same-length returns-2 held-requires enum-known-all enum-known-all-2 cast-if3 capacity-requires-2 same-length-2 returns-3 same-length-3 returns-4 same-length-4 returns-5)

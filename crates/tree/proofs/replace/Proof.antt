@@ -1,22 +1,26 @@
 -- `tree::replace` meets its contract. Assumes nothing.
 use native.Mathlib.Omega.{arith}
-use mathlib.Core.Path.{refl}
-use Rattle.node.proofs.Rulings.{replace-back, replace-empty, replace-swaps}
-use Rattle.tree_model.specs.Calls.{rootOf}
-use Rattle.tree_model.specs.Node.{sumCounts}
-use Rattle.tree.proofs.Once.{below-ne}
-use Rattle.tree.proofs.Calls.{called-looked, called-shape, calls-still, carried-damaged, carried-done, looked, looked-low, looked-none, looked-seen, looked-some, opened-lies, root-cap, shape-few, shape-here, shape-root}
 use borrow.Author.Needs.{needs}
+use Rattle.tree.proofs.Calls.{called-damaged, called-shape, Fit, fit, Opened, opened, replace-broken, replace-done, replace-first, replace-none, root-stands, shape-few, shape-here}
+use Rattle.tree.proofs.Once.{look-in, numbers}
 use Rattle.tree.proofs.replace.Statement.{statement}
 use Rattle.tree.proofs.replace.Tie as tie
-use Rattle.tree.proofs.replace.Reads as reads
-use Rattle.tree.proofs.replace.Lts as lts
-use Rattle.node.proofs.capacity.Reads as capacity-reads
-use Rattle.node.proofs.look_low.Reads as look-low-reads
-use Rattle.node.proofs.lower.Reads as lower-reads
-use Rattle.node.proofs.shape_ok.Reads as shape-ok-reads
-use Rattle.node.proofs.slot_at.Reads as slot-at-reads
-use Rattle.tree.proofs.swap.Reads as swap-reads
+
+-- the shape is tested, and the room below the root counted
+abbrev start : tie.After-capacity → tie.Start
+start c = c .before .before .before .before
+
+fitting : (c : tie.After-capacity) → Fit (start c .args .order) (start c .args .levels) (c .capacity .result) (start c .args .store .now)
+fitting c = fit _ _ _ _ (c .before .before .shape-ok .ensures) (c .before .if1 .left) _ (c .capacity .ensures)
+
+-- the root is looked at, whole, and holds something
+abbrev at-count : tie.Else3 → tie.After-capacity
+at-count c = c .before .before .before .before .before
+
+opening : (c : tie.Else3) → Opened (start (at-count c) .args .order) (start (at-count c) .args .levels) (at-count c .capacity .result) (c .before .before .before .look-low .result .place) (start (at-count c) .args .store .now)
+opening c =
+    let looked = c .before .before .before .look-low .ensures in
+    opened (fitting (at-count c)) _ _ (looked .0) (looked .1 .0) (c .before .if2 .left) (c .if3 .left) (looked .1 .1)
 
 shape-ok-requires : tie.Need-shape-ok-requires
 shape-ok-requires c κs = search needs
@@ -25,28 +29,28 @@ returns : tie.Need-returns
 returns c = called-shape _ _ _ _ _ (c .before .shape-ok .ensures) (c .if1 .taken)
 
 sub-capacity : tie.Need-sub-capacity
-sub-capacity c = shape-here (c .before .before .before .args .order) (c .before .before .before .args .levels) (c .before .before .before .args .store .now) _ (c .before .shape-ok .ensures) (c .if1 .left) .some
+sub-capacity c = omega (arith, shape-here (c .before .before .before .args .order) (c .before .before .before .args .levels) (c .before .before .before .args .store .now) _ (c .before .shape-ok .ensures) (c .if1 .left))
 
 capacity-requires : tie.Need-capacity-requires
 capacity-requires c κs = shape-few (c .before .before .before .args .order) (c .before .before .before .args .levels) (c .before .before .before .args .store .now) _ (c .before .shape-ok .ensures) (c .if1 .left)
 
 look-low-requires : tie.Need-look-low-requires
-look-low-requires c κs = (shape-root (c .before .before .before .before .before .args .order) (c .before .before .before .before .before .args .levels) (c .before .before .before .before .before .args .store .now) _ (c .before .before .before .shape-ok .ensures) (c .before .before .if1 .left), root-cap (c .before .before .before .before .before .args .order) (c .before .before .before .before .before .args .levels) (c .before .before .before .before .before .args .store .now) _ (c .before .before .before .shape-ok .ensures) (c .before .before .if1 .left) _ (c .before .capacity .ensures))
+look-low-requires c κs = look-in (root-stands (fitting (c .before)))
 
 same-length : tie.Need-same-length
 same-length c = search needs
 
 returns-2 : tie.Need-returns-2
-returns-2 c = called-looked (c .before .before .before .before .before .before .before .before .args .order) (c .before .before .before .before .before .before .before .before .args .levels) (c .before .before .before .before .before .before .before .before .args .store .now) _ (c .before .before .before .before .before .before .shape-ok .ensures) (c .before .before .before .before .before .if1 .left) _ (c .before .before .before .before .capacity .ensures) _ _ (c .before .before .look-low .ensures .0) (c .if2 .taken)
+returns-2 c = called-damaged (fitting (c .before .before .before .before)) _ _ (c .before .before .look-low .ensures .0) (c .if2 .taken)
 
 same-length-2 : tie.Need-same-length-2
 same-length-2 c = search needs
 
 returns-3 : tie.Need-returns-3
-returns-3 c = calls-still _ _ _ _ (looked (c .before .before .before .before .before .before .before .before .before .args .order) (c .before .before .before .before .before .before .before .before .before .args .levels) (c .before .before .before .before .before .before .before .before .before .args .store .now) _ (c .before .before .before .before .before .before .before .shape-ok .ensures) (c .before .before .before .before .before .before .if1 .left) _ (c .before .before .before .before .before .capacity .ensures) _ (c .before .before .before .look-low .ensures .0) (c .before .if2 .left)) _ _ _ (replace-empty (c .before .before .before .before .before .before .before .before .before .args .order) (c .before .before .before .before .before .before .before .before .before .args .levels) (c .before .before .before .before .before .before .before .before .before .args .store .now) (sumCounts (rootOf (c .before .before .before .before .before .before .before .before .before .args .order) (c .before .before .before .before .before .before .before .before .before .args .store .now))) refl _ (looked-none (c .before .before .before .before .before .before .before .before .before .args .order) (c .before .before .before .before .before .before .before .before .before .args .levels) (c .before .before .before .before .before .before .before .before .before .args .store .now) _ (c .before .before .before .before .before .before .before .shape-ok .ensures) (c .before .before .before .before .before .before .if1 .left) _ (c .before .before .before .before .before .capacity .ensures) _ (c .before .before .before .look-low .ensures .0) (c .before .if2 .left) _ (c .before .before .before .look-low .ensures .1 .0) (c .if3 .taken))) refl
+returns-3 c = replace-none (fitting (c .before .before .before .before .before)) _ _ (c .before .before .before .look-low .ensures .0) (c .before .before .before .look-low .ensures .1 .0) (c .before .if2 .left) (start (c .before .before .before .before .before) .args .x) (c .if3 .taken)
 
 slot-at-requires : tie.Need-slot-at-requires
-slot-at-requires c κs = omega (arith, shape-root (c .before .before .before .before .before .before .before .before .before .before .args .order) (c .before .before .before .before .before .before .before .before .before .before .args .levels) (c .before .before .before .before .before .before .before .before .before .before .args .store .now) _ (c .before .before .before .before .before .before .before .before .shape-ok .ensures) (c .before .before .before .before .before .before .before .if1 .left) .words, (below-ne (c .before .before .before .before .look-low .result .place) (c .before .before .before .before .before .before .before .before .before .before .args .order) (c .before .if3 .left) (c .before .before .before .before .look-low .ensures .1 .1)))
+slot-at-requires c κs = omega (arith, numbers (root-stands (fitting (c .before .before .before .before .before .before))), opening (c .before))
 
 lower-requires : tie.Need-lower-requires
 lower-requires c κs = search needs
@@ -55,42 +59,32 @@ same-length-3 : tie.Need-same-length-3
 same-length-3 c = search needs
 
 returns-4 : tie.Need-returns-4
-returns-4 c = calls-still _ _ _ _ (looked (c .before .before .before .before .before .before .before .before .before .before .before .before .before .before .args .order) (c .before .before .before .before .before .before .before .before .before .before .before .before .before .before .args .levels) (c .before .before .before .before .before .before .before .before .before .before .before .before .before .before .args .store .now) _ (c .before .before .before .before .before .before .before .before .before .before .before .before .shape-ok .ensures) (c .before .before .before .before .before .before .before .before .before .before .before .if1 .left) _ (c .before .before .before .before .before .before .before .before .before .before .capacity .ensures) _ (c .before .before .before .before .before .before .before .before .look-low .ensures .0) (c .before .before .before .before .before .before .if2 .left)) _ _ _ (replace-back (c .before .before .before .before .before .before .before .before .before .before .before .before .before .before .args .order) (c .before .before .before .before .before .before .before .before .before .before .before .before .before .before .args .levels) (c .before .before .before .before .before .before .before .before .before .before .before .before .before .before .args .store .now) (sumCounts (rootOf (c .before .before .before .before .before .before .before .before .before .before .before .before .before .before .args .order) (c .before .before .before .before .before .before .before .before .before .before .before .before .before .before .args .store .now))) refl (looked-some (c .before .before .before .before .before .before .before .before .before .before .before .before .before .before .args .order) (c .before .before .before .before .before .before .before .before .before .before .before .before .before .before .args .levels) (c .before .before .before .before .before .before .before .before .before .before .before .before .before .before .args .store .now) _ (c .before .before .before .before .before .before .before .before .before .before .before .before .shape-ok .ensures) (c .before .before .before .before .before .before .before .before .before .before .before .if1 .left) _ (c .before .before .before .before .before .before .before .before .before .before .capacity .ensures) _ (c .before .before .before .before .before .before .before .before .look-low .ensures .0) (c .before .before .before .before .before .before .if2 .left) _ (c .before .before .before .before .before .before .before .before .look-low .ensures .1 .0) (below-ne (c .before .before .before .before .before .before .before .before .look-low .result .place) (c .before .before .before .before .before .before .before .before .before .before .before .before .before .before .args .order) (c .before .before .before .before .before .if3 .left) (c .before .before .before .before .before .before .before .before .look-low .ensures .1 .1))) _ (looked-low (c .before .before .before .before .before .before .before .before .before .before .before .before .before .before .args .order) (c .before .before .before .before .before .before .before .before .before .before .before .before .before .before .args .levels) (c .before .before .before .before .before .before .before .before .before .before .before .before .before .before .args .store .now) _ (c .before .before .before .before .before .before .before .before .before .before .before .before .shape-ok .ensures) (c .before .before .before .before .before .before .before .before .before .before .before .if1 .left) _ (c .before .before .before .before .before .before .before .before .before .before .capacity .ensures) _ (c .before .before .before .before .before .before .before .before .look-low .ensures .0) (c .before .before .before .before .before .before .if2 .left) _ (c .before .before .before .before .before .before .before .before .look-low .ensures .1 .0) (below-ne (c .before .before .before .before .before .before .before .before .look-low .result .place) (c .before .before .before .before .before .before .before .before .before .before .before .before .before .before .args .order) (c .before .before .before .before .before .if3 .left) (c .before .before .before .before .before .before .before .before .look-low .ensures .1 .1)) _ (c .before .before .before .slot-at .ensures)) _ _ (c .before .lower .ensures) (c .if4 .taken)) refl
+returns-4 c = replace-first (opening (c .before .before .before .before .before)) _ (c .before .before .before .slot-at .ensures) (start (c .before .before .before .before .before .before .before .before .before .before) .args .x) _ (c .before .lower .ensures) (c .if4 .taken)
 
 swap-requires : tie.Need-swap-requires
-swap-requires c κs = (opened-lies _ _ _ _ (looked (c .before .before .before .before .before .before .before .before .before .before .before .before .before .before .before .args .order) (c .before .before .before .before .before .before .before .before .before .before .before .before .before .before .before .args .levels) (c .before .before .before .before .before .before .before .before .before .before .before .before .before .before .before .args .store .now) _ (c .before .before .before .before .before .before .before .before .before .before .before .before .before .shape-ok .ensures) (c .before .before .before .before .before .before .before .before .before .before .before .before .if1 .left) _ (c .before .before .before .before .before .before .before .before .before .before .before .capacity .ensures) _ (c .before .before .before .before .before .before .before .before .before .look-low .ensures .0) (c .before .before .before .before .before .before .before .if2 .left)), looked-seen (c .before .before .before .before .before .before .before .before .before .before .before .before .before .before .before .args .order) (c .before .before .before .before .before .before .before .before .before .before .before .before .before .before .before .args .levels) (c .before .before .before .before .before .before .before .before .before .before .before .before .before .before .before .args .store .now) _ (c .before .before .before .before .before .before .before .before .before .before .before .before .before .shape-ok .ensures) (c .before .before .before .before .before .before .before .before .before .before .before .before .if1 .left) _ (c .before .before .before .before .before .before .before .before .before .before .before .capacity .ensures) _ (c .before .before .before .before .before .before .before .before .before .look-low .ensures .0) (c .before .before .before .before .before .before .before .if2 .left) _ (c .before .before .before .before .before .before .before .before .before .look-low .ensures .1 .0) (below-ne (c .before .before .before .before .before .before .before .before .before .look-low .result .place) (c .before .before .before .before .before .before .before .before .before .before .before .before .before .before .before .args .order) (c .before .before .before .before .before .before .if3 .left) (c .before .before .before .before .before .before .before .before .before .look-low .ensures .1 .1)))
+swap-requires c κs = opening (c .before .before .before .before .before .before) .looked
 
 same-length-4 : tie.Need-same-length-4
-same-length-4 c = c .before .before .before .swap .kept .0
+same-length-4 c = search needs
 
 returns-5 : tie.Need-returns-5
-returns-5 c = carried-damaged _ _ _ _ (looked (c .before .before .before .before .before .before .before .before .before .before .before .before .before .before .before .before .before .before .before .args .order) (c .before .before .before .before .before .before .before .before .before .before .before .before .before .before .before .before .before .before .before .args .levels) (c .before .before .before .before .before .before .before .before .before .before .before .before .before .before .before .before .before .before .before .args .store .now) _ (c .before .before .before .before .before .before .before .before .before .before .before .before .before .before .before .before .before .shape-ok .ensures) (c .before .before .before .before .before .before .before .before .before .before .before .before .before .before .before .before .if1 .left) _ (c .before .before .before .before .before .before .before .before .before .before .before .before .before .before .before .capacity .ensures) _ (c .before .before .before .before .before .before .before .before .before .before .before .before .before .look-low .ensures .0) (c .before .before .before .before .before .before .before .before .before .before .before .if2 .left)) _ _ _ (replace-swaps (c .before .before .before .before .before .before .before .before .before .before .before .before .before .before .before .before .before .before .before .args .order) (c .before .before .before .before .before .before .before .before .before .before .before .before .before .before .before .before .before .before .before .args .levels) (c .before .before .before .before .before .before .before .before .before .before .before .before .before .before .before .before .before .before .before .args .store .now) (sumCounts (rootOf (c .before .before .before .before .before .before .before .before .before .before .before .before .before .before .before .before .before .before .before .args .order) (c .before .before .before .before .before .before .before .before .before .before .before .before .before .before .before .before .before .before .before .args .store .now))) refl (looked-some (c .before .before .before .before .before .before .before .before .before .before .before .before .before .before .before .before .before .before .before .args .order) (c .before .before .before .before .before .before .before .before .before .before .before .before .before .before .before .before .before .before .before .args .levels) (c .before .before .before .before .before .before .before .before .before .before .before .before .before .before .before .before .before .before .before .args .store .now) _ (c .before .before .before .before .before .before .before .before .before .before .before .before .before .before .before .before .before .shape-ok .ensures) (c .before .before .before .before .before .before .before .before .before .before .before .before .before .before .before .before .if1 .left) _ (c .before .before .before .before .before .before .before .before .before .before .before .before .before .before .before .capacity .ensures) _ (c .before .before .before .before .before .before .before .before .before .before .before .before .before .look-low .ensures .0) (c .before .before .before .before .before .before .before .before .before .before .before .if2 .left) _ (c .before .before .before .before .before .before .before .before .before .before .before .before .before .look-low .ensures .1 .0) (below-ne (c .before .before .before .before .before .before .before .before .before .before .before .before .before .look-low .result .place) (c .before .before .before .before .before .before .before .before .before .before .before .before .before .before .before .before .before .before .before .args .order) (c .before .before .before .before .before .before .before .before .before .before .if3 .left) (c .before .before .before .before .before .before .before .before .before .before .before .before .before .look-low .ensures .1 .1))) _ (looked-low (c .before .before .before .before .before .before .before .before .before .before .before .before .before .before .before .before .before .before .before .args .order) (c .before .before .before .before .before .before .before .before .before .before .before .before .before .before .before .before .before .before .before .args .levels) (c .before .before .before .before .before .before .before .before .before .before .before .before .before .before .before .before .before .before .before .args .store .now) _ (c .before .before .before .before .before .before .before .before .before .before .before .before .before .before .before .before .before .shape-ok .ensures) (c .before .before .before .before .before .before .before .before .before .before .before .before .before .before .before .before .if1 .left) _ (c .before .before .before .before .before .before .before .before .before .before .before .before .before .before .before .capacity .ensures) _ (c .before .before .before .before .before .before .before .before .before .before .before .before .before .look-low .ensures .0) (c .before .before .before .before .before .before .before .before .before .before .before .if2 .left) _ (c .before .before .before .before .before .before .before .before .before .before .before .before .before .look-low .ensures .1 .0) (below-ne (c .before .before .before .before .before .before .before .before .before .before .before .before .before .look-low .result .place) (c .before .before .before .before .before .before .before .before .before .before .before .before .before .before .before .before .before .before .before .args .order) (c .before .before .before .before .before .before .before .before .before .before .if3 .left) (c .before .before .before .before .before .before .before .before .before .before .before .before .before .look-low .ensures .1 .1)) _ (c .before .before .before .before .before .before .before .before .slot-at .ensures)) _ _ (c .before .before .before .before .before .before .lower .ensures) (c .before .before .before .before .before .if4 .left)) _ _ (c .before .before .before .swap .ensures) (c .if5 .taken)
+returns-5 c =
+    let at-done = c .before .before .before in
+    let at-if4 = at-done .before .before in
+    let at-lower = at-if4 .before in
+    let at-slot = at-lower .before .before in
+    replace-broken (opening (c .before .before .before .before .before .before .before .before .before .before)) _ (at-slot .slot-at .ensures) (start (c .before .before .before .before .before .before .before .before .before .before .before .before .before .before .before) .args .x) _ (at-lower .lower .ensures) (at-if4 .if4 .left) _ _ (at-done .swap .ensures) (c .if5 .taken)
 
 same-length-5 : tie.Need-same-length-5
-same-length-5 c = c .before .before .before .swap .kept .0
+same-length-5 c = search needs
 
 returns-6 : tie.Need-returns-6
-returns-6 c = carried-done _ _ _ _ (looked (c .before .before .before .before .before .before .before .before .before .before .before .before .before .before .before .before .before .before .before .args .order) (c .before .before .before .before .before .before .before .before .before .before .before .before .before .before .before .before .before .before .before .args .levels) (c .before .before .before .before .before .before .before .before .before .before .before .before .before .before .before .before .before .before .before .args .store .now) _ (c .before .before .before .before .before .before .before .before .before .before .before .before .before .before .before .before .before .shape-ok .ensures) (c .before .before .before .before .before .before .before .before .before .before .before .before .before .before .before .before .if1 .left) _ (c .before .before .before .before .before .before .before .before .before .before .before .before .before .before .before .capacity .ensures) _ (c .before .before .before .before .before .before .before .before .before .before .before .before .before .look-low .ensures .0) (c .before .before .before .before .before .before .before .before .before .before .before .if2 .left)) _ _ _ (replace-swaps (c .before .before .before .before .before .before .before .before .before .before .before .before .before .before .before .before .before .before .before .args .order) (c .before .before .before .before .before .before .before .before .before .before .before .before .before .before .before .before .before .before .before .args .levels) (c .before .before .before .before .before .before .before .before .before .before .before .before .before .before .before .before .before .before .before .args .store .now) (sumCounts (rootOf (c .before .before .before .before .before .before .before .before .before .before .before .before .before .before .before .before .before .before .before .args .order) (c .before .before .before .before .before .before .before .before .before .before .before .before .before .before .before .before .before .before .before .args .store .now))) refl (looked-some (c .before .before .before .before .before .before .before .before .before .before .before .before .before .before .before .before .before .before .before .args .order) (c .before .before .before .before .before .before .before .before .before .before .before .before .before .before .before .before .before .before .before .args .levels) (c .before .before .before .before .before .before .before .before .before .before .before .before .before .before .before .before .before .before .before .args .store .now) _ (c .before .before .before .before .before .before .before .before .before .before .before .before .before .before .before .before .before .shape-ok .ensures) (c .before .before .before .before .before .before .before .before .before .before .before .before .before .before .before .before .if1 .left) _ (c .before .before .before .before .before .before .before .before .before .before .before .before .before .before .before .capacity .ensures) _ (c .before .before .before .before .before .before .before .before .before .before .before .before .before .look-low .ensures .0) (c .before .before .before .before .before .before .before .before .before .before .before .if2 .left) _ (c .before .before .before .before .before .before .before .before .before .before .before .before .before .look-low .ensures .1 .0) (below-ne (c .before .before .before .before .before .before .before .before .before .before .before .before .before .look-low .result .place) (c .before .before .before .before .before .before .before .before .before .before .before .before .before .before .before .before .before .before .before .args .order) (c .before .before .before .before .before .before .before .before .before .before .if3 .left) (c .before .before .before .before .before .before .before .before .before .before .before .before .before .look-low .ensures .1 .1))) _ (looked-low (c .before .before .before .before .before .before .before .before .before .before .before .before .before .before .before .before .before .before .before .args .order) (c .before .before .before .before .before .before .before .before .before .before .before .before .before .before .before .before .before .before .before .args .levels) (c .before .before .before .before .before .before .before .before .before .before .before .before .before .before .before .before .before .before .before .args .store .now) _ (c .before .before .before .before .before .before .before .before .before .before .before .before .before .before .before .before .before .shape-ok .ensures) (c .before .before .before .before .before .before .before .before .before .before .before .before .before .before .before .before .if1 .left) _ (c .before .before .before .before .before .before .before .before .before .before .before .before .before .before .before .capacity .ensures) _ (c .before .before .before .before .before .before .before .before .before .before .before .before .before .look-low .ensures .0) (c .before .before .before .before .before .before .before .before .before .before .before .if2 .left) _ (c .before .before .before .before .before .before .before .before .before .before .before .before .before .look-low .ensures .1 .0) (below-ne (c .before .before .before .before .before .before .before .before .before .before .before .before .before .look-low .result .place) (c .before .before .before .before .before .before .before .before .before .before .before .before .before .before .before .before .before .before .before .args .order) (c .before .before .before .before .before .before .before .before .before .before .if3 .left) (c .before .before .before .before .before .before .before .before .before .before .before .before .before .look-low .ensures .1 .1)) _ (c .before .before .before .before .before .before .before .before .slot-at .ensures)) _ _ (c .before .before .before .before .before .before .lower .ensures) (c .before .before .before .before .before .if4 .left)) _ _ (c .before .before .before .swap .ensures) (c .if5 .left)
+returns-6 c =
+    let at-done = c .before .before .before in
+    let at-if4 = at-done .before .before in
+    let at-lower = at-if4 .before in
+    let at-slot = at-lower .before .before in
+    replace-done (opening (c .before .before .before .before .before .before .before .before .before .before)) _ (at-slot .slot-at .ensures) (start (c .before .before .before .before .before .before .before .before .before .before .before .before .before .before .before) .args .x) _ (at-lower .lower .ensures) (at-if4 .if4 .left) _ _ (at-done .swap .ensures) (c .if5 .left)
 
 pub replace-spec : {M : Type 1} → statement M
-replace-spec =
-    tie.close
-    (tie.spec
-    shape-ok-requires
-    returns
-    sub-capacity
-    capacity-requires
-    look-low-requires
-    same-length
-    returns-2
-    same-length-2
-    returns-3
-    slot-at-requires
-    lower-requires
-    same-length-3
-    returns-4
-    swap-requires
-    same-length-4
-    returns-5
-    same-length-5
-    returns-6)
+replace-spec = tie.close (tie.spec shape-ok-requires returns sub-capacity capacity-requires look-low-requires same-length returns-2 same-length-2 returns-3 slot-at-requires lower-requires same-length-3 returns-4 swap-requires same-length-4 returns-5 same-length-5 returns-6)

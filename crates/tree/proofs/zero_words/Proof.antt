@@ -8,8 +8,6 @@ use borrow.Author.Fill.{fill-more, fill-none}
 use borrow.Author.Needs.{needs}
 use Rattle.tree.proofs.zero_words.Statement.{statement}
 use Rattle.tree.proofs.zero_words.Tie as tie
-use Rattle.tree.proofs.zero_words.Reads as reads
-use Rattle.tree.proofs.zero_words.Lts as lts
 
 abbrev Inv-loop : tie.InvT-loop
 Inv-loop s₀ n i₀ s i = (i ≤ n) × (length s ≡ length s₀) × (s ≡ replicate i 0 ++ drop i s₀)
