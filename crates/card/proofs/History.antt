@@ -2,9 +2,9 @@
 -- drains of the model does. Assumes nothing.
 use Prim.Native.Nat.{_-_, _≤_, pred, ℕ}
 use native.Mathlib.Omega.{arith}
-use mathlib.Core.Bool.{_&&_, Bool, cond, false, not, true, true≢false}
+use mathlib.Core.Bool.{_&&_, Bool, cond, false, true, true≢false}
 use mathlib.Core.List.{[], _∷_, List}
-use mathlib.Core.Logic.{_⊎_, inl, inr}
+use mathlib.Core.Logic.{_⊎_, inl, inr, ⊎-elim}
 use mathlib.Core.Path.{_∙_, _≡_, ap, ap₂, refl, subst, sym}
 use lib.Dec.{leb, ltb}
 use lib.ListN.{length, length-replicate, replicate}
@@ -21,9 +21,11 @@ use Rattle.card_records.specs.Records.{markWritten, readable, roomy, worksWritt
 use Rattle.clocked_model.proofs.Drain.{drain-state, ticked-length}
 use Rattle.clocked_model.proofs.Exactly.{stands}
 use Rattle.clocked_model.proofs.Promises.{shape-kept}
-use Rattle.clocked_model.specs.Calls.{cycleOutcome, CycleOutcome, DrainOutcome, drains, fresh, recordCount, restarted, runs, ticked}
+use Rattle.clocked_model.specs.Calls.{cycleOutcome, CycleOutcome, DrainOutcome, drains, fresh, recordCount, restarted, ticked}
+use Rattle.clocked_model.specs.Promise.{cycleLeft, runs}
 use Rattle.clocked_model.specs.declared.State.{State}
 use Rattle.laws.specs.Tests.{and-true, sub-one}
+use Rattle.promise.specs.Queue.{leaves}
 use Rattle.strip.specs.Answers.{numberOf}
 use Rattle.strip.specs.declared.Answer.{Answer}
 use Rattle.strip.specs.declared.Answer.the-variants.{Done, Out, Refused}
@@ -153,10 +155,11 @@ module _ (m levels : ℕ) (out : List ℕ) (room : 2 ≤ length out) (s : State)
       stood : ran (numberOf (o .answer)) ≡ false → p .state ≡ s
       stood e =
           let n = not-run (p .answer) (ap (λ (a : Answer). ran (numberOf a)) (sym (same .answer)) ∙ e) in
-          ap (λ (c : CycleOutcome). c .state) (stands m levels r s ws (n .0) (n .1) (n .2))
+          ap (λ (c : CycleOutcome). c .state) (stands m levels r s ws (n .0) (ap numberOf (n .2)))
+          ∙ ⊎-elim (λ q. ap (λ (n : Refusal). cycleLeft m levels s ws n .state) q) (λ q. ap (λ (n : Refusal). cycleLeft m levels s ws n .state) q) (n .1)
 
   drain-goes : (budget : ℕ) → Goes m levels (callC m levels out (drain budget) ws rs mark) (callM m levels out (drain budget) s ws)
-  unfolding callC callM clockedDrain runs
+  unfolding callC callM clockedDrain leaves
   drain-goes budget =
       subst (λ (b : ClockedAfterOut). Goes m levels b (callM m levels out (drain budget) s ws)) (sym here)
       (record {

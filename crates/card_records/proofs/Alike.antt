@@ -9,10 +9,12 @@ use lib.ListN.{length, replicate}
 use Rattle.clocked_model.proofs.Drain.{drain-state, ticked-length}
 use Rattle.clocked_model.proofs.Exactly.{sound}
 use Rattle.clocked_model.proofs.Turn.{after-length, plain-rest, works-after}
-use Rattle.clocked_model.specs.Calls.{askedOk, cycleOutcome, CycleOutcome, drainFrom, drainOutcome, DrainOutcome, drains, heard, hearing, isRefused, pending, runs, ticked, turned}
+use Rattle.clocked_model.specs.Calls.{askedOk, cycleOutcome, CycleOutcome, drainFrom, drainOutcome, DrainOutcome, drains, heard, hearing, isRefused, pending, ticked, turned}
 use Rattle.clocked_model.specs.Cycle.{cycleOk, cycleWords, cycleWorks, quiet, Works}
+use Rattle.clocked_model.specs.Promise.{runs}
 use Rattle.clocked_model.specs.Records.{worksOf}
 use Rattle.clocked_model.specs.declared.State.{State}
+use Rattle.promise.specs.Queue.{leaves}
 use Rattle.strip.specs.declared.Answer.{Answer}
 use Rattle.strip.specs.declared.Answer.the-variants.{Done, Refused}
 use Rattle.strip.specs.declared.Refusal.the-variants.{BadShape, Damaged}
@@ -139,7 +141,7 @@ module _ (m levels : ℕ) where
       go true true = after-length m (pred levels) (restWords m (pred levels) (work (g .op) 0) 0 1 ws) 0 (s .records) (under m (pred levels) ws 0 1)
 
   runs-kept : (rs : List Request) (s : State) (ws : List ℕ) → (length (runs m levels rs s ws .state .records) ≡ length (s .records)) × (length (runs m levels rs s ws .words) ≡ length ws)
-  unfolding runs
+  unfolding leaves
   runs-kept [] s ws = (refl, refl)
   runs-kept (r ∷ rs) s ws =
       let h = runs-kept rs (ticked m levels r s ws .state) (ticked m levels r s ws .words) in
