@@ -12,7 +12,7 @@ use borrow.Author.Tests.{le-leb, leb-false, leb-true, lt-ltb, ltb-false, ltb-tru
 use Rattle.strip.specs.Answers.{element}
 use Rattle.trace.proofs.Runs.{after-after, after-stands, closing-ended, played-append, played-ended, stands-after}
 use Rattle.trace.specs.Format.{cutRecord, entryAt, entryOf, headerBytes, headerOf, longestLine, markOk, numberAt, recordBytes, recordsFrom, recordsOf, traceShape}
-use Rattle.trace.specs.Play.{after, begun, closing, ending, inPieces, opening, outBytes, pieceBytes, pieceOf, pieceRun, piecesText, played, run, Run, shut, stands, Step, turn, whileLive}
+use Rattle.trace.specs.Play.{after, begun, closing, ending, inPieces, opening, outBytes, pieceBytes, pieceOf, pieceRun, piecesText, played, programRecords, run, Run, shut, stands, Step, turn, whileLive}
 use Rattle.trace.specs.Program.{emptyStore, endOf, textFrom, textOf, traceText}
 use Rattle.trace.specs.declared.Header.{Header}
 use Rattle.trace.specs.declared.Header.the-variants.{Shape, Wrong}
@@ -259,3 +259,7 @@ pieces r some bs =
     ap (λ (b : Bool). after (cond b (opening (headerOf (take headerBytes bs)) ws) (run ws shut [])) (whileLive (inPieces r (suc (length rest)) rest)) .text) (le-leb longestLine (outBytes r) room)
     ∙ ap (λ (h : Header). after (opening h ws) (whileLive (inPieces r (suc (length rest)) rest)) .text) (header-first bs)
     ∙ by-header r some (headerOf bs) rest
+
+-- .. and so with the program's own pieces
+pub program : (bs : List ℕ) → piecesText programRecords bs ≡ traceText bs
+program bs = pieces programRecords (omega arith) bs
