@@ -71,7 +71,7 @@ getD-same zero i a = refl
 getD-same (suc n) zero a = refl
 getD-same (suc n) (suc i) a = getD-same n i a
 
-fresh-quiet : (k n i : ℕ) → quiet k (worksOf k (replicate n idle) i) ≡ true
+pub fresh-quiet : (k n i : ℕ) → quiet k (worksOf k (replicate n idle) i) ≡ true
 unfolding quiet worksOf recordAt isNothing work
 fresh-quiet zero n i = refl
 fresh-quiet (suc k) n i = and-true (isNothing (work (getD (replicate n idle) i idle .op) (getD (replicate n idle) i idle .node) .op)) _ (nothing-there (getD (replicate n idle) i idle) (getD-same n i idle)) (fresh-quiet k n (suc i))
@@ -160,7 +160,7 @@ module _ (m k : ℕ) where
       (ap (λ (l : Levels k). (levelOf m ws 0 1, l)) (sym (at-rest m k (worksOf k (s .records) 0) (under m k ws 0 1) (not-false (quiet k (worksOf k (s .records) 0)) e))) ∙ i .final) (i .past)
 
 -- THE DEMAND. Any order and number of levels that pass the shape, any words to start with, any list of cycles from the cleared machine
-fresh-mark : fresh .mark ≡ false
+pub fresh-mark : fresh .mark ≡ false
 unfolding fresh
 fresh-mark = refl
 

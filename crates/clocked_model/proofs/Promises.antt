@@ -3,23 +3,24 @@
 use Prim.Native.Nat.{_+_, _≤_, pred, suc, zero, ℕ}
 use native.Mathlib.Nat.{not-suc-le-zero}
 use native.Mathlib.Omega.{arith}
-use mathlib.Core.Bool.{_&&_, Bool, cond, false, true, true≢false}
+use mathlib.Core.Bool.{Bool, _&&_, cond, false, not, true, true≢false}
 use mathlib.Core.List.{[], _∷_, List}
 use mathlib.Core.Logic.{_⊎_, inl, inr, ⊎-elim}
 use mathlib.Core.Path.{_∙_, _≡_, ap, refl, subst, sym}
 use lib.ListN.{length}
-use Rattle.clocked_model.proofs.Demand.{demand-answers, demand-idles, demand-store, idles-in-step, ran-in-step}
+use Rattle.clocked_model.proofs.Demand.{demand-answers, demand-idles, demand-store, fresh-mark, fresh-quiet, idles-in-step, ran-in-step}
 use Rattle.clocked_model.proofs.Drain.{done, drain-ends, drain-left, drain-needed, drain-spent, drain-state, End, jammed, not-less}
 use Rattle.clocked_model.proofs.Exactly.{refused-mark, sound-no-damage}
 use Rattle.clocked_model.proofs.Step.{one-by-one-is, one-by-one-kept, root-fine, same-root, step-answer, steps-fine}
-use Rattle.clocked_model.specs.Calls.{askedOk, DrainOutcome, drains, heard, marks, pending, popsOrReplaces, ticked}
+use Rattle.clocked_model.specs.Calls.{askedOk, cycleOutcome, DrainOutcome, drains, fresh, heard, marks, pending, popsOrReplaces, recordCount, restarted, ticked}
 use Rattle.clocked_model.specs.Promise.{oneByOne, oneByOneQueue, oneByOneWords, callsOf, cycleAnswers, CycleDamage, idles, Pinned, ran}
 use Rattle.clocked_model.specs.declared.State.{State}
 use Rattle.laws.specs.Tests.{and-true, cond-both}
 use Rattle.promise.specs.Queue.{leaves, pins}
 use Rattle.promise.specs.Served.{all-sum, allBrought, allGiven, always, brought, given, Holds, Least, same}
 use Rattle.strip.specs.Answers.{countNumber, countOf, numberOf}
-use Rattle.strip.specs.declared.Answer.the-variants.{Refused}
+use Rattle.strip.specs.declared.Answer.{Answer}
+use Rattle.strip.specs.declared.Answer.the-variants.{Done, Refused}
 use Rattle.strip.specs.declared.Element.{Element}
 use Rattle.strip.specs.declared.Refusal.the-variants.{TooSoon}
 use Rattle.strip.specs.declared.Request.{Request}
@@ -27,6 +28,7 @@ use Rattle.strip.specs.declared.Request.the-variants.{Idle, Pop, Push, Replace}
 use Rattle.tree_model.proofs.Promises.{Kept}
 use Rattle.tree_model.proofs.Exactly.{comes-number}
 use Rattle.tree_model.proofs.Rules.{comes}
+use Rattle.tree_model.proofs.Slice.{clear-zeroes}
 use Rattle.tree_model.specs.Calls.{called, counted, outcome, Outcome, rootOf, Ruling, ruling}
 use Rattle.tree_model.specs.Damage.{room}
 use Rattle.tree_model.specs.declared.Op.the-variants.{Nothing}
@@ -76,6 +78,16 @@ module _ (m k : ℕ) where
       go : (t : Bool) → stored (room m (suc k)) (now t .words) f + given r (now t .answer) f ≡ stored (room m (suc k)) (b .1) f + brought r (now t .answer) f
       go true = soon-sum r (stored (room m (suc k)) (b .1) f) f
       go false = tree.call-sum m k r (b .1) kept f
+
+-- ---- CLEAR: "A cleared machine has none pending and the mark off"; its words are those of the tree's clear
+pub clear-fresh : (m levels : ℕ) (ws : List ℕ) → Shape m levels (length ws)
+    → (restarted m levels ws ≡ cycleOutcome Done (start m levels ws) fresh) × (pending m levels fresh ≡ false) × (fresh .mark ≡ false)
+unfolding fresh
+clear-fresh m levels ws sh = (
+  ap (λ (a : Answer). cycleOutcome a (start m levels ws) fresh) (clear-zeroes m levels ws sh .0),
+  ap not (fresh-quiet (pred levels) recordCount 0),
+  fresh-mark,
+)
 
 -- ---- over any list of cycles from the cleared machine
 module _ (m : ℕ) (ws : List ℕ) (rs : List Request) where

@@ -52,14 +52,14 @@ module _ (m levels : ℕ) where
   idles n s ws = runs (replicate n Idle) s ws
 
   -- any list of cycles from the cleared machine: what it is answered, and what is left
-  abbrev pub cleared : List ℕ → Machine
-  cleared ws = machine fresh (start m levels ws)
+  abbrev pub clearedMachine : List ℕ → Machine
+  clearedMachine ws = machine fresh (start m levels ws)
 
   abbrev pub ran : List Request → List ℕ → Machine
-  ran rs ws = leaves clockedQueue rs (cleared ws)
+  ran rs ws = leaves clockedQueue rs (clearedMachine ws)
 
   abbrev pub cycleAnswers : List Request → List ℕ → List Answer
-  cycleAnswers rs ws = answers clockedQueue rs (cleared ws)
+  cycleAnswers rs ws = answers clockedQueue rs (clearedMachine ws)
 
   -- ---- the one-at-a-time tree beside it, as a queue of the mark and the words
   -- a pop or replace with the mark on is too soon and is left out; every other request is a call
