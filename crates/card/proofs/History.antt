@@ -217,7 +217,7 @@ module _ (m levels : ℕ) (out : List ℕ) (room : 2 ≤ length out) where
 
 -- ---- from a clear
 kept-shape : (m levels : ℕ) (ws : List ℕ) → shapeOk m levels (length ws) ≡ true → shapeOk m levels (length (restarted m levels ws .words)) ≡ true
-unfolding runs
+unfolding leaves
 kept-shape m levels ws shape = is-shape m levels _ (shape-kept m ws [] levels (shape-is m levels (length ws) shape))
 
 module _ (m levels : ℕ) (ws rs mark : List ℕ) (shape : shapeOk m levels (length ws) ≡ true) (e : roomy (levels - 1) rs mark ≡ true) where

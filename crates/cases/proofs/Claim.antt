@@ -1,4 +1,4 @@
--- The one claim over the table of worked cases, proved by computing the definitions. Assumes nothing.
+-- The one claim over the table of worked cases, proved by computing the definitions.
 use mathlib.Core.List.{map}
 use mathlib.Core.Path.{ap, refl}
 use Rattle.bucket_model.proofs.Case8.{case8-holds}

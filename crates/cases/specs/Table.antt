@@ -1,4 +1,4 @@
--- 01's worked cases that are marked (P), as one table. Assumes nothing: these are definitions.
+-- 01's worked cases that are marked (P), as one table.
 use Prim.Native.Nat.{ℕ}
 use mathlib.Core.List.{[], _++_, _∷_, List, map}
 use mathlib.Core.Path.{_≡_}

@@ -1,4 +1,4 @@
--- 01's worked case 6, and case 10, computed from the definitions. Assumes nothing.
+-- 01's worked case 6, and case 10, computed from the definitions.
 use mathlib.Core.Path.{_≡_, refl}
 use Rattle.clocked_model.specs.Calls.{asks, drainFrom, drains, fresh, heard, isRefused, marks, popsOrReplaces, ticked, turned}
 use Rattle.clocked_model.specs.Cases.{caseSix, caseSixSays, caseTen, caseTenSays, clockedA}

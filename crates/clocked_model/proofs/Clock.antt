@@ -1,4 +1,4 @@
--- A cycle changes nothing of what the store settles to, but for the work that comes in. Assumes nothing.
+-- A cycle changes nothing of what the store settles to, but for the work that comes in.
 use Prim.Native.Nat.{_*_, _+_, _≤_, suc, zero, ℕ}
 use native.Mathlib.Nat.{le-of-suc-le-suc, not-suc-le-zero}
 use mathlib.Core.Bool.{Bool, false, true}

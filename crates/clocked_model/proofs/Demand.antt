@@ -1,5 +1,5 @@
 -- Demand 3: over any list of cycles from a cleared machine the answers are those of the one-at-a-time tree with the rule of the mark, at
--- most levels - 1 idle cycles leave nothing pending, and then the words are that tree's. Assumes nothing.
+-- most levels - 1 idle cycles leave nothing pending, and then the words are that tree's.
 use Prim.Native.Nat.{_+_, _-_, _≤_, pred, suc, zero, ℕ}
 use native.Mathlib.Nat.{mul-le-mul, not-suc-le-zero, suc-add}
 use native.Mathlib.Omega.{arith}
@@ -11,11 +11,11 @@ use lib.Dec.{leb}
 use lib.ListN.{getD, length, length-replicate, replicate}
 use borrow.Author.Tests.{leb-false, leb-true, not-false}
 use Rattle.clocked_model.proofs.Clock.{at-rest, lead-quiet, leads}
-use Rattle.clocked_model.proofs.Step.{beside-is, idle-ruling, in-step, InStep, quiet-clear, quiet-ready, quiet-spaced, step-answer, step-mark, ticks}
+use Rattle.clocked_model.proofs.Step.{one-by-one-is, idle-ruling, in-step, InStep, quiet-clear, quiet-ready, quiet-spaced, step-answer, step-mark, ticks}
 use Rattle.clocked_model.proofs.Turn.{plain-rest, works-after}
 use Rattle.clocked_model.specs.Calls.{CycleOutcome, fresh, marks, pending, recordCount, ticked, turned}
 use Rattle.clocked_model.specs.Cycle.{quiet}
-use Rattle.clocked_model.specs.Promise.{beside, besideAnswers, besideQueue, besideWords, clockedQueue, cycleAnswers, idles, Machine, ran}
+use Rattle.clocked_model.specs.Promise.{oneByOne, oneByOneAnswers, oneByOneQueue, oneByOneWords, clockedQueue, cycleAnswers, idles, Machine, ran}
 use Rattle.clocked_model.specs.Records.{recordAt, worksOf}
 use Rattle.clocked_model.specs.Settle.{Lead}
 use Rattle.clocked_model.specs.declared.State.{State}
@@ -28,7 +28,7 @@ use Rattle.tree_model.proofs.Exactly.{words-none}
 use Rattle.tree_model.proofs.Hang.{past}
 use Rattle.tree_model.proofs.Nothing.{op-work, work-none}
 use Rattle.tree_model.proofs.Promises.{Kept, start-kept}
-use Rattle.tree_model.proofs.Same.{same-words}
+use Rattle.tree_model.proofs.Agreement.{same-words}
 use Rattle.tree_model.specs.Calls.{Outcome, rootOf, Ruling, ruling}
 use Rattle.tree_model.specs.Damage.{room}
 use Rattle.tree_model.specs.Levels.{idle, Levels, top, work}
@@ -71,7 +71,7 @@ getD-same zero i a = refl
 getD-same (suc n) zero a = refl
 getD-same (suc n) (suc i) a = getD-same n i a
 
-fresh-quiet : (k n i : ℕ) → quiet k (worksOf k (replicate n idle) i) ≡ true
+pub fresh-quiet : (k n i : ℕ) → quiet k (worksOf k (replicate n idle) i) ≡ true
 unfolding quiet worksOf recordAt isNothing work
 fresh-quiet zero n i = refl
 fresh-quiet (suc k) n i = and-true (isNothing (work (getD (replicate n idle) i idle .op) (getD (replicate n idle) i idle .node) .op)) _ (nothing-there (getD (replicate n idle) i idle) (getD-same n i idle)) (fresh-quiet k n (suc i))
@@ -112,20 +112,20 @@ module _ (m k : ℕ) where
   abbrev Both : Machine → Bool × List ℕ → Type 0
   Both x b = InStep m k (x .state) (x .words) (b .1) × (x .state .mark ≡ b .0)
 
-  both-answer : (r : Request) (x : Machine) (b : Bool × List ℕ) → Both x b → clockedQueue m (suc k) r x .said ≡ besideQueue m (suc k) r b .said
-  both-answer r x b i = step-answer m k _ _ _ (i .0) r ∙ ap (λ (t : Bool). beside m (suc k) t r (b .1) .answer) (i .1)
+  both-answer : (r : Request) (x : Machine) (b : Bool × List ℕ) → Both x b → clockedQueue m (suc k) r x .said ≡ oneByOneQueue m (suc k) r b .said
+  both-answer r x b i = step-answer m k _ _ _ (i .0) r ∙ ap (λ (t : Bool). oneByOne m (suc k) t r (b .1) .answer) (i .1)
 
-  both-kept : (r : Request) (x : Machine) (b : Bool × List ℕ) → Both x b → Both (clockedQueue m (suc k) r x .next) (besideQueue m (suc k) r b .next)
+  both-kept : (r : Request) (x : Machine) (b : Bool × List ℕ) → Both x b → Both (clockedQueue m (suc k) r x .next) (oneByOneQueue m (suc k) r b .next)
   both-kept r x b i = (
-    subst (λ (t : Bool). InStep m k (clockedQueue m (suc k) r x .next .state) (clockedQueue m (suc k) r x .next .words) (beside m (suc k) t r (b .1) .words)) (i .1) (in-step m k _ _ _ (i .0) r),
-    step-mark m k _ _ _ (i .0) r ∙ ap (λ (t : Bool). marks r (beside m (suc k) t r (b .1) .answer)) (i .1),
+    subst (λ (t : Bool). InStep m k (clockedQueue m (suc k) r x .next .state) (clockedQueue m (suc k) r x .next .words) (oneByOne m (suc k) t r (b .1) .words)) (i .1) (in-step m k _ _ _ (i .0) r),
+    step-mark m k _ _ _ (i .0) r ∙ ap (λ (t : Bool). marks r (oneByOne m (suc k) t r (b .1) .answer)) (i .1),
   )
 
   -- ---- idle cycles
   -- the tree beside stands
-  idle-stands : (mark : Bool) (vs : List ℕ) → Kept m k vs → beside m (suc k) mark Idle vs .words ≡ vs
+  idle-stands : (mark : Bool) (vs : List ℕ) → Kept m k vs → oneByOne m (suc k) mark Idle vs .words ≡ vs
   idle-stands mark vs kept =
-      ap (λ (o : Outcome). o .words) (beside-is m k vs kept mark Idle)
+      ap (λ (o : Outcome). o .words) (one-by-one-is m k vs kept mark Idle)
       ∙ words-none m (suc k) _ 0 1 vs (op-work _ 0 ∙ ap (λ (g : Ruling). g .op) (idle-ruling mark (room m (suc k)) (rootOf m vs)))
 
   idle-in-step : (s : State) (ws vs : List ℕ) → InStep m k s ws vs → InStep m k (ticked m (suc k) Idle s ws .state) (ticked m (suc k) Idle s ws .words) vs
@@ -160,21 +160,21 @@ module _ (m k : ℕ) where
       (ap (λ (l : Levels k). (levelOf m ws 0 1, l)) (sym (at-rest m k (worksOf k (s .records) 0) (under m k ws 0 1) (not-false (quiet k (worksOf k (s .records) 0)) e))) ∙ i .final) (i .past)
 
 -- THE DEMAND. Any order and number of levels that pass the shape, any words to start with, any list of cycles from the cleared machine
-fresh-mark : fresh .mark ≡ false
+pub fresh-mark : fresh .mark ≡ false
 unfolding fresh
 fresh-mark = refl
 
 module _ (m : ℕ) (ws : List ℕ) (rs : List Request) where
   -- ANSWERS: too soon exactly where the mark says, and every other answer is that of the call on the one-at-a-time tree
-  pub demand-answers : (levels : ℕ) → Shape m levels (length ws) → cycleAnswers m levels rs ws ≡ besideAnswers m levels rs false (start m levels ws)
+  pub demand-answers : (levels : ℕ) → Shape m levels (length ws) → cycleAnswers m levels rs ws ≡ oneByOneAnswers m levels rs false (start m levels ws)
   demand-answers zero sh = absurd (not-suc-le-zero (sh .some))
   demand-answers (suc k) sh =
-      answers-same (clockedQueue m (suc k)) (besideQueue m (suc k)) (Both m k) (both-answer m k) (both-kept m k) rs _ (false, start m (suc k) ws) (start-in-step m k ws sh, fresh-mark)
+      answers-same (clockedQueue m (suc k)) (oneByOneQueue m (suc k)) (Both m k) (both-answer m k) (both-kept m k) rs _ (false, start m (suc k) ws) (start-in-step m k ws sh, fresh-mark)
 
   -- after any cycle the machine is in step with that tree
-  pub ran-in-step : (k : ℕ) → Shape m (suc k) (length ws) → InStep m k (ran m (suc k) rs ws .state) (ran m (suc k) rs ws .words) (besideWords m (suc k) rs false (start m (suc k) ws))
+  pub ran-in-step : (k : ℕ) → Shape m (suc k) (length ws) → InStep m k (ran m (suc k) rs ws .state) (ran m (suc k) rs ws .words) (oneByOneWords m (suc k) rs false (start m (suc k) ws))
   ran-in-step k sh =
-      leaves-in-step (clockedQueue m (suc k)) (besideQueue m (suc k)) (Both m k) (both-answer m k) (both-kept m k) rs _ (false, start m (suc k) ws) (start-in-step m k ws sh, fresh-mark) .0
+      leaves-in-step (clockedQueue m (suc k)) (oneByOneQueue m (suc k)) (Both m k) (both-answer m k) (both-kept m k) rs _ (false, start m (suc k) ws) (start-in-step m k ws sh, fresh-mark) .0
 
   -- IDLES: after any cycle, levels - 1 idle cycles leave nothing pending
   pub demand-idles : (levels : ℕ) → Shape m levels (length ws) → pending m levels (idles m levels (pred levels) (ran m levels rs ws .state) (ran m levels rs ws .words) .state) ≡ false
@@ -183,6 +183,6 @@ module _ (m : ℕ) (ws : List ℕ) (rs : List Request) where
 
   -- STORE: as soon as nothing is pending, the words are those of that tree, each of them
   pub demand-store : (levels : ℕ) → Shape m levels (length ws) → (n : ℕ) → pending m levels (idles m levels n (ran m levels rs ws .state) (ran m levels rs ws .words) .state) ≡ false
-      → idles m levels n (ran m levels rs ws .state) (ran m levels rs ws .words) .words ≡ besideWords m levels rs false (start m levels ws)
+      → idles m levels n (ran m levels rs ws .state) (ran m levels rs ws .words) .words ≡ oneByOneWords m levels rs false (start m levels ws)
   demand-store zero sh n e = absurd (not-suc-le-zero (sh .some))
   demand-store (suc k) sh n e = settled-words m k _ _ _ (idles-in-step m k n _ _ _ (ran-in-step k sh)) e

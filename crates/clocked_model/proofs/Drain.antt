@@ -1,4 +1,4 @@
--- A drain is so many idle cycles: none once nothing is pending, no more than the budget, and it stops at damage. Assumes nothing.
+-- A drain is so many idle cycles: none once nothing is pending, no more than the budget, and it stops at damage.
 use Prim.Native.Nat.{_+_, _<_, _≤_, pred, suc, zero, ℕ}
 use native.Mathlib.Nat.{add-zero, not-suc-le-zero, zero-add}
 use native.Mathlib.Omega.{arith}
@@ -328,6 +328,14 @@ module _ (m levels b : ℕ) (s : State) (ws : List ℕ) where
   -- "Drain stops at 2 and reports the cycles already run, work left; at 1 it reports 0 and no work left"
   pub drain-refused : (n : Refusal) → numberOf (d .answer) ≡ refusalNumber n → d ≡ left n
   drain-refused = left-behind says left exactly-drain
+
+-- DRAIN-STOPS: "Drain stops at 2 and reports the cycles already run": the cycle after exactly so many idle cycles is the one that meets damage
+pub drain-stops : (m levels b : ℕ) (s : State) (ws : List ℕ) → numberOf (drains m levels b s ws .answer) ≡ 2 → Jams m levels b (drains m levels b s ws .cycles) s ws
+drain-stops m levels b s ws = by-shape m levels b s ws (λ d. numberOf (d .answer) ≡ 2 → Jams m levels b (d .cycles) s ws) (λ e. absurd (omega arith)) (λ d x. go d (x .more) (ran-so-many m levels b s ws d x) (x .end))
+  where
+    go : (d : DrainOutcome) (more : ℕ) → more ≡ d .cycles → End m levels b more s ws d → numberOf (d .answer) ≡ 2 → Jams m levels b (d .cycles) s ws
+    go d more n (done a l) e = absurd (omega (arith, ap numberOf a))
+    go d more n (jammed a l j) e = subst (λ (k : ℕ). Jams m levels b k s ws) n j
 
 -- KIND: a drain that is not refused is done
 pub drain-kind : (m levels b : ℕ) (s : State) (ws : List ℕ) → numberOf (drains m levels b s ws .answer) ≡ 0 → drains m levels b s ws .answer ≡ Done

@@ -1,4 +1,4 @@
--- Every refusal of a cycle is given exactly for its cause, and leaves behind what the table says. Assumes nothing.
+-- Every refusal of a cycle is given exactly for its cause, and leaves behind what the table says.
 use Prim.Native.Nat.{_≤_, pred, suc, zero, ℕ}
 use native.Mathlib.Omega.{arith}
 use mathlib.Core.Bool.{_&&_, Bool, cond, false, false≢true, not, true, true≢false}

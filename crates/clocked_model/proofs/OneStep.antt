@@ -1,5 +1,5 @@
 -- Each level does its one step in a cycle, from what stood at its start; and an operation's last write falls within as many cycles as there are
--- levels. Assumes nothing.
+-- levels.
 use Prim.Native.Nat.{_*_, _+_, _<_, _^_, _≤_, pred, suc, zero, ℕ}
 use native.Mathlib.Nat.{add-zero, not-suc-le-zero, pow-suc, zero-add}
 use native.Mathlib.Omega.{arith}
@@ -33,7 +33,7 @@ use Rattle.tree_model.proofs.Exactly.{is-shape, order-pos, room-fails, slot-lim
 use Rattle.tree_model.proofs.Nothing.{is-none, op-work, step-none, work-none}
 use Rattle.tree_model.proofs.Place.{above-one}
 use Rattle.tree_model.proofs.Rules.{put-rule, swap-rule, take-rule}
-use Rattle.tree_model.proofs.Same.{place-of}
+use Rattle.tree_model.proofs.Agreement.{place-of}
 use Rattle.tree_model.proofs.Slice.{level-wide, lies}
 use Rattle.tree_model.proofs.Words.{size-room}
 use Rattle.tree_model.specs.Calls.{Ruling}

@@ -1,25 +1,26 @@
 -- The promises of the clocked tree beside demand 3: each level does its one step, nothing is damaged, it holds exactly what went in and has
--- not come out, and what comes out has the lowest rank. Assumes nothing.
+-- not come out, and what comes out has the lowest rank.
 use Prim.Native.Nat.{_+_, _≤_, pred, suc, zero, ℕ}
 use native.Mathlib.Nat.{not-suc-le-zero}
 use native.Mathlib.Omega.{arith}
-use mathlib.Core.Bool.{_&&_, Bool, cond, false, true, true≢false}
+use mathlib.Core.Bool.{Bool, _&&_, cond, false, not, true, true≢false}
 use mathlib.Core.List.{[], _∷_, List}
 use mathlib.Core.Logic.{_⊎_, inl, inr, ⊎-elim}
 use mathlib.Core.Path.{_∙_, _≡_, ap, refl, subst, sym}
 use lib.ListN.{length}
-use Rattle.clocked_model.proofs.Demand.{demand-answers, demand-idles, demand-store, idles-in-step, ran-in-step}
+use Rattle.clocked_model.proofs.Demand.{demand-answers, demand-idles, demand-store, fresh-mark, fresh-quiet, idles-in-step, ran-in-step}
 use Rattle.clocked_model.proofs.Drain.{done, drain-ends, drain-left, drain-needed, drain-spent, drain-state, End, jammed, not-less}
 use Rattle.clocked_model.proofs.Exactly.{refused-mark, sound-no-damage}
-use Rattle.clocked_model.proofs.Step.{beside-is, beside-kept, root-fine, step-answer, steps-fine}
-use Rattle.clocked_model.specs.Calls.{askedOk, DrainOutcome, drains, heard, marks, pending, popsOrReplaces, ticked}
-use Rattle.clocked_model.specs.Promise.{beside, besideQueue, besideWords, callsOf, cycleAnswers, CycleDamage, idles, Pinned, ran}
+use Rattle.clocked_model.proofs.Step.{one-by-one-is, one-by-one-kept, root-fine, same-root, step-answer, steps-fine}
+use Rattle.clocked_model.specs.Calls.{askedOk, cycleOutcome, DrainOutcome, drains, fresh, heard, marks, pending, popsOrReplaces, recordCount, restarted, ticked}
+use Rattle.clocked_model.specs.Promise.{oneByOne, oneByOneQueue, oneByOneWords, callsOf, cycleAnswers, CycleDamage, idles, Pinned, ran}
 use Rattle.clocked_model.specs.declared.State.{State}
 use Rattle.laws.specs.Tests.{and-true, cond-both}
 use Rattle.promise.specs.Queue.{leaves, pins}
 use Rattle.promise.specs.Served.{all-sum, allBrought, allGiven, always, brought, given, Holds, Least, same}
 use Rattle.strip.specs.Answers.{countNumber, countOf, numberOf}
-use Rattle.strip.specs.declared.Answer.the-variants.{Refused}
+use Rattle.strip.specs.declared.Answer.{Answer}
+use Rattle.strip.specs.declared.Answer.the-variants.{Done, Refused}
 use Rattle.strip.specs.declared.Element.{Element}
 use Rattle.strip.specs.declared.Refusal.the-variants.{TooSoon}
 use Rattle.strip.specs.declared.Request.{Request}
@@ -27,6 +28,7 @@ use Rattle.strip.specs.declared.Request.the-variants.{Idle, Pop, Push, Replace}
 use Rattle.tree_model.proofs.Promises.{Kept}
 use Rattle.tree_model.proofs.Exactly.{comes-number}
 use Rattle.tree_model.proofs.Rules.{comes}
+use Rattle.tree_model.proofs.Slice.{clear-zeroes}
 use Rattle.tree_model.specs.Calls.{called, counted, outcome, Outcome, rootOf, Ruling, ruling}
 use Rattle.tree_model.specs.Damage.{room}
 use Rattle.tree_model.specs.declared.Op.the-variants.{Nothing}
@@ -35,18 +37,18 @@ use Rattle.tree_model.proofs.Promises as tree
 
 -- ---- the calls that are not too soon
 module _ (m levels : ℕ) where
-  pub calls-words : (rs : List Request) (mark : Bool) (vs : List ℕ) → besideWords m levels rs mark vs ≡ leaves (treeQueue m levels) (callsOf m levels rs mark vs) vs
-  unfolding callsOf leaves beside
+  pub calls-words : (rs : List Request) (mark : Bool) (vs : List ℕ) → oneByOneWords m levels rs mark vs ≡ leaves (treeQueue m levels) (callsOf m levels rs mark vs) vs
+  unfolding callsOf leaves oneByOne
   calls-words [] mark vs = refl
   calls-words (r ∷ rs) mark vs = go (mark && popsOrReplaces r) (calls-words rs)
     where
       now : Bool → Outcome
       now t = cond t (outcome (Refused TooSoon) vs) (called m levels r vs)
 
-      go : (t : Bool) → ((b : Bool) (vs : List ℕ) → besideWords m levels rs b vs ≡ leaves (treeQueue m levels) (callsOf m levels rs b vs) vs)
-          → besideWords m levels rs (marks r (now t .answer)) (now t .words)
+      go : (t : Bool) → ((b : Bool) (vs : List ℕ) → oneByOneWords m levels rs b vs ≡ leaves (treeQueue m levels) (callsOf m levels rs b vs) vs)
+          → oneByOneWords m levels rs (marks r (now t .answer)) (now t .words)
           ≡ leaves (treeQueue m levels) (cond t (callsOf m levels rs false vs) (r ∷ callsOf m levels rs (marks r (now t .answer)) (now t .words))) vs
-      go true ih = ap (λ (b : Bool). besideWords m levels rs b vs) (refused-mark r TooSoon) ∙ ih false vs
+      go true ih = ap (λ (b : Bool). oneByOneWords m levels rs b vs) (refused-mark r TooSoon) ∙ ih false vs
       go false ih = ih (marks r (called m levels r vs .answer)) (called m levels r vs .words)
 
 -- one that is too soon brings nothing in and gives nothing out
@@ -64,11 +66,11 @@ soon-least held (Replace x) = λ e. absurd (omega arith)
 
 -- the tree beside keeps a sound store, and holds what goes in and has not come out
 module _ (m k : ℕ) where
-  beside-sum : (r : Request) (b : Bool × List ℕ) → Kept m k (b .1) → (f : Element → Bool)
-      → stored (room m (suc k)) (besideQueue m (suc k) r b .next .1) f + given r (besideQueue m (suc k) r b .said) f
-      ≡ stored (room m (suc k)) (b .1) f + brought r (besideQueue m (suc k) r b .said) f
-  unfolding beside
-  beside-sum r b kept f = go (b .0 && popsOrReplaces r)
+  one-by-one-sum : (r : Request) (b : Bool × List ℕ) → Kept m k (b .1) → (f : Element → Bool)
+      → stored (room m (suc k)) (oneByOneQueue m (suc k) r b .next .1) f + given r (oneByOneQueue m (suc k) r b .said) f
+      ≡ stored (room m (suc k)) (b .1) f + brought r (oneByOneQueue m (suc k) r b .said) f
+  unfolding oneByOne
+  one-by-one-sum r b kept f = go (b .0 && popsOrReplaces r)
     where
       now : Bool → Outcome
       now t = cond t (outcome (Refused TooSoon) (b .1)) (called m (suc k) r (b .1))
@@ -76,6 +78,16 @@ module _ (m k : ℕ) where
       go : (t : Bool) → stored (room m (suc k)) (now t .words) f + given r (now t .answer) f ≡ stored (room m (suc k)) (b .1) f + brought r (now t .answer) f
       go true = soon-sum r (stored (room m (suc k)) (b .1) f) f
       go false = tree.call-sum m k r (b .1) kept f
+
+-- ---- CLEAR: "A cleared machine has none pending and the mark off"; its words are those of the tree's clear
+pub clear-fresh : (m levels : ℕ) (ws : List ℕ) → Shape m levels (length ws)
+    → (restarted m levels ws ≡ cycleOutcome Done (start m levels ws) fresh) × (pending m levels fresh ≡ false) × (fresh .mark ≡ false)
+unfolding fresh
+clear-fresh m levels ws sh = (
+  ap (λ (a : Answer). cycleOutcome a (start m levels ws) fresh) (clear-zeroes m levels ws sh .0),
+  ap not (fresh-quiet (pred levels) recordCount 0),
+  fresh-mark,
+)
 
 -- ---- over any list of cycles from the cleared machine
 module _ (m : ℕ) (ws : List ℕ) (rs : List Request) where
@@ -108,8 +120,8 @@ module _ (m : ℕ) (ws : List ℕ) (rs : List Request) where
   numbers zero sh r = absurd (not-suc-le-zero (sh .some))
   numbers (suc k) sh r =
       let i = ran-in-step m ws rs k sh in
-      let vs : List ℕ = besideWords m (suc k) rs false (start m (suc k) ws) in
-      rw (step-answer m k _ _ _ i r, beside-is m k vs (i .kept) (ran m (suc k) rs ws .state .mark) r)
+      let vs : List ℕ = oneByOneWords m (suc k) rs false (start m (suc k) ws) in
+      rw (step-answer m k _ _ _ i r, one-by-one-is m k vs (i .kept) (ran m (suc k) rs ws .state .mark) r)
       (cond-both (λ (g : Ruling). let n = numberOf (g .answer) in (n ≡ 0) ⊎ (n ≡ 3) ⊎ (n ≡ 5) ⊎ (n ≡ 6)) (ran m (suc k) rs ws .state .mark && popsOrReplaces r) (ruling (Refused TooSoon) Nothing) _ (λ t. inr (inl refl))
       (λ t. ⊎-elim inl (λ e. inr (inr e)) (comes-number (room m (suc k)) (rootOf m vs) r _ (comes (room m (suc k)) r (rootOf m vs)))))
 
@@ -126,7 +138,7 @@ module _ (m : ℕ) (ws : List ℕ) (rs : List Request) where
       rw (demand-store m ws rs (suc k) sh n e, demand-answers m ws rs (suc k) sh)
       (omega (
         arith,
-        all-sum (besideQueue m (suc k)) (λ b. Kept m k (b .1)) (λ r b kept. beside-kept m k (b .1) kept (b .0) r) (λ b. stored (room m (suc k)) (b .1)) (beside-sum m k) rs (false, start m (suc k) ws)
+        all-sum (oneByOneQueue m (suc k)) (λ b. Kept m k (b .1)) (λ r b kept. one-by-one-kept m k (b .1) kept (b .0) r) (λ b. stored (room m (suc k)) (b .1)) (one-by-one-sum m k) rs (false, start m (suc k) ws)
             (tree.start-kept m k ws sh) f,
         tree.start-empty m k ws sh f,
       ))
@@ -139,7 +151,7 @@ module _ (m : ℕ) (ws : List ℕ) (rs : List Request) where
   -- LEAST: what a cycle gives out has the lowest rank of all that the store holds once idled and, in a replace, of the newcomer
   pub least : (levels : ℕ) → Shape m levels (length ws) → (n : ℕ) → Idled levels n
       → (r : Request) → Least (stored (room m levels) (at-rest-after levels n)) r (ticked m levels r (ran m levels rs ws .state) (ran m levels rs ws .words) .answer)
-  unfolding beside
+  unfolding oneByOne
   least zero sh n e r = absurd (not-suc-le-zero (sh .some))
   least (suc k) sh n e r =
       let i = ran-in-step m ws rs k sh in
@@ -156,6 +168,21 @@ module _ (m : ℕ) (ws : List ℕ) (rs : List Request) where
   pub held-says : (levels : ℕ) → Shape m levels (length ws) → (n : ℕ) → Idled levels n
       → (countNumber (counted m levels (at-rest-after levels n)) ≡ 0) × (countOf (counted m levels (at-rest-after levels n)) ≡ stored (room m levels) (at-rest-after levels n) always)
   held-says levels sh n e = rw (idled levels sh n e) (tree.held-says m ws (calls levels) levels sh)
+
+  -- .. and at any time, with work pending or not, how many went in and have not come out
+  pub held-now : (levels : ℕ) → Shape m levels (length ws)
+      → (countNumber (counted m levels (ran m levels rs ws .words)) ≡ 0)
+      × (countOf (counted m levels (ran m levels rs ws .words)) + allGiven rs (cycleAnswers m levels rs ws) always ≡ allBrought rs (cycleAnswers m levels rs ws) always)
+  unfolding counted
+  held-now zero sh = absurd (not-suc-le-zero (sh .some))
+  held-now (suc k) sh =
+      let i = ran-in-step m ws rs k sh in
+      let n : ℕ = pred (suc k) in
+      let rest = demand-idles m ws rs (suc k) sh in
+      let h = held-says (suc k) sh n rest in
+      let same : counted m (suc k) (ran m (suc k) rs ws .words) ≡ counted m (suc k) (at-rest-after (suc k) n) =
+      rw (demand-store m ws rs (suc k) sh n rest, i .same-length, same-root m k _ _ _ i) in
+      (ap countNumber same ∙ h .0, ap (λ (c : ℕ). c + allGiven rs (cycleAnswers m (suc k) rs ws) always) (ap countOf same ∙ h .1) ∙ holds (suc k) sh n rest always)
 
 -- ---- DRAINED: after any list of cycles a drain with a budget of levels - 1 or more is not refused, runs at most levels - 1 cycles, leaves
 -- no work, and leaves the words of the one-at-a-time tree beside it
@@ -206,7 +233,7 @@ module _ (m : ℕ) (ws : List ℕ) (rs : List Request) (levels : ℕ) (sh : Shap
           let all : d .cycles ≡ pred levels = omega (arith, drain-spent m levels budget s vs shape drained-fine e, drained-few) in
           sym e ∙ left-is ∙ ap (λ (n : ℕ). pending m levels (idles m levels n s vs .state)) all ∙ demand-idles m ws rs levels sh
 
-  pub drained-words : d .words ≡ besideWords m levels rs false (start m levels ws)
+  pub drained-words : d .words ≡ oneByOneWords m levels rs false (start m levels ws)
   drained-words =
       drain-state m levels budget s vs .0
       ∙ demand-store m ws rs levels sh (d .cycles)

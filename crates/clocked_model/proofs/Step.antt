@@ -1,5 +1,5 @@
 -- One cycle keeps the clocked tree in step with the one-at-a-time tree beside it: the same answer, no damage, and all that is pending,
--- done to its end, gives that tree's store. Assumes nothing.
+-- done to its end, gives that tree's store.
 use Prim.Native.Nat.{_*_, _+_, _<_, _≤_, suc, zero, ℕ}
 use native.Mathlib.Omega.{arith}
 use mathlib.Core.Bool.{_&&_, Bool, cond, false, false≢true, not, true, true≢false}
@@ -11,7 +11,7 @@ use Rattle.clocked_model.proofs.Turn.{after-length, cycle-length, plain
 use Rattle.clocked_model.proofs.Undamaged.{cycle-fine, cycle-ready}
 use Rattle.clocked_model.specs.Calls.{askedOk, asks, CycleOutcome, cycleWork, heard, hearing, isRefused, marks, popsOrReplaces, stepsOk, ticked, turned}
 use Rattle.clocked_model.specs.Cycle.{cycleLevels, cycleWorks, quiet, Works}
-use Rattle.clocked_model.specs.Promise.{beside}
+use Rattle.clocked_model.specs.Promise.{oneByOne}
 use Rattle.clocked_model.specs.Records.{worksOf}
 use Rattle.clocked_model.specs.Settle.{Clear, finally, Gap, Ready, settle, Spaced}
 use Rattle.clocked_model.specs.declared.State.{State}
@@ -120,9 +120,9 @@ module _ (m k : ℕ) (vs : List ℕ) (kept : Kept m k vs) (mark : Bool) (r : Req
   abbrev h : Ruling
   h = heard mark r (verdict m (suc k) r vs)
 
-  pub beside-is : beside m (suc k) mark r vs ≡ outcome (h .answer) (applyWords m (suc k) (work (h .op) 0) 0 1 vs)
-  unfolding beside heard
-  beside-is = go (mark && popsOrReplaces r)
+  pub one-by-one-is : oneByOne m (suc k) mark r vs ≡ outcome (h .answer) (applyWords m (suc k) (work (h .op) 0) 0 1 vs)
+  unfolding oneByOne heard
+  one-by-one-is = go (mark && popsOrReplaces r)
     where
       go : (t : Bool) → cond t (outcome (Refused TooSoon) vs) (called m (suc k) r vs)
           ≡ outcome (cond t (ruling (Refused TooSoon) Nothing) (verdict m (suc k) r vs) .answer)
@@ -138,9 +138,9 @@ module _ (m k : ℕ) (vs : List ℕ) (kept : Kept m k vs) (mark : Bool) (r : Req
       go true = path-none m (suc k) (work Nothing 0) _ (op-work Nothing 0)
       go false = sound-way m k vs kept r
 
-  pub beside-kept : Kept m k (beside m (suc k) mark r vs .words)
-  unfolding beside
-  beside-kept = go (mark && popsOrReplaces r)
+  pub one-by-one-kept : Kept m k (oneByOne m (suc k) mark r vs .words)
+  unfolding oneByOne
+  one-by-one-kept = go (mark && popsOrReplaces r)
     where
       go : (t : Bool) → Kept m k (cond t (outcome (Refused TooSoon) vs) (called m (suc k) r vs) .words)
       go true = kept
@@ -151,7 +151,7 @@ module _ (m k : ℕ) (s : State) (ws vs : List ℕ) (i : InStep m k s ws vs) whe
   some = order-pos (i .kept .shape)
 
   -- the root is settled at all times
-  same-root : rootOf m ws ≡ rootOf m vs
+  pub same-root : rootOf m ws ≡ rootOf m vs
   unfolding levelsOf
   same-root = sym (root-node m ws) ∙ ap (λ (l : Levels (suc k)). getD (l .0) 0 []) (i .final) ∙ root-node m vs
 
@@ -206,7 +206,7 @@ module _ (m k : ℕ) (s : State) (ws vs : List ℕ) (i : InStep m k s ws vs) whe
     o = turned m (suc k) r g s ws
 
     abbrev vs₁ : List ℕ
-    vs₁ = beside m (suc k) (s .mark) r vs .words
+    vs₁ = oneByOne m (suc k) (s .mark) r vs .words
 
     fits : width * (0 + size m (suc k) 1) ≤ length ws
     fits = omega (arith, i .kept .shape .slice, i .same-length, size-room m (suc k) 1)
@@ -219,17 +219,17 @@ module _ (m k : ℕ) (s : State) (ws vs : List ℕ) (i : InStep m k s ws vs) whe
     unfolding turned cycleWorks levelsOf
     works-then = works-after m k _ 0 (s .records) (under m k ws 0 1) (plain-rest m w _ _) (omega (arith, i .records))
 
-    beside-then : beside m (suc k) (s .mark) r vs ≡ outcome (g .answer) (applyWords m (suc k) w 0 1 vs)
-    beside-then =
-        beside-is m k vs (i .kept) (s .mark) r
+    one-by-one-then : oneByOne m (suc k) (s .mark) r vs ≡ outcome (g .answer) (applyWords m (suc k) w 0 1 vs)
+    one-by-one-then =
+        one-by-one-is m k vs (i .kept) (s .mark) r
         ∙ ap (λ (h : Ruling). outcome (h .answer) (applyWords m (suc k) (work (h .op) 0) 0 1 vs)) (sym (same-hearing r))
 
-    fits-beside : width * (0 + size m (suc k) 1) ≤ length vs
-    fits-beside = omega (arith, fits, i .same-length)
+    fits-one-by-one : width * (0 + size m (suc k) 1) ≤ length vs
+    fits-one-by-one = omega (arith, fits, i .same-length)
 
-    beside-levels : levelsOf m (suc k) vs₁ 0 1 ≡ apply m (suc k) w vls
-    beside-levels =
-        ap (λ (b : Outcome). levelsOf m (suc k) (b .words) 0 1) beside-then ∙ words-apply m some (suc k) w 0 1 vs fits-beside way .0
+    one-by-one-levels : levelsOf m (suc k) vs₁ 0 1 ≡ apply m (suc k) w vls
+    one-by-one-levels =
+        ap (λ (b : Outcome). levelsOf m (suc k) (b .words) 0 1) one-by-one-then ∙ words-apply m some (suc k) w 0 1 vs fits-one-by-one way .0
 
     -- the pending work done to its end: what the request makes of what it came to before
     final-then : finally m k (cycleWorks m (suc k) idle p ls .1) (cycleLevels m (suc k) p ls) ≡ apply m (suc k) w vls
@@ -263,12 +263,12 @@ module _ (m k : ℕ) (s : State) (ws vs : List ℕ) (i : InStep m k s ws vs) whe
     unfolding turned
     past-then a h = words-cycle m some (suc k) p 0 1 ws fits steps-fine .1 a (omega (arith, size-room m (suc k) 1))
 
-    past-beside : (a : ℕ) → width * room m (suc k) ≤ a → getD vs₁ a 0 ≡ getD vs a 0
-    past-beside a h =
-        ap (λ (b : Outcome). getD (b .words) a 0) beside-then ∙ words-apply m some (suc k) w 0 1 vs fits-beside way .1 a (omega (arith, size-room m (suc k) 1))
+    past-one-by-one : (a : ℕ) → width * room m (suc k) ≤ a → getD vs₁ a 0 ≡ getD vs a 0
+    past-one-by-one a h =
+        ap (λ (b : Outcome). getD (b .words) a 0) one-by-one-then ∙ words-apply m some (suc k) w 0 1 vs fits-one-by-one way .1 a (omega (arith, size-room m (suc k) 1))
 
-    length-beside : length vs₁ ≡ length vs
-    length-beside = ap (λ (b : Outcome). length (b .words)) beside-then ∙ apply-length m (suc k) w 0 1 vs
+    length-one-by-one : length vs₁ ≡ length vs
+    length-one-by-one = ap (λ (b : Outcome). length (b .words)) one-by-one-then ∙ apply-length m (suc k) w 0 1 vs
 
     records-then : length (o .state .records) ≡ length (s .records)
     unfolding turned
@@ -281,24 +281,24 @@ module _ (m k : ℕ) (s : State) (ws vs : List ℕ) (i : InStep m k s ws vs) whe
     turned-in-step : InStep m k (o .state) (o .words) vs₁
     turned-in-step =
         record {
-          kept = beside-kept m k vs (i .kept) (s .mark) r;
+          kept = one-by-one-kept m k vs (i .kept) (s .mark) r;
           records = omega (arith, records-then, i .records);
-          same-length = length-then ∙ i .same-length ∙ sym length-beside;
-          past = λ a h. past-then a h ∙ i .past a h ∙ sym (past-beside a h);
+          same-length = length-then ∙ i .same-length ∙ sym length-one-by-one;
+          past = λ a h. past-then a h ∙ i .past a h ∙ sym (past-one-by-one a h);
           gaps = subst (Spaced k) (sym works-then) spaced-then;
           off = λ e. subst (Clear k) (sym works-then) (clear-then e);
           ready = subst (λ (q : Works k). Ready m k q (under m k (o .words) 0 1)) (sym works-then)
               (subst (λ (l : Levels (suc k)). Ready m k (cycleWorks m (suc k) idle p ls .1) (l .1)) (sym levels-then) ready-then);
-          final = ap₂ (finally m k) works-then levels-then ∙ final-then ∙ sym beside-levels;
+          final = ap₂ (finally m k) works-then levels-then ∙ final-then ∙ sym one-by-one-levels;
         }
 
     -- THE STEP: the two answer the same, and stay in step
-    pub step-answer : ticked m (suc k) r s ws .answer ≡ beside m (suc k) (s .mark) r vs .answer
+    pub step-answer : ticked m (suc k) r s ws .answer ≡ oneByOne m (suc k) (s .mark) r vs .answer
     unfolding turned
-    step-answer = ap (λ (c : CycleOutcome). c .answer) ticks ∙ sym (ap (λ (b : Outcome). b .answer) beside-then)
+    step-answer = ap (λ (c : CycleOutcome). c .answer) ticks ∙ sym (ap (λ (b : Outcome). b .answer) one-by-one-then)
 
-    pub step-mark : ticked m (suc k) r s ws .state .mark ≡ marks r (beside m (suc k) (s .mark) r vs .answer)
-    step-mark = ap (λ (c : CycleOutcome). c .state .mark) ticks ∙ mark-is ∙ ap (λ (b : Outcome). marks r (b .answer)) (sym beside-then)
+    pub step-mark : ticked m (suc k) r s ws .state .mark ≡ marks r (oneByOne m (suc k) (s .mark) r vs .answer)
+    step-mark = ap (λ (c : CycleOutcome). c .state .mark) ticks ∙ mark-is ∙ ap (λ (b : Outcome). marks r (b .answer)) (sym one-by-one-then)
 
-    pub in-step : InStep m k (ticked m (suc k) r s ws .state) (ticked m (suc k) r s ws .words) (beside m (suc k) (s .mark) r vs .words)
+    pub in-step : InStep m k (ticked m (suc k) r s ws .state) (ticked m (suc k) r s ws .words) (oneByOne m (suc k) (s .mark) r vs .words)
     in-step = subst (λ (c : CycleOutcome). InStep m k (c .state) (c .words) vs₁) (sym ticks) turned-in-step

@@ -1,4 +1,4 @@
--- A cycle on words and records is the cycle on levels and works. Assumes nothing.
+-- A cycle on words and records is the cycle on levels and works.
 use Prim.Native.Nat.{_*_, _+_, _<_, _≤_, suc, zero, ℕ}
 use native.Mathlib.Omega.{arith}
 use mathlib.Core.Bool.{Bool, false, true}

@@ -1,5 +1,4 @@
--- No cycle finds damage where the one-at-a-time tree finds Nothing.
--- Assumes nothing.
+-- No cycle finds damage where the one-at-a-time tree finds nothing.
 use Prim.Native.Nat.{suc, zero, ℕ}
 use mathlib.Core.Bool.{true}
 use mathlib.Core.Path.{_∙_, _≡_, ap, ap₂, refl, sym}

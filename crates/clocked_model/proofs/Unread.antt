@@ -1,4 +1,4 @@
--- What a cycle and a drain never read: two machines that are alike are answered the same, and are alike again. Assumes nothing.
+-- What a cycle and a drain never read: two machines that are alike are answered the same, and are alike again.
 use Prim.Native.Nat.{_≤_, pred, suc, zero, ℕ}
 use native.Mathlib.Nat.{not-suc-le-zero}
 use native.Mathlib.Omega.{arith}
@@ -20,7 +20,7 @@ use Rattle.strip.specs.declared.Answer.the-variants.{Done}
 use Rattle.strip.specs.declared.Request.{Request}
 use Rattle.strip.specs.declared.Request.the-variants.{Idle}
 use Rattle.tree_model.proofs.Exactly.{is-shape, order-pos}
-use Rattle.tree_model.proofs.Same.{levels-words}
+use Rattle.tree_model.proofs.Agreement.{levels-words}
 use Rattle.tree_model.proofs.Unread.{same-levels, same-root}
 use Rattle.tree_model.proofs.Words.{size-room}
 use Rattle.tree_model.specs.Calls.{rootOf, rule, Ruling, shapeOk}

@@ -1,5 +1,4 @@
 -- The calls of the clocked tree, each a total function of order, levels, words and state to what it answers and leaves.
--- Assumes nothing: these are definitions.
 use Prim.Native.Nat.{pred, suc, zero, ℕ}
 use mathlib.Core.Bool.{_&&_, _||_, Bool, cond, false, not, true}
 use mathlib.Core.List.{List}

@@ -1,4 +1,4 @@
--- 01's worked case 6, as a list of words after each cycle. Assumes nothing: these are definitions.
+-- 01's worked case 6, as a list of words after each cycle.
 use Prim.Native.Nat.{ℕ}
 use mathlib.Core.List.{[], _∷_, List}
 use lib.ListN.{replicate}

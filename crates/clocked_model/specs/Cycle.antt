@@ -1,4 +1,4 @@
--- One cycle: each level does its own step, on levels and on words. Assumes nothing: these are definitions.
+-- One cycle: each level does its own step, on levels and on words.
 use Prim.Native.Nat.{_*_, _+_, suc, zero, ℕ}
 use mathlib.Core.Bool.{_&&_, Bool, true}
 use mathlib.Core.List.{List}

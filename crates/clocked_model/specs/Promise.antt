@@ -1,5 +1,4 @@
 -- What is promised of the clocked tree is said in these words: the one-at-a-time tree beside it, idle cycles, and 01's causes of refusal.
--- Assumes nothing: these are definitions.
 use Prim.Native.Nat.{_*_, _+_, _<_, _^_, _≤_, pred, suc, zero, ℕ}
 use mathlib.Core.Bool.{_&&_, Bool, cond, false, not, true}
 use mathlib.Core.List.{[], _∷_, List}
@@ -53,37 +52,37 @@ module _ (m levels : ℕ) where
   idles n s ws = runs (replicate n Idle) s ws
 
   -- any list of cycles from the cleared machine: what it is answered, and what is left
-  abbrev pub cleared : List ℕ → Machine
-  cleared ws = machine fresh (start m levels ws)
+  abbrev pub clearedMachine : List ℕ → Machine
+  clearedMachine ws = machine fresh (start m levels ws)
 
   abbrev pub ran : List Request → List ℕ → Machine
-  ran rs ws = leaves clockedQueue rs (cleared ws)
+  ran rs ws = leaves clockedQueue rs (clearedMachine ws)
 
   abbrev pub cycleAnswers : List Request → List ℕ → List Answer
-  cycleAnswers rs ws = answers clockedQueue rs (cleared ws)
+  cycleAnswers rs ws = answers clockedQueue rs (clearedMachine ws)
 
   -- ---- the one-at-a-time tree beside it, as a queue of the mark and the words
   -- a pop or replace with the mark on is too soon and is left out; every other request is a call
-  unfoldable pub beside : Bool → Request → List ℕ → Outcome
-  beside mark r vs = cond (mark && popsOrReplaces r) (outcome (Refused TooSoon) vs) (called m levels r vs)
+  unfoldable pub oneByOne : Bool → Request → List ℕ → Outcome
+  oneByOne mark r vs = cond (mark && popsOrReplaces r) (outcome (Refused TooSoon) vs) (called m levels r vs)
 
   -- .. the mark going by the answers
-  abbrev pub besideQueue : Request → Bool × List ℕ → Step Answer (Bool × List ℕ)
-  besideQueue r b =
-      let o = beside (b .0) r (b .1) in
+  abbrev pub oneByOneQueue : Request → Bool × List ℕ → Step Answer (Bool × List ℕ)
+  oneByOneQueue r b =
+      let o = oneByOne (b .0) r (b .1) in
       step (o .answer) (marks r (o .answer), o .words)
 
-  abbrev pub besideAnswers : List Request → Bool → List ℕ → List Answer
-  besideAnswers rs mark vs = answers besideQueue rs (mark, vs)
+  abbrev pub oneByOneAnswers : List Request → Bool → List ℕ → List Answer
+  oneByOneAnswers rs mark vs = answers oneByOneQueue rs (mark, vs)
 
-  abbrev pub besideWords : List Request → Bool → List ℕ → List ℕ
-  besideWords rs mark vs = leaves besideQueue rs (mark, vs) .1
+  abbrev pub oneByOneWords : List Request → Bool → List ℕ → List ℕ
+  oneByOneWords rs mark vs = leaves oneByOneQueue rs (mark, vs) .1
 
   -- the requests that are not too soon, in order
   unfoldable pub callsOf : List Request → Bool → List ℕ → List Request
   callsOf [] mark vs = []
   callsOf (r ∷ rs) mark vs =
-      let o = beside mark r vs in
+      let o = oneByOne mark r vs in
       cond (mark && popsOrReplaces r) (callsOf rs false vs) (r ∷ callsOf rs (marks r (o .answer)) (o .words))
 
 -- ---- causes: column "Exactly when" of the table of refusals

@@ -1,4 +1,4 @@
--- The pending records: "one pending record for each level from 2". Assumes nothing: these are definitions.
+-- The pending records: "one pending record for each level from 2".
 use Prim.Native.Nat.{suc, zero, ℕ}
 use mathlib.Core.Bool.{cond}
 use mathlib.Core.List.{List}

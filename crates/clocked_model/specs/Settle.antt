@@ -1,5 +1,4 @@
 -- What the proofs say of pending work: all of it done to its end, where it may stand, and that no damage awaits it.
--- Assumes nothing: these are definitions.
 use Prim.Native.Nat.{suc, zero, ℕ}
 use mathlib.Core.Bool.{true}
 use mathlib.Core.Path.{_≡_}

@@ -1,4 +1,4 @@
--- When a test fails: each test with the readable fact that holds exactly where the test answers no. Assumes nothing.
+-- When a test fails: each test with the readable fact that holds exactly where the test answers no.
 use Prim.Native.Nat.{_<_, ℕ}
 use native.Mathlib.Omega.{arith}
 use mathlib.Core.Bool.{_&&_, _||_, Bool, false, false≢true, not, true, true≢false}

@@ -1,4 +1,4 @@
--- A list with one more at its end. Assumes nothing.
+-- A list with one more at its end.
 use mathlib.Core.List.{List, [], _∷_, _++_}
 use Rattle.laws.specs.Lists.{All, all-map, all-both}
 

@@ -1,4 +1,4 @@
--- Sums over the numbers below n, and over a grid, row by row. Assumes nothing.
+-- Sums over the numbers below n, and over a grid, row by row.
 use Prim.Native.Nat.{_*_, _+_, _<_, suc, zero, ℕ}
 use native.Mathlib.Nat.{suc-add, zero-add, zero-mul}
 use native.Mathlib.Omega.{arith}

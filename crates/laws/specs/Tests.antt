@@ -1,4 +1,4 @@
--- Tests: what a computed yes or no says. Assumes nothing.
+-- Tests: what a computed yes or no says.
 use Prim.Native.Nat.{_-_, pred, suc, zero, ℕ}
 use native.Mathlib.Omega.{arith}
 use mathlib.Core.Bool.{_&&_, _||_, Bool, cond, false, false≢true, not, true}

@@ -1,4 +1,4 @@
--- A function changed at one place. Assumes nothing.
+-- A function changed at one place.
 use Prim.Native.Nat.{ℕ}
 use native.Mathlib.Decide.{ℕ-discrete}
 use mathlib.Core.Path.{_≡_, refl, sym, ap, _∙_}

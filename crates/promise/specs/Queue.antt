@@ -1,5 +1,5 @@
 -- A queue is a step function on a state: what a call is answered, and the state it leaves. What is said of a list of calls is said here, once
--- for every queue. Assumes nothing.
+-- for every queue.
 use mathlib.Core.List.{[], _∷_, List}
 use mathlib.Core.Path.{_∙_, _≡_, ap₂, refl, sym}
 

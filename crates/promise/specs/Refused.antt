@@ -1,5 +1,5 @@
 -- What the tables of refusals share: 01's numbers tell the refusals apart, and 5 and 6. A table is a ladder, `Exactly` of `laws` says that a call
--- goes by it: by the number that it says, and with all that is left behind. Assumes nothing.
+-- goes by it: by the number that it says, and with all that is left behind.
 use Prim.Native.Nat.{pred, ℕ}
 use native.Mathlib.Omega.{arith}
 use mathlib.Core.List.{[], _∷_}

@@ -1,5 +1,4 @@
 -- What a request brings in and gives out, in 01's numbers; what a queue then holds; which kind of answer it is, and that it has the lowest rank.
--- Assumes nothing.
 use Prim.Native.Nat.{_+_, _≤_, suc, zero, ℕ}
 use native.Mathlib.Omega.{arith}
 use mathlib.Core.Bool.{_&&_, Bool, false, true}

@@ -1,4 +1,4 @@
--- What the order goes by, and the values where there is no element, in 01's words. Assumes nothing.
+-- What the order goes by, and the values where there is no element, in 01's words.
 use Prim.Native.Nat.{_<_, ℕ}
 use mathlib.Core.Path.{_≡_, refl}
 use Rattle.strip.specs.Answers.{blank, countOf, key, numberOf, rankOf, refusalNumber, tagOf}

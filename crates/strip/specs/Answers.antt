@@ -1,4 +1,4 @@
--- The paper's number, rank and tag of each answer. Assumes nothing: these are definitions.
+-- The paper's number, rank and tag of each answer.
 use Prim.Native.Nat.{ℕ}
 use mathlib.Core.Bool.{Bool, true, false}
 use Rattle.strip.specs.declared.Element.{Element}

@@ -1,5 +1,4 @@
--- Put, Take and swap keep a tree sound, and it holds what it held, with what came in, less what went out.
--- Assumes nothing.
+-- Put, take and swap keep a tree sound, and it holds what it held, with what came in, less what went out.
 use Prim.Native.Nat.{_*_, _+_, _<_, _≤_, pred, suc, zero, ℕ}
 use native.Mathlib.Nat.{le-of-eq, le-of-lt, lt-of-not-le, not-suc-le-zero}
 use native.Mathlib.Omega.{arith}
@@ -85,7 +84,7 @@ module _ (m k : ℕ) (t : Tree (suc k)) (s : Sound m (suc k) t) where
       go zero h = omega arith
       go (suc n) h = omega arith
 
-  -- ---- the slot that a Take or swap chooses
+  -- ---- the slot that a take or swap chooses
   pub record Chosen (j : ℕ) : Type 0 where
     pub inside : j < length t
     pub count : slotAt (slots k t) j .count ≡ suc (held k (at k t j .1))

@@ -1,5 +1,4 @@
 -- The laws of the three choices of a slot. What comes after goes by these laws alone.
--- Assumes nothing.
 use Prim.Native.Nat.{_*_, _+_, _<_, _≤_, suc, zero, ℕ}
 use native.Mathlib.Nat.{le-of-lt, le-of-suc-le-suc, not-suc-le-zero}
 use native.Mathlib.Omega.{arith}

@@ -1,4 +1,4 @@
--- Every refusal is given exactly for its cause. Assumes nothing.
+-- Every refusal is given exactly for its cause.
 -- ---- each test for damage fails exactly where the node, the step or the path is damaged
 use Prim.Native.Nat.{_*_, _+_, _<_, _≤_, pred, suc, zero, ℕ}
 use native.Mathlib.Nat.{not-suc-le-zero}

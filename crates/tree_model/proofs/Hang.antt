@@ -1,5 +1,4 @@
 -- An operation at a node of a store is the operation on the tree that hangs there, and leaves every other node's tree as it was.
--- Assumes nothing.
 use Prim.Native.Nat.{_*_, _+_, _<_, _≤_, pred, suc, zero, ℕ}
 use native.Mathlib.Nat.{le-of-eq, le-of-suc-le-suc, lt-of-not-le, mul-le-mul-right, not-suc-le-zero}
 use native.Mathlib.Omega.{arith}

@@ -12,5 +12,5 @@ pub mod Promises
 pub mod Place
 pub mod Root
 pub mod Slice
-pub mod Same
+pub mod Agreement
 pub mod Unread

@@ -1,5 +1,4 @@
 -- How many elements of a tree pass a test; the sum of a sound node's counts; the lowest rank of a sound tree.
--- Assumes nothing.
 use Prim.Native.Nat.{_*_, _+_, _<_, _≤_, suc, zero, ℕ}
 use native.Mathlib.Omega.{arith}
 use mathlib.Core.Bool.{Bool, false, true}

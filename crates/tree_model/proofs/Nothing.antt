@@ -1,4 +1,4 @@
--- No work changes nothing. Assumes nothing.
+-- No work changes nothing.
 use Prim.Native.Nat.{suc, zero, ℕ}
 use native.Mathlib.Nat.{le-refl}
 use mathlib.Core.Bool.{false≢true, true}

@@ -1,5 +1,4 @@
 -- In a sound store an operation that can be done finds its path in order.
--- Assumes nothing.
 use Prim.Native.Nat.{_*_, _+_, _<_, pred, suc, zero, ℕ}
 use native.Mathlib.Nat.{not-suc-le-zero}
 use native.Mathlib.Omega.{arith}
@@ -120,7 +119,7 @@ module _ (m : ℕ) (some : 0 < m) where
     sound-of : (j : ℕ) → j < length nd → Sound m k (treeOf m k (ls .1) (w .node * m + j))
     sound-of j lt = subst (Sound m k) (sub-of j lt) (sub-sound m k t so j (omega (arith, so .0, len)))
 
-    -- what a Take or swap lifts
+    -- what a take or swap lifts
     lifted : 0 < held (suc k) t → (not (not (leb (slotAt nd (lowest nd) .count) 1)) || readOk Take (room m (pred k)) (getD (top k (ls .1)) (w .node * m + lowest nd) [])) ≡ true
     lifted c = go (leb (slotAt nd (lowest nd) .count) 1) refl
       where

@@ -1,4 +1,4 @@
--- The step of a level, by the words of its node and of the nodes below it. Assumes nothing.
+-- The step of a level, by the words of its node and of the nodes below it.
 use Prim.Native.Nat.{_*_, _+_, _<_, _≤_, pred, suc, zero, ℕ}
 use native.Mathlib.Nat.{add-mul, not-suc-le-zero}
 use native.Mathlib.Omega.{arith}

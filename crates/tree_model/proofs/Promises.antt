@@ -1,5 +1,5 @@
 -- The promises: from a cleared store, over any list of requests, the tree is sound, nothing is damaged, it holds exactly what went in and
--- has not come out, and what comes out has the lowest rank. Assumes nothing.
+-- has not come out, and what comes out has the lowest rank.
 use Prim.Native.Nat.{_*_, _+_, _<_, _≤_, suc, zero, ℕ}
 use native.Mathlib.Nat.{add-assoc, not-suc-le-zero, one-mul, zero-add, zero-mul}
 use native.Mathlib.Omega.{arith}

@@ -1,4 +1,4 @@
--- At the root no operation finds every count at its limit, or an empty node: that cause of damage is one of the nodes below. Assumes nothing.
+-- At the root no operation finds every count at its limit, or an empty node: that cause of damage is one of the nodes below.
 use Prim.Native.Nat.{_*_, _<_, _≤_, pred, suc, zero, ℕ}
 use native.Mathlib.Nat.{mul-zero, not-suc-le-zero}
 use native.Mathlib.Omega.{arith}

@@ -1,4 +1,4 @@
--- The definitions are 01's rules, in 01's own words. What comes after goes by these laws. Assumes nothing.
+-- The definitions are 01's rules, in 01's own words. What comes after goes by these laws.
 use Prim.Native.Nat.{_<_, _≤_, suc, ℕ}
 use native.Mathlib.Nat.{pos-of-ne-zero}
 use mathlib.Core.Bool.{_||_, Bool, cond, false, not, true}

@@ -1,5 +1,4 @@
 -- A request served on a sound store leaves it sound, holding what was brought in less what was given out; what is given has the lowest rank.
--- Assumes nothing.
 use Prim.Native.Nat.{_*_, _+_, _<_, suc, zero, ℕ}
 use native.Mathlib.Nat.{le-of-lt}
 use native.Mathlib.Omega.{arith}

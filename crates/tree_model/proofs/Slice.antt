@@ -1,4 +1,4 @@
--- Where the words stand, in 01's numbers: the capacity, the place of each slot, what clear writes, and what held answers. Assumes nothing.
+-- Where the words stand, in 01's numbers: the capacity, the place of each slot, what clear writes, and what held answers.
 use Prim.Native.Nat.{_*_, _+_, _-_, _<_, _^_, _≤_, suc, zero, ℕ}
 use native.Mathlib.Nat.{add-zero, mul-assoc, mul-one, not-suc-le-zero, one-mul, pow-succ', pow-zero, zero-add}
 use native.Mathlib.Omega.{arith}

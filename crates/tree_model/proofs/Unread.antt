@@ -1,5 +1,5 @@
 -- "of a longer one the rest is never touched": not read either. Two stores that agree on the words of the shape are answered the same and left the
--- same there, whatever stands behind. Assumes nothing.
+-- same there, whatever stands behind.
 use Prim.Native.Nat.{_≤_, pred, suc, zero, ℕ}
 use native.Mathlib.Nat.{not-suc-le-zero}
 use native.Mathlib.Omega.{arith}
@@ -9,7 +9,7 @@ use mathlib.Core.Path.{_∙_, _≡_, ap, ap₂, refl, sym}
 use lib.ListN.{length}
 use Rattle.strip.specs.declared.Request.{Request}
 use Rattle.tree_model.proofs.Exactly.{called-fine, called-root, called-way, is-shape, order-pos}
-use Rattle.tree_model.proofs.Same.{levels-words, words-levels, words-node}
+use Rattle.tree_model.proofs.Agreement.{levels-words, words-levels, words-node}
 use Rattle.tree_model.proofs.Words.{size-room, words-apply}
 use Rattle.tree_model.specs.Calls.{called, counted, Outcome, rootOf, rootOk, rule, Ruling, shapeOk, verdict, wayOk}
 use Rattle.tree_model.specs.Damage.{nodeOk, pathOk, room}

@@ -1,5 +1,5 @@
 -- A slot written to the words is a slot written to its level, and no other level changes; so an operation on the words is the operation
--- on the levels. Assumes nothing.
+-- on the levels.
 use Prim.Native.Nat.{_*_, _+_, _<_, _≤_, suc, zero, ℕ}
 use native.Mathlib.Nat.{le-of-suc-le-suc, mul-assoc, mul-suc, mul-zero, not-suc-le-zero}
 use native.Mathlib.Omega.{arith}

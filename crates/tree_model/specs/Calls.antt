@@ -1,5 +1,4 @@
 -- The five calls of the one-at-a-time tree, each a total function of order, levels and words to an answer and the words afterwards.
--- Assumes nothing: these are definitions.
 use Prim.Native.Nat.{ℕ, zero, suc, _+_, _*_, pred}
 use mathlib.Core.Bool.{Bool, true, false, cond, not, _&&_, _||_}
 use mathlib.Core.List.{List, [], _∷_}

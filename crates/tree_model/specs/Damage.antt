@@ -1,4 +1,4 @@
--- The tests for damage: of a slot, a node, a step, and of an operation's whole path. Assumes nothing: these are definitions.
+-- The tests for damage: of a slot, a node, a step, and of an operation's whole path.
 use Prim.Native.Nat.{ℕ, zero, suc, _+_, _*_, pred}
 use mathlib.Core.Bool.{Bool, true, false, not, _&&_, _||_}
 use mathlib.Core.List.{List, [], _∷_}

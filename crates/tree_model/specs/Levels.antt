@@ -1,4 +1,4 @@
--- The store as levels, and an operation done to its end. Assumes nothing: these are definitions.
+-- The store as levels, and an operation done to its end.
 use Prim.Native.Nat.{ℕ, zero, suc, _+_, _*_}
 use mathlib.Core.Path.{_≡_}
 use mathlib.Core.List.{List, [], _∷_}

@@ -1,4 +1,4 @@
--- A node's slots, the choice of a slot, and the step of an operation at one node. Assumes nothing: these are definitions.
+-- A node's slots, the choice of a slot, and the step of an operation at one node.
 use Prim.Native.Nat.{ℕ, zero, suc, _+_, pred}
 use mathlib.Core.Bool.{Bool, true, false, cond, not, _&&_, _||_}
 use mathlib.Core.List.{List, [], _∷_}

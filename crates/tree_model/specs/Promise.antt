@@ -1,5 +1,4 @@
 -- What is promised of the tree is said in these words: 01's causes of refusal, and what a store holds over a list of requests.
--- Assumes nothing: these are definitions.
 use Prim.Native.Nat.{_*_, _+_, _<_, _≤_, pred, suc, zero, ℕ}
 use mathlib.Core.Bool.{Bool}
 use mathlib.Core.List.{[], List}

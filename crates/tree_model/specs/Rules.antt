@@ -1,5 +1,5 @@
 -- 01's rules in 01's own words, over ranks and counts: what each step at a node does, and what a request comes to at the root. `proofs/Rules.antt`
--- shows that the definitions are these. Assumes nothing: these are definitions.
+-- shows that the definitions are these.
 use Prim.Native.Nat.{_<_, _≤_, pred, suc, ℕ}
 use mathlib.Core.List.{List}
 use mathlib.Core.Logic.{_⊎_}

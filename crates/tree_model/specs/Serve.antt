@@ -1,4 +1,4 @@
--- A request served on levels, and what a store of levels has to be. Assumes nothing: these are definitions.
+-- A request served on levels, and what a store of levels has to be.
 use Prim.Native.Nat.{_*_, suc, zero, ℕ}
 use mathlib.Core.Bool.{Bool}
 use mathlib.Core.List.{[]}

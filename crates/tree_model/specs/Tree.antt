@@ -1,4 +1,4 @@
--- The tree that hangs at a node of a store, what it holds, and when it is sound. Assumes nothing: these are definitions.
+-- The tree that hangs at a node of a store, what it holds, and when it is sound.
 use Prim.Native.Nat.{ℕ, zero, suc, _+_, _*_, _<_}
 use mathlib.Core.Path.{_≡_}
 use mathlib.Core.Bool.{Bool}

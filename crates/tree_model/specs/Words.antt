@@ -1,5 +1,4 @@
 -- The lent words: "Slots lie in one lent slice, level by level, node by node, each as three 32-bit words: rank, tag, count".
--- Assumes nothing: these are definitions.
 use Prim.Native.Nat.{ℕ, zero, suc, _+_, _*_}
 use mathlib.Core.Bool.{Bool, true, false, cond}
 use mathlib.Core.List.{List, [], _∷_, _++_}

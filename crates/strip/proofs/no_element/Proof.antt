@@ -1,4 +1,4 @@
--- `strip::no_element` meets its contract. Assumes nothing.
+-- `strip::no_element` meets its contract.
 use borrow.Author.Needs.{needs}
 use Rattle.strip.specs.Answers.{blank}
 use Rattle.strip.proofs.no_element.Statement.{statement}

@@ -1,4 +1,4 @@
--- Words and levels: the same levels are the same words as far as the capacity goes, and the same words the same levels. Assumes nothing.
+-- Words and levels: the same levels are the same words as far as the capacity goes, and the same words the same levels.
 use Prim.Native.Nat.{_*_, _+_, _-_, _<_, _≤_, suc, zero, ℕ}
 use native.Mathlib.Nat.{add-zero, not-suc-le-zero, suc-mul, zero-add, zero-mul}
 use native.Mathlib.Omega.{arith}
