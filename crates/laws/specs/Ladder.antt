@@ -1,5 +1,5 @@
 -- A table of refusals as data: what a call asks in turn, and the refusal where it does not hold. One law a rung: from what the code computes, an `if` a rung, to "exactly when".
-use mathlib.Core.Bool.{Bool, true, false, cond, false≢true, true≢false}
+use mathlib.Core.Bool.{Bool, true, false, cond, false≢true}
 use mathlib.Core.Logic.{_⊎_, inl, inr, ⊎-elim}
 use mathlib.Core.Path.{_≡_, refl, sym, ap}
 use Rattle.laws.specs.Means.{Means}
@@ -29,16 +29,15 @@ module _ {R O A : Type 0} (says : O → A) (no : R → O) where
   pub climb-fine : (o : O) → Granted o → Exactly o fine
   climb-fine o g = record { only = g; always = λ r f. absurd f }
 
-  -- asked only where P holds; elsewhere nothing is refused
-  pub climb-provided : (t : Bool) (P : Type 0) (o g : O) (l : Ladder R) → Means t P → Granted g → Exactly o l → Exactly (cond t o g) (provided P l)
-  climb-provided true P o g l m n z = record { only = λ r e. (m .says refl, z .only r e); always = λ r f. z .always r (f .1) }
+  -- asked only where P holds; elsewhere nothing is refused. What comes below a rung may count on it
+  pub climb-provided : (t : Bool) (P : Type 0) (o g : O) (l : Ladder R) → Means t P → Granted g → (P → Exactly o l) → Exactly (cond t o g) (provided P l)
+  climb-provided true P o g l m n z = let p = m .says refl in record { only = λ r e. (p, z p .only r e); always = λ r f. z p .always r (f .1) }
   climb-provided false P o g l m n z = record { only = λ r e. absurd (n r e); always = λ r f. absurd (false≢true (m .holds (f .0))) }
 
-  module _ (same : (x y : R) → says (no x) ≡ says (no y) → x ≡ y) where
-    pub climb : (t : Bool) (P : Type 0) (x : R) (o : O) (l : Ladder R) → Means t P → Exactly o l → Exactly (cond t o (no x)) (rung x P l)
-    climb true P x o l m z = record { only = λ r e. inr (m .says refl, z .only r e); always = λ r u. ⊎-elim (λ v. absurd (v .0 (m .says refl))) (λ v. z .always r (v .1)) u }
-    climb false P x o l m z =
-        record {
-          only = λ r e. inl ((λ p. false≢true (m .holds p)), sym (same x r e));
-          always = λ r u. ⊎-elim (λ v. ap no (sym (v .1))) (λ v. absurd (false≢true (m .holds (v .0)))) u;
-        }
+  pub climb : ((x y : R) → says (no x) ≡ says (no y) → x ≡ y) → (t : Bool) (P : Type 0) (x : R) (o : O) (l : Ladder R) → Means t P → (P → Exactly o l) → Exactly (cond t o (no x)) (rung x P l)
+  climb same true P x o l m z = let p = m .says refl in record { only = λ r e. inr (p, z p .only r e); always = λ r u. ⊎-elim (λ v. absurd (v .0 p)) (λ v. z p .always r (v .1)) u }
+  climb same false P x o l m z =
+      record {
+        only = λ r e. inl ((λ p. false≢true (m .holds p)), sym (same x r e));
+        always = λ r u. ⊎-elim (λ v. ap no (sym (v .1))) (λ v. absurd (false≢true (m .holds (v .0)))) u;
+      }
