@@ -6,9 +6,9 @@ use Prim.Native.Nat.{ℕ, _+_, _/_, _%_, _≤_, _<_}
 use native.Mathlib.Omega.{arith}
 use lib.Dec.{leb, eqb}
 use lib.ListN.{length}
-use Rattle.laws.specs.Means.{Means, means-leb, means-eqb, means-not, means-and, means-beq, means-differ, means-by}
+use Rattle.laws.specs.Means.{Means, means-leb, means-ltb, means-eqb, means-not, means-and, means-beq, means-differ, means-by}
 use Rattle.bitmap.specs.Bits.{bit-lt}
-use Rattle.bucket_model.specs.Layout.{Lay, pool, bitWords, storeWords, word, headAt, tailAt}
+use Rattle.bucket_model.specs.Layout.{Lay, pool, bitWords, word, headAt, tailAt}
 use Rattle.bucket_model.specs.Storeys.{Storey, storeysAt, wordOf, bitOf, find, opens, agree, lowestOpen, lowestRank, rankAgrees}
 use Rattle.bucket_model.specs.Checks.{shapeOk, wholeOk, nextOf, popOk, pushOk}
 use Rattle.bucket_model.specs.Calls.{isShaped, isWhole, Lowest, lowestOf, lowestIn, noLowest, roomOf, roomAfter}
@@ -22,9 +22,9 @@ module _ (k : Lay) (b w : List ℕ) where
   pub shape-means : Means (isShaped k b w) (Shaped k b w)
   unfolding shapeOk
   shape-means =
-      means-by (means-and (means-and (means-and (means-leb 1 (k .nodes)) (means-leb (k .nodes) pool)) (means-leb (bitWords k) (length b))) (means-leb (storeWords k) (length w)))
-      (λ x. record { low = x .0 .0 .0; high = x .0 .0 .1; bits = x .0 .1; words = x .1 })
-      (λ h. (((h .low, h .high), h .bits), h .words))
+      means-by (means-and (means-and (means-and (means-leb 1 (k .nodes)) (means-leb (k .nodes) pool)) (means-leb (bitWords k) (length b))) (means-ltb (k .held) (length w)))
+      (λ x. record { low = x .0 .0 .0; high = x .0 .0 .1; bits = x .0 .1; words = omega (arith, x .1) })
+      (λ h. (((h .low, h .high), h .bits), omega (arith, h .words)))
 
   pub whole-means : Means (isWhole k b w) (Whole k b w)
   unfolding wholeOk

@@ -64,7 +64,7 @@ module _ (k : Lay) (laid : Laid k) where
         Head = λ (c : ℕ). (k .heads ≤ c) × (c < k .heads + k .ranks);
         low = λ c h. omega (arith, h .1, laid .lists);
         apart = λ c d h g e. omega (arith, h .1, g .0);
-        end = laid .pool;
+        end = omega (arith, laid .pool);
       }
 
   pub head : (r : ℕ) → r < k .ranks → (k .heads ≤ headAt k r) × (headAt k r < k .heads + k .ranks)

@@ -15,7 +15,7 @@ use Rattle.laws.specs.Updates.{Upd, same-upd}
 use Rattle.bitmap.specs.Bits.{bitAt, set-le}
 use Rattle.laws.specs.Means.{Iff}
 use Rattle.bucket_model.specs.Layout.{Lay, Laid, word, wordsOf}
-use Rattle.bucket_model.specs.Storeys.{Storey, storey, storeysFrom, storeysAt, wordOf, turned, tellsAbove, edit, find, marked, lowestRank}
+use Rattle.bucket_model.specs.Storeys.{Storey, storey, storeysFrom, storeysAt, wordOf, turned, bitFor, tellsAbove, edit, find, marked, lowestRank}
 use Rattle.bucket_model.specs.Causes.{Opens, Agrees}
 use Rattle.bucket_model.proofs.Writes.{other}
 use Rattle.bucket_model.proofs.Tells.{nz, nz-one, nz-zero, Tells, storey-ext, storey-off, storey-more, storey-less, storey-down, storey-none, Down, up, up-word}
@@ -48,7 +48,7 @@ tower-ext b [] f f′ h z = tt
 tower-ext b (p ∷ ps) f f′ h z = (storey-ext b (p .base) (p .words) f f′ h (z .0), z .1)
 
 -- a bit's word is a bit of the storey above
-deeper : (p : Storey) (qs : List Storey) → Above p qs → (j : ℕ) → j < 64 * p .words → Bits qs (j / 64)
+pub deeper : (p : Storey) (qs : List Storey) → Above p qs → (j : ℕ) → j < 64 * p .words → Bits qs (j / 64)
 deeper p [] a j h = tt
 deeper p (u ∷ us) a j h = omega arith
 
@@ -71,10 +71,6 @@ tower-off b (p ∷ ps) f a v s o z = (
 )
 
 -- ---- one bit more or less, and in the storeys above as far as a word was, or becomes, 0
-
-abbrev pub bitFor : Bool → ℕ
-bitFor true = 1
-bitFor false = 0
 
 pub edit-length : (on : Bool) (b : List ℕ) (ps : List Storey) (j : ℕ) → length (edit on b ps j) ≡ length b
 edit-length on b [] j = refl

@@ -82,13 +82,13 @@ bitWords k = k .bits + k .tower
 abbrev pub storeWords : Lay → ℕ
 storeWords k = k .held + 1
 
--- what every law counts on: at least one storey, and as many words as they have; a bit of the lowest for each rank; heads and tails before the nodes, the free link behind them, and held behind it
+-- what every law counts on: at least one storey, and as many words as they have; a bit of the lowest for each rank; heads and tails before the nodes, the free link right behind them, and held behind it
 pub record Laid (k : Lay) : Type 0 where
   pub deep : 1 ≤ k .storeys
   pub tower : k .tower ≡ wordsOf (k .storeys)
   pub ranks : k .ranks ≡ 64 ^ k .storeys
   pub lists : k .heads + k .ranks + k .ranks ≤ k .stem + nodeWords
-  pub pool : k .stem + nodeWords * k .nodes + nodeWords ≤ k .free
+  pub pool : k .free ≡ k .stem + nodeWords * k .nodes + nodeWords
   pub held : k .free < k .held
 
 -- ---- one queue in a store of its own

@@ -38,6 +38,11 @@ abbrev pub turned : Bool → ℕ → ℕ → ℕ
 turned true w k = w + 2 ^ k
 turned false w k = w - 2 ^ k
 
+-- .. and that bit
+abbrev pub bitFor : Bool → ℕ
+bitFor true = 1
+bitFor false = 0
+
 -- does the storey above change: the word was 0, or is 0 now
 abbrev pub tellsAbove : Bool → ℕ → ℕ → Bool
 tellsAbove true w v = eqb w 0
