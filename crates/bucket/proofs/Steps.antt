@@ -34,6 +34,13 @@ module _ (k : Lay) (b w : List ℕ) where
   pub stands : Placed k → isShaped k b w ≡ true → Stands k b w
   stands p e = record { laid = p .laid; shaped = shape-means k b w .says e }
 
+  pub held≤ : isWhole k b w ≡ true → word w (k .held) ≤ k .nodes
+  held≤ e = whole-means k b w .says e .held≤
+
+  -- there is room
+  pub room-left : isWhole k b w ≡ true → (word w (k .held) ≡ k .nodes → ⊥) → word w (k .held) < k .nodes
+  room-left e n = omega (arith, held≤ e)
+
   module _ (s : Stands k b w) where
     pub fits : Fits k w
     fits = record { laid = s .laid; words = s .shaped .words }
@@ -64,19 +71,16 @@ module _ (k : Lay) (b w : List ℕ) where
     unfolding roomOf
     joining-now r to h l n e g = joining r (to .tail) (whole-means k b w .says h) l n (ap (λ (x : Room). x .tail) e) (push-means k b w r .says (sym (ap (λ (x : Room). x .good) e) ∙ g))
 
-  -- .. on the store as after the pop
-  pub joining-after : (low : Lowest) (r : ℕ) (to : Room) (b′ w′ : List ℕ) → Freeing k b w low → r < k .ranks → word w (k .held) ≤ k .nodes
-      → to ≡ roomAfter k (takenBits k b low) (takenWords k w low) r → to .good ≡ true → b′ ≡ takenBits k b low → w′ ≡ takenWords k w low → Joining k b′ w′ r (to .tail)
-  unfolding roomAfter roomOf
-  joining-after low r to b′ w′ f l h e g p q =
-      let B = takenBits k b low in
-      let W = takenWords k w low in
-      let t = room-means k B W r .says (sym (ap (λ (x : Room). x .good) e) ∙ g) in
-      let s : Stands k B W = record { laid = f .stands .laid; shaped = shaped-after k b w B W (taken-bits-length k b low) (taken-length k w low) (f .stands .shaped) } in
-      rw (p, q) (joining-in B W s (t .0) l (λ z. omega (arith, held-after k (f .stands .laid) w low (f .stands .shaped .words), f .takable .held>)) (ap (λ (x : Room). x .tail) e) (t .1))
-    where
-      joining-in : (B W : List ℕ) → Stands k B W → Whole k B W → r < k .ranks → (word W (k .held) ≡ k .nodes → ⊥) → to .tail ≡ word W (tailAt k r) → PushFit k B W r → Joining k B W r (to .tail)
-      joining-in B W s h l n e t = joining k B W s r (to .tail) h l n e t
+-- .. on the store as after the pop
+pub joining-after : (k : Lay) (b w : List ℕ) (low : Lowest) (r : ℕ) (to : Room) (b′ w′ : List ℕ) → Freeing k b w low → r < k .ranks → word w (k .held) ≤ k .nodes
+    → to ≡ roomAfter k (takenBits k b low) (takenWords k w low) r → to .good ≡ true → b′ ≡ takenBits k b low → w′ ≡ takenWords k w low → Joining k b′ w′ r (to .tail)
+unfolding roomAfter roomOf
+joining-after k b w low r to b′ w′ f l h e g p q =
+    let B = takenBits k b low in
+    let W = takenWords k w low in
+    let t = room-means k B W r .says (sym (ap (λ (x : Room). x .good) e) ∙ g) in
+    let s : Stands k B W = record { laid = f .stands .laid; shaped = shaped-after k b w B W (taken-bits-length k b low) (taken-length k w low) (f .stands .shaped) } in
+    rw (p, q) (joining k B W s r (to .tail) (t .0) l (λ z. omega (arith, held-after k (f .stands .laid) w low (f .stands .shaped .words), f .takable .held>)) (ap (λ (x : Room). x .tail) e) (t .1))
 
 -- the bits written
 pub taken-yes : (k : Lay) (b b′ : List ℕ) (low : Lowest) → low .next ≡ 0 → b′ ≡ edit false b (storeysAt k) (low .rank) → b′ ≡ takenBits k b low

@@ -8,7 +8,7 @@ use Rattle.strip.specs.declared.Element.{Element}
 use Rattle.strip.specs.declared.Refusal.the-variants.{BadShape, Damaged, BadRank, Full, Empty}
 use Rattle.strip.specs.declared.Answer.the-variants.{Done, Out}
 use Rattle.strip.specs.declared.Count.the-variants.{Held, Unknown}
-use Rattle.bucket_model.specs.Layout.{Lay, bitWords, storeWords, word, Load, loadIn, loaded}
+use Rattle.bucket_model.specs.Layout.{Lay, bitWords, storeWords, word}
 use Rattle.bucket_model.specs.Calls.{outcome, refused, isShaped, isWhole, fill, blankWord, cleared, heldCount, Lowest, Room, lowestOf, takenBits, takenWords, given, popFound, popped, roomOf, joinedBits, joinedWords, pushFound, pushed, roomAfter, replaceFound, replaceJoined, replaced}
 
 module _ (k : Lay) (b w : List ℕ) where
@@ -57,10 +57,10 @@ module _ (k : Lay) (b w : List ℕ) where
         unfolding popped popFound
         pop-unfit g = simp (s, j, ne-eqb _ _ z, ← e, g)
 
-        pub pop-out : (t : Load) (b′ w′ : List ℕ) → low .good ≡ true → t ≡ loadIn (k .stem) w (low .head) → b′ ≡ takenBits k b low → w′ ≡ takenWords k w low
-            → outcome (Out (loaded (low .rank) t)) b′ w′ ≡ popped k b w
+        pub pop-out : (y : Element) (b′ w′ : List ℕ) → low .good ≡ true → y ≡ given k w low → b′ ≡ takenBits k b low → w′ ≡ takenWords k w low
+            → outcome (Out y) b′ w′ ≡ popped k b w
         unfolding popped popFound
-        pop-out t b′ w′ g u p q = simp (s, j, ne-eqb _ _ z, ← e, g, u, p, q)
+        pop-out y b′ w′ g u p q = simp (s, j, ne-eqb _ _ z, ← e, g, u, p, q)
 
   -- ---- push
 
@@ -130,7 +130,7 @@ module _ (k : Lay) (b w : List ℕ) where
                 unfolding replaced replaceFound replaceJoined
                 replace-shut u = simp (s, lt-ltb _ _ l, j, ne-eqb _ _ z, ← e, g, le-leb _ _ h, ← f, u)
 
-                pub replace-out : (t : Load) (b1 w1 b′ w′ : List ℕ) → to .good ≡ true → t ≡ loadIn (k .stem) w (low .head) → b1 ≡ takenBits k b low → w1 ≡ takenWords k w low
-                    → b′ ≡ joinedBits k b1 x to → w′ ≡ joinedWords k w1 x to → outcome (Out (loaded (low .rank) t)) b′ w′ ≡ replaced k b w x
+                pub replace-out : (y : Element) (b1 w1 b′ w′ : List ℕ) → to .good ≡ true → y ≡ given k w low → b1 ≡ takenBits k b low → w1 ≡ takenWords k w low
+                    → b′ ≡ joinedBits k b1 x to → w′ ≡ joinedWords k w1 x to → outcome (Out y) b′ w′ ≡ replaced k b w x
                 unfolding replaced replaceFound replaceJoined
-                replace-out t b1 w1 b′ w′ v u p1 q1 p q = simp (s, lt-ltb _ _ l, j, ne-eqb _ _ z, ← e, g, le-leb _ _ h, ← f, v, u, p, q, p1, q1)
+                replace-out y b1 w1 b′ w′ v u p1 q1 p q = simp (s, lt-ltb _ _ l, j, ne-eqb _ _ z, ← e, g, le-leb _ _ h, ← f, v, u, p, q, p1, q1)

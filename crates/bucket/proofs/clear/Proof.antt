@@ -1,3 +1,8 @@
+-- `bucket::clear` meets its contract.
+use mathlib.Core.Path.{ap, _∙_}
+use Rattle.bucket_model.specs.declared.Lay.{Lay}
+use Rattle.bucket_model.specs.Calls.{cleared}
+use Rattle.bucket.proofs.Steps.{queue-placed}
 use borrow.Author.Needs.{needs}
 use Rattle.bucket.proofs.clear.Statement.{statement}
 use Rattle.bucket.proofs.clear.Tie as tie
@@ -10,7 +15,7 @@ queue-of-requires : tie.Need-queue-of-requires
 queue-of-requires c κs = search needs
 
 clear-laid-requires : tie.Need-clear-laid-requires
-clear-laid-requires c κs = ?
+clear-laid-requires c κs = queue-placed _ _ (c .queue-of .ensures)
 
 same-length : tie.Need-same-length
 same-length c = search needs
@@ -19,7 +24,7 @@ same-length-2 : tie.Need-same-length-2
 same-length-2 c = search needs
 
 returns : tie.Need-returns
-returns c = ?
+returns c = c .before .before .before .before .clear-laid .ensures ∙ ap (λ (k : Lay). cleared k (c .before .before .before .before .before .before .before .before .before .before .args .bits .now) (c .before .before .before .before .before .before .before .before .before .before .args .words .now)) (c .before .before .before .before .before .queue-of .ensures)
 
 pub clear-spec : {M : Type 1} → statement M
 clear-spec =
