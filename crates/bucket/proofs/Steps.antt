@@ -37,9 +37,16 @@ module _ (k : Lay) (b w : List ℕ) where
   pub held≤ : isWhole k b w ≡ true → word w (k .held) ≤ k .nodes
   held≤ e = whole-means k b w .says e .held≤
 
-  -- there is room
-  pub room-left : isWhole k b w ≡ true → (word w (k .held) ≡ k .nodes → ⊥) → word w (k .held) < k .nodes
-  room-left e n = omega (arith, held≤ e)
+  -- what is left of the pool, by the held count read
+  module _ (held : ℕ) (h : isWhole k b w ≡ true) (e : held ≡ word w (k .held)) where
+    pub count≤ : held ≤ k .nodes
+    count≤ = omega (arith, held≤ h)
+
+    pub left-none : k .nodes - held ≡ 0 → word w (k .held) ≡ k .nodes
+    left-none z = omega (arith, held≤ h)
+
+    pub left-some : (k .nodes - held ≡ 0 → ⊥) → word w (k .held) < k .nodes
+    left-some n = omega (arith, held≤ h)
 
   module _ (s : Stands k b w) where
     pub fits : Fits k w

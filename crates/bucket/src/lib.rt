@@ -153,7 +153,8 @@ fn push_laid(bits: &mut [u64], words: &mut [u32], k: Lay, e: Element) -> Answer
     if !is_whole(bits, words, k) {
         return Answer::Refused(Refusal::Damaged);
     }
-    if held_count(words, k) == k.nodes {
+    let left = k.nodes - held_count(words, k);
+    if left == 0 {
         return Answer::Refused(Refusal::Full);
     }
     let to = find_room(bits, words, k, rank.0);

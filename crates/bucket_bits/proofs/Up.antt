@@ -82,15 +82,19 @@ module _ (on : Bool) (b0 : List ℕ) (o D r : ℕ) (b : List ℕ) (more : Bool) 
     where
       go : (d j : ℕ) → Rise on b0 o D r b more i d j → Rising on b0 o D r b′ more′ ((i - 1) / 64)
       go zero j z = absurd (omega (arith, z .is, z .within, rising-some more i test))
-      go (suc d) j z = (d, j / 64, record {
-        is = n .2;
-        deep = omega (arith, z .deep);
-        within = omega (arith, z .within, pow-suc 64 d);
-        long = ap length b-is ∙ length-set b _ _ ∙ z .long;
-        todo = λ m. rw b-is (turnable-off on b (storeysFrom o d) (j / 64) (o + wordsOf d + j / 64) _ (shape-from o d) (bits-from o d (j / 64) (omega (arith, z .within, pow-suc 64 d)))
-            (past-all o d (o + wordsOf d + j / 64) (omega arith)) (z .todo e .1 (sym more-is ∙ m)));
-        done = rw (more-is, b-is) (sym (ap (λ (t : Bool). cond t (edit on b (storeysFrom o (suc d)) j) b) e) ∙ z .done);
-      })
+      go (suc d) j z = (
+        d,
+        j / 64,
+        record {
+          is = n .2;
+          deep = omega (arith, z .deep);
+          within = omega (arith, z .within, pow-suc 64 d);
+          long = ap length b-is ∙ length-set b _ _ ∙ z .long;
+          todo = λ m. rw b-is (turnable-off on b (storeysFrom o d) (j / 64) (o + wordsOf d + j / 64) _ (shape-from o d) (bits-from o d (j / 64) (omega (arith, z .within, pow-suc 64 d)))
+              (past-all o d (o + wordsOf d + j / 64) (omega arith)) (z .todo e .1 (sym more-is ∙ m)));
+          done = rw (more-is, b-is) (sym (ap (λ (t : Bool). cond t (edit on b (storeysFrom o (suc d)) j) b) e) ∙ z .done);
+        },
+      )
         where
           n : (o + (i - 1) / 64 ≡ o + wordsOf d + j / 64) × ((i - 1) % 64 ≡ j % 64) × ((i - 1) / 64 ≡ wordsOf d + j / 64)
           n = number o d i j (z .is)
@@ -143,19 +147,25 @@ Climbing b o D clears gone empty own c g i = (d : ℕ) × (h : ℕ) × (j : ℕ)
 
 pub climbing-start : (b : List ℕ) (o D tower : ℕ) (clears : Bool) (gone : ℕ) (empty : Bool) (own : ℕ) → tower ≡ wordsOf D → gone < 64 ^ D → own < 64 ^ D → (clears ≡ true → Turnable false b (storeysFrom o D) gone)
     → Climbing b o D clears gone empty own (record { clears = clears; empty = empty; agrees = true; top = 0 }) (tower + gone) (tower + own)
-climbing-start b o D tower clears gone empty own e hg hi t = (D, gone, own, b, record {
-  g-is = omega arith;
-  i-is = omega arith;
-  deep = omega arith;
-  h< = hg;
-  j< = hi;
-  long = refl;
-  alike = same-self b (storeysFrom o D);
-  todo = t;
-  done = refl;
-  agreed = refl;
-  topmost = λ l e. absurd (omega arith);
-})
+climbing-start b o D tower clears gone empty own e hg hi t = (
+  D,
+  gone,
+  own,
+  b,
+  record {
+    g-is = omega arith;
+    i-is = omega arith;
+    deep = omega arith;
+    h< = hg;
+    j< = hi;
+    long = refl;
+    alike = same-self b (storeysFrom o D);
+    todo = t;
+    done = refl;
+    agreed = refl;
+    topmost = λ l e. absurd (omega arith);
+  },
+)
 
 -- one storey: the pop's bit there is bit h, the rank's is bit j, and B is what the pop would leave
 module _ (b v : List ℕ) (o d h j : ℕ) (B : List ℕ) (long : o + wordsOf d + h / 64 < length v) (h< : h < 64 ^ suc d) (j< : j < 64 ^ suc d) (alike : SameOn v b (storeysFrom o (suc d))) where
@@ -241,19 +251,25 @@ module _ (b : List ℕ) (o D : ℕ) (clears : Bool) (gone : ℕ) (empty : Bool) 
     where
       go : (d h j : ℕ) (v : List ℕ) → Climbs b o D clears gone empty own c g i d h j v → Climbing b o D clears gone empty own (climbed b o c (g - 1) (i - 1)) ((g - 1) / 64) ((i - 1) / 64)
       go zero h j v z = absurd (omega (arith, z .i-is, z .j<))
-      go (suc d) h j v z = (d, h / 64, j / 64, written b v o d h j B inside (z .h<) (z .j<) (z .alike) (c .clears), record {
-        g-is = m .2;
-        i-is = n .2;
-        deep = omega (arith, z .deep);
-        h< = omega (arith, z .h<, pow-suc 64 d);
-        j< = omega (arith, z .j<, pow-suc 64 d);
-        long = long-is b v o d h j B inside (z .h<) (z .j<) (z .alike) (c .clears) ∙ z .long;
-        alike = alike-is b v o d h j B inside (z .h<) (z .j<) (z .alike) (c .clears);
-        todo = rw (m .0, m .1) (todo-is b v o d h j B inside (z .h<) (z .j<) (z .alike) (c .clears) (z .todo));
-        done = rw (m .0, m .1) (done-is b v o d h j B inside (z .h<) (z .j<) (z .alike) (c .clears) (z .done));
-        agreed = z .agreed ∙ rw (n .1, ← w-is) (sym (and-assoc (c .agrees) (not (Bool·beq (c .empty) (bitOf B (storey o d) j))) (agree B (storeysFrom o d) (j / 64) (eqb (wordOf B (storey o d) j) 0))));
-        topmost = λ d< e. sym w-is ∙ ap (word B) (omega (arith, z .j<, ap wordsOf e, ap (λ (d : ℕ). 64 ^ suc d) e));
-      })
+      go (suc d) h j v z = (
+        d,
+        h / 64,
+        j / 64,
+        written b v o d h j B inside (z .h<) (z .j<) (z .alike) (c .clears),
+        record {
+          g-is = m .2;
+          i-is = n .2;
+          deep = omega (arith, z .deep);
+          h< = omega (arith, z .h<, pow-suc 64 d);
+          j< = omega (arith, z .j<, pow-suc 64 d);
+          long = long-is b v o d h j B inside (z .h<) (z .j<) (z .alike) (c .clears) ∙ z .long;
+          alike = alike-is b v o d h j B inside (z .h<) (z .j<) (z .alike) (c .clears);
+          todo = rw (m .0, m .1) (todo-is b v o d h j B inside (z .h<) (z .j<) (z .alike) (c .clears) (z .todo));
+          done = rw (m .0, m .1) (done-is b v o d h j B inside (z .h<) (z .j<) (z .alike) (c .clears) (z .done));
+          agreed = z .agreed ∙ rw (n .1, ← w-is) (sym (and-assoc (c .agrees) (not (Bool·beq (c .empty) (bitOf B (storey o d) j))) (agree B (storeysFrom o d) (j / 64) (eqb (wordOf B (storey o d) j) 0))));
+          topmost = λ d< e. sym w-is ∙ ap (word B) (omega (arith, z .j<, ap wordsOf e, ap (λ (d : ℕ). 64 ^ suc d) e));
+        },
+      )
         where
           m : (o + (g - 1) / 64 ≡ o + wordsOf d + h / 64) × ((g - 1) % 64 ≡ h % 64) × ((g - 1) / 64 ≡ wordsOf d + h / 64)
           m = number o d g h (z .g-is)

@@ -3,8 +3,6 @@ pub mod Writes
 pub mod Fill
 pub mod Load
 pub mod Tells
-
-
 pub mod Tower
 pub mod Chain
 pub mod Linked

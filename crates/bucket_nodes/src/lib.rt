@@ -166,7 +166,8 @@ pub fn join_words(words: &mut [u32], k: Lay, e: Element, to: Room)
     let free = words[free_at];
     let held = words[held_at];
     let node = k.stem + NODE * (free as usize);
-    let link = link_at(k, rank.0, to.tail);
+    let tail = to.tail;
+    let link = link_at(k, rank.0, tail);
     let tail_at = k.heads + rank.0 as usize + k.ranks as usize;
     words[free_at] = to.next;
     words[node + TAG] = tag.0;

@@ -120,7 +120,16 @@ pub fn find_room(bits: &[u64], words: &[u32], k: Lay, rank: u32) -> Room
     let tail = tail_of(words, k, rank);
     let next = next_of(words, k, free);
     let behind = next_of(words, k, tail);
-    let up = agreement(bits, k.bits, k.storeys, k.tower, false, rank, head == 0, rank);
+    let up = agreement(
+        bits,
+        k.bits,
+        k.storeys,
+        k.tower,
+        false,
+        rank,
+        head == 0,
+        rank,
+    );
     let x = Reads {
         held,
         agrees: up.agrees,
@@ -182,7 +191,16 @@ pub fn room_after(bits: &[u64], words: &[u32], k: Lay, low: Lowest, rank: u32) -
     let tail = tail_after(words, k, low, rank);
     let behind = next_after(words, k, low, tail);
     let empties = low.next == 0;
-    let up = agreement(bits, k.bits, k.storeys, k.tower, empties, low.rank, head == 0, rank);
+    let up = agreement(
+        bits,
+        k.bits,
+        k.storeys,
+        k.tower,
+        empties,
+        low.rank,
+        head == 0,
+        rank,
+    );
     let x = Reads {
         held,
         agrees: up.agrees,

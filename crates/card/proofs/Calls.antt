@@ -4,7 +4,7 @@ use mathlib.Core.List.{List}
 use mathlib.Core.Path.{_∙_, _≡_, ap}
 use lib.ListN.{length, set}
 use borrow.Author.Tests.{le-leb, lt-leb}
-use Rattle.card.specs.Bucket.{drawn, drawnOf, pooled, pooledOf}
+use Rattle.card.specs.Bucket.{bucketTold, bucketToldOf, bucketStored, bucketStoredOf}
 use Rattle.card.specs.Out.{answerOut, countTold, tally}
 use Rattle.card.specs.Tree.{treeStored, treeTold, storedOf, toldOf}
 use Rattle.strip.specs.Answers.{countNumber, countOf, numberOf}
@@ -42,16 +42,16 @@ module _ (o : tree.Outcome) where
 
 -- ---- the bucket queue
 module _ (o : bucket.Outcome) where
-  pub bucket-done : (a : Answer) (n : ℕ) (b w : List ℕ) → n ≡ numberOf a → bucket.outcome a b w ≡ o → pooled n b w ≡ pooledOf o
-  bucket-done a n b w p e = ap (λ (n : ℕ). pooled n b w) p ∙ ap pooledOf e
+  pub bucket-done : (a : Answer) (n : ℕ) (b w : List ℕ) → n ≡ numberOf a → bucket.outcome a b w ≡ o → bucketStored n b w ≡ bucketStoredOf o
+  bucket-done a n b w p e = ap (λ (n : ℕ). bucketStored n b w) p ∙ ap bucketStoredOf e
 
   module _ (b w out : List ℕ) where
-    pub bucket-short : length out < 2 → drawn 1 b w out ≡ drawnOf o b w out
-    unfolding drawnOf
+    pub bucket-short : length out < 2 → bucketTold 1 b w out ≡ bucketToldOf o b w out
+    unfolding bucketToldOf
     bucket-short h = rw (lt-leb 2 (length out) h)
 
-    pub bucket-told : (a : Answer) (n : ℕ) (b₁ w₁ after : List ℕ) → 2 ≤ length out → bucket.outcome a b₁ w₁ ≡ o → (n ≡ numberOf a) × (after ≡ answerOut a out) → drawn n b₁ w₁ after ≡ drawnOf o b w out
-    unfolding drawnOf
+    pub bucket-told : (a : Answer) (n : ℕ) (b₁ w₁ after : List ℕ) → 2 ≤ length out → bucket.outcome a b₁ w₁ ≡ o → (n ≡ numberOf a) × (after ≡ answerOut a out) → bucketTold n b₁ w₁ after ≡ bucketToldOf o b w out
+    unfolding bucketToldOf
     bucket-told a n b₁ w₁ after h e p =
         rw (le-leb 2 (length out) h)
-        ((λ i. record { number = p .0 i; bits = b₁; words = w₁; out = p .1 i }) ∙ ap (λ (o : bucket.Outcome). drawn (numberOf (o .answer)) (o .bits) (o .words) (answerOut (o .answer) out)) e)
+        ((λ i. record { number = p .0 i; bits = b₁; words = w₁; out = p .1 i }) ∙ ap (λ (o : bucket.Outcome). bucketTold (numberOf (o .answer)) (o .bits) (o .words) (answerOut (o .answer) out)) e)

@@ -6,7 +6,7 @@ ghost use lib.ListN.{length, set};
 ghost use Rattle.strip.specs.Answers.{numberOf, countNumber, countOf};
 ghost use Rattle.card.specs.Out.{answerOut, tally};
 ghost use Rattle.card.specs.Tree.{treeStored, treeTold, treeClear, treePush, treePop, treeReplace, treeHeld};
-ghost use Rattle.card.specs.Bucket.{pooled, drawn, bucketClear, bucketPush, bucketPop, bucketReplace, bucketHeld};
+ghost use Rattle.card.specs.Bucket.{bucketStored, bucketTold, bucketClear, bucketPush, bucketPop, bucketReplace, bucketHeld};
 ghost use Rattle.card.specs.Clocked.{restart, beat, requestOf, ran, taken, drainOut, clockedClear, clockedCycle, clockedDrain, clockedHeld};
 use card_records::bit;
 use card_records::hand_back;
@@ -116,7 +116,7 @@ pub extern "C" fn card_tree_held(store: &[u32], order: u32, levels: u32, out: &m
 
 #[no_mangle]
 pub extern "C" fn card_bucket_clear(bits: &mut [u64], words: &mut [u32], nodes: u32) -> u32
-    ensures { λ r. ⌜ pooled r (now (bits .exit)) (now (words .exit)) ≡ bucketClear (now (bits .entry)) (now (words .entry)) nodes ⌝ }
+    ensures { λ r. ⌜ bucketStored r (now (bits .exit)) (now (words .exit)) ≡ bucketClear (now (bits .entry)) (now (words .entry)) nodes ⌝ }
 {
     number(bucket::clear(bits, words, nodes))
 }
@@ -129,9 +129,13 @@ pub extern "C" fn card_bucket_push(
     rank: u32,
     tag: u32,
 ) -> u32
-    ensures { λ r. ⌜ pooled r (now (bits .exit)) (now (words .exit)) ≡ bucketPush (now (bits .entry)) (now (words .entry)) nodes rank tag ⌝ }
+    ensures { λ r. ⌜ bucketStored r (now (bits .exit)) (now (words .exit)) ≡ bucketPush (now (bits .entry)) (now (words .entry)) nodes rank tag ⌝ }
 {
-    number(bucket::push(bits, words, nodes, Rank(rank), Tag(tag)))
+    let e = Element {
+        rank: Rank(rank),
+        tag: Tag(tag),
+    };
+    number(bucket::push(bits, words, nodes, e))
 }
 
 #[no_mangle]
@@ -141,7 +145,7 @@ pub extern "C" fn card_bucket_pop(
     nodes: u32,
     out: &mut [u32],
 ) -> u32
-    ensures { λ r. ⌜ drawn r (now (bits .exit)) (now (words .exit)) (now (out .exit)) ≡ bucketPop (now (bits .entry)) (now (words .entry)) nodes (now (out .entry)) ⌝ }
+    ensures { λ r. ⌜ bucketTold r (now (bits .exit)) (now (words .exit)) (now (out .exit)) ≡ bucketPop (now (bits .entry)) (now (words .entry)) nodes (now (out .entry)) ⌝ }
 {
     if out.len() < 2 {
         return 1;
@@ -159,12 +163,16 @@ pub extern "C" fn card_bucket_replace(
     tag: u32,
     out: &mut [u32],
 ) -> u32
-    ensures { λ r. ⌜ drawn r (now (bits .exit)) (now (words .exit)) (now (out .exit)) ≡ bucketReplace (now (bits .entry)) (now (words .entry)) nodes rank tag (now (out .entry)) ⌝ }
+    ensures { λ r. ⌜ bucketTold r (now (bits .exit)) (now (words .exit)) (now (out .exit)) ≡ bucketReplace (now (bits .entry)) (now (words .entry)) nodes rank tag (now (out .entry)) ⌝ }
 {
     if out.len() < 2 {
         return 1;
     }
-    let answer = bucket::replace(bits, words, nodes, Rank(rank), Tag(tag));
+    let e = Element {
+        rank: Rank(rank),
+        tag: Tag(tag),
+    };
+    let answer = bucket::replace(bits, words, nodes, e);
     tell(out, answer)
 }
 

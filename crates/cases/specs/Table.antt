@@ -4,6 +4,7 @@ use mathlib.Core.List.{[], _++_, _∷_, List}
 use mathlib.Core.Path.{_≡_}
 use lib.ListN.{length, replicate}
 use Rattle.bucket_model.specs.Case8.{case8, case8Answers}
+use Rattle.bucket_model.specs.Layout.{queue}
 use Rattle.bucket_model.specs.Plain.{bucketAnswers}
 use Rattle.clocked_model.specs.Cases.{caseSix, caseSixSays}
 use Rattle.strip.specs.Answers.{element}
@@ -28,7 +29,7 @@ abbrev pub Right : Row → Type 0
 Right (tree m l rs said left) =
     (answers m l rs (start m l (garbage (length left))) ≡ said) × (after m l rs (garbage (length left)) ≡ left)
 Right (clocked words said) = words ≡ said
-Right (bucket n rs said) = bucketAnswers n rs ≡ said
+Right (bucket n rs said) = bucketAnswers (queue n) rs ≡ said
 
 -- "Tree cases have order 2, levels 2, capacity 6. Store A is cleared, then push 5/50, 3/30, 8/80, 1/10"
 abbrev pub A : List Request

@@ -1,12 +1,14 @@
 -- `bucket::push_laid` meets its contract.
 use mathlib.Core.Path.{_≡_, sym, _∙_}
 use mathlib.Core.Bool.{true}
+use Prim.Native.Nat.{_<_}
+use native.Mathlib.Omega.{arith}
 use borrow.Author.Tests.{not-true, not-false}
+use Rattle.bucket_model.specs.Layout.{word}
 use Rattle.bucket_model.specs.Calls.{isShaped, isWhole}
 use Rattle.bucket_tests.specs.Stores.{Stands}
-use Rattle.bucket_model.specs.Layout.{word}
 use Rattle.bucket_model.proofs.Returns.{push-bad, push-high, push-torn, push-full, push-unfit, push-done}
-use Rattle.bucket.proofs.Steps.{stands, fits, room-left, joining-now}
+use Rattle.bucket.proofs.Steps.{stands, fits, count≤, left-none, left-some, joining-now}
 use borrow.Author.Needs.{needs}
 use Rattle.bucket.proofs.push_laid.Statement.{statement}
 use Rattle.bucket.proofs.push_laid.Tie as tie
@@ -28,8 +30,8 @@ st c = stands _ _ _ (c .before .before .before .before .before .before .pre) (ok
 sound : (c : tie.Else3) → isWhole (c .before .before .before .before .before .before .before .before .before .before .before .before .before .before .args .k) (c .before .before .before .before .before .before .before .before .before .before .before .before .before .before .args .bits .now) (c .before .before .before .before .before .before .before .before .before .before .before .before .before .before .args .words .now) ≡ true
 sound c = sym (c .before .is-whole .ensures) ∙ not-false (c .before .is-whole .result) (c .if3 .left)
 
-some : (c : tie.Else4) → word (c .before .before .before .before .before .before .before .before .before .before .before .before .before .before .before .before .before .before .args .words .now) (c .before .before .before .before .before .before .before .before .before .before .before .before .before .before .before .before .before .before .args .k .held) ≡ c .before .before .before .before .before .before .before .before .before .before .before .before .before .before .before .before .before .before .args .k .nodes → ⊥
-some c z = c .if4 .left (c .before .before .held-count .ensures ∙ z)
+room : (c : tie.Else4) → word (c .before .before .before .before .before .before .before .before .before .before .before .before .before .before .before .before .before .before .args .words .now) (c .before .before .before .before .before .before .before .before .before .before .before .before .before .before .before .before .before .before .args .k .held) < c .before .before .before .before .before .before .before .before .before .before .before .before .before .before .before .before .before .before .args .k .nodes
+room c = left-some (c .before .before .before .before .before .before .before .before .before .before .before .before .before .before .before .before .before .before .args .k) (c .before .before .before .before .before .before .before .before .before .before .before .before .before .before .before .before .before .before .args .bits .now) (c .before .before .before .before .before .before .before .before .before .before .before .before .before .before .before .before .before .before .args .words .now) _ (sound (c .before .before .before .before)) (c .before .before .held-count .ensures) (c .if4 .left)
 
 is-shaped-requires : tie.Need-is-shaped-requires
 is-shaped-requires c κs = search needs
@@ -67,6 +69,9 @@ returns-3 c = push-torn _ _ _ (c .before .before .before .before .before .before
 held-count-requires : tie.Need-held-count-requires
 held-count-requires c κs = fits _ _ _ (st (c .before .before .before .before .before .before .before .before .before))
 
+sub-left : tie.Need-sub-left
+sub-left c = count≤ (c .before .before .before .before .before .before .before .before .before .before .before .before .before .before .before .before .before .args .k) (c .before .before .before .before .before .before .before .before .before .before .before .before .before .before .before .before .before .args .bits .now) (c .before .before .before .before .before .before .before .before .before .before .before .before .before .before .before .before .before .args .words .now) _ (sound (c .before .before .before)) (c .before .held-count .ensures)
+
 same-length-7 : tie.Need-same-length-7
 same-length-7 c = search needs
 
@@ -74,10 +79,10 @@ same-length-8 : tie.Need-same-length-8
 same-length-8 c = search needs
 
 returns-4 : tie.Need-returns-4
-returns-4 c = push-full _ _ _ (c .before .before .before .before .before .before .before .before .before .before .before .before .before .before .before .before .before .before .args .e) (ok (c .before .before .before .before .before .before .before .before .before .before .before .before)) (c .before .before .before .before .before .before .before .before .if2 .left) (sound (c .before .before .before .before)) (sym (c .before .before .held-count .ensures) ∙ c .if4 .taken)
+returns-4 c = push-full _ _ _ (c .before .before .before .before .before .before .before .before .before .before .before .before .before .before .before .before .before .before .args .e) (ok (c .before .before .before .before .before .before .before .before .before .before .before .before)) (c .before .before .before .before .before .before .before .before .if2 .left) (sound (c .before .before .before .before)) (left-none (c .before .before .before .before .before .before .before .before .before .before .before .before .before .before .before .before .before .before .args .k) (c .before .before .before .before .before .before .before .before .before .before .before .before .before .before .before .before .before .before .args .bits .now) (c .before .before .before .before .before .before .before .before .before .before .before .before .before .before .before .before .before .before .args .words .now) _ (sound (c .before .before .before .before)) (c .before .before .held-count .ensures) (c .if4 .taken))
 
 find-room-requires : tie.Need-find-room-requires
-find-room-requires c κs = (st (c .before .before .before .before .before .before .before .before .before .before .before .before .before .before), ((c .before .before .before .before .before .before .before .before .before .before .if2 .left), room-left (c .before .before .before .before .before .before .before .before .before .before .before .before .before .before .before .before .before .before .before .before .args .k) (c .before .before .before .before .before .before .before .before .before .before .before .before .before .before .before .before .before .before .before .before .args .bits .now) (c .before .before .before .before .before .before .before .before .before .before .before .before .before .before .before .before .before .before .before .before .args .words .now) (sound (c .before .before .before .before .before .before)) (some (c .before .before))))
+find-room-requires c κs = (st (c .before .before .before .before .before .before .before .before .before .before .before .before .before .before), ((c .before .before .before .before .before .before .before .before .before .before .if2 .left), room (c .before .before)))
 
 same-length-9 : tie.Need-same-length-9
 same-length-9 c = search needs
@@ -86,10 +91,10 @@ same-length-10 : tie.Need-same-length-10
 same-length-10 c = search needs
 
 returns-5 : tie.Need-returns-5
-returns-5 c = push-unfit _ _ _ (c .before .before .before .before .before .before .before .before .before .before .before .before .before .before .before .before .before .before .before .before .before .before .before .args .e) (ok (c .before .before .before .before .before .before .before .before .before .before .before .before .before .before .before .before .before)) (c .before .before .before .before .before .before .before .before .before .before .before .before .before .if2 .left) (sound (c .before .before .before .before .before .before .before .before .before)) (some (c .before .before .before .before .before)) _ (c .before .before .find-room .ensures) (not-true (c .before .before .find-room .result .good) (c .if5 .taken))
+returns-5 c = push-unfit _ _ _ (c .before .before .before .before .before .before .before .before .before .before .before .before .before .before .before .before .before .before .before .before .before .before .before .args .e) (ok (c .before .before .before .before .before .before .before .before .before .before .before .before .before .before .before .before .before)) (c .before .before .before .before .before .before .before .before .before .before .before .before .before .if2 .left) (sound (c .before .before .before .before .before .before .before .before .before)) (λ z. omega (arith, room (c .before .before .before .before .before))) _ (c .before .before .find-room .ensures) (not-true (c .before .before .find-room .result .good) (c .if5 .taken))
 
 join-requires : tie.Need-join-requires
-join-requires c κs = joining-now _ _ _ (st (c .before .before .before .before .before .before .before .before .before .before .before .before .before .before .before .before .before .before .before)) _ _ (sound (c .before .before .before .before .before .before .before .before .before .before .before)) (c .before .before .before .before .before .before .before .before .before .before .before .before .before .before .before .if2 .left) (some (c .before .before .before .before .before .before .before)) (c .before .before .before .before .find-room .ensures) (not-false (c .before .before .before .before .find-room .result .good) (c .before .before .if5 .left))
+join-requires c κs = joining-now _ _ _ (st (c .before .before .before .before .before .before .before .before .before .before .before .before .before .before .before .before .before .before .before)) _ _ (sound (c .before .before .before .before .before .before .before .before .before .before .before)) (c .before .before .before .before .before .before .before .before .before .before .before .before .before .before .before .if2 .left) (λ z. omega (arith, room (c .before .before .before .before .before .before .before))) (c .before .before .before .before .find-room .ensures) (not-false (c .before .before .before .before .find-room .result .good) (c .before .before .if5 .left))
 
 same-length-11 : tie.Need-same-length-11
 same-length-11 c = search needs
@@ -98,7 +103,7 @@ same-length-12 : tie.Need-same-length-12
 same-length-12 c = search needs
 
 returns-6 : tie.Need-returns-6
-returns-6 c = push-done _ _ _ (c .before .before .before .before .before .before .before .before .before .before .before .before .before .before .before .before .before .before .before .before .before .before .before .before .before .before .before .before .before .before .args .e) (ok (c .before .before .before .before .before .before .before .before .before .before .before .before .before .before .before .before .before .before .before .before .before .before .before .before)) (c .before .before .before .before .before .before .before .before .before .before .before .before .before .before .before .before .before .before .before .before .if2 .left) (sound (c .before .before .before .before .before .before .before .before .before .before .before .before .before .before .before .before)) (some (c .before .before .before .before .before .before .before .before .before .before .before .before)) _ (c .before .before .before .before .before .before .before .before .before .find-room .ensures) _ _ (not-false (c .before .before .before .before .before .before .before .before .before .find-room .result .good) (c .before .before .before .before .before .before .before .if5 .left)) (c .before .before .before .before .join .ensures .0) (c .before .before .before .before .join .ensures .1)
+returns-6 c = push-done _ _ _ (c .before .before .before .before .before .before .before .before .before .before .before .before .before .before .before .before .before .before .before .before .before .before .before .before .before .before .before .before .before .before .args .e) (ok (c .before .before .before .before .before .before .before .before .before .before .before .before .before .before .before .before .before .before .before .before .before .before .before .before)) (c .before .before .before .before .before .before .before .before .before .before .before .before .before .before .before .before .before .before .before .before .if2 .left) (sound (c .before .before .before .before .before .before .before .before .before .before .before .before .before .before .before .before)) (λ z. omega (arith, room (c .before .before .before .before .before .before .before .before .before .before .before .before))) _ (c .before .before .before .before .before .before .before .before .before .find-room .ensures) _ _ (not-false (c .before .before .before .before .before .before .before .before .before .find-room .result .good) (c .before .before .before .before .before .before .before .if5 .left)) (c .before .before .before .before .join .ensures .0) (c .before .before .before .before .join .ensures .1)
 
 pub push-laid-spec : {M : Type 1} → statement M
 push-laid-spec =
@@ -116,6 +121,7 @@ push-laid-spec =
     same-length-6
     returns-3
     held-count-requires
+    sub-left
     same-length-7
     same-length-8
     returns-4
