@@ -2,27 +2,25 @@
 use mathlib.Core.Path.{_≡_, refl, sym, ap, subst, _∙_}
 use mathlib.Core.Bool.{true, false}
 use mathlib.Core.List.{List}
-use Prim.Native.Nat.{ℕ, _+_, _-_, _≤_, _<_}
+use Prim.Native.Nat.{ℕ, _-_, _≤_, _<_}
 use native.Mathlib.Omega.{arith}
 use borrow.Author.Tests.{eq-eqb, ne-eqb}
 use lib.Dec.{lit≤}
-use lib.ListN.{length}
 use Rattle.strip.specs.declared.Element.{Element}
 use Rattle.bucket_model.specs.declared.Lay.{Lay}
 use Rattle.bucket_model.specs.declared.Lowest.{Lowest}
 use Rattle.bucket_model.specs.declared.Room.{Room}
-use Rattle.bucket_model.specs.Layout.{Laid, queue, bitWords, word, headAt, tailAt}
+use Rattle.bucket_model.specs.Layout.{queue, word, headAt, tailAt}
 use Rattle.bucket_model.specs.Storeys.{storeysAt, edit, marked, lowestRank}
 use Rattle.bucket_model.specs.Calls.{isShaped, isWhole, lowestOf, takenBits, takenWords, roomOf, roomAfter, joinedBits}
-use Rattle.bucket_model.specs.Causes.{Shaped, Whole, PushFit}
+use Rattle.bucket_model.specs.Causes.{Whole, PushFit}
 use Rattle.bucket_model.proofs.Facts.{shape-means, whole-means, pop-means, pop-way, low-is, push-means, room-means}
 use Rattle.bucket_model.proofs.Taken.{held-after}
 use Rattle.bucket_model.proofs.Queue.{shaped-after}
 use Rattle.bucket_model.proofs.Pop.{taken-length, taken-bits-length}
 use Rattle.bucket_model.proofs.Promises.{queue-laid}
-use Rattle.bucket_bits.specs.Climbs.{Turnable}
 use Rattle.bucket_bits.proofs.Up.{agreed-turnable}
-use Rattle.bucket_nodes.specs.Places.{Fits, NodeOf}
+use Rattle.bucket_nodes.specs.Places.{Fits}
 use Rattle.bucket_tests.specs.Stores.{Stands, FoundLow, Freeing}
 use Rattle.bucket.specs.Stores.{Placed, Joining}
 

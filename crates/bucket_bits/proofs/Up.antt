@@ -2,20 +2,20 @@
 use mathlib.Core.Path.{_≡_, refl, sym, ap, subst, _∙_}
 use mathlib.Core.Bool.{Bool, true, false, cond, not, _&&_, Bool·beq, false≢true}
 use mathlib.Core.List.{List, [], _∷_}
-use Prim.Native.Nat.{ℕ, zero, suc, _+_, _-_, _*_, _/_, _%_, _^_, _≤_, _<_}
+use Prim.Native.Nat.{ℕ, zero, suc, _+_, _-_, _/_, _%_, _^_, _≤_, _<_}
 use native.Mathlib.Decide.{ℕ-discrete}
 use native.Mathlib.Nat.{pow-suc}
 use native.Mathlib.Omega.{arith}
 use borrow.Author.Tests.{eq-eqb, ne-eqb, eqb-true, ltb-true, ltb-false}
 use lib.Dec.{eqb, ltb}
 use lib.ListN.{length, set, length-set}
-use Rattle.laws.specs.Tests.{and-left, and-right, and-unit, and-assoc}
+use Rattle.laws.specs.Tests.{and-left, and-right, and-unit, and-assoc, sub-one}
 use Rattle.bitmap.specs.Bits.{bitAt}
 use Rattle.bucket_model.specs.Layout.{word, wordsOf}
 use Rattle.bucket_model.specs.Storeys.{Storey, storey, storeysFrom, wordOf, bitOf, turned, bitFor, tellsAbove, edit, agree}
 use Rattle.bucket_model.specs.Causes.{Agrees}
 use Rattle.bucket_model.proofs.Writes.{same, other}
-use Rattle.bucket_model.proofs.Tower.{Outside, Shape, Bits, past-all, shape-from, bits-from, deeper, edit-off, edit-length}
+use Rattle.bucket_model.proofs.Tower.{Outside, Shape, Bits, past-all, shape-from, bits-from, deeper, edit-off}
 use Rattle.bucket_bits.specs.declared.Climb.{Climb}
 use Rattle.bucket_bits.specs.Climbs.{Turnable, Turning, bitsLeft, Agreed, cleared, wordLeft, climbed, Climbable}
 use Rattle.bucket_bits.proofs.Numbers.{words-up, words-le}
@@ -43,47 +43,48 @@ pub record Rise (on : Bool) (b0 : List ℕ) (o D r : ℕ) (b : List ℕ) (more :
   pub todo : more ≡ true → Turnable on b (storeysFrom o d) j
   pub done : cond more (edit on b (storeysFrom o d) j) b ≡ edit on b0 (storeysFrom o D) r
 
-abbrev pub Rising : Bool → List ℕ → ℕ → ℕ → ℕ → List ℕ → Bool → ℕ → Type 0
-Rising on b0 o D r b more i = (d : ℕ) × (j : ℕ) × Rise on b0 o D r b more i d j
+abbrev pub Rising : Bool → List ℕ → ℕ → ℕ → ℕ → List ℕ → Bool → ℕ → ℕ → Type 0
+Rising on b0 o D r b more d i = (j : ℕ) × Rise on b0 o D r b more i d j
 
-pub rising-start : (on : Bool) (b : List ℕ) (o D tower r : ℕ) → tower ≡ wordsOf D → r < 64 ^ D → Turnable on b (storeysFrom o D) r → Rising on b o D r b true (tower + r)
-rising-start on b o D tower r e h t = (D, r, record { is = omega arith; deep = omega arith; within = h; long = refl; todo = λ e. t; done = refl })
+pub rising-start : (on : Bool) (b : List ℕ) (o D tower r : ℕ) → tower ≡ wordsOf D → r < 64 ^ D → Turnable on b (storeysFrom o D) r → Rising on b o D r b true D (tower + r)
+rising-start on b o D tower r e h t = (r, record { is = omega arith; deep = omega arith; within = h; long = refl; todo = λ e. t; done = refl })
 
 -- bit j of the storey below e others, by its number
 number : (o e i j : ℕ) → i ≡ wordsOf (suc e) + j → (o + (i - 1) / 64 ≡ o + wordsOf e + j / 64) × ((i - 1) % 64 ≡ j % 64) × ((i - 1) / 64 ≡ wordsOf e + j / 64)
 number o e i j h = let u = words-up e in (omega arith, omega arith, omega arith)
 
-pub rising-some : (more : Bool) (i : ℕ) → (more && ltb 0 i) ≡ true → 0 < i
-rising-some more i test = ltb-true 0 i (and-right more (ltb 0 i) test)
-
-module _ (on : Bool) (b0 : List ℕ) (o D r : ℕ) (b : List ℕ) (more : Bool) (i : ℕ) (long : o + wordsOf D ≤ length b0) (test : (more && ltb 0 i) ≡ true) where
+module _ (on : Bool) (b0 : List ℕ) (o D r : ℕ) (b : List ℕ) (more : Bool) (d i : ℕ) (long : o + wordsOf D ≤ length b0) (test : (more && ltb 0 d) ≡ true) where
   e : more ≡ true
-  e = and-left more (ltb 0 i) test
+  e = and-left more (ltb 0 d) test
+
+  some : 0 < d
+  some = ltb-true 0 d (and-right more (ltb 0 d) test)
 
   -- the bit to be turned
-  pub rising-turns : Rising on b0 o D r b more i → Turning b on (o + (i - 1) / 64) ((i - 1) % 64)
-  rising-turns z = go (z .0) (z .1) (z .2)
+  pub rising-turns : Rising on b0 o D r b more d i → (0 < i) × Turning b on (o + (i - 1) / 64) ((i - 1) % 64)
+  rising-turns z = go d (z .0) some (z .1)
     where
-      go : (d j : ℕ) → Rise on b0 o D r b more i d j → Turning b on (o + (i - 1) / 64) ((i - 1) % 64)
-      go zero j z = absurd (omega (arith, z .is, z .within, rising-some more i test))
-      go (suc d) j z =
-          let n = number o d i j (z .is) in
-          record {
-            inside = omega (arith, n .0, z .within, z .long, long, pow-suc 64 d, words-le (suc d) D (z .deep));
-            bit< = omega arith;
-            bit = rw (n .0, n .1) (z .todo e .0);
-          }
+      go : (d j : ℕ) → 0 < d → Rise on b0 o D r b more i d j → (0 < i) × Turning b on (o + (i - 1) / 64) ((i - 1) % 64)
+      go zero j l z = absurd (omega arith)
+      go (suc d) j l z =
+          let n = number o d i j (z .is) in (
+            omega (arith, z .is, words-up d),
+            record {
+              inside = omega (arith, n .0, z .within, z .long, long, pow-suc 64 d, words-le (suc d) D (z .deep));
+              bit< = omega arith;
+              bit = rw (n .0, n .1) (z .todo e .0);
+            },
+          )
 
-  pub rising-step : Rising on b0 o D r b more i → (b′ : List ℕ) (more′ : Bool)
+  pub rising-step : Rising on b0 o D r b more d i → (b′ : List ℕ) (more′ : Bool)
       → b′ ≡ set b (o + (i - 1) / 64) (turned on (word b (o + (i - 1) / 64)) ((i - 1) % 64))
       → more′ ≡ tellsAbove on (word b (o + (i - 1) / 64)) (turned on (word b (o + (i - 1) / 64)) ((i - 1) % 64))
-      → Rising on b0 o D r b′ more′ ((i - 1) / 64)
-  rising-step z b′ more′ p q = go (z .0) (z .1) (z .2)
+      → Rising on b0 o D r b′ more′ (d - 1) ((i - 1) / 64)
+  rising-step z b′ more′ p q = go d (z .0) some (z .1)
     where
-      go : (d j : ℕ) → Rise on b0 o D r b more i d j → Rising on b0 o D r b′ more′ ((i - 1) / 64)
-      go zero j z = absurd (omega (arith, z .is, z .within, rising-some more i test))
-      go (suc d) j z = (
-        d,
+      go : (d j : ℕ) → 0 < d → Rise on b0 o D r b more i d j → Rising on b0 o D r b′ more′ (d - 1) ((i - 1) / 64)
+      go zero j l z = absurd (omega arith)
+      go (suc d) j l z = subst (λ (d : ℕ). Rising on b0 o D r b′ more′ d ((i - 1) / 64)) (sym (sub-one (suc d))) (
         j / 64,
         record {
           is = n .2;
@@ -105,13 +106,13 @@ module _ (on : Bool) (b0 : List ℕ) (o D r : ℕ) (b : List ℕ) (more : Bool) 
           more-is : more′ ≡ tellsAbove on (word b (o + wordsOf d + j / 64)) (turned on (word b (o + wordsOf d + j / 64)) (j % 64))
           more-is = rw (n .0, n .1) at q
 
-pub rising-end : (on : Bool) (b0 : List ℕ) (o D r : ℕ) (b : List ℕ) (more : Bool) (i : ℕ) → Rising on b0 o D r b more i → (more && ltb 0 i) ≡ false → b ≡ edit on b0 (storeysFrom o D) r
-rising-end on b0 o D r b more i z q = go (z .0) (z .1) (z .2) more refl
+pub rising-end : (on : Bool) (b0 : List ℕ) (o D r : ℕ) (b : List ℕ) (more : Bool) (d i : ℕ) → Rising on b0 o D r b more d i → (more && ltb 0 d) ≡ false → b ≡ edit on b0 (storeysFrom o D) r
+rising-end on b0 o D r b more d i z q = go d (z .0) (z .1) more refl q
   where
-    go : (d j : ℕ) → Rise on b0 o D r b more i d j → (m : Bool) → more ≡ m → b ≡ edit on b0 (storeysFrom o D) r
-    go d j z false e = sym (ap (λ (t : Bool). cond t (edit on b (storeysFrom o d) j) b) e) ∙ z .done
-    go zero j z true e = sym (ap (λ (t : Bool). cond t b b) e) ∙ z .done
-    go (suc d) j z true e = absurd (omega (arith, words-up d, z .is, ltb-false 0 i (sym (ap (λ (t : Bool). t && ltb 0 i) e) ∙ q)))
+    go : (d j : ℕ) → Rise on b0 o D r b more i d j → (m : Bool) → more ≡ m → (more && ltb 0 d) ≡ false → b ≡ edit on b0 (storeysFrom o D) r
+    go d j z false e q = sym (ap (λ (t : Bool). cond t (edit on b (storeysFrom o d) j) b) e) ∙ z .done
+    go zero j z true e q = sym (ap (λ (t : Bool). cond t b b) e) ∙ z .done
+    go (suc d) j z true e q = let l = ltb-false 0 (suc d) (sym (ap (λ (t : Bool). t && ltb 0 (suc d)) e) ∙ q) in absurd (omega arith)
 
 -- ---- reading
 
@@ -142,13 +143,12 @@ pub record Climbs (b : List ℕ) (o D : ℕ) (clears : Bool) (gone : ℕ) (empty
   pub agreed : agree (bitsLeft b o D clears gone) (storeysFrom o D) own empty ≡ (c .agrees && agree (bitsLeft b o D clears gone) (storeysFrom o d) j (c .empty))
   pub topmost : d < D → d ≡ 0 → c .top ≡ word (bitsLeft b o D clears gone) o
 
-abbrev pub Climbing : List ℕ → ℕ → ℕ → Bool → ℕ → Bool → ℕ → Climb → ℕ → ℕ → Type 0
-Climbing b o D clears gone empty own c g i = (d : ℕ) × (h : ℕ) × (j : ℕ) × (v : List ℕ) × Climbs b o D clears gone empty own c g i d h j v
+abbrev pub Climbing : List ℕ → ℕ → ℕ → Bool → ℕ → Bool → ℕ → Climb → ℕ → ℕ → ℕ → Type 0
+Climbing b o D clears gone empty own c d g i = (h : ℕ) × (j : ℕ) × (v : List ℕ) × Climbs b o D clears gone empty own c g i d h j v
 
 pub climbing-start : (b : List ℕ) (o D tower : ℕ) (clears : Bool) (gone : ℕ) (empty : Bool) (own : ℕ) → tower ≡ wordsOf D → gone < 64 ^ D → own < 64 ^ D → (clears ≡ true → Turnable false b (storeysFrom o D) gone)
-    → Climbing b o D clears gone empty own (record { clears = clears; empty = empty; agrees = true; top = 0 }) (tower + gone) (tower + own)
+    → Climbing b o D clears gone empty own (record { clears = clears; empty = empty; agrees = true; top = 0 }) D (tower + gone) (tower + own)
 climbing-start b o D tower clears gone empty own e hg hi t = (
-  D,
   gone,
   own,
   b,
@@ -224,20 +224,21 @@ module _ (b v : List ℕ) (o d h j : ℕ) (B : List ℕ) (long : o + wordsOf d +
   long-is true = length-set v _ _
   long-is false = refl
 
-module _ (b : List ℕ) (o D : ℕ) (clears : Bool) (gone : ℕ) (empty : Bool) (own : ℕ) (c : Climb) (g i : ℕ) (long : o + wordsOf D ≤ length b) (l : 0 < i) where
+module _ (b : List ℕ) (o D : ℕ) (clears : Bool) (gone : ℕ) (empty : Bool) (own : ℕ) (c : Climb) (d g i : ℕ) (long : o + wordsOf D ≤ length b) (some : 0 < d) where
   abbrev B : List ℕ
   B = bitsLeft b o D clears gone
 
-  pub climbing-room : Climbing b o D clears gone empty own c g i → (0 < g) × Climbable b o (c .clears) (g - 1) (i - 1)
-  climbing-room z = go (z .0) (z .1) (z .2) (z .3) (z .4)
+  pub climbing-room : Climbing b o D clears gone empty own c d g i → (0 < g) × (0 < i) × Climbable b o (c .clears) (g - 1) (i - 1)
+  climbing-room z = go d (z .0) (z .1) (z .2) some (z .3)
     where
-      go : (d h j : ℕ) (v : List ℕ) → Climbs b o D clears gone empty own c g i d h j v → (0 < g) × Climbable b o (c .clears) (g - 1) (i - 1)
-      go zero h j v z = absurd (omega (arith, z .i-is, z .j<))
-      go (suc d) h j v z =
+      go : (d h j : ℕ) (v : List ℕ) → 0 < d → Climbs b o D clears gone empty own c g i d h j v → (0 < g) × (0 < i) × Climbable b o (c .clears) (g - 1) (i - 1)
+      go zero h j v l z = absurd (omega arith)
+      go (suc d) h j v l z =
           let m = number o d g h (z .g-is) in
           let n = number o d i j (z .i-is) in
           let w = words-le (suc d) D (z .deep) in (
             omega (arith, words-up d, z .g-is),
+            omega (arith, words-up d, z .i-is),
             record {
               gone< = omega (arith, m .0, z .h<, long, pow-suc 64 d);
               own< = omega (arith, n .0, z .j<, long, pow-suc 64 d);
@@ -245,14 +246,13 @@ module _ (b : List ℕ) (o D : ℕ) (clears : Bool) (gone : ℕ) (empty : Bool) 
             },
           )
 
-  pub climbing-step : Climbing b o D clears gone empty own c g i → Climbing b o D clears gone empty own (climbed b o c (g - 1) (i - 1)) ((g - 1) / 64) ((i - 1) / 64)
+  pub climbing-step : Climbing b o D clears gone empty own c d g i → Climbing b o D clears gone empty own (climbed b o c (g - 1) (i - 1)) (d - 1) ((g - 1) / 64) ((i - 1) / 64)
   unfolding climbed
-  climbing-step z = go (z .0) (z .1) (z .2) (z .3) (z .4)
+  climbing-step z = go d (z .0) (z .1) (z .2) some (z .3)
     where
-      go : (d h j : ℕ) (v : List ℕ) → Climbs b o D clears gone empty own c g i d h j v → Climbing b o D clears gone empty own (climbed b o c (g - 1) (i - 1)) ((g - 1) / 64) ((i - 1) / 64)
-      go zero h j v z = absurd (omega (arith, z .i-is, z .j<))
-      go (suc d) h j v z = (
-        d,
+      go : (d h j : ℕ) (v : List ℕ) → 0 < d → Climbs b o D clears gone empty own c g i d h j v → Climbing b o D clears gone empty own (climbed b o c (g - 1) (i - 1)) (d - 1) ((g - 1) / 64) ((i - 1) / 64)
+      go zero h j v l z = absurd (omega arith)
+      go (suc d) h j v l z = subst (λ (d : ℕ). Climbing b o D clears gone empty own (climbed b o c (g - 1) (i - 1)) d ((g - 1) / 64) ((i - 1) / 64)) (sym (sub-one (suc d))) (
         h / 64,
         j / 64,
         written b v o d h j B inside (z .h<) (z .j<) (z .alike) (c .clears),
@@ -283,12 +283,12 @@ module _ (b : List ℕ) (o D : ℕ) (clears : Bool) (gone : ℕ) (empty : Bool) 
           w-is : word B (o + wordsOf d + j / 64) ≡ wordLeft b o (c .clears) (g - 1) (i - 1)
           w-is = rw (m .0, m .1, m .2, n .0, n .2) (word-is b v o d h j B inside (z .h<) (z .j<) (z .alike) (c .clears) (z .done))
 
-pub climbing-end : (b : List ℕ) (o D : ℕ) (clears : Bool) (gone : ℕ) (empty : Bool) (own : ℕ) (c : Climb) (g i : ℕ) → 1 ≤ D → i ≡ 0 → Climbing b o D clears gone empty own c g i → Agreed b o D clears gone empty own (c .agrees) (c .top)
-climbing-end b o D clears gone empty own c g i D> e z = go (z .0) (z .1) (z .2) (z .3) (z .4)
+pub climbing-end : (b : List ℕ) (o D : ℕ) (clears : Bool) (gone : ℕ) (empty : Bool) (own : ℕ) (c : Climb) (d g i : ℕ) → 1 ≤ D → d ≡ 0 → Climbing b o D clears gone empty own c d g i → Agreed b o D clears gone empty own (c .agrees) (c .top)
+climbing-end b o D clears gone empty own c d g i D> e z = go d (z .0) (z .1) (z .2) e (z .3)
   where
-    go : (d h j : ℕ) (v : List ℕ) → Climbs b o D clears gone empty own c g i d h j v → Agreed b o D clears gone empty own (c .agrees) (c .top)
-    go zero h j v z = record { agreed = sym (z .agreed ∙ and-unit (c .agrees)); topmost = z .topmost D> refl }
-    go (suc d) h j v z = absurd (omega (arith, z .i-is, words-up d))
+    go : (d h j : ℕ) (v : List ℕ) → d ≡ 0 → Climbs b o D clears gone empty own c g i d h j v → Agreed b o D clears gone empty own (c .agrees) (c .top)
+    go zero h j v e z = record { agreed = sym (z .agreed ∙ and-unit (c .agrees)); topmost = z .topmost D> refl }
+    go (suc d) h j v e z = absurd (omega arith)
 
 -- ---- one storey as the code does it
 

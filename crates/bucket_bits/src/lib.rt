@@ -35,11 +35,13 @@ pub fn lowest_rank(bits: &[u64], base: usize, storeys: usize, tower: usize) -> L
     ensures { λ r. ⌜ Leads (now (bits .entry)) base storeys (r .open) (r .rank) ⌝ }
 {
     let mut open = true;
+    let mut d = 0;
     let mut i = 0;
-    while open & (i < tower) {
+    while open & (d < storeys) {
         let word = bits[base + i];
         open = word != 0;
         i = 64 * i + 1 + bitmap::lowest(word);
+        d += 1;
     }
     if !open {
         return LowestRank {
@@ -76,11 +78,13 @@ pub fn mark(bits: &mut [u64], on: bool, base: usize, storeys: usize, tower: usiz
     ensures { λ _. ⌜ now (bits .exit) ≡ edit on (now (bits .entry)) (storeysFrom base storeys) rank ⌝ }
 {
     let mut more = true;
+    let mut d = storeys;
     let mut i = tower + rank as usize;
-    while more & (0 < i) {
+    while more & (0 < d) {
         let bit = i - 1;
         more = turn(bits, on, base + bit / 64, bit % 64);
         i = bit / 64;
+        d -= 1;
     }
 }
 
@@ -157,12 +161,14 @@ pub fn agreement(
         agrees: true,
         top: 0,
     };
+    let mut d = storeys;
     let mut g = tower + gone as usize;
     let mut i = tower + own as usize;
-    while 0 < i {
+    while 0 < d {
         c = climb_one(bits, base, c, g - 1, i - 1);
         g = (g - 1) / 64;
         i = (i - 1) / 64;
+        d -= 1;
     }
     c
 }

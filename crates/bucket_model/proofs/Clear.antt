@@ -2,7 +2,7 @@
 use mathlib.Core.Path.{_≡_, refl, sym, ap, subst, _∙_}
 use mathlib.Core.List.{List, [], _∷_}
 use mathlib.Core.Logic.{_⊎_, ⊎-elim}
-use Prim.Native.Nat.{ℕ, zero, suc, _+_, _-_, _*_, _/_, _%_, _^_, _≤_, _<_}
+use Prim.Native.Nat.{ℕ, zero, suc, _+_, _-_, _/_, _%_, _^_, _≤_, _<_}
 use native.Mathlib.Nat.{pow-suc}
 use native.Mathlib.Omega.{arith}
 use borrow.Author.Tests.{eq-eqb, ne-eqb, lt-ltb, le-ltb}
@@ -12,19 +12,19 @@ use Rattle.laws.specs.Lists.{All}
 use Rattle.laws.specs.Updates.{upd, is-upd}
 use Rattle.strip.specs.declared.Answer.the-variants.{Done}
 use Rattle.bitmap.specs.Bits.{bitAt}
-use Rattle.bucket_model.specs.Layout.{Lay, Laid, loadWords, nodeWords, cell, bitWords, storeWords, wordsOf, word, headAt, tailAt, nextAt, noLoad, loadIn}
-use Rattle.bucket_model.specs.Storeys.{storeysFrom, storeysAt}
+use Rattle.bucket_model.specs.Layout.{Lay, Laid, loadWords, nodeWords, cell, bitWords, storeWords, wordsOf, word, headAt, nextAt, noLoad}
+use Rattle.bucket_model.specs.Storeys.{storeysFrom}
 use Rattle.bucket_model.specs.Calls.{fill, blankCell, blankWord, cleared, outcome}
 use Rattle.bucket_model.specs.Causes.{Shaped}
 use Rattle.bucket_model.proofs.Facts.{shape-means}
 use Rattle.bucket_model.proofs.Fill.{fill-at, fill-length}
 use Rattle.bucket_model.proofs.Load.{load-blank}
 use Rattle.bucket_model.proofs.Tells.{zero-bit, nz, up}
-use Rattle.bucket_model.proofs.Tower.{Tower, Ranks}
+use Rattle.bucket_model.proofs.Tower.{Tower}
 use Rattle.bucket_model.proofs.Chain.{Node, node, Seg, Distinct, Mine, Chain, Chains}
-use Rattle.bucket_model.proofs.Linked.{Id, lastLink, Linked}
+use Rattle.bucket_model.proofs.Linked.{Id, lastLink}
 use Rattle.bucket_model.proofs.Order.{order-none}
-use Rattle.bucket_model.proofs.Queue.{flag, loads, area, head, Holds, shaped-after}
+use Rattle.bucket_model.proofs.Queue.{flag, loads, area, Holds, shaped-after}
 
 -- ---- the free chain: the nodes i, i + 1, .., j of them, each without a load
 

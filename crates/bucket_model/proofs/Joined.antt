@@ -1,13 +1,13 @@
 -- Words that a push leaves.
 use mathlib.Core.Path.{_≡_, _∙_}
-use mathlib.Core.List.{List, [], _∷_, _++_}
-use Prim.Native.Nat.{ℕ, _+_, _*_, _≤_, _<_}
+use mathlib.Core.List.{List, [], _∷_}
+use Prim.Native.Nat.{ℕ, _+_, _≤_, _<_}
 use native.Mathlib.Decide.{ℕ-discrete}
 use native.Mathlib.Omega.{arith}
 use borrow.Author.Tests.{eq-eqb, ne-eqb}
 use lib.ListN.{length, set, length-set}
 use Rattle.strip.specs.declared.Element.{Element}
-use Rattle.bucket_model.specs.Layout.{Lay, Laid, loadWords, nodeWords, cell, storeWords, word, write, headAt, tailAt, nextAt, loadWrites, loadOf}
+use Rattle.bucket_model.specs.Layout.{Lay, Laid, storeWords, word, write, tailAt, nextAt, loadWrites, loadOf}
 use Rattle.bucket_model.specs.Calls.{Room, linkAt, joinedWords}
 use Rattle.bucket_model.proofs.Load.{load-misses}
 use Rattle.bucket_model.proofs.Writes.{other, write-other, write-length, write-here}

@@ -2,13 +2,13 @@
 use mathlib.Core.Path.{_≡_, refl, sym, ap, subst, _∙_}
 use mathlib.Core.List.{List, [], _∷_, _++_}
 use mathlib.Core.Logic.{_⊎_, inl, inr, ⊎-elim}
-use Prim.Native.Nat.{ℕ, zero, suc, _+_, _-_, _*_, _≤_, _<_}
+use Prim.Native.Nat.{ℕ, suc, _+_, _-_, _*_, _≤_, _<_}
 use native.Mathlib.Decide.{ℕ-discrete}
 use native.Mathlib.Omega.{arith}
 use borrow.Author.Tests.{eq-eqb, ne-eqb}
-use lib.ListN.{length, set, length-set, length-append}
+use lib.ListN.{length, set, length-set}
 use Rattle.laws.specs.Lists.{All, all-map}
-use Rattle.laws.specs.Updates.{Upd, upd, is-upd}
+use Rattle.laws.specs.Updates.{upd, is-upd}
 use Rattle.bucket_model.specs.Layout.{Lay, word, write, loadWords, nodeWords, cell, nextIn, Load, loadIn, loadWrites, noLoad, headAt}
 use Rattle.bucket_model.specs.Calls.{tailLeft, linkAt}
 use Rattle.bucket_model.proofs.Writes.{same, other, write-other, write-length, Misses}

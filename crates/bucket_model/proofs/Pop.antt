@@ -2,7 +2,7 @@
 use mathlib.Core.Path.{_≡_, refl, sym, ap, subst, _∙_}
 use mathlib.Core.Bool.{true, false}
 use mathlib.Core.List.{List, [], _∷_}
-use mathlib.Core.Logic.{inl, inr}
+use mathlib.Core.Logic.{inl}
 use Prim.Native.Nat.{ℕ, suc, _+_, _-_, _≤_, _<_}
 use native.Mathlib.Decide.{ℕ-discrete}
 use native.Mathlib.Omega.{arith}
@@ -14,20 +14,20 @@ use Rattle.laws.specs.Means.{Iff}
 use Rattle.laws.specs.Tests.{cond-path}
 use Rattle.laws.specs.Updates.{upd, is-upd}
 use Rattle.strip.specs.declared.Element.{Element}
-use Rattle.bucket_model.specs.Layout.{Lay, Laid, word, write, headAt, tailAt, nextAt, nextIn, loadIn, loaded, noLoad}
+use Rattle.bucket_model.specs.Layout.{Lay, Laid, word, headAt, tailAt, nextAt, nextIn, loaded}
 use Rattle.bucket_model.specs.Storeys.{marked, lowestRank}
 use Rattle.bucket_model.specs.Checks.{nextOf}
-use Rattle.bucket_model.specs.Calls.{given, Lowest, lowestIn, lowestOf, takes, takenWords, takenBits}
+use Rattle.bucket_model.specs.Calls.{given, Lowest, lowestOf, takes, takenWords, takenBits}
 use Rattle.bucket_model.specs.Causes.{PopFit}
 use Rattle.bucket_model.specs.Plain.{inOrder}
 use Rattle.bucket_model.proofs.Facts.{pop-means, pop-way, low-is}
 use Rattle.bucket_model.proofs.Writes.{same, write-length}
 use Rattle.bucket_model.proofs.Tower as tower
 use Rattle.bucket_model.proofs.Tower.{Ranks, ranks-ext, marks, marked-length}
-use Rattle.bucket_model.proofs.Chain.{Node, node, Seg, Apart, Mine, Chain}
-use Rattle.bucket_model.proofs.Linked.{Linked, lastFrom, lastLink, last≤, linked-off, taking, takenQ, takenOwn, take-linked, taken-else, taken-free}
+use Rattle.bucket_model.proofs.Chain.{Node, Seg, Apart, Mine, Chain}
+use Rattle.bucket_model.proofs.Linked.{lastFrom, lastLink, last≤, linked-off, taking, takenQ, takenOwn, take-linked, taken-else, taken-free}
 use Rattle.bucket_model.proofs.Order.{order-pop}
-use Rattle.bucket_model.proofs.Queue.{flag, loads, flag-zero, flag-one, seg-le, area, head, Holds, lowest, top-held, Change, changed, shaped-after}
+use Rattle.bucket_model.proofs.Queue.{flag, loads, flag-zero, seg-le, area, head, Holds, lowest, top-held, Change, changed, shaped-after}
 
 -- ---- the next of a node
 

@@ -1,9 +1,9 @@
 -- What the bucket queue promises, wherever its words are laid out and however many storeys it has.
-use mathlib.Core.Path.{_≡_, refl, sym, ap, subst, _∙_}
+use mathlib.Core.Path.{_≡_, sym, ap, subst, _∙_}
 use mathlib.Core.Bool.{Bool, true, false, cond}
 use mathlib.Core.List.{List, [], _∷_, _++_}
-use Prim.Native.Nat.{ℕ, suc, _+_, _^_, _≤_, _<_}
-use native.Mathlib.Decide.{ℕ-discrete, decLt}
+use Prim.Native.Nat.{ℕ, _+_, _≤_, _<_}
+use native.Mathlib.Decide.{decLt}
 use native.Mathlib.Omega.{arith}
 use borrow.Author.Tests.{lt-ltb, le-ltb}
 use lib.Dec.{ltb}
@@ -11,20 +11,19 @@ use lib.ListN.{length}
 use Rattle.laws.specs.Lists.{All, all-map}
 use Rattle.strip.specs.declared.Element.{Element}
 use Rattle.strip.specs.declared.Refusal.the-variants.{BadRank, Full, Empty}
-use Rattle.strip.specs.declared.Answer.{Answer}
 use Rattle.strip.specs.declared.Answer.the-variants.{Done, Out, Refused}
 use Rattle.strip.specs.declared.Request.the-variants.{Idle, Push, Pop, Replace}
 use Rattle.bucket_model.specs.Layout.{Lay, Laid, queue, word, headAt, tailAt}
 use Rattle.bucket_model.specs.Calls.{Outcome, outcome, Lowest, lowestOf, takenBits, takenWords, roomOf, joinedBits, joinedWords, popped}
 use Rattle.bucket_model.specs.Causes.{Shaped}
-use Rattle.bucket_model.specs.Plain.{Call, ask, held, Said, answered, saidNumber, Step, step, Store, store, asked, called, says, after, start, Reached, insert, roomy, plainReplace, plain, plainSays, plainAfter, stored, brought, gone, ofRank, times, Sorted, FirstOut, Reused}
+use Rattle.bucket_model.specs.Plain.{Call, ask, held, answered, saidNumber, Step, step, Store, store, asked, called, says, after, start, Reached, insert, roomy, plainReplace, plain, plainSays, plainAfter, stored, brought, gone, ofRank, times, Sorted, FirstOut, Reused}
 use Rattle.bucket_model.proofs.Sorted.{Through, through}
 use Rattle.bucket_model.proofs.Facts.{pop-means, pop-way, low-is}
 use Rattle.bucket_model.proofs.Taken.{free-after}
 use Rattle.bucket_model.proofs.Joined.{joined-tail}
 use Rattle.bucket_model.proofs.Queue.{Holds, laid-of}
 use Rattle.bucket_model.proofs.Pop.{Popped, pops}
-use Rattle.bucket_model.proofs.Push.{Pushed, pushes}
+use Rattle.bucket_model.proofs.Push.{pushes}
 use Rattle.bucket_model.proofs.Clear.{clear-holds, clear-done}
 use Rattle.bucket_model.proofs.Runs.{stored-is, empty-list, calls, says-alike, after-holds, pop-is, push-is, room-again}
 

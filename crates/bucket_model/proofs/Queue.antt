@@ -1,8 +1,8 @@
 -- A store that holds a list in leaving order, that it passes the tests of every call, and what it holds once one of its buckets has changed.
-use mathlib.Core.Path.{_≡_, refl, sym, ap, subst, _∙_}
+use mathlib.Core.Path.{_≡_, refl, sym, ap, _∙_}
 use mathlib.Core.List.{List, [], _∷_}
-use mathlib.Core.Logic.{_⊎_, inl, inr}
-use Prim.Native.Nat.{ℕ, zero, suc, _+_, _-_, _*_, _^_, _≤_, _<_}
+use mathlib.Core.Logic.{inl, inr}
+use Prim.Native.Nat.{ℕ, zero, suc, _+_, _-_, _^_, _≤_, _<_}
 use native.Mathlib.Decide.{ℕ-discrete}
 use native.Mathlib.Nat.{pow-suc}
 use native.Mathlib.Omega.{arith}
@@ -11,7 +11,7 @@ use Rattle.laws.specs.Lists.{All}
 use Rattle.laws.specs.Means.{Iff}
 use Rattle.laws.specs.Updates.{upd, is-upd}
 use Rattle.strip.specs.declared.Element.{Element}
-use Rattle.bucket_model.specs.Layout.{Lay, Laid, layOf, nodeWords, word, headAt, Load}
+use Rattle.bucket_model.specs.Layout.{Lay, Laid, layOf, word, headAt, Load}
 use Rattle.bucket_model.specs.Storeys.{lowestRank}
 use Rattle.bucket_model.specs.Causes.{Shaped, Whole}
 use Rattle.bucket_model.specs.Plain.{inOrder}

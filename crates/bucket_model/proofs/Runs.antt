@@ -1,8 +1,8 @@
 -- A store that holds a list does what the plain list does, call by call, and its list is read off its words.
 use mathlib.Core.Path.{_≡_, refl, sym, ap, subst, _∙_}
-use mathlib.Core.Bool.{true, false}
+use mathlib.Core.Bool.{true}
 use mathlib.Core.List.{List, [], _∷_}
-use Prim.Native.Nat.{ℕ, zero, suc, _+_, _≤_, _<_}
+use Prim.Native.Nat.{ℕ, zero, suc, _≤_, _<_}
 use native.Mathlib.Decide.{ℕ-discrete, decLt}
 use native.Mathlib.Omega.{arith}
 use borrow.Author.Tests.{lt-ltb, le-ltb}
@@ -12,13 +12,10 @@ use Rattle.laws.specs.Lists.{All}
 use Rattle.strip.specs.declared.Element.{Element}
 use Rattle.strip.specs.declared.Refusal.the-variants.{BadRank, Full, Empty}
 use Rattle.strip.specs.declared.Answer.the-variants.{Done, Out, Refused}
-use Rattle.strip.specs.declared.Count.the-variants.{Held}
 use Rattle.strip.specs.declared.Request.the-variants.{Idle, Push, Pop, Replace}
 use Rattle.bucket_model.specs.Layout.{Lay, Laid, word, headAt, nextIn, Load, loadIn}
-use Rattle.bucket_model.specs.Storeys.{lowestRank}
-use Rattle.bucket_model.specs.Calls.{Outcome, outcome, refused, isShaped, isWhole, lowestOf, Room, roomOf, roomAfter, takenBits, takenWords, joinedBits, joinedWords, pushed, popped, replaced, heldCount}
-use Rattle.bucket_model.specs.Causes.{Shaped}
-use Rattle.bucket_model.specs.Plain.{Call, ask, held, Said, answered, counted, Step, step, Store, store, asked, called, says, after, insert, roomy, plain, plainPop, plainReplace, plainSays, plainAfter, walk, lane, inOrder, stored}
+use Rattle.bucket_model.specs.Calls.{Outcome, outcome, refused, isShaped, isWhole, lowestOf, Room, roomOf, roomAfter, takenBits, takenWords, joinedBits, joinedWords, pushed, popped, replaced}
+use Rattle.bucket_model.specs.Plain.{Call, ask, held, Said, answered, counted, Step, step, Store, store, asked, called, says, after, insert, roomy, plain, plainPop, plainReplace, plainSays, plainAfter, walk, lane, stored}
 use Rattle.bucket_model.proofs.Returns as told
 use Rattle.bucket_model.proofs.Facts.{shape-means, whole-means, pop-means, low-rank, push-means, room-means}
 use Rattle.bucket_model.proofs.Chain.{Node, Seg, Mine}

@@ -2,10 +2,10 @@
 use mathlib.Core.Path.{_≡_, refl, sym, ap, subst, _∙_}
 use mathlib.Core.Bool.{Bool, true, false, cond}
 use mathlib.Core.List.{List, [], _∷_, _++_, append-assoc, append-nil}
-use Prim.Native.Nat.{ℕ, zero, suc, _+_, _≤_, _<_}
+use Prim.Native.Nat.{ℕ, suc, _+_, _≤_, _<_}
 use native.Mathlib.Decide.{ℕ-discrete, decLt}
 use native.Mathlib.Omega.{arith}
-use borrow.Author.Tests.{lt-ltb, le-ltb, eq-eqb, ne-eqb}
+use borrow.Author.Tests.{lt-ltb, le-ltb, ne-eqb}
 use lib.Dec.{ltb, eqb}
 use lib.ListN.{length}
 use Rattle.laws.specs.Lists.{All, all-map}
@@ -14,7 +14,7 @@ use Rattle.strip.specs.declared.Refusal.the-variants.{BadRank, Full}
 use Rattle.strip.specs.declared.Answer.the-variants.{Done, Out, Refused}
 use Rattle.strip.specs.declared.Request.the-variants.{Idle, Push, Pop, Replace}
 use Rattle.bucket_model.specs.Layout.{Lay}
-use Rattle.bucket_model.specs.Plain.{Call, ask, held, Said, answered, Step, step, insert, ranked, roomy, plainPop, plainReplace, plain, plainSays, plainAfter, saidNumber, came, went, brought, gone, ofRank, times, Sorted}
+use Rattle.bucket_model.specs.Plain.{Call, ask, held, Said, answered, Step, step, insert, roomy, plainPop, plainReplace, plain, plainSays, plainAfter, came, went, brought, gone, ofRank, times, Sorted}
 
 -- ---- the elements of a rank
 

@@ -17,7 +17,7 @@ use Rattle.strip.specs.declared.Answer.the-variants.{Done, Out, Refused}
 use Rattle.bucket_model.specs.Layout.{Lay, Laid, bitWords, storeWords, wordsOf, word}
 use Rattle.bucket_model.specs.Storeys.{storeysFrom, find, marked, lowestRank}
 use Rattle.bucket_model.specs.Calls.{Outcome, outcome, refused, given, fillFrom, fill, blankWord, cleared, Lowest, Room, lowestOf, takenWords, takenBits, roomOf, roomAfter, joinedWords, joinedBits, popFound, popped, pushFound, pushed, replaceFound, replaceJoined, replaced, isShaped, isWhole}
-use Rattle.bucket_model.specs.Causes.{Shaped, Whole, Opens, Untouched}
+use Rattle.bucket_model.specs.Causes.{Whole, Opens, Untouched}
 use Rattle.bucket_model.proofs.Facts.{shape-means, whole-means, pop-means, pop-way, low-is, low-rank, push-means, room-means}
 use Rattle.bucket_model.proofs.Fill.{fill-length}
 use Rattle.bucket_model.proofs.Taken.{taken-past, free-after}

@@ -1,7 +1,7 @@
 -- The five calls as functions of every word that they are lent, to their answer and every word that they leave, wherever these words stand. These are definitions, and the contracts cite them.
 use mathlib.Core.Bool.{Bool, true, false, cond, not, _&&_}
 use mathlib.Core.List.{List, [], _∷_, _++_}
-use Prim.Native.Nat.{ℕ, zero, suc, _+_, _-_, _*_, _/_, _%_}
+use Prim.Native.Nat.{ℕ, zero, suc, _+_, _-_, _/_, _%_}
 use lib.Dec.{leb, ltb, eqb}
 use lib.ListN.{length}
 use Rattle.strip.specs.declared.Element.{Element}

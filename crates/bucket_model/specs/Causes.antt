@@ -7,7 +7,6 @@ use Rattle.laws.specs.Ladder as ladder
 use Rattle.laws.specs.Ladder.{Ladder, fine, rung, provided}
 use Rattle.laws.specs.Means.{Iff}
 use Rattle.bitmap.specs.Bits.{bitAt}
-use Rattle.strip.specs.declared.Element.{Element}
 use Rattle.strip.specs.declared.Refusal.{Refusal}
 use Rattle.strip.specs.declared.Refusal.the-variants.{BadShape, Damaged, BadRank, Full, Empty}
 use Rattle.strip.specs.declared.Count.{Count}

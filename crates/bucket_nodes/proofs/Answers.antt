@@ -1,14 +1,13 @@
 -- What each function answers, from what it has tested.
 use mathlib.Core.Path.{_≡_, refl}
 use mathlib.Core.List.{List}
-use Prim.Native.Nat.{ℕ, _+_, _-_, _*_, _/_, _%_, _≤_, _<_}
+use Prim.Native.Nat.{ℕ, _+_, _-_, _/_, _%_, _≤_, _<_}
 use native.Mathlib.Omega.{arith}
 use borrow.Author.Tests.{eq-eqb, ne-eqb, lt-ltb, le-ltb}
 use Rattle.bucket_model.specs.declared.Lay.{Lay}
-use Rattle.bucket_model.specs.Layout.{Laid, loadWords, nodeWords, cell, word, headAt, nextAt}
+use Rattle.bucket_model.specs.Layout.{nodeWords, word, headAt, nextAt}
 use Rattle.bucket_model.specs.Checks.{nextOf}
 use Rattle.bucket_model.specs.Calls.{tailLeft, linkAt, blankCell, blankWord}
-use Rattle.bucket_model.proofs.Joined.{link<}
 use Rattle.bucket_nodes.specs.Places.{Linkable}
 
 module _ (k : Lay) (w : List ℕ) (l : ℕ) where

@@ -1,8 +1,8 @@
 -- What the functions have read is what the rules read. Each law takes what a function has read as equations.
 use mathlib.Core.Path.{_≡_, refl, sym, ap, _∙_}
-use mathlib.Core.Bool.{Bool, true, false, cond, _&&_, false≢true}
+use mathlib.Core.Bool.{Bool, true, false, _&&_, false≢true}
 use mathlib.Core.List.{List}
-use Prim.Native.Nat.{ℕ, _+_, _-_, _^_, _≤_, _<_}
+use Prim.Native.Nat.{ℕ, _-_, _≤_, _<_}
 use native.Mathlib.Omega.{arith}
 use lib.Dec.{eqb}
 use lib.ListN.{length}
@@ -11,12 +11,12 @@ use Rattle.bucket_model.specs.declared.Lowest.{Lowest}
 use Rattle.bucket_model.specs.declared.Reads.{Reads}
 use Rattle.bucket_model.specs.declared.Room.{Room}
 use Rattle.bucket_model.specs.Layout.{word, headAt, tailAt}
-use Rattle.bucket_model.specs.Storeys.{storeysAt, storeysFrom, agree, marked, lowestOpen, lowestRank, rankAgrees}
+use Rattle.bucket_model.specs.Storeys.{storeysAt, agree, marked, lowestOpen, lowestRank, rankAgrees}
 use Rattle.bucket_model.specs.Checks.{wholeOk, nextOf, popOk, pushOk}
 use Rattle.bucket_model.specs.Calls.{lowestOf, lowestIn, noLowest, tailLeft, takenWords, takenBits, roomOf, roomAfter, isWhole, readsOf}
 use Rattle.bucket_model.proofs.Facts.{low-is}
 use Rattle.bucket_model.proofs.Taken.{held-after, free-after, head-own, head-else, tail-own, tail-else, next-own, next-else}
-use Rattle.bucket_bits.specs.Climbs.{Tall, Turnable, Leads, bitsLeft, Agreed}
+use Rattle.bucket_bits.specs.Climbs.{Tall, Leads, bitsLeft, Agreed}
 use Rattle.bucket_bits.proofs.Numbers.{words-le}
 use Rattle.bucket_nodes.specs.Places.{Fits, Takable}
 use Rattle.bucket_tests.specs.Stores.{Stands, FoundLow, Freeing}

@@ -9,11 +9,6 @@ use Rattle.bucket.proofs.Steps.{stands, fits}
 use borrow.Author.Needs.{needs}
 use Rattle.bucket.proofs.clear_laid.Statement.{statement}
 use Rattle.bucket.proofs.clear_laid.Tie as tie
-use Rattle.bucket.proofs.clear_laid.Reads as reads
-use Rattle.bucket.proofs.clear_laid.Lts as lts
-use Rattle.bucket_bits.proofs.wipe.Reads as wipe-reads
-use Rattle.bucket_nodes.proofs.wipe_words.Reads as wipe-words-reads
-use Rattle.bucket_tests.proofs.is_shaped.Reads as is-shaped-reads
 
 -- what has been tested so far
 ok : (c : tie.Else1) → isShaped (c .before .before .before .before .before .before .args .k) (c .before .before .before .before .before .before .args .bits .now) (c .before .before .before .before .before .before .args .words .now) ≡ true

@@ -5,10 +5,6 @@ use Rattle.bucket.proofs.Steps.{joined-yes, joined-no}
 use borrow.Author.Needs.{needs}
 use Rattle.bucket.proofs.join.Statement.{statement}
 use Rattle.bucket.proofs.join.Tie as tie
-use Rattle.bucket.proofs.join.Reads as reads
-use Rattle.bucket.proofs.join.Lts as lts
-use Rattle.bucket_bits.proofs.mark.Reads as mark-reads
-use Rattle.bucket_nodes.proofs.join_words.Reads as join-words-reads
 
 join-words-requires : tie.Need-join-words-requires
 join-words-requires c κs = search needs

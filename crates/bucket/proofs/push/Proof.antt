@@ -6,10 +6,6 @@ use Rattle.bucket.proofs.Steps.{queue-placed}
 use borrow.Author.Needs.{needs}
 use Rattle.bucket.proofs.push.Statement.{statement}
 use Rattle.bucket.proofs.push.Tie as tie
-use Rattle.bucket.proofs.push.Reads as reads
-use Rattle.bucket.proofs.push.Lts as lts
-use Rattle.bucket.proofs.push_laid.Reads as push-laid-reads
-use Rattle.bucket_nodes.proofs.queue_of.Reads as queue-of-reads
 
 queue-of-requires : tie.Need-queue-of-requires
 queue-of-requires c κs = search needs

@@ -5,10 +5,6 @@ use Rattle.bucket.proofs.Steps.{taken-yes, taken-no}
 use borrow.Author.Needs.{needs}
 use Rattle.bucket.proofs.take.Statement.{statement}
 use Rattle.bucket.proofs.take.Tie as tie
-use Rattle.bucket.proofs.take.Reads as reads
-use Rattle.bucket.proofs.take.Lts as lts
-use Rattle.bucket_bits.proofs.mark.Reads as mark-reads
-use Rattle.bucket_nodes.proofs.take_words.Reads as take-words-reads
 
 take-words-requires : tie.Need-take-words-requires
 take-words-requires c κs = search needs

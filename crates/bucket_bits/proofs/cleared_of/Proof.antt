@@ -1,11 +1,7 @@
 -- `bucket_bits::cleared_of` meets its contract.
 use Rattle.bucket_bits.proofs.Up.{cleared-yes, cleared-no}
-use borrow.Author.Needs.{needs}
 use Rattle.bucket_bits.proofs.cleared_of.Statement.{statement}
 use Rattle.bucket_bits.proofs.cleared_of.Tie as tie
-use Rattle.bucket_bits.proofs.cleared_of.Reads as reads
-use Rattle.bucket_bits.proofs.cleared_of.Lts as lts
-use Rattle.bitmap.proofs.without.Reads as without-reads
 
 without-requires : tie.Need-without-requires
 without-requires c κs = (c .before .pre .0, c .before .pre .1 (c .if1 .taken))

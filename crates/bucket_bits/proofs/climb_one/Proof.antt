@@ -3,11 +3,6 @@ use Rattle.bucket_bits.proofs.Up.{climbed-is}
 use borrow.Author.Needs.{needs}
 use Rattle.bucket_bits.proofs.climb_one.Statement.{statement}
 use Rattle.bucket_bits.proofs.climb_one.Tie as tie
-use Rattle.bucket_bits.proofs.climb_one.Reads as reads
-use Rattle.bucket_bits.proofs.climb_one.Lts as lts
-use Rattle.bitmap.proofs.bit.Reads as bit-reads
-use Rattle.bucket_bits.proofs.cleared_of.Reads as cleared-of-reads
-use Rattle.bucket_bits.proofs.word_or.Reads as word-or-reads
 
 add-cleared-of : tie.Need-add-cleared-of
 add-cleared-of c = search needs

@@ -1,13 +1,8 @@
 -- `bucket_bits::turn` meets its contract.
 use Rattle.bucket_bits.proofs.Up.{turn-on, turn-off, bit-clear, bit-set}
-use native.Mathlib.Omega.{arith}
 use borrow.Author.Needs.{needs}
 use Rattle.bucket_bits.proofs.turn.Statement.{statement}
 use Rattle.bucket_bits.proofs.turn.Tie as tie
-use Rattle.bucket_bits.proofs.turn.Reads as reads
-use Rattle.bucket_bits.proofs.turn.Lts as lts
-use Rattle.bitmap.proofs.with.Reads as with-reads
-use Rattle.bitmap.proofs.without.Reads as without-reads
 
 mul-word : tie.Need-mul-word
 mul-word c = search needs

@@ -3,8 +3,6 @@ use Rattle.bucket_bits.proofs.Up.{word-known, word-read}
 use borrow.Author.Needs.{needs}
 use Rattle.bucket_bits.proofs.word_or.Statement.{statement}
 use Rattle.bucket_bits.proofs.word_or.Tie as tie
-use Rattle.bucket_bits.proofs.word_or.Reads as reads
-use Rattle.bucket_bits.proofs.word_or.Lts as lts
 
 returns : tie.Need-returns
 returns c = word-known _ _ _ (c .if1 .taken)

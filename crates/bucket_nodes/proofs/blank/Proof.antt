@@ -4,9 +4,6 @@ use Rattle.bucket_nodes.proofs.Answers.{blank-list, blank-node, blank-f
 use borrow.Author.Needs.{needs}
 use Rattle.bucket_nodes.proofs.blank.Statement.{statement}
 use Rattle.bucket_nodes.proofs.blank.Tie as tie
-use Rattle.bucket_nodes.proofs.blank.Reads as reads
-use Rattle.bucket_nodes.proofs.blank.Lts as lts
-use Rattle.bucket_nodes.proofs.blank_cell.Reads as blank-cell-reads
 
 add-if1 : tie.Need-add-if1
 add-if1 c = search needs

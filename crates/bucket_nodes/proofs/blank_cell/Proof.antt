@@ -3,8 +3,6 @@ use Rattle.bucket_nodes.proofs.Answers.{cell-load, cell-last, cell-next
 use borrow.Author.Needs.{needs}
 use Rattle.bucket_nodes.proofs.blank_cell.Statement.{statement}
 use Rattle.bucket_nodes.proofs.blank_cell.Tie as tie
-use Rattle.bucket_nodes.proofs.blank_cell.Reads as reads
-use Rattle.bucket_nodes.proofs.blank_cell.Lts as lts
 
 returns : tie.Need-returns
 returns c = cell-load (c .before .args .n) (c .before .args .link) (c .before .args .i) (c .if1 .taken)

@@ -5,9 +5,6 @@ use Rattle.bucket_model.specs.Calls.{joinedWords}
 use borrow.Author.Needs.{needs}
 use Rattle.bucket_nodes.proofs.join_words.Statement.{statement}
 use Rattle.bucket_nodes.proofs.join_words.Tie as tie
-use Rattle.bucket_nodes.proofs.join_words.Reads as reads
-use Rattle.bucket_nodes.proofs.join_words.Lts as lts
-use Rattle.bucket_nodes.proofs.link_at.Reads as link-at-reads
 
 mul-free : tie.Need-mul-free
 mul-free c = search needs

@@ -3,8 +3,6 @@ use Rattle.bucket_nodes.proofs.Answers.{link-head, link-next}
 use borrow.Author.Needs.{needs}
 use Rattle.bucket_nodes.proofs.link_at.Statement.{statement}
 use Rattle.bucket_nodes.proofs.link_at.Tie as tie
-use Rattle.bucket_nodes.proofs.link_at.Reads as reads
-use Rattle.bucket_nodes.proofs.link_at.Lts as lts
 
 add-result : tie.Need-add-result
 add-result c = search needs

@@ -3,8 +3,6 @@ use Rattle.bucket_nodes.proofs.Answers.{next-zero, next-high, next-word
 use borrow.Author.Needs.{needs}
 use Rattle.bucket_nodes.proofs.next_of.Statement.{statement}
 use Rattle.bucket_nodes.proofs.next_of.Tie as tie
-use Rattle.bucket_nodes.proofs.next_of.Reads as reads
-use Rattle.bucket_nodes.proofs.next_of.Lts as lts
 
 returns : tie.Need-returns
 returns c = next-zero _ _ _ (c .if1 .taken)

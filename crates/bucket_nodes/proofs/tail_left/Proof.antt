@@ -2,8 +2,6 @@
 use Rattle.bucket_nodes.proofs.Answers.{tail-none, tail-stays}
 use Rattle.bucket_nodes.proofs.tail_left.Statement.{statement}
 use Rattle.bucket_nodes.proofs.tail_left.Tie as tie
-use Rattle.bucket_nodes.proofs.tail_left.Reads as reads
-use Rattle.bucket_nodes.proofs.tail_left.Lts as lts
 
 returns : tie.Need-returns
 returns c = tail-none _ _ (c .if1 .taken)

@@ -5,9 +5,6 @@ use Rattle.bucket_model.specs.Calls.{takenWords}
 use borrow.Author.Needs.{needs}
 use Rattle.bucket_nodes.proofs.take_words.Statement.{statement}
 use Rattle.bucket_nodes.proofs.take_words.Tie as tie
-use Rattle.bucket_nodes.proofs.take_words.Reads as reads
-use Rattle.bucket_nodes.proofs.take_words.Lts as lts
-use Rattle.bucket_nodes.proofs.tail_left.Reads as tail-left-reads
 
 cast-head-at : tie.Need-cast-head-at
 cast-head-at c = search needs

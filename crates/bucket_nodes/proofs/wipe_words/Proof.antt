@@ -8,9 +8,6 @@ use Rattle.bucket_model.specs.Calls.{fill, blankWord}
 use Rattle.bucket_model.proofs.Fill.{fill-none, fill-step}
 use Rattle.bucket_nodes.proofs.wipe_words.Statement.{statement}
 use Rattle.bucket_nodes.proofs.wipe_words.Tie as tie
-use Rattle.bucket_nodes.proofs.wipe_words.Reads as reads
-use Rattle.bucket_nodes.proofs.wipe_words.Lts as lts
-use Rattle.bucket_nodes.proofs.blank.Reads as blank-reads
 
 abbrev Inv-loop : tie.InvT-loop
 Inv-loop words₀ k end j₀ words j = (words ≡ fill (blankWord k) j words₀) × (j ≤ storeWords k) × (length words ≡ length words₀)

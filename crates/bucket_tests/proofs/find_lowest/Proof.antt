@@ -4,13 +4,6 @@ use Rattle.bucket_tests.proofs.Read.{fits, found-shut, found-rank, foun
 use borrow.Author.Needs.{needs}
 use Rattle.bucket_tests.proofs.find_lowest.Statement.{statement}
 use Rattle.bucket_tests.proofs.find_lowest.Tie as tie
-use Rattle.bucket_tests.proofs.find_lowest.Reads as reads
-use Rattle.bucket_tests.proofs.find_lowest.Lts as lts
-use Rattle.bucket_bits.proofs.lowest_rank.Reads as lowest-rank-reads
-use Rattle.bucket_nodes.proofs.head_of.Reads as head-of-reads
-use Rattle.bucket_nodes.proofs.next_of.Reads as next-of-reads
-use Rattle.bucket_nodes.proofs.tail_of.Reads as tail-of-reads
-use Rattle.bucket_tests.proofs.pop_fits.Reads as pop-fits-reads
 
 lowest-rank-requires : tie.Need-lowest-rank-requires
 lowest-rank-requires c κs = search needs

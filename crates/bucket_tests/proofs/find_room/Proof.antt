@@ -5,15 +5,6 @@ use Rattle.bucket_tests.proofs.Read.{tall, room-is}
 use borrow.Author.Needs.{needs}
 use Rattle.bucket_tests.proofs.find_room.Statement.{statement}
 use Rattle.bucket_tests.proofs.find_room.Tie as tie
-use Rattle.bucket_tests.proofs.find_room.Reads as reads
-use Rattle.bucket_tests.proofs.find_room.Lts as lts
-use Rattle.bucket_bits.proofs.agreement.Reads as agreement-reads
-use Rattle.bucket_nodes.proofs.free_link.Reads as free-link-reads
-use Rattle.bucket_nodes.proofs.head_of.Reads as head-of-reads
-use Rattle.bucket_nodes.proofs.held_count.Reads as held-count-reads
-use Rattle.bucket_nodes.proofs.next_of.Reads as next-of-reads
-use Rattle.bucket_nodes.proofs.tail_of.Reads as tail-of-reads
-use Rattle.bucket_tests.proofs.push_fits.Reads as push-fits-reads
 
 held-count-requires : tie.Need-held-count-requires
 held-count-requires c κs = search needs

@@ -3,9 +3,6 @@ use Rattle.bucket_tests.proofs.Read.{head-is, head-stays}
 use borrow.Author.Needs.{needs}
 use Rattle.bucket_tests.proofs.head_after.Statement.{statement}
 use Rattle.bucket_tests.proofs.head_after.Tie as tie
-use Rattle.bucket_tests.proofs.head_after.Reads as reads
-use Rattle.bucket_tests.proofs.head_after.Lts as lts
-use Rattle.bucket_nodes.proofs.head_of.Reads as head-of-reads
 
 returns : tie.Need-returns
 returns c = head-is _ _ _ (c .before .before .before .pre .0) _ (c .if1 .taken)

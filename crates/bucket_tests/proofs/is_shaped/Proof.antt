@@ -4,8 +4,6 @@ use Rattle.bucket_model.specs.Checks.{shapeOk}
 use borrow.Author.Needs.{needs}
 use Rattle.bucket_tests.proofs.is_shaped.Statement.{statement}
 use Rattle.bucket_tests.proofs.is_shaped.Tie as tie
-use Rattle.bucket_tests.proofs.is_shaped.Reads as reads
-use Rattle.bucket_tests.proofs.is_shaped.Lts as lts
 
 add-result : tie.Need-add-result
 add-result c = search needs

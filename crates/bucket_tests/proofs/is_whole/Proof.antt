@@ -3,11 +3,6 @@ use Rattle.bucket_tests.proofs.Read.{top-in, whole-is}
 use borrow.Author.Needs.{needs}
 use Rattle.bucket_tests.proofs.is_whole.Statement.{statement}
 use Rattle.bucket_tests.proofs.is_whole.Tie as tie
-use Rattle.bucket_tests.proofs.is_whole.Reads as reads
-use Rattle.bucket_tests.proofs.is_whole.Lts as lts
-use Rattle.bucket_nodes.proofs.free_link.Reads as free-link-reads
-use Rattle.bucket_nodes.proofs.held_count.Reads as held-count-reads
-use Rattle.bucket_tests.proofs.whole.Reads as whole-reads
 
 free-link-requires : tie.Need-free-link-requires
 free-link-requires c κs = search needs

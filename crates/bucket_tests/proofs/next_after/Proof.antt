@@ -3,10 +3,6 @@ use Rattle.bucket_tests.proofs.Read.{next-is, next-stays}
 use borrow.Author.Needs.{needs}
 use Rattle.bucket_tests.proofs.next_after.Statement.{statement}
 use Rattle.bucket_tests.proofs.next_after.Tie as tie
-use Rattle.bucket_tests.proofs.next_after.Reads as reads
-use Rattle.bucket_tests.proofs.next_after.Lts as lts
-use Rattle.bucket_nodes.proofs.free_link.Reads as free-link-reads
-use Rattle.bucket_nodes.proofs.next_of.Reads as next-of-reads
 
 free-link-requires : tie.Need-free-link-requires
 free-link-requires c κs = search needs

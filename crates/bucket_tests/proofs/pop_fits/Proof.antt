@@ -3,8 +3,6 @@ use mathlib.Core.Path.{refl}
 use Rattle.bucket_model.specs.Checks.{popOk}
 use Rattle.bucket_tests.proofs.pop_fits.Statement.{statement}
 use Rattle.bucket_tests.proofs.pop_fits.Tie as tie
-use Rattle.bucket_tests.proofs.pop_fits.Reads as reads
-use Rattle.bucket_tests.proofs.pop_fits.Lts as lts
 
 returns : tie.Need-returns
 unfolding popOk

@@ -4,8 +4,6 @@ use Rattle.bucket_model.specs.Checks.{pushOk}
 use borrow.Author.Needs.{needs}
 use Rattle.bucket_tests.proofs.push_fits.Statement.{statement}
 use Rattle.bucket_tests.proofs.push_fits.Tie as tie
-use Rattle.bucket_tests.proofs.push_fits.Reads as reads
-use Rattle.bucket_tests.proofs.push_fits.Lts as lts
 
 add-result : tie.Need-add-result
 add-result c = search needs

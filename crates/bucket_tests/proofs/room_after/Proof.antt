@@ -4,16 +4,6 @@ use Rattle.bucket_tests.proofs.Read.{tall, room-after-is}
 use borrow.Author.Needs.{needs}
 use Rattle.bucket_tests.proofs.room_after.Statement.{statement}
 use Rattle.bucket_tests.proofs.room_after.Tie as tie
-use Rattle.bucket_tests.proofs.room_after.Reads as reads
-use Rattle.bucket_tests.proofs.room_after.Lts as lts
-use Rattle.bucket_bits.proofs.agreement.Reads as agreement-reads
-use Rattle.bucket_nodes.proofs.free_link.Reads as free-link-reads
-use Rattle.bucket_nodes.proofs.held_count.Reads as held-count-reads
-use Rattle.bucket_tests.proofs.head_after.Reads as head-after-reads
-use Rattle.bucket_tests.proofs.next_after.Reads as next-after-reads
-use Rattle.bucket_tests.proofs.push_fits.Reads as push-fits-reads
-use Rattle.bucket_tests.proofs.tail_after.Reads as tail-after-reads
-use Rattle.bucket_tests.proofs.whole.Reads as whole-reads
 
 held-count-requires : tie.Need-held-count-requires
 held-count-requires c κs = search needs

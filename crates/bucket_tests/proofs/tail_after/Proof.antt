@@ -3,10 +3,6 @@ use Rattle.bucket_tests.proofs.Read.{tail-is, tail-stays}
 use borrow.Author.Needs.{needs}
 use Rattle.bucket_tests.proofs.tail_after.Statement.{statement}
 use Rattle.bucket_tests.proofs.tail_after.Tie as tie
-use Rattle.bucket_tests.proofs.tail_after.Reads as reads
-use Rattle.bucket_tests.proofs.tail_after.Lts as lts
-use Rattle.bucket_nodes.proofs.tail_left.Reads as tail-left-reads
-use Rattle.bucket_nodes.proofs.tail_of.Reads as tail-of-reads
 
 tail-left-requires : tie.Need-tail-left-requires
 tail-left-requires c κs = search needs

@@ -3,8 +3,6 @@ use mathlib.Core.Path.{refl}
 use Rattle.bucket_model.specs.Checks.{wholeOk}
 use Rattle.bucket_tests.proofs.whole.Statement.{statement}
 use Rattle.bucket_tests.proofs.whole.Tie as tie
-use Rattle.bucket_tests.proofs.whole.Reads as reads
-use Rattle.bucket_tests.proofs.whole.Lts as lts
 
 returns : tie.Need-returns
 unfolding wholeOk
