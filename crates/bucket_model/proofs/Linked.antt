@@ -195,12 +195,6 @@ module _ (A : Area) where
         ap length (is-upd q1 free (node l noLoad ∷ q1 free) .here)
         ∙ ap (λ (k : List Node). suc (length k)) (is-upd q c xs .else free (λ p. omega (arith, c<, A .end)))
 
-    -- the words behind the free link stand
-    pub take-past : (a : ℕ) → free < a → word taking a ≡ word s a
-    take-past a h =
-        other s5 _ _ a (λ p. omega arith) ∙ node-off a (λ i i< p. omega (arith, l≤, A .end))
-        ∙ other s1 _ _ a (λ p. omega (arith, c<, A .end)) ∙ other s _ _ a (λ p. omega (arith, c<, A .end))
-
   -- ---- a push's writes
 
   end-last : (l : ℕ) (xs : List Node) → endSlot stem (nextIn stem l) xs ≡ nextIn stem (lastFrom l xs)
@@ -264,9 +258,6 @@ module _ (A : Area) where
     h< : c + R < stem + nodeWords
     h< = A .low c hc
 
-    pub free-is : word s free ≡ f
-    free-is = zf .seg .0
-
     g1 : Floats stem Id n heads p1 f
     g1 = floats stem Id n heads s own q p1 free x xs (inr refl) e (is-upd q free xs) (w .chains)
 
@@ -306,14 +297,11 @@ module _ (A : Area) where
         chains-off stem Id n heads t5 (c + R) _ joinedOwn joinedQ
         (λ d i a. ⊎-elim (λ h. A .apart d c h hc a) (λ (h : d ≡ free). omega (arith, h<, A .end)) i) (λ k i h1 h2 i< a. omega (arith, h<)) d5
 
-    -- where the link to the newcomer stands: no tail, and not behind the free link
+    -- where the link to the newcomer stands: no tail
     slot-off : (d : ℕ) → Head d → d + R ≡ endSlot stem c (q c) → ⊥
     slot-off d h =
         end-all stem (λ a. d + R ≡ a → ⊥) c (q c) (λ p. A .apart c d hc h (sym p))
         (all-map _ _ (λ y m p. omega (arith, m .low, A .low d h)) (q c) (w .chains c (inl hc) .mine))
-
-    slot< : endSlot stem c (q c) < free
-    slot< = end-all stem (λ a. a < free) c (q c) (omega (arith, h<, A .end)) (all-map _ _ (λ y m. omega (arith, m .high, A .end)) (q c) (w .chains c (inl hc) .mine))
 
     pub joined-other : (d : ℕ) → Head d → (d ≡ c → ⊥) → joinedQ d ≡ q d
     joined-other d h a = is-upd p1 c (p1 c ++ node f t ∷ []) .else d a ∙ p1-else d h
@@ -344,7 +332,3 @@ module _ (A : Area) where
     joined-free =
         ap (λ (l : List Node). suc (length l)) (is-upd p1 c (p1 c ++ node f t ∷ []) .else free (λ p. omega (arith, h<, A .end)) ∙ is-upd q free xs .here)
         ∙ ap length (sym e)
-
-    pub join-past : (a : ℕ) → free < a → word joining a ≡ word s a
-    join-past a h =
-        other t5 _ _ a (λ p. omega (arith, h<, A .end)) ∙ other t4 _ _ a (λ p. omega (arith, slot<)) ∙ node-off′ a (λ i i< p. omega (arith, k≤, A .end)) ∙ other s _ _ a (λ p. omega arith)

@@ -13,10 +13,6 @@ use Rattle.bucket_model.proofs.Load.{load-misses}
 use Rattle.bucket_model.proofs.Writes.{same, other, write-other, write-length, write-here}
 use Rattle.bucket_model.proofs.Pop.{next-in}
 
-pub next-past : (k : Lay) (w : List ℕ) (l : ℕ) → k .nodes < l → nextOf k w l ≡ 0
-unfolding nextOf
-next-past k w l h = simp (ne-eqb l 0 (λ e. omega arith), lt-ltb (k .nodes) l h)
-
 module _ (k : Lay) (laid : Laid k) (w : List ℕ) (low : Lowest) (long : storeWords k ≤ length w) where
   -- the first two writes
   abbrev ends : List (ℕ × ℕ)

@@ -234,10 +234,6 @@ pub past-all : (o d a : ℕ) → o + wordsOf d ≤ a → Outside a (storeysFrom 
 past-all o zero a h = tt
 past-all o (suc d) a h = ((λ i l e. omega arith), past-all o d a (omega arith))
 
-pub before-all : (o d a : ℕ) → a < o → Outside a (storeysFrom o d)
-before-all o zero a h = tt
-before-all o (suc d) a h = ((λ i l e. omega arith), before-all o d a h)
-
 above : (o d : ℕ) → Above (storey o d) (storeysFrom o d)
 above o zero = tt
 above o (suc d) = omega (arith, pow-suc 64 d)

@@ -11,12 +11,10 @@ use lib.ListN.{length}
 use Rattle.laws.specs.Tests.{cond-path}
 use Rattle.bitmap.specs.Bits as word64
 use Rattle.strip.specs.declared.Element.{Element}
-use Rattle.strip.specs.declared.Refusal.the-variants.{BadShape, Damaged, BadRank, Full, Empty}
 use Rattle.strip.specs.declared.Answer.{Answer}
-use Rattle.strip.specs.declared.Answer.the-variants.{Done, Out, Refused}
 use Rattle.bucket_model.specs.Layout.{Lay, Laid, bitWords, storeWords, wordsOf, word}
 use Rattle.bucket_model.specs.Storeys.{storeysFrom, find, marked, lowestRank}
-use Rattle.bucket_model.specs.Calls.{Outcome, outcome, refused, given, fillFrom, fill, blankWord, cleared, Lowest, Room, lowestOf, takenWords, takenBits, roomOf, roomAfter, joinedWords, joinedBits, popFound, popped, pushFound, pushed, replaceFound, replaceJoined, replaced, isShaped, isWhole}
+use Rattle.bucket_model.specs.Calls.{Outcome, outcome, fillFrom, fill, blankWord, cleared, Lowest, Room, lowestOf, takenWords, takenBits, roomOf, roomAfter, joinedBits, popFound, popped, pushFound, pushed, replaceFound, replaceJoined, replaced, isShaped, isWhole}
 use Rattle.bucket_model.specs.Causes.{Whole, Opens, Untouched}
 use Rattle.bucket_model.proofs.Facts.{shape-means, whole-means, pop-means, pop-way, low-is, low-rank, push-means, room-means}
 use Rattle.bucket_model.proofs.Fill.{fill-length}
@@ -47,26 +45,19 @@ find-lt b o (suc d) f w =
     let i = word64.lowest 64 (word b (o + wordsOf d + find b (storeysFrom o d))) (omega (arith, w .1)) (f (o + wordsOf d + find b (storeysFrom o d))) in
     omega (arith, i .within, pow-suc 64 d)
 
--- a property of the branch taken
-cond-case : (P : Outcome → Type 0) (t : Bool) (x y : Outcome) → (t ≡ true → P x) → (t ≡ false → P y) → P (cond t x y)
-cond-case P true x y f g = f refl
-cond-case P false x y f g = g refl
-
--- everything left behind
-stands : (k : Lay) (b w : List ℕ) (a : Answer) → Untouched k b w (outcome a b w)
-stands k b w a = record { bits-long = refl; words-long = refl; bits-rest = λ i l. refl; words-rest = λ i l. refl }
+-- a call leaves everything behind, unless a test holds
+guard : (k : Lay) (b w : List ℕ) (t : Bool) (x : Outcome) (a : Answer) → (t ≡ true → Untouched k b w x) → Untouched k b w (cond t x (outcome a b w))
+guard k b w true x a f = f refl
+guard k b w false x a f = record { bits-long = refl; words-long = refl; bits-rest = λ i l. refl; words-rest = λ i l. refl }
 
 pub rest-clear : (k : Lay) (b w : List ℕ) → Untouched k b w (cleared k b w)
 unfolding cleared
-rest-clear k b w =
-    cond-case (Untouched k b w) (isShaped k b w) (outcome Done (fill (λ j. 0) (bitWords k) b) (fill (blankWord k) (storeWords k) w)) (refused BadShape b w)
-    (λ s. record {
-      bits-long = fill-length (λ j. 0) (bitWords k) b;
-      words-long = fill-length (blankWord k) (storeWords k) w;
-      bits-rest = fill-past (λ j. 0) (bitWords k) b;
-      words-rest = fill-past (blankWord k) (storeWords k) w;
-    })
-    (λ s. stands k b w (Refused BadShape))
+rest-clear k b w = guard k b w (isShaped k b w) _ _ (λ s. record {
+  bits-long = fill-length (λ j. 0) (bitWords k) b;
+  words-long = fill-length (blankWord k) (storeWords k) w;
+  bits-rest = fill-past (λ j. 0) (bitWords k) b;
+  words-rest = fill-past (blankWord k) (storeWords k) w;
+})
 
 module _ (k : Lay) (laid : Laid k) where
   marked-past : (on : Bool) (b : List ℕ) (r i : ℕ) → r < k .ranks → bitWords k ≤ i → word (marked on k b r) i ≡ word b i
@@ -93,33 +84,21 @@ module _ (k : Lay) (laid : Laid k) where
 
       push-found-rest : Untouched k b w (pushFound k b w e to)
       unfolding pushFound roomOf
-      push-found-rest =
-          cond-case (Untouched k b w) (to .good) (outcome Done (joinedBits k b e to) (joinedWords k w e to)) (refused Damaged b w)
-          (λ g. record {
-            bits-long = joined-bits-length k b e to;
-            words-long = joined-length k w e to;
-            bits-rest = λ i m. joined-bits-past b e to i l m;
-            words-rest = λ i m. joined-past k laid w e to l (h .free≤) (push-means k b w (e .rank .0) .says g .tail≤) i m;
-          })
-          (λ g. stands k b w (Refused Damaged))
+      push-found-rest = guard k b w (to .good) _ _ (λ g. record {
+        bits-long = joined-bits-length k b e to;
+        words-long = joined-length k w e to;
+        bits-rest = λ i m. joined-bits-past b e to i l m;
+        words-rest = λ i m. joined-past k laid w e to l (h .free≤) (push-means k b w (e .rank .0) .says g .tail≤) i m;
+      })
 
     pub rest-push : (e : Element) → Untouched k b w (pushed k b w e)
     unfolding pushed
     rest-push e =
-        let P = Untouched k b w in
-        let found = pushFound k b w e (roomOf k b w (e .rank .0)) in
-        let c3 = cond (not (eqb (word w (k .held)) (k .nodes))) found (refused Full b w) in
-        let c2 = cond (isWhole k b w) c3 (refused Damaged b w) in
-        let c1 = cond (ltb (e .rank .0) (k .ranks)) c2 (refused BadRank b w) in
-        cond-case P (isShaped k b w) c1 (refused BadShape b w)
-        (λ s. cond-case P (ltb (e .rank .0) (k .ranks)) c2 (refused BadRank b w)
-        (λ l. cond-case P (isWhole k b w) c3 (refused Damaged b w)
-        (λ h. cond-case P (not (eqb (word w (k .held)) (k .nodes))) found (refused Full b w)
-        (λ z. push-found-rest e (ltb-true (e .rank .0) (k .ranks) l) (whole-means k b w .says h))
-        (λ z. stands k b w (Refused Full)))
-        (λ h. stands k b w (Refused Damaged)))
-        (λ l. stands k b w (Refused BadRank)))
-        (λ s. stands k b w (Refused BadShape))
+        guard k b w (isShaped k b w) _ _
+        (λ s. guard k b w (ltb (e .rank .0) (k .ranks)) _ _
+        (λ l. guard k b w (isWhole k b w) _ _
+        (λ h. guard k b w (not (eqb (word w (k .held)) (k .nodes))) _ _
+        (λ z. push-found-rest e (ltb-true (e .rank .0) (k .ranks) l) (whole-means k b w .says h)))))
 
     module _ (fits : (i : ℕ) → word b i < 2 ^ 64) where
       abbrev low : Lowest
@@ -137,28 +116,19 @@ module _ (k : Lay) (laid : Laid k) where
 
       pop-found-rest : storeWords k ≤ length w → Untouched k b w (popFound k b w (lowestOf k b w))
       unfolding popFound
-      pop-found-rest s =
-          cond-case (Untouched k b w) (low .good) (outcome (Out (given k w low)) (takenBits k b low) (takenWords k w low)) (refused Damaged b w)
-          (λ g. record {
-            bits-long = taken-bits-length k b low;
-            words-long = taken-length k w low;
-            bits-rest = λ i h. taken-bits-past b low i (low-lt g) h;
-            words-rest = low-past s g;
-          })
-          (λ g. stands k b w (Refused Damaged))
+      pop-found-rest s = guard k b w (low .good) _ _ (λ g. record {
+        bits-long = taken-bits-length k b low;
+        words-long = taken-length k w low;
+        bits-rest = λ i h. taken-bits-past b low i (low-lt g) h;
+        words-rest = low-past s g;
+      })
 
       pub rest-pop : Untouched k b w (popped k b w)
       unfolding popped
       rest-pop =
-          let P = Untouched k b w in
-          let found = popFound k b w low in
-          let c2 = cond (not (eqb (word w (k .held)) 0)) found (refused Empty b w) in
-          let c1 = cond (isWhole k b w) c2 (refused Damaged b w) in
-          cond-case P (isShaped k b w) c1 (refused BadShape b w)
-          (λ s. cond-case P (isWhole k b w) c2 (refused Damaged b w)
-          (λ h. cond-case P (not (eqb (word w (k .held)) 0)) found (refused Empty b w) (λ z. pop-found-rest (shape-means k b w .says s .words)) (λ z. stands k b w (Refused Empty)))
-          (λ h. stands k b w (Refused Damaged)))
-          (λ s. stands k b w (Refused BadShape))
+          guard k b w (isShaped k b w) _ _
+          (λ s. guard k b w (isWhole k b w) _ _
+          (λ h. guard k b w (not (eqb (word w (k .held)) 0)) _ _ (λ z. pop-found-rest (shape-means k b w .says s .words))))
 
       module _ (e : Element) (l : e .rank .0 < k .ranks) (words : storeWords k ≤ length w) where
         abbrev B : List ℕ
@@ -176,40 +146,22 @@ module _ (k : Lay) (laid : Laid k) where
 
         replace-joined-rest : low .good ≡ true → Untouched k b w (replaceJoined k b w e low room)
         unfolding replaceJoined
-        replace-joined-rest g =
-            cond-case (Untouched k b w) (room .good) (outcome (Out (given k w low)) (joinedBits k B e room) (joinedWords k W e room)) (refused Damaged b w)
-            (λ h. record {
-              bits-long = joined-bits-length k B e room ∙ taken-bits-length k b low;
-              words-long = joined-length k W e room ∙ taken-length k w low;
-              bits-rest = λ i j. joined-bits-past B e room i l j ∙ taken-bits-past b low i (low-lt g) j;
-              words-rest = λ i j. joined-past k laid W e room l (rw (free-after k laid w low words) (low-head g .1)) (room-tail h) i j ∙ low-past words g i j;
-            })
-            (λ h. stands k b w (Refused Damaged))
+        replace-joined-rest g = guard k b w (room .good) _ _ (λ h. record {
+          bits-long = joined-bits-length k B e room ∙ taken-bits-length k b low;
+          words-long = joined-length k W e room ∙ taken-length k w low;
+          bits-rest = λ i j. joined-bits-past B e room i l j ∙ taken-bits-past b low i (low-lt g) j;
+          words-rest = λ i j. joined-past k laid W e room l (rw (free-after k laid w low words) (low-head g .1)) (room-tail h) i j ∙ low-past words g i j;
+        })
 
         replace-found-rest : Untouched k b w (replaceFound k b w e low)
         unfolding replaceFound
-        replace-found-rest =
-            let P = Untouched k b w in
-            let joined = replaceJoined k b w e low room in
-            let c1 = cond (leb (low .rank) (e .rank .0)) joined (outcome (Out e) b w) in
-            cond-case P (low .good) c1 (refused Damaged b w)
-            (λ g. cond-case P (leb (low .rank) (e .rank .0)) joined (outcome (Out e) b w) (λ h. replace-joined-rest g) (λ h. stands k b w (Out e)))
-            (λ g. stands k b w (Refused Damaged))
+        replace-found-rest = guard k b w (low .good) _ _ (λ g. guard k b w (leb (low .rank) (e .rank .0)) _ _ (λ h. replace-joined-rest g))
 
       pub rest-replace : (e : Element) → Untouched k b w (replaced k b w e)
       unfolding replaced
       rest-replace e =
-          let P = Untouched k b w in
-          let found = replaceFound k b w e low in
-          let c3 = cond (not (eqb (word w (k .held)) 0)) found (outcome (Out e) b w) in
-          let c2 = cond (isWhole k b w) c3 (refused Damaged b w) in
-          let c1 = cond (ltb (e .rank .0) (k .ranks)) c2 (refused BadRank b w) in
-          cond-case P (isShaped k b w) c1 (refused BadShape b w)
-          (λ s. cond-case P (ltb (e .rank .0) (k .ranks)) c2 (refused BadRank b w)
-          (λ l. cond-case P (isWhole k b w) c3 (refused Damaged b w)
-          (λ h. cond-case P (not (eqb (word w (k .held)) 0)) found (outcome (Out e) b w)
-          (λ z. replace-found-rest e (ltb-true (e .rank .0) (k .ranks) l) (shape-means k b w .says s .words))
-          (λ z. stands k b w (Out e)))
-          (λ h. stands k b w (Refused Damaged)))
-          (λ l. stands k b w (Refused BadRank)))
-          (λ s. stands k b w (Refused BadShape))
+          guard k b w (isShaped k b w) _ _
+          (λ s. guard k b w (ltb (e .rank .0) (k .ranks)) _ _
+          (λ l. guard k b w (isWhole k b w) _ _
+          (λ h. guard k b w (not (eqb (word w (k .held)) 0)) _ _
+          (λ z. replace-found-rest e (ltb-true (e .rank .0) (k .ranks) l) (shape-means k b w .says s .words)))))

@@ -1,6 +1,6 @@
 -- Words written: what stands where.
 use mathlib.Core.Path.{_≡_, refl, _∙_}
-use mathlib.Core.List.{List, [], _∷_, _++_}
+use mathlib.Core.List.{List, [], _∷_}
 use Prim.Native.Nat.{ℕ, _<_}
 use lib.ListN.{length, set, length-set}
 use lib.Seq.{getD-set-same, getD-set-other}
@@ -28,7 +28,3 @@ write-other w (p ∷ ps) a h = write-other (set w (p .0) (p .1)) ps a (h .1) ∙
 -- a word that is not written again
 pub write-here : (w : List ℕ) (a v : ℕ) (ps : List (ℕ × ℕ)) → a < length w → Misses a ps → word (write (set w a v) ps) a ≡ v
 write-here w a v ps l h = write-other (set w a v) ps a h ∙ same w a v l
-
-pub write-append : (w : List ℕ) (ps qs : List (ℕ × ℕ)) → write w (ps ++ qs) ≡ write (write w ps) qs
-write-append w [] qs = refl
-write-append w (p ∷ ps) qs = write-append (set w (p .0) (p .1)) ps qs

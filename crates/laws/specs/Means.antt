@@ -1,10 +1,9 @@
 -- A test and the fact that it stands for: the test answers yes exactly if the fact holds.
 use Prim.Native.Nat.{ℕ, _≤_, _<_}
-use native.Mathlib.Omega.{arith}
-use mathlib.Core.Bool.{Bool, true, false, not, _&&_, Bool·beq, false≢true, true≢false}
-use mathlib.Core.Path.{_≡_, refl, sym, _∙_}
+use mathlib.Core.Bool.{Bool, true, false, not, _&&_, Bool·beq, false≢true}
+use mathlib.Core.Path.{_≡_, refl}
 use lib.Dec.{leb, ltb, eqb}
-use borrow.Author.Tests.{leb-true, le-leb, ltb-true, lt-ltb, eqb-true, eq-eqb, eqb-false, ne-eqb}
+use borrow.Author.Tests.{leb-true, le-leb, ltb-true, lt-ltb, eqb-true, eq-eqb}
 
 pub record Means (t : Bool) (P : Type 0) : Type 0 where
   pub says : t ≡ true → P
@@ -61,14 +60,3 @@ unlike-tests false false p q = record { says = λ e. absurd (false≢true e); ho
 -- .. and two that differ: the second is told by what its no means
 pub means-differ : {a : Bool} {A B : Type 0} → Means a A → (b : Bool) → Means (not b) B → Means (not (Bool·beq a b)) (Iff A B)
 means-differ {a} p b q = unlike-tests a b p q
-
--- a test that answers no: its fact does not hold, and the other way round
-pub means-no : {t : Bool} {P : Type 0} → Means t P → t ≡ false → P → ⊥
-means-no m e p = false≢true (sym e ∙ m .holds p)
-
-not-so : (t : Bool) {P : Type 0} → Means t P → (P → ⊥) → t ≡ false
-not-so true m n = absurd (n (m .says refl))
-not-so false m n = refl
-
-pub means-off : {t : Bool} {P : Type 0} → Means t P → (P → ⊥) → t ≡ false
-means-off {t} m n = not-so t m n
