@@ -43,15 +43,15 @@ opens-all b o d (suc D) h e = elim (ℕ-discrete d (suc D)) [
   | no p ↦ opens-all b o d D (omega arith) (and-left (opens b (storeysFrom o D)) (not (eqb (word b (o + wordsOf D + find b (storeysFrom o D))) 0)) e)
 ]
 
-module _ (b : List ℕ) (o D d i w t : ℕ) (a : At b o d i) (l : d < D) (is : w ≡ word b (o + i)) (f : Found w t) where
+module _ (b : List ℕ) (o D d i t : ℕ) (a : At b o d i) (l : d < D) (f : Found (word b (o + i)) t) where
+  abbrev w : ℕ
+  w = word b (o + i)
+
   abbrev j : ℕ
   j = a .j
 
-  place : o + i ≡ o + wordsOf d + find b (storeysFrom o d)
-  place = omega (arith, a .is, a .finds)
-
   here-is : w ≡ word b (o + wordsOf d + find b (storeysFrom o d))
-  here-is = is ∙ ap (word b) place
+  here-is = ap (word b) (omega (arith, a .is, a .finds))
 
   down-open : (w ≡ 0 → ⊥) → At b o (suc d) (64 * i + 1 + t)
   down-open n =
@@ -89,14 +89,12 @@ down-some b o D d i open? z q = let a = z .here (and-left open? (ltb d D) q) in 
 
 pub down-step : (b : List ℕ) (o D d i t : ℕ) (open? : Bool) → Down b o D open? d i → (open? && ltb d D) ≡ true → Found (word b (o + i)) t → Down b o D (not (eqb (word b (o + i)) 0)) (d + 1) (64 * i + 1 + t)
 down-step b o D d i t open? z q f =
-    let w = word b (o + i) in
     let a = z .here (and-left open? (ltb d D) q) in
     let l = down-in D d open? q in
-    let is : word b (o + i) ≡ word b (o + i) = refl in
     record {
       deep = omega arith;
-      here = λ p. subst (λ (d : ℕ). At b o d (64 * i + 1 + t)) (sym (add-one d)) (down-open b o D d i w t a l is f (λ q. false≢true (sym (ap (λ (v : ℕ). not (eqb v 0)) q) ∙ p)));
-      shut = λ p. down-shut b o D d i w t a l is f (zero-of (eqb w 0) refl p);
+      here = λ p. subst (λ (d : ℕ). At b o d (64 * i + 1 + t)) (sym (add-one d)) (down-open b o D d i t a l f (λ q. false≢true (sym (ap (λ (v : ℕ). not (eqb v 0)) q) ∙ p)));
+      shut = λ p. down-shut b o D d i t a l f (zero-of (eqb (word b (o + i)) 0) refl p);
     }
   where
     zero-of : (t : Bool) → eqb (word b (o + i)) 0 ≡ t → not t ≡ false → word b (o + i) ≡ 0

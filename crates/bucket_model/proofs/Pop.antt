@@ -4,7 +4,6 @@ use mathlib.Core.Bool.{true, false}
 use mathlib.Core.List.{List, [], _∷_}
 use mathlib.Core.Logic.{inl}
 use Prim.Native.Nat.{ℕ, suc, _+_, _-_, _≤_, _<_}
-use native.Mathlib.Decide.{ℕ-discrete}
 use native.Mathlib.Omega.{arith}
 use borrow.Author.Tests.{eq-eqb, ne-eqb, le-ltb}
 use lib.Dec.{eqb}
@@ -12,7 +11,7 @@ use lib.ListN.{length, set, length-set}
 use Rattle.laws.specs.Lists.{All}
 use Rattle.laws.specs.Means.{Iff}
 use Rattle.laws.specs.Tests.{cond-path}
-use Rattle.laws.specs.Updates.{upd, is-upd}
+use Rattle.laws.specs.Updates.{upd, is-upd, same-upd}
 use Rattle.strip.specs.declared.Element.{Element}
 use Rattle.bucket_model.specs.Layout.{Lay, Laid, word, headAt, tailAt, nextAt, nextIn, loaded}
 use Rattle.bucket_model.specs.Storeys.{marked, lowestRank}
@@ -158,10 +157,7 @@ module _ (k : Lay) (laid : Laid k) (b w : List ℕ) (l : List Element) (h : Hold
         let g = subst (Seg (k .stem) w (nextAt k (x .link))) (sym z) (C .seg .2) in
         let m = subst (All (Mine (h .own) (k .nodes) (headAt k r))) (sym z) (C .mine .1) in
         rw (ne-eqb (word w (nextAt k (x .link))) 0 (λ q. omega (arith, g .0, m .0 .low)))
-        (ranks-ext k laid b fb (upd fb r 1) (λ j j<. same-flag j) (h .bits))
-      where
-        same-flag : (j : ℕ) → upd fb r 1 j ≡ fb j
-        same-flag j = elim (ℕ-discrete j r) [ yes i ↦ ap (upd fb r 1) i ∙ is-upd fb r 1 .here ∙ sym (F .here) ∙ ap fb (sym i) | no i ↦ is-upd fb r 1 .else j i ]
+        (ranks-ext k laid b fb (upd fb r 1) (λ j j<. same-upd fb (upd fb r 1) r 1 (is-upd fb r 1) (F .here) j) (h .bits))
 
     -- ---- all together
 

@@ -4,7 +4,6 @@ use mathlib.Core.Bool.{true}
 use mathlib.Core.List.{List, [], _∷_, _++_}
 use mathlib.Core.Logic.{inr}
 use Prim.Native.Nat.{ℕ, suc, _+_, _≤_, _<_}
-use native.Mathlib.Decide.{ℕ-discrete}
 use native.Mathlib.Omega.{arith}
 use borrow.Author.Tests.{eq-eqb, ne-eqb}
 use lib.Dec.{eqb}
@@ -12,7 +11,7 @@ use lib.ListN.{length, set, length-set}
 use Rattle.laws.specs.Lists.{All}
 use Rattle.laws.specs.Means.{Iff}
 use Rattle.laws.specs.Tests.{cond-path}
-use Rattle.laws.specs.Updates.{upd, is-upd}
+use Rattle.laws.specs.Updates.{upd, is-upd, same-upd}
 use Rattle.strip.specs.declared.Element.{Element}
 use Rattle.bucket_model.specs.Layout.{Lay, Laid, word, headAt, tailAt, nextAt, Load, loadOf}
 use Rattle.bucket_model.specs.Storeys.{marked}
@@ -174,10 +173,7 @@ module _ (k : Lay) (laid : Laid k) (b w : List ℕ) (l : List Element) (h : Hold
     set-bits (u ∷ us) q =
         let i = last-in k laid w (h .own) c u us (subst (Chain (k .stem) w (k .nodes) (h .own) c) (sym q) C) in
         let g : word w (tailAt k r) ≡ lastFrom (u .link) us = tail-is ∙ ap lastLink (sym q) in
-        rw (ne-eqb (word w (tailAt k r)) 0 (λ j. omega (arith, i .0))) (ranks-ext k laid b fb (upd fb r 1) (λ j j<. same-flag j) (h .bits))
-      where
-        same-flag : (j : ℕ) → upd fb r 1 j ≡ fb j
-        same-flag j = elim (ℕ-discrete j r) [ yes i ↦ ap (upd fb r 1) i ∙ is-upd fb r 1 .here ∙ ap flag q ∙ ap fb (sym i) | no i ↦ is-upd fb r 1 .else j i ]
+        rw (ne-eqb (word w (tailAt k r)) 0 (λ j. omega (arith, i .0))) (ranks-ext k laid b fb (upd fb r 1) (λ j j<. same-upd fb (upd fb r 1) r 1 (is-upd fb r 1) (ap flag (sym q)) j) (h .bits))
 
     -- ---- all together
 
