@@ -1,128 +1,200 @@
-// The bucket queue over two lent slices: 65 words of 64 bits, and 8,194 + 2n words of 32 bits for n nodes.
+// The bucket queue over two lent slices, words of 64 bits and words of 32.
 //
 // Each call reads everything first, tests once, and writes last, so that a refusal leaves every word as it
 // was. Every contract is one equation: the answer and all words of both slices afterwards are what the
-// definition says of the words before, whatever they were.
+// definition says of the words before, whatever they were. The public calls are those of 01's queue of n nodes;
+// under each is the same call for any layout.
+use bucket_bits::mark;
+use bucket_bits::wipe;
+use bucket_model::Lay;
+use bucket_model::Lowest;
+use bucket_model::Room;
+use bucket_nodes::element_of;
+use bucket_nodes::held_count;
+use bucket_nodes::join_words;
+use bucket_nodes::queue_of;
+use bucket_nodes::take_words;
+use bucket_nodes::wipe_words;
+use bucket_tests::find_lowest;
+use bucket_tests::find_room;
+use bucket_tests::is_shaped;
+use bucket_tests::is_whole;
+use bucket_tests::room_after;
 use strip::Answer;
 use strip::Count;
 use strip::Element;
-use strip::Rank;
 use strip::Refusal;
-use strip::Tag;
 ghost use mathlib.Core.Path.{_≡_};
-ghost use Rattle.strip.specs.Answers.{element};
-ghost use Rattle.bucket_model.specs.Calls.{outcome, cleared, pushed, popped, replaced, heldCount};
+ghost use Rattle.bucket_model.specs.Layout.{queue};
+ghost use Rattle.bucket_model.specs.Calls.{outcome, cleared, pushed, popped, replaced, heldCount, takenBits, takenWords, joinedBits, joinedWords};
+ghost use Rattle.bucket_tests.specs.Stores.{Freeing};
+ghost use Rattle.bucket.specs.Stores.{Placed, Joining};
 
-// An empty queue of n nodes, whatever the slices held before.
+// ---- 01's queue of n nodes
+
+// An empty queue, whatever the slices held before.
 pub fn clear(bits: &mut [u64], words: &mut [u32], n: u32) -> Answer
-    ensures { λ r. ⌜ outcome r (now (bits .exit)) (now (words .exit)) ≡ cleared (now (bits .entry)) (now (words .entry)) n ⌝ }
+    ensures { λ r. ⌜ outcome r (now (bits .exit)) (now (words .exit)) ≡ cleared (queue n) (now (bits .entry)) (now (words .entry)) ⌝ }
 {
-    if !bucket_reads::is_shaped(bits, words, n) {
-        return Answer::Refused(Refusal::BadShape);
-    }
-    bucket_writes::wipe_bits(bits);
-    bucket_writes::wipe_words(words, n);
-    Answer::Done
+    clear_laid(bits, words, queue_of(n))
 }
 
 // How many are held.
 pub fn held(bits: &[u64], words: &[u32], n: u32) -> Count
-    ensures { λ r. ⌜ r ≡ heldCount (now (bits .entry)) (now (words .entry)) n ⌝ }
+    ensures { λ r. ⌜ r ≡ heldCount (queue n) (now (bits .entry)) (now (words .entry)) ⌝ }
 {
-    if !bucket_reads::is_shaped(bits, words, n) {
-        return Count::Unknown(Refusal::BadShape);
-    }
-    if !bucket_reads::is_whole(bits, words, n) {
-        return Count::Unknown(Refusal::Damaged);
-    }
-    Count::Held(bucket_reads::held_count(words, n))
+    held_laid(bits, words, queue_of(n))
 }
 
 // The first element of the lowest rank.
 pub fn pop(bits: &mut [u64], words: &mut [u32], n: u32) -> Answer
-    ensures { λ r. ⌜ outcome r (now (bits .exit)) (now (words .exit)) ≡ popped (now (bits .entry)) (now (words .entry)) n ⌝ }
+    ensures { λ r. ⌜ outcome r (now (bits .exit)) (now (words .exit)) ≡ popped (queue n) (now (bits .entry)) (now (words .entry)) ⌝ }
 {
-    if !bucket_reads::is_shaped(bits, words, n) {
-        return Answer::Refused(Refusal::BadShape);
-    }
-    if !bucket_reads::is_whole(bits, words, n) {
-        return Answer::Refused(Refusal::Damaged);
-    }
-    if bucket_reads::held_count(words, n) == 0 {
-        return Answer::Refused(Refusal::Empty);
-    }
-    let low = bucket_reads::find_lowest(bits, words, n);
-    if !low.good {
-        return Answer::Refused(Refusal::Damaged);
-    }
-    let rank = low.rank;
-    let tag = bucket_reads::tag_of(words, n, low.head);
-    bucket_writes::take(bits, words, n, low);
-    Answer::Out(Element {
-        rank: Rank(rank),
-        tag: Tag(tag),
-    })
+    pop_laid(bits, words, queue_of(n))
 }
 
 // A newcomer behind all of its rank.
-pub fn push(bits: &mut [u64], words: &mut [u32], n: u32, rank: Rank, tag: Tag) -> Answer
-    ensures { λ r. ⌜ outcome r (now (bits .exit)) (now (words .exit)) ≡ pushed (now (bits .entry)) (now (words .entry)) n (element (rank .0) (tag .0)) ⌝ }
+pub fn push(bits: &mut [u64], words: &mut [u32], n: u32, e: Element) -> Answer
+    ensures { λ r. ⌜ outcome r (now (bits .exit)) (now (words .exit)) ≡ pushed (queue n) (now (bits .entry)) (now (words .entry)) e ⌝ }
 {
-    if !bucket_reads::is_shaped(bits, words, n) {
-        return Answer::Refused(Refusal::BadShape);
-    }
-    let r = rank.0;
-    if bucket_reads::RANKS <= r {
-        return Answer::Refused(Refusal::BadRank);
-    }
-    if !bucket_reads::is_whole(bits, words, n) {
-        return Answer::Refused(Refusal::Damaged);
-    }
-    let left = n - bucket_reads::held_count(words, n);
-    if left == 0 {
-        return Answer::Refused(Refusal::Full);
-    }
-    let to = bucket_reads::find_bucket(bits, words, n, r);
-    if !to.good {
-        return Answer::Refused(Refusal::Damaged);
-    }
-    bucket_writes::join(bits, words, n, rank, tag, to);
-    Answer::Done
+    push_laid(bits, words, queue_of(n), e)
 }
 
 // A newcomer in, and the lowest of all out: the newcomer itself where nothing is held or its rank is below every held one.
-pub fn replace(bits: &mut [u64], words: &mut [u32], n: u32, rank: Rank, tag: Tag) -> Answer
-    ensures { λ r. ⌜ outcome r (now (bits .exit)) (now (words .exit)) ≡ replaced (now (bits .entry)) (now (words .entry)) n (element (rank .0) (tag .0)) ⌝ }
+pub fn replace(bits: &mut [u64], words: &mut [u32], n: u32, e: Element) -> Answer
+    ensures { λ r. ⌜ outcome r (now (bits .exit)) (now (words .exit)) ≡ replaced (queue n) (now (bits .entry)) (now (words .entry)) e ⌝ }
 {
-    if !bucket_reads::is_shaped(bits, words, n) {
+    replace_laid(bits, words, queue_of(n), e)
+}
+
+// ---- any layout
+
+fn clear_laid(bits: &mut [u64], words: &mut [u32], k: Lay) -> Answer
+    requires { ⌜ Placed k ⌝ }
+    ensures { λ r. ⌜ outcome r (now (bits .exit)) (now (words .exit)) ≡ cleared k (now (bits .entry)) (now (words .entry)) ⌝ }
+{
+    if !is_shaped(bits, words, k) {
         return Answer::Refused(Refusal::BadShape);
     }
-    let r = rank.0;
-    if bucket_reads::RANKS <= r {
-        return Answer::Refused(Refusal::BadRank);
+    wipe(bits, k.bits + k.tower);
+    wipe_words(words, k);
+    Answer::Done
+}
+
+fn held_laid(bits: &[u64], words: &[u32], k: Lay) -> Count
+    requires { ⌜ Placed k ⌝ }
+    ensures { λ r. ⌜ r ≡ heldCount k (now (bits .entry)) (now (words .entry)) ⌝ }
+{
+    if !is_shaped(bits, words, k) {
+        return Count::Unknown(Refusal::BadShape);
     }
-    if !bucket_reads::is_whole(bits, words, n) {
+    if !is_whole(bits, words, k) {
+        return Count::Unknown(Refusal::Damaged);
+    }
+    Count::Held(held_count(words, k))
+}
+
+// Takes the head out of the lowest bucket, with its bits where that empties it.
+fn take(bits: &mut [u64], words: &mut [u32], k: Lay, low: Lowest)
+    requires { ⌜ Freeing k (now bits) (now words) low ⌝ }
+    ensures { λ _. ⌜ (now (bits .exit) ≡ takenBits k (now (bits .entry)) low) × (now (words .exit) ≡ takenWords k (now (words .entry)) low) ⌝ }
+{
+    take_words(words, k, low);
+    if low.next == 0 {
+        mark(bits, false, k.bits, k.storeys, k.tower, low.rank);
+    }
+}
+
+// Joins a newcomer to its bucket, with its bits where that was empty.
+fn join(bits: &mut [u64], words: &mut [u32], k: Lay, e: Element, to: Room)
+    requires { ⌜ Joining k (now bits) (now words) (e .rank .0) (to .tail) ⌝ }
+    ensures { λ _. ⌜ (now (bits .exit) ≡ joinedBits k (now (bits .entry)) e to) × (now (words .exit) ≡ joinedWords k (now (words .entry)) e to) ⌝ }
+{
+    let rank = e.rank;
+    join_words(words, k, e, to);
+    if to.tail == 0 {
+        mark(bits, true, k.bits, k.storeys, k.tower, rank.0);
+    }
+}
+
+fn pop_laid(bits: &mut [u64], words: &mut [u32], k: Lay) -> Answer
+    requires { ⌜ Placed k ⌝ }
+    ensures { λ r. ⌜ outcome r (now (bits .exit)) (now (words .exit)) ≡ popped k (now (bits .entry)) (now (words .entry)) ⌝ }
+{
+    if !is_shaped(bits, words, k) {
+        return Answer::Refused(Refusal::BadShape);
+    }
+    if !is_whole(bits, words, k) {
         return Answer::Refused(Refusal::Damaged);
     }
-    if bucket_reads::held_count(words, n) == 0 {
-        return Answer::Out(Element { rank, tag });
+    if held_count(words, k) == 0 {
+        return Answer::Refused(Refusal::Empty);
     }
-    let low = bucket_reads::find_lowest(bits, words, n);
+    let low = find_lowest(bits, words, k);
     if !low.good {
         return Answer::Refused(Refusal::Damaged);
     }
-    if r < low.rank {
-        return Answer::Out(Element { rank, tag });
+    let out = element_of(words, k, low.rank, low.head);
+    take(bits, words, k, low);
+    Answer::Out(out)
+}
+
+fn push_laid(bits: &mut [u64], words: &mut [u32], k: Lay, e: Element) -> Answer
+    requires { ⌜ Placed k ⌝ }
+    ensures { λ r. ⌜ outcome r (now (bits .exit)) (now (words .exit)) ≡ pushed k (now (bits .entry)) (now (words .entry)) e ⌝ }
+{
+    if !is_shaped(bits, words, k) {
+        return Answer::Refused(Refusal::BadShape);
     }
-    let room = bucket_reads::find_room(bits, words, n, low, r);
+    let rank = e.rank;
+    if k.ranks <= rank.0 {
+        return Answer::Refused(Refusal::BadRank);
+    }
+    if !is_whole(bits, words, k) {
+        return Answer::Refused(Refusal::Damaged);
+    }
+    let left = k.nodes - held_count(words, k);
+    if left == 0 {
+        return Answer::Refused(Refusal::Full);
+    }
+    let to = find_room(bits, words, k, rank.0);
+    if !to.good {
+        return Answer::Refused(Refusal::Damaged);
+    }
+    join(bits, words, k, e, to);
+    Answer::Done
+}
+
+fn replace_laid(bits: &mut [u64], words: &mut [u32], k: Lay, e: Element) -> Answer
+    requires { ⌜ Placed k ⌝ }
+    ensures { λ r. ⌜ outcome r (now (bits .exit)) (now (words .exit)) ≡ replaced k (now (bits .entry)) (now (words .entry)) e ⌝ }
+{
+    if !is_shaped(bits, words, k) {
+        return Answer::Refused(Refusal::BadShape);
+    }
+    let rank = e.rank;
+    if k.ranks <= rank.0 {
+        return Answer::Refused(Refusal::BadRank);
+    }
+    if !is_whole(bits, words, k) {
+        return Answer::Refused(Refusal::Damaged);
+    }
+    if held_count(words, k) == 0 {
+        return Answer::Out(e);
+    }
+    let low = find_lowest(bits, words, k);
+    if !low.good {
+        return Answer::Refused(Refusal::Damaged);
+    }
+    if rank.0 < low.rank {
+        return Answer::Out(e);
+    }
+    let room = room_after(bits, words, k, low, rank.0);
     if !room.good {
         return Answer::Refused(Refusal::Damaged);
     }
-    let out = bucket_reads::tag_of(words, n, low.head);
-    bucket_writes::take(bits, words, n, low);
-    bucket_writes::join(bits, words, n, rank, tag, room);
-    Answer::Out(Element {
-        rank: Rank(low.rank),
-        tag: Tag(out),
-    })
+    let out = element_of(words, k, low.rank, low.head);
+    take(bits, words, k, low);
+    join(bits, words, k, e, room);
+    Answer::Out(out)
 }

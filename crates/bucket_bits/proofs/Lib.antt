@@ -1,2 +1,3 @@
--- What the proofs of the functions share.
-pub mod Two
+pub mod Numbers
+pub mod Down
+pub mod Up

@@ -1,1 +1,2 @@
-pub mod Ready
+-- What the functions ask for and what they promise.
+pub mod Climbs

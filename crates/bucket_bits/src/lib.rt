@@ -1,160 +1,174 @@
-// The bucket queue's bits: two storeys of 64-bit words, the top word first, then a word for each group of 64 ranks.
+// The bucket queue's bits: storeys of 64-bit words above one another, as many as there are, the top word first.
+//
+// The words are numbered from 0, the top one, on: bit k of word w tells of word 64 w + k + 1, and bit k of a word w of the
+// lowest storey tells of a rank: as many words from it on as there are, then the ranks would be numbered in the same way.
 ghost use mathlib.Core.Path.{_≡_};
-ghost use mathlib.Core.Bool.{true, false, not, Bool·beq};
-ghost use Prim.Native.Nat.{_+_, _/_, _%_, _≤_, _<_};
-ghost use lib.Dec.{eqb};
-ghost use lib.ListN.{length};
+ghost use mathlib.Core.Bool.{true, false, cond};
+ghost use Prim.Native.Nat.{_+_, _≤_, _<_, _^_};
+ghost use lib.ListN.{length, set};
 ghost use Rattle.bitmap.specs.Bits.{bitAt};
-ghost use Rattle.bucket_model.specs.Layout.{word, ranks};
-ghost use Rattle.bucket_model.specs.Storeys.{bitWords, put, marked, unmarked};
-ghost use Rattle.bucket_bits.specs.Ready.{putAt, leftBits, Clear, Raised, Marked, Unmarked, Led, Signed, Told};
+ghost use Rattle.bucket_model.specs.Layout.{word};
+ghost use Rattle.bucket_model.specs.Storeys.{storeysFrom, turned, tellsAbove, edit};
+ghost use Rattle.bucket_model.specs.Calls.{fill};
+ghost use Rattle.bucket_bits.specs.Climbs.{Tall, Turnable, Turning, Leads, Agreed, cleared, climbed, Climbable};
 
-// Where each storey begins.
-const TOP: usize = 0;
-
-const LOW: usize = 1;
-
-// The way down to the lowest rank: whether every word on it has a bit set, and the rank (0 where not).
-pub struct Way {
+// The lowest rank: whether no word on the way down to it is 0, and the rank (0 where one is).
+pub struct LowestRank {
     pub open: bool,
     pub rank: u32,
 }
 
-// What the bits say of a rank: its own bit, and whether its group's bit agrees with the group's word.
-pub struct Signs {
-    pub bit: bool,
+// The way up from a rank, on the bits as after a pop: whether the pop clears a bit in the next storey; whether what is below
+// the next bit is empty; whether all bits so far agreed with what is below them; and the last word read.
+pub struct Climb {
+    pub clears: bool,
+    pub empty: bool,
     pub agrees: bool,
+    pub top: u64,
 }
 
-// ---- reading
+// ---- down
 
-// The lowest rank: the lowest set bit of the top word names the group, the lowest set bit of the group's word the rank.
-pub fn way_down(bits: &[u64]) -> Way
-    requires { ⌜ bitWords ≤ length (now bits) ⌝ ∗ ⌜ 0 < word (now bits) 0 ⌝ }
-    ensures { λ r. ⌜ Led (now (bits .entry)) (r .open) (r .rank) ⌝ }
+// The lowest rank: from the top word down, the lowest set bit names the next word.
+pub fn lowest_rank(bits: &[u64], base: usize, storeys: usize, tower: usize) -> LowestRank
+    requires { ⌜ Tall (now bits) base storeys tower ⌝ }
+    ensures { λ r. ⌜ Leads (now (bits .entry)) base storeys (r .open) (r .rank) ⌝ }
 {
-    let group = bitmap::lowest(bits[TOP]);
-    let word = bits[LOW + group];
-    if word == 0 {
-        return Way {
+    let mut open = true;
+    let mut d = 0;
+    let mut i = 0;
+    while open & (d < storeys) {
+        let word = bits[base + i];
+        open = word != 0;
+        i = 64 * i + 1 + bitmap::lowest(word);
+        d += 1;
+    }
+    if !open {
+        return LowestRank {
             open: false,
             rank: 0,
         };
     }
-    let rank = 64 * group + bitmap::lowest(word);
-    Way {
+    LowestRank {
         open: true,
-        rank: rank as u32,
+        rank: (i - tower) as u32,
     }
 }
 
-// What the top word and its group's word say of a rank.
-fn read_signs(top: u64, word: u64, rank: u32) -> Signs
-    requires { ⌜ rank < ranks ⌝ }
-    ensures { λ r. ⌜ Signed top word rank (r .bit) (r .agrees) ⌝ }
-{
-    let above = bitmap::bit(top, (rank / 64) as usize);
-    let bit = bitmap::bit(word, (rank % 64) as usize);
-    Signs {
-        bit,
-        agrees: (word == 0) != above,
-    }
-}
+// ---- up, writing
 
-// What the bits say of a rank.
-pub fn signs_of(bits: &[u64], rank: u32) -> Signs
-    requires { ⌜ bitWords ≤ length (now bits) ⌝ ∗ ⌜ rank < ranks ⌝ }
-    ensures { λ r. ⌜ Told (now (bits .entry)) rank (r .bit) (r .agrees) ⌝ }
+// Sets or clears one bit. Answers whether its word was 0, or is 0 now, so that the storey above hears of it.
+fn turn(bits: &mut [u64], on: bool, at: usize, k: usize) -> bool
+    requires { ⌜ Turning (now bits) on at k ⌝ }
+    ensures { λ r. ⌜ (now (bits .exit) ≡ set (now (bits .entry)) at (turned on (word (now (bits .entry)) at) k)) × (r ≡ tellsAbove on (word (now (bits .entry)) at) (turned on (word (now (bits .entry)) at) k)) ⌝ }
 {
-    let group = (rank / 64) as usize;
-    read_signs(bits[TOP], bits[LOW + group], rank)
-}
-
-// ---- writing
-
-// Sets bit j of the storey that begins at base. Answers whether its word was 0, so that the storey above hears of it.
-fn raise(bits: &mut [u64], base: usize, j: usize) -> bool
-    requires { ⌜ Clear (now bits) base j ⌝ }
-    ensures { λ r. ⌜ (now (bits .exit) ≡ putAt true (now (bits .entry)) base j) × (r ≡ eqb (word (now (bits .entry)) (base + j / 64)) 0) ⌝ }
-{
-    let at = base + j / 64;
     let word = bits[at];
-    bits[at] = bitmap::with(word, j % 64);
-    word == 0
-}
-
-// The bits of a rank whose bucket was empty and no longer is.
-pub fn mark(bits: &mut [u64], rank: u32)
-    requires { ⌜ Unmarked (now bits) rank ⌝ }
-    ensures { λ _. ⌜ now (bits .exit) ≡ marked (now (bits .entry)) rank ⌝ }
-{
-    let j = rank as usize;
-    if raise(bits, LOW, j) {
-        raise(bits, TOP, j / 64);
+    if on {
+        bits[at] = bitmap::with(word, k);
+        return word == 0;
     }
-}
-
-// Clears bit j of the storey that begins at base. Answers whether its word is 0 now.
-fn lower(bits: &mut [u64], base: usize, j: usize) -> bool
-    requires { ⌜ Raised (now bits) base j ⌝ }
-    ensures { λ r. ⌜ (now (bits .exit) ≡ putAt false (now (bits .entry)) base j) × (r ≡ eqb (put false (word (now (bits .entry)) (base + j / 64)) (j % 64)) 0) ⌝ }
-{
-    let at = base + j / 64;
-    let left = bitmap::without(bits[at], j % 64);
+    let left = bitmap::without(word, k);
     bits[at] = left;
     left == 0
 }
 
-// The bits of a rank whose bucket is empty now and was not.
-pub fn unmark(bits: &mut [u64], rank: u32)
-    requires { ⌜ Marked (now bits) rank ⌝ }
-    ensures { λ _. ⌜ now (bits .exit) ≡ unmarked (now (bits .entry)) rank ⌝ }
+// The bits of a rank whose bucket was empty and no longer is, or is empty now and was not.
+pub fn mark(bits: &mut [u64], on: bool, base: usize, storeys: usize, tower: usize, rank: u32)
+    requires { ⌜ Tall (now bits) base storeys tower ⌝ ∗ ⌜ rank < 64 ^ storeys ⌝ ∗ ⌜ Turnable on (now bits) (storeysFrom base storeys) rank ⌝ }
+    ensures { λ _. ⌜ now (bits .exit) ≡ edit on (now (bits .entry)) (storeysFrom base storeys) rank ⌝ }
 {
-    let j = rank as usize;
-    if lower(bits, LOW, j) {
-        lower(bits, TOP, j / 64);
+    let mut more = true;
+    let mut d = storeys;
+    let mut i = tower + rank as usize;
+    while more & (0 < d) {
+        let bit = i - 1;
+        more = turn(bits, on, base + bit / 64, bit % 64);
+        i = bit / 64;
+        d -= 1;
     }
 }
 
-// ---- what stands after a pop of a rank that is not done yet: where it empties the bucket, the rank's bits are cleared
-
-fn word_left(bits: &[u64], empties: bool, rank: u32, group: usize) -> u64
-    requires { ⌜ Marked (now bits) rank ⌝ ∗ ⌜ group < 64 ⌝ }
-    ensures { λ r. ⌜ r ≡ word (leftBits (now (bits .entry)) empties rank) (1 + group) ⌝ }
+// The first words, all 0.
+pub fn wipe(bits: &mut [u64], end: usize)
+    requires { ⌜ end ≤ length (now bits) ⌝ }
+    ensures { λ _. ⌜ now (bits .exit) ≡ fill (λ j. 0) end (now (bits .entry)) ⌝ }
 {
-    let word = bits[LOW + group];
-    if !empties {
-        return word;
+    let mut j = 0;
+    while j < end {
+        bits[j] = 0;
+        j += 1;
     }
-    let own = (rank / 64) as usize;
-    if own != group {
-        return word;
-    }
-    bitmap::without(word, (rank % 64) as usize)
 }
 
-pub fn top_left(bits: &[u64], empties: bool, rank: u32) -> u64
-    requires { ⌜ Marked (now bits) rank ⌝ }
-    ensures { λ r. ⌜ r ≡ word (leftBits (now (bits .entry)) empties rank) 0 ⌝ }
+// ---- up, reading what will stand after a pop that is not done yet
+
+// A word with bit k cleared, if it is.
+fn cleared_of(word: u64, clears: bool, k: usize) -> u64
+    requires { ⌜ (k < 64) × (clears ≡ true → bitAt word k ≡ 1) ⌝ }
+    ensures { λ r. ⌜ r ≡ cleared word clears k ⌝ }
 {
-    let top = bits[TOP];
-    if !empties {
-        return top;
+    if clears {
+        return bitmap::without(word, k);
     }
-    let group = (rank / 64) as usize;
-    let word = bitmap::without(bits[LOW + group], (rank % 64) as usize);
-    if word != 0 {
-        return top;
-    }
-    bitmap::without(top, group)
+    word
 }
 
-// What the bits will say of a rank.
-pub fn signs_left(bits: &[u64], empties: bool, gone: u32, rank: u32) -> Signs
-    requires { ⌜ Marked (now bits) gone ⌝ ∗ ⌜ rank < ranks ⌝ }
-    ensures { λ r. ⌜ Told (leftBits (now (bits .entry)) empties gone) rank (r .bit) (r .agrees) ⌝ }
+// The word at place `at`, or the one that is known where it is the same.
+fn word_or(bits: &[u64], at: usize, same: bool, known: u64) -> u64
+    requires { ⌜ at < length (now bits) ⌝ }
+    ensures { λ r. ⌜ r ≡ cond same known (word (now (bits .entry)) at) ⌝ }
 {
-    let top = top_left(bits, empties, gone);
-    let word = word_left(bits, empties, gone, (rank / 64) as usize);
-    read_signs(top, word, rank)
+    if same {
+        return known;
+    }
+    bits[at]
+}
+
+// One storey: the pop's bit there is number gone, the rank's is number own.
+fn climb_one(bits: &[u64], base: usize, c: Climb, gone: usize, own: usize) -> Climb
+    requires { ⌜ Climbable (now bits) base (c .clears) gone own ⌝ }
+    ensures { λ r. ⌜ r ≡ climbed (now (bits .entry)) base c gone own ⌝ }
+{
+    let left = cleared_of(bits[base + gone / 64], c.clears, gone % 64);
+    let word = word_or(bits, base + own / 64, gone / 64 == own / 64, left);
+    let bit = bitmap::bit(word, own % 64);
+    Climb {
+        clears: c.clears & (left == 0),
+        empty: word == 0,
+        agrees: c.agrees & (c.empty != bit),
+        top: word,
+    }
+}
+
+// Whether the bits of rank own agree with what is below them, a bucket that is empty or not and then the words, once the bits
+// of rank gone are cleared where its pop clears them; and the top word then.
+pub fn agreement(
+    bits: &[u64],
+    base: usize,
+    storeys: usize,
+    tower: usize,
+    clears: bool,
+    gone: u32,
+    empty: bool,
+    own: u32,
+) -> Climb
+    requires { ⌜ Tall (now bits) base storeys tower ⌝ ∗ ⌜ gone < 64 ^ storeys ⌝ ∗ ⌜ own < 64 ^ storeys ⌝ ∗ ⌜ (clears ≡ true → Turnable false (now bits) (storeysFrom base storeys) gone) ⌝ }
+    ensures { λ r. ⌜ Agreed (now (bits .entry)) base storeys clears gone empty own (r .agrees) (r .top) ⌝ }
+{
+    let mut c = Climb {
+        clears,
+        empty,
+        agrees: true,
+        top: 0,
+    };
+    let mut d = storeys;
+    let mut g = tower + gone as usize;
+    let mut i = tower + own as usize;
+    while 0 < d {
+        c = climb_one(bits, base, c, g - 1, i - 1);
+        g = (g - 1) / 64;
+        i = (i - 1) / 64;
+        d -= 1;
+    }
+    c
 }

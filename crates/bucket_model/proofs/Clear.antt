@@ -1,193 +1,172 @@
--- A cleared store holds nothing. Assumes nothing.
+-- A cleared store holds nothing.
 use mathlib.Core.Path.{_≡_, refl, sym, ap, subst, _∙_}
 use mathlib.Core.List.{List, [], _∷_}
 use mathlib.Core.Logic.{_⊎_, ⊎-elim}
-use Prim.Native.Nat.{ℕ, zero, suc, _+_, _-_, _*_, _/_, _%_, _^_, _≤_, _<_}
+use Prim.Native.Nat.{ℕ, zero, suc, _+_, _-_, _/_, _%_, _^_, _≤_, _<_}
 use native.Mathlib.Nat.{pow-suc}
 use native.Mathlib.Omega.{arith}
-use borrow.Author.Tests.{eq-eqb, ne-eqb, lt-ltb, le-ltb, le-leb, lt-leb}
+use borrow.Author.Tests.{eq-eqb, ne-eqb, lt-ltb, le-ltb}
 use lib.Dec.{lit<}
 use lib.ListN.{length}
 use Rattle.laws.specs.Lists.{All}
 use Rattle.laws.specs.Updates.{upd, is-upd}
 use Rattle.strip.specs.declared.Answer.the-variants.{Done}
 use Rattle.bitmap.specs.Bits.{bitAt}
-use Rattle.bucket_model.specs.Layout.{ranks, depth, nodes, nodeWords, storeWords, word, tailAt, tagAt, nextAt, freeAt, heldAt}
-use Rattle.bucket_model.specs.Storeys.{wordsOf, storeysOf, bitWords}
-use Rattle.bucket_model.specs.Calls.{fill, blankWord, cleared, outcome}
+use Rattle.bucket_model.specs.Layout.{Lay, Laid, loadWords, nodeWords, cell, bitWords, storeWords, wordsOf, word, headAt, nextAt, noLoad}
+use Rattle.bucket_model.specs.Storeys.{storeysFrom}
+use Rattle.bucket_model.specs.Calls.{fill, blankCell, blankWord, cleared, outcome}
 use Rattle.bucket_model.specs.Causes.{Shaped}
-use Rattle.bucket_model.proofs.Facts.{shape-test}
+use Rattle.bucket_model.proofs.Facts.{shape-means}
 use Rattle.bucket_model.proofs.Fill.{fill-at, fill-length}
+use Rattle.bucket_model.proofs.Load.{load-blank}
 use Rattle.bucket_model.proofs.Tells.{zero-bit, nz, up}
-use Rattle.bucket_model.proofs.Tower.{Tower, Ranks}
+use Rattle.bucket_model.proofs.Tower.{Tower}
 use Rattle.bucket_model.proofs.Chain.{Node, node, Seg, Distinct, Mine, Chain, Chains}
-use Rattle.bucket_model.proofs.Store.{Id, lastLink, Words}
-use Rattle.bucket_model.proofs.Pop.{Queue, flag, tags, total-zero, shaped-after}
+use Rattle.bucket_model.proofs.Linked.{Id, lastLink}
+use Rattle.bucket_model.proofs.Order.{order-none}
+use Rattle.bucket_model.proofs.Queue.{flag, loads, area, Holds, shaped-after}
 
--- the nodes i, i + 1, .., k of them, each with tag 0
-abbrev pub row : ℕ → ℕ → List Node
+-- ---- the free chain: the nodes i, i + 1, .., j of them, each without a load
+
+abbrev row : ℕ → ℕ → List Node
 row i zero = []
-row i (suc k) = node i 0 ∷ row (suc i) k
+row i (suc j) = node i noLoad ∷ row (suc i) j
 
-row-length : (i k : ℕ) → length (row i k) ≡ k
+row-length : (i j : ℕ) → length (row i j) ≡ j
 row-length i zero = refl
-row-length i (suc k) = ap suc (row-length (suc i) k)
+row-length i (suc j) = ap suc (row-length (suc i) j)
 
-row-all : (P : Node → Type 0) (i k : ℕ) → ((l : ℕ) → i ≤ l → l < i + k → P (node l 0)) → All P (row i k)
+row-all : (P : Node → Type 0) (i j : ℕ) → ((l : ℕ) → i ≤ l → l < i + j → P (node l noLoad)) → All P (row i j)
 row-all P i zero h = tt
-row-all P i (suc k) h = (h i (omega arith) (omega arith), row-all P (suc i) k (λ l a b. h l (omega arith) (omega arith)))
+row-all P i (suc j) h = (h i (omega arith) (omega arith), row-all P (suc i) j (λ l a b. h l (omega arith) (omega arith)))
 
-row-once : (i k : ℕ) → Distinct (row i k)
+row-once : (i j : ℕ) → Distinct (row i j)
 row-once i zero = tt
-row-once i (suc k) = (row-all _ (suc i) k (λ l a b e. omega arith), row-once (suc i) k)
+row-once i (suc j) = (row-all _ (suc i) j (λ l a b e. omega arith), row-once (suc i) j)
+
+-- the first link of j nodes from i on
+abbrev firstOf : ℕ → ℕ → ℕ
+firstOf zero i = 0
+firstOf (suc j) i = i
 
 -- ---- the words of a cleared store
 
-module _ (n : ℕ) where
-  blank-low : (j : ℕ) → j < nodes → blankWord n j ≡ 0
+module _ (k : Lay) (laid : Laid k) where
+  blank-low : (j : ℕ) → j < k .stem + nodeWords → blankWord k j ≡ 0
   unfolding blankWord
-  blank-low j h = simp (lt-ltb j nodes h)
+  blank-low j h = simp (lt-ltb j (k .stem + nodeWords) h)
 
-  blank-free : blankWord n (freeAt n) ≡ 1
+  blank-free : blankWord k (k .free) ≡ 1
   unfolding blankWord
-  blank-free = rw (le-ltb (freeAt n) nodes (omega arith), eq-eqb (freeAt n - nodes) (nodeWords * n) (omega arith)) refl
+  blank-free = rw (le-ltb (k .free) (k .stem + nodeWords) (omega (arith, laid .pool)), le-ltb (k .free) (k .free) (omega arith), eq-eqb (k .free) (k .free) refl) refl
 
-  blank-held : blankWord n (heldAt n) ≡ 0
+  blank-held : blankWord k (k .held) ≡ 0
   unfolding blankWord
   blank-held =
-      rw (le-ltb (heldAt n) nodes (omega arith), ne-eqb (heldAt n - nodes) (nodeWords * n) (λ e. omega arith), ne-eqb ((heldAt n - nodes) % nodeWords) 0 (λ e. omega arith), le-leb (nodeWords * n) (heldAt n - nodes + 1) (omega arith))
-      refl
+      rw (le-ltb (k .held) (k .stem + nodeWords) (omega (arith, laid .pool, laid .held)), le-ltb (k .held) (k .free) (omega (arith, laid .held)), ne-eqb (k .held) (k .free) (λ e. omega (arith, laid .held))) refl
 
-  blank-tag : (l : ℕ) → 1 ≤ l → l ≤ n → blankWord n (tagAt l) ≡ 0
+  blank-node : (l i : ℕ) → 1 ≤ l → l ≤ k .nodes → i < nodeWords → blankWord k (cell (k .stem) l i) ≡ blankCell (k .nodes) l i
   unfolding blankWord
-  blank-tag l a b =
-      rw (le-ltb (tagAt l) nodes (omega arith), ne-eqb (tagAt l - nodes) (nodeWords * n) (λ e. omega arith), eq-eqb ((tagAt l - nodes) % nodeWords) 0 (omega arith)) refl
+  blank-node l i a b h =
+      let j = cell (k .stem) l i in
+      let d : (cell (k .stem) l i - k .stem) / nodeWords ≡ l = omega arith in
+      let m : (cell (k .stem) l i - k .stem) % nodeWords ≡ i = omega arith in
+      rw (le-ltb j (k .stem + nodeWords) (omega arith), lt-ltb j (k .free) (omega (arith, laid .pool)), d, m) refl
 
-  blank-last : (l : ℕ) → 1 ≤ l → l ≡ n → blankWord n (nextAt l) ≡ 0
-  unfolding blankWord
-  blank-last l a b =
-      rw (le-ltb (nextAt l) nodes (omega arith), ne-eqb (nextAt l - nodes) (nodeWords * n) (λ e. omega arith), ne-eqb ((nextAt l - nodes) % nodeWords) 0 (λ e. omega arith), le-leb (nodeWords * n) (nextAt l - nodes + 1) (omega arith))
-      refl
+  module _ (w : List ℕ) (is : (j : ℕ) → j < storeWords k → word w j ≡ blankWord k j) where
+    -- the free chain from node i on: j nodes, up to the last
+    row-seg : (p i j : ℕ) → 1 ≤ i → i + j ≡ suc (k .nodes) → word w p ≡ firstOf j i → Seg (k .stem) w p (row i j)
+    row-seg p i zero a b e = e
+    row-seg p i (suc j) a b e = (
+      e,
+      load-blank (k .stem) w i (λ c c<. is (cell (k .stem) i c) (omega (arith, laid .pool, laid .held)) ∙ blank-node i c a (omega arith) (omega arith) ∙ no-load c c<),
+      row-seg (nextAt k i) (suc i) j (omega arith) (omega arith) (is (nextAt k i) (omega (arith, laid .pool, laid .held)) ∙ blank-node i loadWords a (omega arith) (omega arith) ∙ next j b),
+    )
+      where
+        no-load : (c : ℕ) → c < loadWords → blankCell (k .nodes) i c ≡ 0
+        no-load c h = rw (ne-eqb c loadWords (λ e. omega arith)) refl
 
-  blank-next : (l : ℕ) → 1 ≤ l → l < n → blankWord n (nextAt l) ≡ suc l
-  unfolding blankWord
-  blank-next l a b =
-      rw (le-ltb (nextAt l) nodes (omega arith), ne-eqb (nextAt l - nodes) (nodeWords * n) (λ e. omega arith), ne-eqb ((nextAt l - nodes) % nodeWords) 0 (λ e. omega arith), lt-leb (nodeWords * n) (nextAt l - nodes + 1) (omega arith))
-      (omega arith)
-
--- the first link of k nodes from i on
-abbrev start : ℕ → ℕ → ℕ
-start zero i = 0
-start (suc k) i = i
-
--- the free chain from the node i on: k nodes, up to n
-row-seg : (s : List ℕ) (n : ℕ) → ((j : ℕ) → j < storeWords n → word s j ≡ blankWord n j) → (p i k : ℕ) → 1 ≤ i → i + k ≡ suc n
-    → (word s p ≡ start k i) → Seg s p (row i k)
-row-seg s n w p i zero a b e = e
-row-seg s n w p i (suc k) a b e =
-    (e, w (tagAt i) (omega arith) ∙ blank-tag n i a (omega arith), row-seg s n w (nextAt i) (suc i) k (omega arith) (omega arith) (w (nextAt i) (omega arith) ∙ next k b))
-  where
-    next : (k : ℕ) → i + suc k ≡ suc n → blankWord n (nextAt i) ≡ start k (suc i)
-    next zero b = blank-last n i a (omega arith)
-    next (suc k) b = blank-next n i a (omega arith)
+        next : (j : ℕ) → i + suc j ≡ suc (k .nodes) → blankCell (k .nodes) i loadWords ≡ firstOf j (suc i)
+        next zero b = rw (eq-eqb i (k .nodes) (omega arith)) refl
+        next (suc j) b = rw (ne-eqb i (k .nodes) (λ e. omega arith)) (omega arith)
 
 -- ---- bits that are all 0, at any depth
 
--- f is 0 wherever the lowest of d storeys has a bit
-abbrev Zero : ℕ → (ℕ → ℕ) → Type 0
-Zero zero f = Unit {0}
-Zero (suc d) f = (j : ℕ) → j < 64 * 64 ^ d → f j ≡ 0
-
-blank-storeys : (b : List ℕ) (d : ℕ) → wordsOf d ≤ length b → ((j : ℕ) → j < wordsOf d → word b j ≡ 0) → (f : ℕ → ℕ) → Zero d f → Tower b (storeysOf d) f
-blank-storeys b zero l h f z = tt
-blank-storeys b (suc d) l h f z = (
+blank-from : (b : List ℕ) (o d : ℕ) → o + wordsOf d ≤ length b → ((a : ℕ) → o ≤ a → a < o + wordsOf d → word b a ≡ 0) → (f : ℕ → ℕ) → ((j : ℕ) → j < 64 ^ d → f j ≡ 0) → Tower b (storeysFrom o d) f
+blank-from b o zero l h f z = tt
+blank-from b o (suc d) l h f z = (
   record {
-    long = l;
-    fits = λ i k. rw (h (wordsOf d + i) (omega arith)) (lit< tt);
-    bit = λ j k. ap (λ (w : ℕ). bitAt w (j % 64)) (h (wordsOf d + j / 64) (omega arith)) ∙ zero-bit (j % 64) ∙ sym (z j k);
+    long = omega arith;
+    fits = λ i k. rw (h (o + wordsOf d + i) (omega arith) (omega arith)) (lit< tt);
+    bit = λ j k. ap (λ (w : ℕ). bitAt w (j % 64)) (h (o + wordsOf d + j / 64) (omega arith) (omega arith)) ∙ zero-bit (j % 64) ∙ sym (z j (omega (arith, pow-suc 64 d)));
   },
-  blank-storeys b d (omega arith) (λ j k. h j (omega arith)) (up b (wordsOf d)) (below d (λ j k. ap nz (h (wordsOf d + j) (omega arith)))),
+  blank-from b o d (omega arith) (λ a k m. h a k (omega arith)) (up b (o + wordsOf d)) (λ j k. ap nz (h (o + wordsOf d + j) (omega arith) (omega arith))),
 )
-  where
-    below : (d : ℕ) → ((j : ℕ) → j < 64 ^ d → up b (wordsOf d) j ≡ 0) → Zero d (up b (wordsOf d))
-    below zero k = tt
-    below (suc d) k = λ j l. k j (omega (arith, pow-suc 64 d))
 
-module _ (b s : List ℕ) (n : ℕ) (H : Shaped b s n) where
+module _ (k : Lay) (laid : Laid k) (b w : List ℕ) (H : Shaped k b w) where
   abbrev B : List ℕ
-  B = fill (λ j. 0) bitWords b
+  B = fill (λ j. 0) (bitWords k) b
 
-  abbrev S : List ℕ
-  S = fill (blankWord n) (storeWords n) s
+  abbrev W : List ℕ
+  W = fill (blankWord k) (storeWords k) w
 
-  word-is : (j : ℕ) → j < storeWords n → word S j ≡ blankWord n j
-  word-is j h = fill-at (blankWord n) (storeWords n) s j h (H .words)
-
-  bit-is : (j : ℕ) → j < bitWords → word B j ≡ 0
-  bit-is j h = fill-at (λ j. 0) bitWords b j h (H .bits)
+  word-is : (j : ℕ) → j < storeWords k → word W j ≡ blankWord k j
+  word-is j h = fill-at (blankWord k) (storeWords k) w j h (H .words)
 
   abbrev none : ℕ → List Node
   none r = []
 
   abbrev q0 : ℕ → List Node
-  q0 = upd none (freeAt n) (row 1 n)
+  q0 = upd none (k .free) (row 1 (k .nodes))
 
   abbrev own0 : ℕ → ℕ
-  own0 l = freeAt n
+  own0 l = k .free
 
-  q0-rank : (r : ℕ) → r < ranks → q0 r ≡ []
-  q0-rank r h = is-upd none (freeAt n) (row 1 n) .else r (λ e. omega arith)
+  q0-list : (c : ℕ) → c < k .heads + k .ranks → q0 c ≡ []
+  q0-list c h = is-upd none (k .free) (row 1 (k .nodes)) .else c (λ e. omega (arith, laid .lists, laid .pool))
 
-  q0-free : q0 (freeAt n) ≡ row 1 n
-  q0-free = is-upd none (freeAt n) (row 1 n) .here
+  q0-free : q0 (k .free) ≡ row 1 (k .nodes)
+  q0-free = is-upd none (k .free) (row 1 (k .nodes)) .here
 
-  one : (k : ℕ) → 1 ≤ k → 1 ≡ start k 1
+  one : (n : ℕ) → 1 ≤ n → 1 ≡ firstOf n 1
   one zero h = absurd (omega arith)
-  one (suc k) h = refl
+  one (suc n) h = refl
 
-  chains0 : Chains S (Id n) n own0 q0
-  chains0 c i = ⊎-elim rank free i
+  chains0 : Chains (k .stem) W (Id (area k laid)) (k .nodes) own0 q0
+  chains0 c i = ⊎-elim list free i
     where
-      rank : c < ranks → Chain S n own0 c (q0 c)
-      rank h = subst (Chain S n own0 c) (sym (q0-rank c h)) (record { seg = word-is c (omega arith) ∙ blank-low n c (omega arith); mine = tt; once = tt })
+      list : (k .heads ≤ c) × (c < k .heads + k .ranks) → Chain (k .stem) W (k .nodes) own0 c (q0 c)
+      list h =
+          subst (Chain (k .stem) W (k .nodes) own0 c) (sym (q0-list c (h .1)))
+          (record { seg = word-is c (omega (arith, h .1, laid .lists, laid .pool, laid .held)) ∙ blank-low k laid c (omega (arith, h .1, laid .lists)); mine = tt; once = tt })
 
-      free : c ≡ freeAt n → Chain S n own0 c (q0 c)
+      free : c ≡ k .free → Chain (k .stem) W (k .nodes) own0 c (q0 c)
       free e =
-          subst (λ (c : ℕ). Chain S n own0 c (q0 c)) (sym e)
-          (subst (Chain S n own0 (freeAt n)) (sym q0-free)
+          subst (λ (c : ℕ). Chain (k .stem) W (k .nodes) own0 c (q0 c)) (sym e)
+          (subst (Chain (k .stem) W (k .nodes) own0 (k .free)) (sym q0-free)
           (record {
-            seg = row-seg S n word-is (freeAt n) 1 n (omega arith) (omega arith) (word-is (freeAt n) (omega arith) ∙ blank-free n ∙ one n (H .low));
-            mine = row-all (Mine own0 n (freeAt n)) 1 n (λ l a b. record { owner = refl; low = a; high = omega arith });
-            once = row-once 1 n;
+            seg = row-seg k laid W word-is (k .free) 1 (k .nodes) (omega arith) (omega arith) (word-is (k .free) (omega (arith, laid .held)) ∙ blank-free k laid ∙ one (k .nodes) (H .low));
+            mine = row-all (Mine own0 (k .nodes) (k .free)) 1 (k .nodes) (λ l a b. record { owner = refl; low = a; high = omega arith });
+            once = row-once 1 (k .nodes);
           }))
 
-  words0 : Words S n q0 own0
-  words0 =
-      record {
-        long = omega (arith, H .words, fill-length (blankWord n) (storeWords n) s);
-        chains = chains0;
-        tails = λ r h. word-is (tailAt r) (omega arith) ∙ blank-low n (tailAt r) (omega arith) ∙ ap lastLink (sym (q0-rank r h));
-        held = held0 ∙ sym (total-zero q0 ranks q0-rank);
-        room = omega (arith, held0, ap length q0-free, row-length 1 n);
-      }
-    where
-      held0 : word S (heldAt n) ≡ 0
-      held0 = word-is (heldAt n) (omega arith) ∙ blank-held n
-
-  bits0 : Ranks B (λ r. flag (q0 r))
-  bits0 = blank-storeys B depth (omega (arith, H .bits, fill-length (λ j. 0) bitWords b)) bit-is (λ r. flag (q0 r)) (λ j h. ap flag (q0-rank j h))
-
-  pub clear-queue : Queue B S n (λ r. [])
-  clear-queue =
+  pub clear-holds : Holds k laid B W []
+  clear-holds =
       record {
         q = q0;
         own = own0;
-        shape = shaped-after b s B S n (fill-length (λ j. 0) bitWords b) (fill-length (blankWord n) (storeWords n) s) H;
-        words = words0;
-        bits = bits0;
-        is = λ r h. ap tags (sym (q0-rank r h));
+        shaped = shaped-after k b w B W (fill-length (λ j. 0) (bitWords k) b) (fill-length (blankWord k) (storeWords k) w) H;
+        linked = record {
+          long = omega (arith, H .words, fill-length (blankWord k) (storeWords k) w, laid .held);
+          chains = chains0;
+          tails = λ c h. word-is (c + k .ranks) (omega (arith, h .1, laid .lists, laid .pool, laid .held)) ∙ blank-low k laid (c + k .ranks) (omega (arith, h .1, laid .lists)) ∙ ap lastLink (sym (q0-list c (h .1)));
+        };
+        bits = record { tower = blank-from B (k .bits) (k .storeys) (omega (arith, H .bits, laid .tower, fill-length (λ j. 0) (bitWords k) b)) (λ a l m. fill-at (λ j. 0) (bitWords k) b a (omega (arith, laid .tower)) (H .bits)) (λ r. flag (q0 (headAt k r))) (λ j l. ap flag (q0-list (headAt k j) (omega (arith, laid .ranks)))) };
+        is = sym (order-none (λ r. loads (q0 (headAt k r))) 0 (k .ranks) (λ j a l. ap loads (q0-list (headAt k j) (omega arith))));
+        held = word-is (k .held) (omega arith) ∙ blank-held k laid;
+        room = omega (arith, ap length q0-free, row-length 1 (k .nodes));
       }
 
-  pub clear-done : cleared b s n ≡ outcome Done B S
+  pub clear-done : cleared k b w ≡ outcome Done B W
   unfolding cleared
-  clear-done = simp (shape-test b s n H)
+  clear-done = simp (shape-means k b w .holds H)

@@ -1,53 +1,51 @@
--- Words that a push leaves. Assumes nothing.
+-- Words that a push leaves.
 use mathlib.Core.Path.{_≡_, _∙_}
-use mathlib.Core.List.{List}
-use Prim.Native.Nat.{ℕ, _≤_, _<_}
+use mathlib.Core.List.{List, [], _∷_}
+use Prim.Native.Nat.{ℕ, _+_, _≤_, _<_}
 use native.Mathlib.Decide.{ℕ-discrete}
 use native.Mathlib.Omega.{arith}
 use borrow.Author.Tests.{eq-eqb, ne-eqb}
 use lib.ListN.{length, set, length-set}
 use Rattle.strip.specs.declared.Element.{Element}
-use Rattle.bucket_model.specs.Layout.{ranks, storeWords, word, tailAt, tagAt, nextAt, freeAt}
-use Rattle.bucket_model.specs.Calls.{Room, slotOf, joinedWords}
-use Rattle.bucket_model.proofs.Writes.{same, other}
+use Rattle.bucket_model.specs.Layout.{Lay, Laid, storeWords, word, write, tailAt, nextAt, loadWrites, loadOf}
+use Rattle.bucket_model.specs.Calls.{Room, linkAt, joinedWords}
+use Rattle.bucket_model.proofs.Load.{load-misses}
+use Rattle.bucket_model.proofs.Writes.{other, write-other, write-length, write-here}
 
-pub joined-length : (w : List ℕ) (n : ℕ) (e : Element) (to : Room) → length (joinedWords w n e to) ≡ length w
-unfolding joinedWords
-joined-length w n e to = simp length-set
+-- the link to a newcomer stands below the free link
+pub link< : (k : Lay) (laid : Laid k) (r tail : ℕ) → r < k .ranks → tail ≤ k .nodes → linkAt k r tail < k .free
+unfolding linkAt
+link< k laid r tail h l = elim (ℕ-discrete tail 0) [ yes e ↦ rw (eq-eqb tail 0 e) (omega (arith, laid .lists, laid .pool)) | no e ↦ rw (ne-eqb tail 0 e) (omega (arith, laid .pool)) ]
 
--- the slot for a newcomer's link stands below the free link
-pub slot< : (r tail n : ℕ) → r < ranks → tail ≤ n → slotOf r tail < freeAt n
-unfolding slotOf
-slot< r tail n h l = elim (ℕ-discrete tail 0) [ yes e ↦ rw (eq-eqb tail 0 e) (omega arith) | no e ↦ rw (ne-eqb tail 0 e) (omega arith) ]
-
-module _ (w : List ℕ) (n : ℕ) (e : Element) (to : Room) (r< : e .rank .0 < ranks) where
+module _ (k : Lay) (laid : Laid k) (w : List ℕ) (e : Element) (to : Room) (r< : e .rank .0 < k .ranks) where
   abbrev free : ℕ
-  free = word w (freeAt n)
+  free = word w (k .free)
 
   abbrev w1 : List ℕ
-  w1 = set w (freeAt n) (to .next)
+  w1 = set w (k .free) (to .next)
 
   abbrev w2 : List ℕ
-  w2 = set w1 (tagAt free) (e .tag .0)
+  w2 = write w1 (loadWrites (k .stem) free (loadOf e))
 
-  abbrev w3 : List ℕ
-  w3 = set w2 (nextAt free) 0
+  abbrev links : List (ℕ × ℕ)
+  links = (nextAt k free, 0) ∷ (linkAt k (e .rank .0) (to .tail), free) ∷ []
 
   abbrev w4 : List ℕ
-  w4 = set w3 (slotOf (e .rank .0) (to .tail)) free
-
-  abbrev w5 : List ℕ
-  w5 = set w4 (tailAt (e .rank .0)) free
+  w4 = write w2 links
 
   -- the node taken is the tail
-  pub joined-tail : storeWords n ≤ length w → word (joinedWords w n e to) (tailAt (e .rank .0)) ≡ word w (freeAt n)
+  pub joined-tail : storeWords k ≤ length w → word (joinedWords k w e to) (tailAt k (e .rank .0)) ≡ word w (k .free)
   unfolding joinedWords
-  joined-tail h = other w5 _ _ (tailAt (e .rank .0)) (λ p. omega arith) ∙ same w4 (tailAt (e .rank .0)) free (simp length-set (omega arith))
+  joined-tail h =
+      let n : length w4 ≡ length w = write-length w2 links ∙ write-length w1 (loadWrites (k .stem) free (loadOf e)) ∙ length-set w _ _ in
+      write-here w4 (tailAt k (e .rank .0)) free ((k .held, _) ∷ []) (omega (arith, laid .lists, laid .pool, laid .held)) ((λ p. omega (arith, laid .lists, laid .pool, laid .held)), tt)
 
   -- past the store nothing is written
-  pub joined-past : word w (freeAt n) ≤ n → to .tail ≤ n → (i : ℕ) → storeWords n ≤ i → word (joinedWords w n e to) i ≡ word w i
+  pub joined-past : word w (k .free) ≤ k .nodes → to .tail ≤ k .nodes → (i : ℕ) → storeWords k ≤ i → word (joinedWords k w e to) i ≡ word w i
   unfolding joinedWords
   joined-past f≤ t≤ i l =
-      let k = slot< (e .rank .0) (to .tail) n r< t≤ in
-      other w5 _ _ i (λ p. omega arith) ∙ other w4 _ _ i (λ p. omega arith) ∙ other w3 _ _ i (λ p. omega arith)
-      ∙ other w2 _ _ i (λ p. omega arith) ∙ other w1 _ _ i (λ p. omega arith) ∙ other w _ _ i (λ p. omega arith)
+      let b = link< k laid (e .rank .0) (to .tail) r< t≤ in
+      write-other w4 ((tailAt k (e .rank .0), free) ∷ (k .held, word w (k .held) + 1) ∷ []) i ((λ p. omega (arith, laid .lists, laid .pool, laid .held)), ((λ p. omega arith), tt))
+      ∙ write-other w2 links i ((λ p. omega (arith, laid .pool, laid .held)), ((λ p. omega (arith, laid .held)), tt))
+      ∙ write-other w1 (loadWrites (k .stem) free (loadOf e)) i (load-misses (k .stem) free (loadOf e) i (λ j j< p. omega (arith, laid .pool, laid .held)))
+      ∙ other w _ _ i (λ p. omega (arith, laid .held))

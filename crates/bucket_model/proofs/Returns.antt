@@ -1,138 +1,136 @@
--- Each answer of each call, from what the call has tested. Assumes nothing.
+-- Each answer of each call, from what the call has tested.
 use mathlib.Core.Path.{_≡_}
 use mathlib.Core.Bool.{true, false}
 use mathlib.Core.List.{List}
 use Prim.Native.Nat.{ℕ, _≤_, _<_}
-use borrow.Author.Tests.{eq-eqb, ne-eqb, lt-ltb, le-ltb}
-use Rattle.strip.specs.Answers.{element}
+use borrow.Author.Tests.{eq-eqb, ne-eqb, lt-ltb, le-ltb, lt-leb, le-leb}
 use Rattle.strip.specs.declared.Element.{Element}
 use Rattle.strip.specs.declared.Refusal.the-variants.{BadShape, Damaged, BadRank, Full, Empty}
 use Rattle.strip.specs.declared.Answer.the-variants.{Done, Out}
 use Rattle.strip.specs.declared.Count.the-variants.{Held, Unknown}
-use Rattle.bucket_model.specs.Layout.{ranks, storeWords, word, tagAt, heldAt}
-use Rattle.bucket_model.specs.Storeys.{bitWords}
-use Rattle.bucket_model.specs.Calls.{outcome, refused, shapely, wholly, fill, blankWord, cleared, heldCount, Low, Room, lowOf, takenBits, takenWords, popFound, popped, bucketOf, joinedBits, joinedWords, pushFound, pushed, roomOf, replaceFound, replaceJoined, replaced}
+use Rattle.bucket_model.specs.Layout.{Lay, bitWords, storeWords, word}
+use Rattle.bucket_model.specs.Calls.{outcome, refused, isShaped, isWhole, fill, blankWord, cleared, heldCount, Lowest, Room, lowestOf, takenBits, takenWords, given, popFound, popped, roomOf, joinedBits, joinedWords, pushFound, pushed, roomAfter, replaceFound, replaceJoined, replaced}
 
-module _ (b w : List ℕ) (n : ℕ) where
+module _ (k : Lay) (b w : List ℕ) where
   -- ---- clear
 
-  pub clear-bad : shapely b w n ≡ false → refused BadShape b w ≡ cleared b w n
+  pub clear-bad : isShaped k b w ≡ false → refused BadShape b w ≡ cleared k b w
   unfolding cleared
   clear-bad s = simp s
 
-  pub clear-done : (b′ w′ : List ℕ) → shapely b w n ≡ true → b′ ≡ fill (λ j. 0) bitWords b → w′ ≡ fill (blankWord n) (storeWords n) w → outcome Done b′ w′ ≡ cleared b w n
+  pub clear-done : (b′ w′ : List ℕ) → isShaped k b w ≡ true → b′ ≡ fill (λ j. 0) (bitWords k) b → w′ ≡ fill (blankWord k) (storeWords k) w → outcome Done b′ w′ ≡ cleared k b w
   unfolding cleared
   clear-done b′ w′ s p q = simp (s, p, q)
 
   -- ---- held
 
-  pub held-bad : shapely b w n ≡ false → Unknown BadShape ≡ heldCount b w n
+  pub held-bad : isShaped k b w ≡ false → Unknown BadShape ≡ heldCount k b w
   unfolding heldCount
   held-bad s = simp s
 
-  pub held-torn : shapely b w n ≡ true → wholly b w n ≡ false → Unknown Damaged ≡ heldCount b w n
+  pub held-torn : isShaped k b w ≡ true → isWhole k b w ≡ false → Unknown Damaged ≡ heldCount k b w
   unfolding heldCount
-  held-torn s k = simp (s, k)
+  held-torn s j = simp (s, j)
 
-  pub held-told : (h : ℕ) → shapely b w n ≡ true → wholly b w n ≡ true → h ≡ word w (heldAt n) → Held h ≡ heldCount b w n
+  pub held-told : (h : ℕ) → isShaped k b w ≡ true → isWhole k b w ≡ true → h ≡ word w (k .held) → Held h ≡ heldCount k b w
   unfolding heldCount
-  held-told h s k e = simp (s, k, e)
+  held-told h s j e = simp (s, j, e)
 
   -- ---- pop
 
-  pub pop-bad : shapely b w n ≡ false → refused BadShape b w ≡ popped b w n
+  pub pop-bad : isShaped k b w ≡ false → refused BadShape b w ≡ popped k b w
   unfolding popped
   pop-bad s = simp s
 
-  module _ (s : shapely b w n ≡ true) where
-    pub pop-torn : wholly b w n ≡ false → refused Damaged b w ≡ popped b w n
+  module _ (s : isShaped k b w ≡ true) where
+    pub pop-torn : isWhole k b w ≡ false → refused Damaged b w ≡ popped k b w
     unfolding popped
-    pop-torn k = simp (s, k)
+    pop-torn j = simp (s, j)
 
-    module _ (k : wholly b w n ≡ true) where
-      pub pop-none : word w (heldAt n) ≡ 0 → refused Empty b w ≡ popped b w n
+    module _ (j : isWhole k b w ≡ true) where
+      pub pop-none : word w (k .held) ≡ 0 → refused Empty b w ≡ popped k b w
       unfolding popped
-      pop-none z = simp (s, k, eq-eqb _ _ z)
+      pop-none z = simp (s, j, eq-eqb _ _ z)
 
-      module _ (z : word w (heldAt n) ≡ 0 → ⊥) (low : Low) (e : low ≡ lowOf b w n) where
-        pub pop-unfit : low .good ≡ false → refused Damaged b w ≡ popped b w n
+      module _ (z : word w (k .held) ≡ 0 → ⊥) (low : Lowest) (e : low ≡ lowestOf k b w) where
+        pub pop-unfit : low .good ≡ false → refused Damaged b w ≡ popped k b w
         unfolding popped popFound
-        pop-unfit g = simp (s, k, ne-eqb _ _ z, ← e, g)
+        pop-unfit g = simp (s, j, ne-eqb _ _ z, ← e, g)
 
-        pub pop-out : (t : ℕ) (b′ w′ : List ℕ) → low .good ≡ true → t ≡ word w (tagAt (low .head)) → b′ ≡ takenBits b low → w′ ≡ takenWords w n low
-            → outcome (Out (element (low .rank) t)) b′ w′ ≡ popped b w n
+        pub pop-out : (y : Element) (b′ w′ : List ℕ) → low .good ≡ true → y ≡ given k w low → b′ ≡ takenBits k b low → w′ ≡ takenWords k w low
+            → outcome (Out y) b′ w′ ≡ popped k b w
         unfolding popped popFound
-        pop-out t b′ w′ g u p q = simp (s, k, ne-eqb _ _ z, ← e, g, u, p, q)
+        pop-out y b′ w′ g u p q = simp (s, j, ne-eqb _ _ z, ← e, g, u, p, q)
 
   -- ---- push
 
   module _ (x : Element) where
-    pub push-bad : shapely b w n ≡ false → refused BadShape b w ≡ pushed b w n x
+    pub push-bad : isShaped k b w ≡ false → refused BadShape b w ≡ pushed k b w x
     unfolding pushed
     push-bad s = simp s
 
-    module _ (s : shapely b w n ≡ true) where
-      pub push-high : ranks ≤ x .rank .0 → refused BadRank b w ≡ pushed b w n x
+    module _ (s : isShaped k b w ≡ true) where
+      pub push-high : k .ranks ≤ x .rank .0 → refused BadRank b w ≡ pushed k b w x
       unfolding pushed
       push-high l = simp (s, le-ltb _ _ l)
 
-      module _ (l : x .rank .0 < ranks) where
-        pub push-torn : wholly b w n ≡ false → refused Damaged b w ≡ pushed b w n x
+      module _ (l : x .rank .0 < k .ranks) where
+        pub push-torn : isWhole k b w ≡ false → refused Damaged b w ≡ pushed k b w x
         unfolding pushed
-        push-torn k = simp (s, lt-ltb _ _ l, k)
+        push-torn j = simp (s, lt-ltb _ _ l, j)
 
-        module _ (k : wholly b w n ≡ true) where
-          pub push-full : word w (heldAt n) ≡ n → refused Full b w ≡ pushed b w n x
+        module _ (j : isWhole k b w ≡ true) where
+          pub push-full : word w (k .held) ≡ k .nodes → refused Full b w ≡ pushed k b w x
           unfolding pushed
-          push-full z = simp (s, lt-ltb _ _ l, k, eq-eqb _ _ z)
+          push-full z = simp (s, lt-ltb _ _ l, j, eq-eqb _ _ z)
 
-          module _ (z : word w (heldAt n) ≡ n → ⊥) (to : Room) (e : to ≡ bucketOf b w n (x .rank .0)) where
-            pub push-unfit : to .good ≡ false → refused Damaged b w ≡ pushed b w n x
+          module _ (z : word w (k .held) ≡ k .nodes → ⊥) (to : Room) (e : to ≡ roomOf k b w (x .rank .0)) where
+            pub push-unfit : to .good ≡ false → refused Damaged b w ≡ pushed k b w x
             unfolding pushed pushFound
-            push-unfit g = simp (s, lt-ltb _ _ l, k, ne-eqb _ _ z, ← e, g)
+            push-unfit g = simp (s, lt-ltb _ _ l, j, ne-eqb _ _ z, ← e, g)
 
-            pub push-done : (b′ w′ : List ℕ) → to .good ≡ true → b′ ≡ joinedBits b x to → w′ ≡ joinedWords w n x to → outcome Done b′ w′ ≡ pushed b w n x
+            pub push-done : (b′ w′ : List ℕ) → to .good ≡ true → b′ ≡ joinedBits k b x to → w′ ≡ joinedWords k w x to → outcome Done b′ w′ ≡ pushed k b w x
             unfolding pushed pushFound
-            push-done b′ w′ g p q = simp (s, lt-ltb _ _ l, k, ne-eqb _ _ z, ← e, g, p, q)
+            push-done b′ w′ g p q = simp (s, lt-ltb _ _ l, j, ne-eqb _ _ z, ← e, g, p, q)
 
   -- ---- replace
 
   module _ (x : Element) where
-    pub replace-bad : shapely b w n ≡ false → refused BadShape b w ≡ replaced b w n x
+    pub replace-bad : isShaped k b w ≡ false → refused BadShape b w ≡ replaced k b w x
     unfolding replaced
     replace-bad s = simp s
 
-    module _ (s : shapely b w n ≡ true) where
-      pub replace-high : ranks ≤ x .rank .0 → refused BadRank b w ≡ replaced b w n x
+    module _ (s : isShaped k b w ≡ true) where
+      pub replace-high : k .ranks ≤ x .rank .0 → refused BadRank b w ≡ replaced k b w x
       unfolding replaced
       replace-high l = simp (s, le-ltb _ _ l)
 
-      module _ (l : x .rank .0 < ranks) where
-        pub replace-torn : wholly b w n ≡ false → refused Damaged b w ≡ replaced b w n x
+      module _ (l : x .rank .0 < k .ranks) where
+        pub replace-torn : isWhole k b w ≡ false → refused Damaged b w ≡ replaced k b w x
         unfolding replaced
-        replace-torn k = simp (s, lt-ltb _ _ l, k)
+        replace-torn j = simp (s, lt-ltb _ _ l, j)
 
-        module _ (k : wholly b w n ≡ true) where
-          pub replace-none : word w (heldAt n) ≡ 0 → outcome (Out x) b w ≡ replaced b w n x
+        module _ (j : isWhole k b w ≡ true) where
+          pub replace-none : word w (k .held) ≡ 0 → outcome (Out x) b w ≡ replaced k b w x
           unfolding replaced
-          replace-none z = simp (s, lt-ltb _ _ l, k, eq-eqb _ _ z)
+          replace-none z = simp (s, lt-ltb _ _ l, j, eq-eqb _ _ z)
 
-          module _ (z : word w (heldAt n) ≡ 0 → ⊥) (low : Low) (e : low ≡ lowOf b w n) where
-            pub replace-unfit : low .good ≡ false → refused Damaged b w ≡ replaced b w n x
+          module _ (z : word w (k .held) ≡ 0 → ⊥) (low : Lowest) (e : low ≡ lowestOf k b w) where
+            pub replace-unfit : low .good ≡ false → refused Damaged b w ≡ replaced k b w x
             unfolding replaced replaceFound
-            replace-unfit g = simp (s, lt-ltb _ _ l, k, ne-eqb _ _ z, ← e, g)
+            replace-unfit g = simp (s, lt-ltb _ _ l, j, ne-eqb _ _ z, ← e, g)
 
             module _ (g : low .good ≡ true) where
-              pub replace-back : x .rank .0 < low .rank → outcome (Out x) b w ≡ replaced b w n x
+              pub replace-back : x .rank .0 < low .rank → outcome (Out x) b w ≡ replaced k b w x
               unfolding replaced replaceFound
-              replace-back h = simp (s, lt-ltb _ _ l, k, ne-eqb _ _ z, ← e, g, lt-ltb _ _ h)
+              replace-back h = simp (s, lt-ltb _ _ l, j, ne-eqb _ _ z, ← e, g, lt-leb _ _ h)
 
-              module _ (h : low .rank ≤ x .rank .0) (to : Room) (f : to ≡ roomOf (takenBits b low) (takenWords w n low) n (x .rank .0)) where
-                pub replace-shut : to .good ≡ false → refused Damaged b w ≡ replaced b w n x
+              module _ (h : low .rank ≤ x .rank .0) (to : Room) (f : to ≡ roomAfter k (takenBits k b low) (takenWords k w low) (x .rank .0)) where
+                pub replace-shut : to .good ≡ false → refused Damaged b w ≡ replaced k b w x
                 unfolding replaced replaceFound replaceJoined
-                replace-shut j = simp (s, lt-ltb _ _ l, k, ne-eqb _ _ z, ← e, g, le-ltb _ _ h, ← f, j)
+                replace-shut u = simp (s, lt-ltb _ _ l, j, ne-eqb _ _ z, ← e, g, le-leb _ _ h, ← f, u)
 
-                pub replace-out : (t : ℕ) (b1 w1 b′ w′ : List ℕ) → to .good ≡ true → t ≡ word w (tagAt (low .head)) → b1 ≡ takenBits b low → w1 ≡ takenWords w n low
-                    → b′ ≡ joinedBits b1 x to → w′ ≡ joinedWords w1 n x to → outcome (Out (element (low .rank) t)) b′ w′ ≡ replaced b w n x
+                pub replace-out : (y : Element) (b1 w1 b′ w′ : List ℕ) → to .good ≡ true → y ≡ given k w low → b1 ≡ takenBits k b low → w1 ≡ takenWords k w low
+                    → b′ ≡ joinedBits k b1 x to → w′ ≡ joinedWords k w1 x to → outcome (Out y) b′ w′ ≡ replaced k b w x
                 unfolding replaced replaceFound replaceJoined
-                replace-out t b1 w1 b′ w′ j u p1 q1 p q = simp (s, lt-ltb _ _ l, k, ne-eqb _ _ z, ← e, g, le-ltb _ _ h, ← f, j, u, p, q, p1, q1)
+                replace-out y b1 w1 b′ w′ v u p1 q1 p q = simp (s, lt-ltb _ _ l, j, ne-eqb _ _ z, ← e, g, le-leb _ _ h, ← f, v, u, p, q, p1, q1)

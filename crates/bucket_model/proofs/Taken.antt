@@ -1,105 +1,90 @@
--- The words that a pop leaves, one by one. Assumes nothing.
+-- The words that a pop leaves, one by one.
 use mathlib.Core.Path.{_≡_, refl, _∙_}
-use mathlib.Core.List.{List}
-use Prim.Native.Nat.{ℕ, _-_, _*_, _≤_, _<_}
+use mathlib.Core.List.{List, [], _∷_}
+use Prim.Native.Nat.{ℕ, _+_, _-_, _≤_, _<_}
 use native.Mathlib.Decide.{ℕ-discrete, decLt}
 use native.Mathlib.Omega.{arith}
 use borrow.Author.Tests.{eq-eqb, ne-eqb, lt-ltb, le-ltb}
 use lib.ListN.{length, set, length-set}
-use Rattle.bucket_model.specs.Layout.{ranks, storeWords, word, headAt, tailAt, tagAt, nextAt, freeAt, heldAt}
+use Rattle.bucket_model.specs.Layout.{Lay, Laid, loadWords, nodeWords, cell, storeWords, word, write, headAt, tailAt, nextAt, loadWrites, noLoad}
 use Rattle.bucket_model.specs.Checks.{nextOf}
-use Rattle.bucket_model.specs.Calls.{Low, lastOf, takenWords}
-use Rattle.bucket_model.proofs.Writes.{same, other}
+use Rattle.bucket_model.specs.Calls.{Lowest, tailLeft, takenWords}
+use Rattle.bucket_model.proofs.Load.{load-misses}
+use Rattle.bucket_model.proofs.Writes.{same, other, write-other, write-length, write-here}
+use Rattle.bucket_model.proofs.Pop.{next-in}
 
--- ---- the next of a node
-
-pub next-in : (w : List ℕ) (n l : ℕ) → 1 ≤ l → l ≤ n → nextOf w n l ≡ word w (nextAt l)
-unfolding nextOf
-next-in w n l h k = simp (ne-eqb l 0 (λ e. omega arith), le-ltb n l k)
-
-pub next-none : (w : List ℕ) (n : ℕ) → nextOf w n 0 ≡ 0
-unfolding nextOf
-next-none w n = refl
-
-pub next-past : (w : List ℕ) (n l : ℕ) → n < l → nextOf w n l ≡ 0
-unfolding nextOf
-next-past w n l h = simp (ne-eqb l 0 (λ e. omega arith), lt-ltb n l h)
-
--- ---- lengths
-
-pub taken-length : (w : List ℕ) (n : ℕ) (low : Low) → length (takenWords w n low) ≡ length w
-unfolding takenWords
-taken-length w n low = simp length-set
-
--- ---- the words, where the node is one of the pool's and the rank is one of the ranks
-
-module _ (w : List ℕ) (n : ℕ) (low : Low) (long : storeWords n ≤ length w) where
-  abbrev w1 : List ℕ
-  w1 = set w (headAt (low .rank)) (low .next)
+module _ (k : Lay) (laid : Laid k) (w : List ℕ) (low : Lowest) (long : storeWords k ≤ length w) where
+  -- the first two writes
+  abbrev ends : List (ℕ × ℕ)
+  ends = (headAt k (low .rank), low .next) ∷ (tailAt k (low .rank), tailLeft (low .next) (low .tail)) ∷ []
 
   abbrev w2 : List ℕ
-  w2 = set w1 (tailAt (low .rank)) (lastOf (low .next) (low .tail))
+  w2 = write w ends
 
   abbrev w3 : List ℕ
-  w3 = set w2 (tagAt (low .head)) 0
+  w3 = write w2 (loadWrites (k .stem) (low .head) noLoad)
 
   abbrev w4 : List ℕ
-  w4 = set w3 (nextAt (low .head)) (word w (freeAt n))
+  w4 = set w3 (nextAt k (low .head)) (word w (k .free))
 
-  abbrev w5 : List ℕ
-  w5 = set w4 (freeAt n) (low .head)
+  long2 : length w2 ≡ length w
+  long2 = simp length-set
 
-  abbrev w6 : List ℕ
-  w6 = set w5 (heldAt n) (word w (heldAt n) - 1)
+  long3 : length w3 ≡ length w
+  long3 = write-length w2 (loadWrites (k .stem) (low .head) noLoad) ∙ long2
 
-  pub held-after : word (takenWords w n low) (heldAt n) ≡ word w (heldAt n) - 1
+  long4 : length w4 ≡ length w
+  long4 = length-set w3 _ _ ∙ long3
+
+  pub held-after : word (takenWords k w low) (k .held) ≡ word w (k .held) - 1
   unfolding takenWords
-  held-after = same w5 (heldAt n) (word w (heldAt n) - 1) (simp length-set (omega arith))
+  held-after = same (set w4 (k .free) (low .head)) (k .held) _ (omega (arith, long4, length-set w4 (k .free) (low .head)))
 
-  pub free-after : word (takenWords w n low) (freeAt n) ≡ low .head
+  pub free-after : word (takenWords k w low) (k .free) ≡ low .head
   unfolding takenWords
-  free-after = other w5 _ _ (freeAt n) (λ e. omega arith) ∙ same w4 (freeAt n) (low .head) (simp length-set (omega arith))
+  free-after = write-here w4 (k .free) (low .head) ((k .held, word w (k .held) - 1) ∷ []) (omega (arith, long4, laid .held)) ((λ e. omega (arith, laid .held)), tt)
 
-  module _ (r< : low .rank < ranks) (h> : 1 ≤ low .head) (h≤ : low .head ≤ n) where
-    -- below the nodes
-    low-words : (j : ℕ) → j < 2 * ranks → word w6 j ≡ word w2 j
-    low-words j l =
-        other w5 _ _ j (λ e. omega arith) ∙ other w4 _ _ j (λ e. omega arith) ∙ other w3 _ _ j (λ e. omega arith) ∙ other w2 _ _ j (λ e. omega arith)
+  -- a word that is none of the node's, and neither free link nor held
+  before-node : (a : ℕ) → ((i : ℕ) → i < nodeWords → a ≡ cell (k .stem) (low .head) i → ⊥) → (a ≡ k .free → ⊥) → (a ≡ k .held → ⊥) → word (takenWords k w low) a ≡ word w2 a
+  unfolding takenWords
+  before-node a h f g =
+      write-other w4 ((k .free, low .head) ∷ (k .held, word w (k .held) - 1) ∷ []) a (f, (g, tt)) ∙ other w3 _ _ a (h loadWords (omega arith))
+      ∙ write-other w2 (loadWrites (k .stem) (low .head) noLoad) a (load-misses (k .stem) (low .head) noLoad a (λ i l. h i (omega arith)))
 
-    pub head-own : word (takenWords w n low) (headAt (low .rank)) ≡ low .next
-    unfolding takenWords
-    head-own = low-words (headAt (low .rank)) (omega arith) ∙ other w1 _ _ (headAt (low .rank)) (λ e. omega arith) ∙ same w (headAt (low .rank)) (low .next) (omega arith)
+  module _ (r< : low .rank < k .ranks) (h> : 1 ≤ low .head) (h≤ : low .head ≤ k .nodes) where
+    -- heads and tails stand before the nodes
+    low-words : (j : ℕ) → j < k .stem + nodeWords → word (takenWords k w low) j ≡ word w2 j
+    low-words j l = before-node j (λ i i< e. omega arith) (λ e. omega (arith, laid .pool)) (λ e. omega (arith, laid .pool, laid .held))
 
-    pub head-else : (r : ℕ) → r < ranks → (r ≡ low .rank → ⊥) → word (takenWords w n low) (headAt r) ≡ word w (headAt r)
-    unfolding takenWords
-    head-else r l e = low-words (headAt r) (omega arith) ∙ other w1 _ _ (headAt r) (λ p. omega arith) ∙ other w _ _ (headAt r) (λ p. e (omega arith))
+    pub head-own : word (takenWords k w low) (headAt k (low .rank)) ≡ low .next
+    head-own = low-words (headAt k (low .rank)) (omega (arith, laid .lists)) ∙ write-here w (headAt k (low .rank)) (low .next) ((tailAt k (low .rank), _) ∷ []) (omega (arith, laid .lists, laid .pool, laid .held)) ((λ e. omega arith), tt)
 
-    pub tail-own : word (takenWords w n low) (tailAt (low .rank)) ≡ lastOf (low .next) (low .tail)
-    unfolding takenWords
-    tail-own = low-words (tailAt (low .rank)) (omega arith) ∙ same w1 (tailAt (low .rank)) (lastOf (low .next) (low .tail)) (simp length-set (omega arith))
+    pub head-else : (r : ℕ) → r < k .ranks → (r ≡ low .rank → ⊥) → word (takenWords k w low) (headAt k r) ≡ word w (headAt k r)
+    head-else r l e = low-words (headAt k r) (omega (arith, laid .lists)) ∙ write-other w ends (headAt k r) ((λ p. e (omega arith)), ((λ p. omega arith), tt))
 
-    pub tail-else : (r : ℕ) → r < ranks → (r ≡ low .rank → ⊥) → word (takenWords w n low) (tailAt r) ≡ word w (tailAt r)
-    unfolding takenWords
-    tail-else r l e = low-words (tailAt r) (omega arith) ∙ other w1 _ _ (tailAt r) (λ p. e (omega arith)) ∙ other w _ _ (tailAt r) (λ p. omega arith)
+    pub tail-own : word (takenWords k w low) (tailAt k (low .rank)) ≡ tailLeft (low .next) (low .tail)
+    tail-own = low-words (tailAt k (low .rank)) (omega (arith, laid .lists)) ∙ same (set w (headAt k (low .rank)) (low .next)) (tailAt k (low .rank)) _ (simp length-set (omega (arith, laid .lists, laid .pool, laid .held)))
 
-    next-word : (l : ℕ) → (l ≡ low .head → ⊥) → 1 ≤ l → l ≤ n → word w6 (nextAt l) ≡ word w (nextAt l)
+    pub tail-else : (r : ℕ) → r < k .ranks → (r ≡ low .rank → ⊥) → word (takenWords k w low) (tailAt k r) ≡ word w (tailAt k r)
+    tail-else r l e = low-words (tailAt k r) (omega (arith, laid .lists)) ∙ write-other w ends (tailAt k r) ((λ p. omega arith), ((λ p. e (omega arith)), tt))
+
+    next-word : (l : ℕ) → (l ≡ low .head → ⊥) → 1 ≤ l → l ≤ k .nodes → word (takenWords k w low) (nextAt k l) ≡ word w (nextAt k l)
     next-word l h a c =
-        other w5 _ _ (nextAt l) (λ e. omega arith) ∙ other w4 _ _ (nextAt l) (λ e. omega arith) ∙ other w3 _ _ (nextAt l) (λ e. h (omega arith))
-        ∙ other w2 _ _ (nextAt l) (λ e. omega arith) ∙ other w1 _ _ (nextAt l) (λ e. omega arith) ∙ other w _ _ (nextAt l) (λ e. omega arith)
+        before-node (nextAt k l) (λ i i< e. h (omega arith)) (λ e. omega (arith, laid .pool)) (λ e. omega (arith, laid .pool, laid .held))
+        ∙ write-other w ends (nextAt k l) ((λ e. omega (arith, laid .lists)), ((λ e. omega (arith, laid .lists)), tt))
 
-    pub next-own : nextOf (takenWords w n low) n (low .head) ≡ word w (freeAt n)
+    pub next-own : nextOf k (takenWords k w low) (low .head) ≡ word w (k .free)
     unfolding takenWords
     next-own =
-        next-in w6 n (low .head) h> h≤ ∙ other w5 _ _ (nextAt (low .head)) (λ p. omega arith) ∙ other w4 _ _ (nextAt (low .head)) (λ p. omega arith)
-        ∙ same w3 (nextAt (low .head)) (word w (freeAt n)) (simp length-set (omega arith))
+        next-in k (takenWords k w low) (low .head) h> h≤
+        ∙ write-here w3 (nextAt k (low .head)) (word w (k .free)) ((k .free, low .head) ∷ (k .held, word w (k .held) - 1) ∷ []) (omega (arith, long3, laid .pool, laid .held)) ((λ e. omega (arith, laid .pool)), ((λ e. omega (arith, laid .pool, laid .held)), tt))
 
-    pub next-else : (l : ℕ) → (l ≡ low .head → ⊥) → nextOf (takenWords w n low) n l ≡ nextOf w n l
-    unfolding takenWords nextOf
-    next-else l e = elim (ℕ-discrete l 0) [ yes p ↦ rw (eq-eqb l 0 p) refl | no p ↦ rw (ne-eqb l 0 p) (elim (decLt n l) [ yes q ↦ rw (lt-ltb n l q) refl | no q ↦ rw (le-ltb n l (omega arith)) (next-word l e (omega arith) (omega arith)) ]) ]
+    pub next-else : (l : ℕ) → (l ≡ low .head → ⊥) → nextOf k (takenWords k w low) l ≡ nextOf k w l
+    unfolding nextOf
+    next-else l e = elim (ℕ-discrete l 0) [ yes p ↦ rw (eq-eqb l 0 p) refl | no p ↦ rw (ne-eqb l 0 p) (elim (decLt (k .nodes) l) [ yes q ↦ rw (lt-ltb (k .nodes) l q) refl | no q ↦ rw (le-ltb (k .nodes) l (omega arith)) (next-word l e (omega arith) (omega arith)) ]) ]
 
     -- past the store nothing is written
-    pub taken-past : (i : ℕ) → storeWords n ≤ i → word (takenWords w n low) i ≡ word w i
-    unfolding takenWords
+    pub taken-past : (i : ℕ) → storeWords k ≤ i → word (takenWords k w low) i ≡ word w i
     taken-past i l =
-        other w5 _ _ i (λ e. omega arith) ∙ other w4 _ _ i (λ e. omega arith) ∙ other w3 _ _ i (λ e. omega arith)
-        ∙ other w2 _ _ i (λ e. omega arith) ∙ other w1 _ _ i (λ e. omega arith) ∙ other w _ _ i (λ e. omega arith)
+        before-node i (λ j j< e. omega (arith, laid .pool, laid .held)) (λ e. omega (arith, laid .held)) (λ e. omega arith)
+        ∙ write-other w ends i ((λ e. omega (arith, laid .lists, laid .pool, laid .held)), ((λ e. omega (arith, laid .lists, laid .pool, laid .held)), tt))

@@ -13,9 +13,10 @@ use lib.ListN.{length, set, length-set}
 use Rattle.laws.specs.Tests.{cond-path}
 use Rattle.laws.specs.Updates.{Upd, same-upd}
 use Rattle.bitmap.specs.Bits.{bitAt, set-le}
-use Rattle.bucket_model.specs.Layout.{ranks, depth, word}
-use Rattle.bucket_model.specs.Storeys.{Storey, wordsOf, storeysOf, storeys, wordOf, put, goesUp, edit, find, marked, unmarked, lowestRank}
-use Rattle.bucket_model.specs.Causes.{Iff, Opens, lowestBit, Agrees}
+use Rattle.laws.specs.Means.{Iff}
+use Rattle.bucket_model.specs.Layout.{Lay, Laid, word, wordsOf}
+use Rattle.bucket_model.specs.Storeys.{Storey, storey, storeysFrom, storeysAt, wordOf, turned, bitFor, tellsAbove, edit, find, marked, lowestRank}
+use Rattle.bucket_model.specs.Causes.{Opens, Agrees}
 use Rattle.bucket_model.proofs.Writes.{other}
 use Rattle.bucket_model.proofs.Tells.{nz, nz-one, nz-zero, Tells, storey-ext, storey-off, storey-more, storey-less, storey-down, storey-none, Down, up, up-word}
 
@@ -47,7 +48,7 @@ tower-ext b [] f f′ h z = tt
 tower-ext b (p ∷ ps) f f′ h z = (storey-ext b (p .base) (p .words) f f′ h (z .0), z .1)
 
 -- a bit's word is a bit of the storey above
-deeper : (p : Storey) (qs : List Storey) → Above p qs → (j : ℕ) → j < 64 * p .words → Bits qs (j / 64)
+pub deeper : (p : Storey) (qs : List Storey) → Above p qs → (j : ℕ) → j < 64 * p .words → Bits qs (j / 64)
 deeper p [] a j h = tt
 deeper p (u ∷ us) a j h = omega arith
 
@@ -71,36 +72,32 @@ tower-off b (p ∷ ps) f a v s o z = (
 
 -- ---- one bit more or less, and in the storeys above as far as a word was, or becomes, 0
 
-abbrev pub bitFor : Bool → ℕ
-bitFor true = 1
-bitFor false = 0
-
-edit-length : (on : Bool) (b : List ℕ) (ps : List Storey) (j : ℕ) → length (edit on b ps j) ≡ length b
+pub edit-length : (on : Bool) (b : List ℕ) (ps : List Storey) (j : ℕ) → length (edit on b ps j) ≡ length b
 edit-length on b [] j = refl
-edit-length on b (p ∷ ps) j = cond-path length (goesUp on w v) (edit on b1 ps (j / 64)) b1 (length b) (edit-length on b1 ps (j / 64) ∙ length-set b _ _) (length-set b _ _)
+edit-length on b (p ∷ ps) j = cond-path length (tellsAbove on w v) (edit on b1 ps (j / 64)) b1 (length b) (edit-length on b1 ps (j / 64) ∙ length-set b _ _) (length-set b _ _)
   where
     w : ℕ
     w = word b (p .base + j / 64)
 
     v : ℕ
-    v = put on (word b (p .base + j / 64)) (j % 64)
+    v = turned on (word b (p .base + j / 64)) (j % 64)
 
     b1 : List ℕ
-    b1 = set b (p .base + j / 64) (put on (word b (p .base + j / 64)) (j % 64))
+    b1 = set b (p .base + j / 64) (turned on (word b (p .base + j / 64)) (j % 64))
 
 -- an edit leaves the words outside alone
 pub edit-off : (on : Bool) (b : List ℕ) (ps : List Storey) (j a : ℕ) → Bits ps j → Shape ps → Outside a ps → word (edit on b ps j) a ≡ word b a
 edit-off on b [] j a h s o = refl
-edit-off on b (p ∷ ps) j a h s o = go (goesUp on w v) (edit-off on b1 ps (j / 64) a (deeper p ps (s .1) j h) (s .2) (o .1))
+edit-off on b (p ∷ ps) j a h s o = go (tellsAbove on w v) (edit-off on b1 ps (j / 64) a (deeper p ps (s .1) j h) (s .2) (o .1))
   where
     w : ℕ
     w = word b (p .base + j / 64)
 
     v : ℕ
-    v = put on (word b (p .base + j / 64)) (j % 64)
+    v = turned on (word b (p .base + j / 64)) (j % 64)
 
     b1 : List ℕ
-    b1 = set b (p .base + j / 64) (put on (word b (p .base + j / 64)) (j % 64))
+    b1 = set b (p .base + j / 64) (turned on (word b (p .base + j / 64)) (j % 64))
 
     here : word b1 a ≡ word b a
     here = other b (p .base + j / 64) _ a (λ e. o .0 (j / 64) (omega arith) (sym e))
@@ -110,20 +107,20 @@ edit-off on b (p ∷ ps) j a h s o = go (goesUp on w v) (edit-off on b1 ps (j / 
     go false e = here
 
 storey-edit : (on : Bool) (b : List ℕ) (base m : ℕ) (f f′ : ℕ → ℕ) (j : ℕ) → j < 64 * m → f j ≡ bitFor (not on) → Upd f f′ j (bitFor on)
-    → Tells b base m f → Tells (set b (base + j / 64) (put on (word b (base + j / 64)) (j % 64))) base m f′
+    → Tells b base m f → Tells (set b (base + j / 64) (turned on (word b (base + j / 64)) (j % 64))) base m f′
 storey-edit true b base m f f′ j h e u z = storey-more b base m f f′ j h e u z
 storey-edit false b base m f f′ j h e u z = storey-less b base m f f′ j h e u z
 
 up-edit : (on : Bool) (b : List ℕ) (base m : ℕ) (f : ℕ → ℕ) (z : Tells b base m f) (j : ℕ) (h : j < 64 * m)
-    → Upd (up b base) (up (set b (base + j / 64) (put on (word b (base + j / 64)) (j % 64))) base) (j / 64) (nz (put on (word b (base + j / 64)) (j % 64)))
-up-edit on b base m f z j h = up-word b base m f z j h (put on (word b (base + j / 64)) (j % 64))
+    → Upd (up b base) (up (set b (base + j / 64) (turned on (word b (base + j / 64)) (j % 64))) base) (j / 64) (nz (turned on (word b (base + j / 64)) (j % 64)))
+up-edit on b base m f z j h = up-word b base m f z j h (turned on (word b (base + j / 64)) (j % 64))
 
 -- what the storey above sees of a word w with bit k before and after
 record Seen (on : Bool) (w v : ℕ) : Type 0 where
-  goes : goesUp on w v ≡ true → (nz w ≡ bitFor (not on)) × (nz v ≡ bitFor on)
-  stays : goesUp on w v ≡ false → nz w ≡ nz v
+  goes : tellsAbove on w v ≡ true → (nz w ≡ bitFor (not on)) × (nz v ≡ bitFor on)
+  stays : tellsAbove on w v ≡ false → nz w ≡ nz v
 
-seen : (on : Bool) (w k : ℕ) → bitAt w k ≡ bitFor (not on) → Seen on w (put on w k)
+seen : (on : Bool) (w k : ℕ) → bitAt w k ≡ bitFor (not on) → Seen on w (turned on w k)
 seen true w k e =
     record {
       goes = λ g. (ap nz (eqb-true w 0 g), nz-one (w + 2 ^ k) (omega (arith, pow-pos k)));
@@ -140,16 +137,16 @@ seen false w k e =
 pub edits : (on : Bool) (b : List ℕ) (ps : List Storey) (f f′ : ℕ → ℕ) (j : ℕ) → Bits ps j → Shape ps → f j ≡ bitFor (not on) → Upd f f′ j (bitFor on)
     → Tower b ps f → Tower (edit on b ps j) ps f′
 edits on b [] f f′ j h s e u z = tt
-edits on b (p ∷ ps) f f′ j h s e u z = go (goesUp on w v) refl (λ q. edits on b1 ps (up b (p .base)) (up b1 (p .base)) (j / 64) (deeper p ps (s .1) j h) (s .2) (q .0) (subst (Upd (up b (p .base)) (up b1 (p .base)) (j / 64)) (q .1) n1) top1)
+edits on b (p ∷ ps) f f′ j h s e u z = go (tellsAbove on w v) refl (λ q. edits on b1 ps (up b (p .base)) (up b1 (p .base)) (j / 64) (deeper p ps (s .1) j h) (s .2) (q .0) (subst (Upd (up b (p .base)) (up b1 (p .base)) (j / 64)) (q .1) n1) top1)
   where
     w : ℕ
     w = word b (p .base + j / 64)
 
     v : ℕ
-    v = put on (word b (p .base + j / 64)) (j % 64)
+    v = turned on (word b (p .base + j / 64)) (j % 64)
 
     b1 : List ℕ
-    b1 = set b (p .base + j / 64) (put on (word b (p .base + j / 64)) (j % 64))
+    b1 = set b (p .base + j / 64) (turned on (word b (p .base + j / 64)) (j % 64))
 
     low1 : Tells b1 (p .base) (p .words) f′
     low1 = storey-edit on b (p .base) (p .words) f f′ j h e u (z .0)
@@ -166,7 +163,7 @@ edits on b (p ∷ ps) f f′ j h s e u z = go (goesUp on w v) refl (λ q. edits 
     kept : (i : ℕ) → i < p .words → word (edit on b1 ps (j / 64)) (p .base + i) ≡ word b1 (p .base + i)
     kept i l = edit-off on b1 ps (j / 64) (p .base + i) (deeper p ps (s .1) j h) (s .2) (s .0 i l)
 
-    go : (t : Bool) → goesUp on w v ≡ t → ((nz w ≡ bitFor (not on)) × (nz v ≡ bitFor on) → Tower (edit on b1 ps (j / 64)) ps (up b1 (p .base)))
+    go : (t : Bool) → tellsAbove on w v ≡ t → ((nz w ≡ bitFor (not on)) × (nz v ≡ bitFor on) → Tower (edit on b1 ps (j / 64)) ps (up b1 (p .base)))
         → Tells (cond t (edit on b1 ps (j / 64)) b1) (p .base) (p .words) f′ × Tower (cond t (edit on b1 ps (j / 64)) b1) ps (up (cond t (edit on b1 ps (j / 64)) b1) (p .base))
     go true g ih =
         (storey-same b1 (edit on b1 ps (j / 64)) (p .base) (p .words) f′ (edit-length on b1 ps (j / 64)) kept low1, lift p ps b1 (edit on b1 ps (j / 64)) (s .1) kept (ih (sees .goes g)))
@@ -226,90 +223,104 @@ nz-iff : (w : ℕ) → Iff (w ≡ 0) (nz w ≡ 0)
 nz-iff zero = record { to = λ e. refl; from = λ e. refl }
 nz-iff (suc w) = record { to = λ e. absurd (omega arith); from = λ e. absurd (omega arith) }
 
-pub agrees : (b : List ℕ) (ps : List Storey) (f : ℕ → ℕ) (j : ℕ) → Shape ps → Bits ps j → Tower b ps f → Agrees b ps j
-agrees b [] f j s h z = tt
-agrees b (p ∷ []) f j s h z = tt
-agrees b (p ∷ u ∷ us) f j s h z =
-    let k = deeper p (u ∷ us) (s .1) j h in
-    (subst (λ (x : ℕ). Iff (wordOf b p j ≡ 0) (x ≡ 0)) (sym (z .1 .0 .bit (j / 64) k)) (nz-iff (wordOf b p j)), agrees b (u ∷ us) (up b (p .base)) (j / 64) (s .2) k (z .1))
+pub agrees : (b : List ℕ) (ps : List Storey) (f : ℕ → ℕ) (j : ℕ) (E : Type 0) → Shape ps → Bits ps j → Iff E (f j ≡ 0) → Tower b ps f → Agrees b ps j E
+agrees b [] f j E s h e z = tt
+agrees b (p ∷ ps) f j E s h e z =
+    (subst (λ (x : ℕ). Iff E (x ≡ 0)) (sym (z .0 .bit j h)) e, agrees b ps (up b (p .base)) (j / 64) (wordOf b p j ≡ 0) (s .2) (deeper p ps (s .1) j h) (nz-iff (wordOf b p j)) (z .1))
 
--- ---- the storeys of every depth
+-- ---- the storeys from word o on, to any depth
 
--- the storey below d others
-abbrev storey : ℕ → Storey
-storey d = record { base = wordsOf d; words = 64 ^ d }
+pub past-all : (o d a : ℕ) → o + wordsOf d ≤ a → Outside a (storeysFrom o d)
+past-all o zero a h = tt
+past-all o (suc d) a h = ((λ i l e. omega arith), past-all o d a (omega arith))
 
-pub past-all : (d a : ℕ) → wordsOf d ≤ a → Outside a (storeysOf d)
-past-all zero a h = tt
-past-all (suc d) a h = ((λ i l e. omega arith), past-all d a (omega arith))
+above : (o d : ℕ) → Above (storey o d) (storeysFrom o d)
+above o zero = tt
+above o (suc d) = omega (arith, pow-suc 64 d)
 
-above : (d : ℕ) → Above (storey d) (storeysOf d)
-above zero = tt
-above (suc d) = omega (arith, pow-suc 64 d)
+pub shape-from : (o d : ℕ) → Shape (storeysFrom o d)
+shape-from o zero = tt
+shape-from o (suc d) = ((λ i l. past-all o d (o + wordsOf d + i) (omega arith)), above o d, shape-from o d)
 
-pub shape-of : (d : ℕ) → Shape (storeysOf d)
-shape-of zero = tt
-shape-of (suc d) = ((λ i l. past-all d (wordsOf d + i) (omega arith)), above d, shape-of d)
+-- the top storey is word o
+some-from : (b : List ℕ) (o d : ℕ) → 0 < word b o → Some b (storey o d) (storeysFrom o d)
+some-from b o zero h = (refl, subst (λ (a : ℕ). 0 < word b a) (omega arith) h)
+some-from b o (suc d) h = some-from b o d h
 
--- the top storey is word 0
-pub some-of : (b : List ℕ) (d : ℕ) → 0 < word b 0 → Some b (storey d) (storeysOf d)
-some-of b zero h = (refl, h)
-some-of b (suc d) h = some-of b d h
+-- as many bits as ranks
+pub bits-from : (o d r : ℕ) → r < 64 ^ d → Bits (storeysFrom o d) r
+bits-from o zero r h = tt
+bits-from o (suc d) r h = omega (arith, pow-suc 64 d)
 
--- where word 0 is 0, nothing is set
-pub none-of : (b : List ℕ) (d : ℕ) (f : ℕ → ℕ) → Tower b (storeysOf (suc d)) f → word b 0 ≡ 0 → (j : ℕ) → j < 64 * 64 ^ d → f j ≡ 0
-none-of b zero f z e j h = ap f (omega arith) ∙ storey-none b 0 1 f 0 (omega arith) e (z .0) j (omega arith)
-none-of b (suc d) f z e j h =
+-- where the top word is 0, nothing is set
+none-from : (b : List ℕ) (o d : ℕ) (f : ℕ → ℕ) → Tower b (storeysFrom o (suc d)) f → word b o ≡ 0 → (j : ℕ) → j < 64 * 64 ^ d → f j ≡ 0
+none-from b o zero f z e j h = ap f (omega arith) ∙ storey-none b (o + 0) 1 f 0 (omega arith) (ap (word b) (omega arith) ∙ e) (z .0) j (omega arith)
+none-from b o (suc d) f z e j h =
     let k : j / 64 < 64 ^ suc d = omega arith in
-    let a = none-of b d (up b (wordsOf (suc d))) (z .1) e (j / 64) (omega (arith, pow-suc 64 d)) in
-    let c = storey-none b (wordsOf (suc d)) (64 ^ suc d) f (j / 64) k (nz-zero (word b (wordsOf (suc d) + j / 64)) a) (z .0) (j % 64) (omega arith) in
+    let a = none-from b o d (up b (o + wordsOf (suc d))) (z .1) e (j / 64) (omega (arith, pow-suc 64 d)) in
+    let c = storey-none b (o + wordsOf (suc d)) (64 ^ suc d) f (j / 64) k (nz-zero (word b (o + wordsOf (suc d) + j / 64)) a) (z .0) (j % 64) (omega arith) in
     ap f (omega arith) ∙ c
 
--- ---- the queue's ranks
+-- ---- the bits of a queue's ranks
 
--- how many storeys stand above the lowest
-abbrev higher : ℕ
-higher = depth - 1
+-- the storeys have a bit for each rank, f r for rank r
+pub record Ranks (k : Lay) (b : List ℕ) (f : ℕ → ℕ) : Type 0 where
+  pub tower : Tower b (storeysAt k) f
 
--- how many words the lowest storey has
-abbrev pub lowWords : ℕ
-lowWords = 64 ^ higher
+module _ (k : Lay) (laid : Laid k) (b : List ℕ) (f : ℕ → ℕ) where
+  pub ranks-ext : (f′ : ℕ → ℕ) → ((j : ℕ) → j < k .ranks → f′ j ≡ f j) → Ranks k b f → Ranks k b f′
+  ranks-ext f′ h z = record { tower = go (k .storeys) (laid .deep) (λ j l. h j (omega (arith, laid .ranks))) (z .tower) }
+    where
+      go : (d : ℕ) → 1 ≤ d → ((j : ℕ) → j < 64 ^ d → f′ j ≡ f j) → Tower b (storeysFrom (k .bits) d) f → Tower b (storeysFrom (k .bits) d) f′
+      go zero l h z = absurd (omega arith)
+      go (suc d) l h z = tower-ext b (storeysFrom (k .bits) (suc d)) f f′ (λ j l. h j (omega (arith, pow-suc 64 d))) z
 
-abbrev pub Ranks : List ℕ → (ℕ → ℕ) → Type 0
-Ranks b f = Tower b storeys f
+  module _ (z : Ranks k b f) where
+    pub ranks-none : word b (k .bits) ≡ 0 → (j : ℕ) → j < k .ranks → f j ≡ 0
+    ranks-none e j h = go (k .storeys) (laid .deep) (z .tower) (omega (arith, laid .ranks))
+      where
+        go : (d : ℕ) → 1 ≤ d → Tower b (storeysFrom (k .bits) d) f → j < 64 ^ d → f j ≡ 0
+        go zero l z h = absurd (omega arith)
+        go (suc d) l z h = none-from b (k .bits) d f z e j (omega (arith, pow-suc 64 d))
 
-pub ranks-ext : (b : List ℕ) (f f′ : ℕ → ℕ) → ((j : ℕ) → j < ranks → f′ j ≡ f j) → Ranks b f → Ranks b f′
-ranks-ext b f f′ h z = tower-ext b storeys f f′ h z
+    -- the lowest rank whose bit is set
+    pub record Lowest : Type 0 where
+      pub way : Opens b (storeysAt k)
+      pub within : lowestRank k b < k .ranks
+      pub here : f (lowestRank k b) ≡ 1
+      pub below : (i : ℕ) → i < lowestRank k b → f i ≡ 0
 
-pub ranks-none : (b : List ℕ) (f : ℕ → ℕ) → Ranks b f → word b 0 ≡ 0 → (j : ℕ) → j < ranks → f j ≡ 0
-ranks-none b f z e j h = none-of b higher f z e j h
+    pub ranks-first : 0 < word b (k .bits) → Lowest
+    unfolding lowestRank
+    ranks-first h = go (k .storeys) refl (laid .deep)
+      where
+        go : (d : ℕ) → k .storeys ≡ d → 1 ≤ d → Lowest
+        go zero e l = absurd (omega arith)
+        go (suc d) e l =
+            let o = k .bits in
+            let t : Tower b (storeysFrom o (suc d)) f = subst (λ (d : ℕ). Tower b (storeysFrom o d) f) e (z .tower) in
+            let a = finds b (storey o d) (storeysFrom o d) f (shape-from o (suc d)) (some-from b o d h) t in
+            let w = open-way b (storey o d) (storeysFrom o d) f (shape-from o (suc d)) (some-from b o d h) t in
+            record {
+              way = rw e w;
+              within = rw (e) (omega (arith, a .within, pow-suc 64 d, laid .ranks, ap (λ (d : ℕ). 64 ^ d) e));
+              here = rw e (a .here);
+              below = rw e (a .below);
+            }
 
-pub ranks-first : (b : List ℕ) (f : ℕ → ℕ) → Ranks b f → 0 < word b 0 → First f lowWords (lowestRank b)
-unfolding lowestRank
-ranks-first b f z h = finds b (storey higher) (storeysOf higher) f (shape-of depth) (some-of b higher h) z
+    module _ (r : ℕ) (h : r < k .ranks) where
+      pub ranks-agree : (E : Type 0) → Iff E (f r ≡ 0) → Agrees b (storeysAt k) r E
+      ranks-agree E e = agrees b (storeysAt k) f r E (shape-from (k .bits) (k .storeys)) (bits-from (k .bits) (k .storeys) r (omega (arith, laid .ranks))) e (z .tower)
 
-pub ranks-open : (b : List ℕ) (f : ℕ → ℕ) → Ranks b f → 0 < word b 0 → Opens b storeys
-ranks-open b f z h = open-way b (storey higher) (storeysOf higher) f (shape-of depth) (some-of b higher h) z
+      pub marks : (on : Bool) (f′ : ℕ → ℕ) → f r ≡ bitFor (not on) → Upd f f′ r (bitFor on) → Ranks k (marked on k b r) f′
+      unfolding marked
+      marks on f′ e u = record { tower = edits on b (storeysAt k) f f′ r (bits-from (k .bits) (k .storeys) r (omega (arith, laid .ranks))) (shape-from (k .bits) (k .storeys)) e u (z .tower) }
 
-pub ranks-agree : (b : List ℕ) (f : ℕ → ℕ) (r : ℕ) → r < ranks → Ranks b f → Agrees b storeys r
-ranks-agree b f r h z = agrees b storeys f r (shape-of depth) h z
-
-pub ranks-bit : (b : List ℕ) (f : ℕ → ℕ) (r : ℕ) → r < ranks → Ranks b f → lowestBit b storeys r ≡ f r
-ranks-bit b f r h z = z .0 .bit r h
-
-module _ (b : List ℕ) (f f′ : ℕ → ℕ) (z : Ranks b f) (r : ℕ) (h : r < ranks) where
-  pub marks : f r ≡ 0 → Upd f f′ r 1 → Ranks (marked b r) f′
-  unfolding marked
-  marks e u = edits true b storeys f f′ r h (shape-of depth) e u z
-
-  pub unmarks : f r ≡ 1 → Upd f f′ r 0 → Ranks (unmarked b r) f′
-  unfolding unmarked
-  unmarks e u = edits false b storeys f f′ r h (shape-of depth) e u z
-
-pub marked-length : (b : List ℕ) (r : ℕ) → length (marked b r) ≡ length b
+pub marked-length : (on : Bool) (k : Lay) (b : List ℕ) (r : ℕ) → length (marked on k b r) ≡ length b
 unfolding marked
-marked-length b r = edit-length true b storeys r
+marked-length on k b r = edit-length on b (storeysAt k) r
 
-pub unmarked-length : (b : List ℕ) (r : ℕ) → length (unmarked b r) ≡ length b
-unfolding unmarked
-unmarked-length b r = edit-length false b storeys r
+-- a word outside the storeys stands
+pub marked-off : (on : Bool) (k : Lay) (laid : Laid k) (b : List ℕ) (r a : ℕ) → r < k .ranks → Outside a (storeysAt k) → word (marked on k b r) a ≡ word b a
+unfolding marked
+marked-off on k laid b r a h o = edit-off on b (storeysAt k) r a (bits-from (k .bits) (k .storeys) r (omega (arith, laid .ranks))) (shape-from (k .bits) (k .storeys)) o

@@ -3,31 +3,31 @@ use mathlib.Core.Bool.{Bool, cond, not, _&&_, Bool·beq}
 use mathlib.Core.List.{List}
 use Prim.Native.Nat.{ℕ, _+_}
 use lib.Dec.{leb, ltb, eqb}
-use Rattle.bucket_model.specs.Layout.{pool, storeWords, word, nextAt}
-use Rattle.bucket_model.specs.Storeys.{bitWords}
+use Rattle.bucket_model.specs.Layout.{Lay, pool, bitWords, word, nextAt}
+pub use Rattle.bucket_model.specs.declared.Reads.{Reads}
 
 -- "N or a slice length outside the above"
-unfoldable pub shapeOk : ℕ → ℕ → ℕ → Bool
-shapeOk bits words n = leb 1 n && leb n pool && leb bitWords bits && leb (storeWords n) words
+unfoldable pub shapeOk : Lay → ℕ → ℕ → Bool
+shapeOk k bits words = leb 1 (k .nodes) && leb (k .nodes) pool && leb (bitWords k) bits && ltb (k .held) words
 
 -- "held or the free link exceeds N, or one of a pair holds without the other: free link 0 and held = N; top word 0 and held 0"
 unfoldable pub wholeOk : ℕ → ℕ → ℕ → ℕ → Bool
 wholeOk top free held n =
     leb free n && leb held n && Bool·beq (eqb free 0) (eqb held n) && Bool·beq (eqb top 0) (eqb held 0)
 
--- the next of the node that link l names; 0 where l names none of the n nodes
-unfoldable pub nextOf : List ℕ → ℕ → ℕ → ℕ
-nextOf w n l = cond (eqb l 0) 0 (cond (ltb n l) 0 (word w (nextAt l)))
+-- the next of the node that link l names; 0 where l names none of the nodes
+unfoldable pub nextOf : Lay → List ℕ → ℕ → ℕ
+nextOf k w l = cond (eqb l 0) 0 (cond (ltb (k .nodes) l) 0 (word w (nextAt k l)))
 
--- "head, tail and the rank's bit must agree on emptiness; .. no link read may exceed N; a tail's next must be 0; on a pop, the head's next is 0 exactly if head equals tail". The rank's bit is set: the pop has found it
+-- "head, tail and the rank's bit must agree on emptiness; .. no link read may exceed N; a tail's next must be 0; on a pop, the head's next is 0 exactly if head equals tail". The rank's bit is set: the pop has found it. next is the head's, behind the tail's
 unfoldable pub popOk : ℕ → ℕ → ℕ → ℕ → ℕ → Bool
-popOk n head tail next last =
-    not (eqb head 0) && not (eqb tail 0) && leb head n && leb tail n && leb next n && eqb last 0
+popOk n head tail next behind =
+    not (eqb head 0) && not (eqb tail 0) && leb head n && leb tail n && leb next n && eqb behind 0
     && Bool·beq (eqb next 0) (eqb head tail)
 
--- ".. the group's bit must agree with whether its word is 0; .. on a push, the taken node is not the tail and its next is 0 exactly at held = N−1"
-unfoldable pub pushOk : ℕ → ℕ → Bool → Bool → ℕ → ℕ → ℕ → ℕ → ℕ → Bool
-pushOk n held agrees bit head tail free next last =
-    Bool·beq (eqb head 0) (eqb tail 0) && not (Bool·beq (eqb head 0) bit) && agrees
-    && leb head n && leb tail n && leb next n && eqb last 0 && not (eqb free tail)
-    && Bool·beq (eqb next 0) (eqb (held + 1) n)
+-- .. and the bits on the way up; ".. on a push, the taken node is not the tail and its next is 0 exactly at held = N−1"
+unfoldable pub pushOk : ℕ → Reads → Bool
+pushOk n x =
+    Bool·beq (eqb (x .head) 0) (eqb (x .tail) 0) && x .agrees
+    && leb (x .head) n && leb (x .tail) n && leb (x .next) n && eqb (x .behind) 0 && not (eqb (x .free) (x .tail))
+    && Bool·beq (eqb (x .next) 0) (eqb (x .held + 1) n)

@@ -1,83 +1,113 @@
--- Where each word of the lent store stands, and the limits. These are definitions.
-use mathlib.Core.List.{List}
-use Prim.Native.Nat.{ℕ, zero, suc, _+_, _-_, _*_}
-use lib.ListN.{getD}
+-- Where a bucket queue's words stand, as a value; what a node carries; and 01's queue as one value of it. These are definitions.
+use mathlib.Core.List.{List, [], _∷_}
+use mathlib.Core.Path.{_≡_}
+use Prim.Native.Nat.{ℕ, zero, suc, _+_, _-_, _*_, _^_, _≤_, _<_}
+use lib.ListN.{getD, set}
+use Rattle.strip.specs.Answers.{element}
+use Rattle.strip.specs.declared.Element.{Element}
+pub use Rattle.bucket_model.specs.declared.Lay.{Lay}
+
+-- the word at a place
+abbrev pub word : List ℕ → ℕ → ℕ
+word w i = getD w i 0
+
+-- words written one after the other, each at its place
+abbrev pub write : List ℕ → List (ℕ × ℕ) → List ℕ
+write w [] = w
+write w (p ∷ ps) = write (set w (p .0) (p .1)) ps
 
 -- ---- limits
-
--- "Ranks 0 to 4,095"
-abbrev pub ranks : ℕ
-ranks = 4096
 
 -- "Pool of N nodes, 1 to 4,096"
 abbrev pub pool : ℕ
 pool = 4096
 
--- "64 groups of 64. One 64-bit word has a bit for each group, and 64 words have a bit for each rank of their group": two storeys of bits
-abbrev pub depth : ℕ
-depth = 2
+-- ---- a node: "A node is a tag and a next". Beside its next it carries a load
 
--- "A node is a tag and a next"
+abbrev pub loadWords : ℕ
+loadWords = 1
+
 abbrev pub nodeWords : ℕ
-nodeWords = 2
+nodeWords = loadWords + 1
 
--- ---- places, over the place where a part begins
-
--- the word k past base; by cases, so that a part which begins at 0 has its words at k itself
-abbrev pub past : ℕ → ℕ → ℕ
-past zero k = k
-past (suc base) k = suc base + k
-
--- a queue's lists: "4,096 heads, 4,096 tails"
-abbrev pub headIn : ℕ → ℕ → ℕ
-headIn base r = past base r
-
-abbrev pub tailIn : ℕ → ℕ → ℕ
-tailIn base r = past (base + ranks) r
-
--- a pool: "N pairs of tag and next, free link, held". "Links are node number plus one": link l names node l − 1
-abbrev pub tagIn : ℕ → ℕ → ℕ
-tagIn base l = past (base - nodeWords) (nodeWords * l)
+-- word i of the node that link l names. "Links are node number plus one": stem is where link 0 would lead
+abbrev pub cell : ℕ → ℕ → ℕ → ℕ
+cell stem l i = stem + nodeWords * l + i
 
 abbrev pub nextIn : ℕ → ℕ → ℕ
-nextIn base l = past (base - nodeWords + 1) (nodeWords * l)
+nextIn stem l = cell stem l loadWords
 
-abbrev pub freeIn : ℕ → ℕ → ℕ
-freeIn base n = past base (nodeWords * n)
+pub record Load : Type 0 where
+  pub tag : ℕ
 
-abbrev pub heldIn : ℕ → ℕ → ℕ
-heldIn base n = past (base + 1) (nodeWords * n)
+-- what stands of it in the words, and what is written
+abbrev pub loadIn : ℕ → List ℕ → ℕ → Load
+loadIn stem w l = record { tag = word w (cell stem l 0) }
 
--- ---- the store of one queue: its lists, and behind them its pool
+abbrev pub loadWrites : ℕ → ℕ → Load → List (ℕ × ℕ)
+loadWrites stem l t = (cell stem l 0, t .tag) ∷ []
 
-abbrev pub lists : ℕ
-lists = 0
+-- of an element, and back
+abbrev pub loadOf : Element → Load
+loadOf e = record { tag = e .tag .0 }
 
-abbrev pub nodes : ℕ
-nodes = lists + 2 * ranks
+abbrev pub loaded : ℕ → Load → Element
+loaded r t = element r (t .tag)
 
-abbrev pub headAt : ℕ → ℕ
-headAt = headIn lists
+-- "The freed node gets tag 0"
+abbrev pub noLoad : Load
+noLoad = record { tag = 0 }
 
-abbrev pub tailAt : ℕ → ℕ
-tailAt = tailIn lists
+-- ---- places
 
-abbrev pub tagAt : ℕ → ℕ
-tagAt = tagIn nodes
+-- "Each rank has a head and a tail link": as many tails behind the heads
+abbrev pub headAt : Lay → ℕ → ℕ
+headAt k r = k .heads + r
 
-abbrev pub nextAt : ℕ → ℕ
-nextAt = nextIn nodes
+abbrev pub tailAt : Lay → ℕ → ℕ
+tailAt k r = k .heads + r + k .ranks
 
-abbrev pub freeAt : ℕ → ℕ
-freeAt = freeIn nodes
+abbrev pub nextAt : Lay → ℕ → ℕ
+nextAt k l = nextIn (k .stem) l
 
-abbrev pub heldAt : ℕ → ℕ
-heldAt = heldIn nodes
+-- how many words the storeys have: 1, 64, .. of them
+abbrev pub wordsOf : ℕ → ℕ
+wordsOf zero = 0
+wordsOf (suc d) = wordsOf d + 64 ^ d
 
--- how many words a store of n nodes has
-abbrev pub storeWords : ℕ → ℕ
-storeWords n = past (nodes + 2) (nodeWords * n)
+-- how many words a store must have, of 64 bits and of 32
+abbrev pub bitWords : Lay → ℕ
+bitWords k = k .bits + k .tower
 
--- the word at a place
-abbrev pub word : List ℕ → ℕ → ℕ
-word w i = getD w i 0
+abbrev pub storeWords : Lay → ℕ
+storeWords k = k .held + 1
+
+-- what every law counts on: at least one storey, and as many words as they have; a bit of the lowest for each rank; heads and tails before the nodes, the free link right behind them, and held behind it
+pub record Laid (k : Lay) : Type 0 where
+  pub deep : 1 ≤ k .storeys
+  pub tower : k .tower ≡ wordsOf (k .storeys)
+  pub ranks : k .ranks ≡ 64 ^ k .storeys
+  pub lists : k .heads + k .ranks + k .ranks ≤ k .stem + nodeWords
+  pub pool : k .free ≡ k .stem + nodeWords * k .nodes + nodeWords
+  pub held : k .free < k .held
+
+-- ---- one queue in a store of its own
+
+-- d storeys, n nodes: "4,096 heads, 4,096 tails, N pairs of tag and next, free link, held"
+abbrev pub layOf : ℕ → ℕ → Lay
+layOf d n =
+    record {
+      storeys = d;
+      tower = wordsOf d;
+      bits = 0;
+      ranks = 64 ^ d;
+      heads = 0;
+      stem = 2 * 64 ^ d - nodeWords;
+      nodes = n;
+      free = 2 * 64 ^ d + nodeWords * n;
+      held = 2 * 64 ^ d + nodeWords * n + 1;
+    }
+
+-- "Ranks 0 to 4,095", two storeys
+abbrev pub queue : ℕ → Lay
+queue n = layOf 2 n

@@ -1,12 +1,12 @@
 -- The plain queue, one list in leaving order, and lists of calls on it and on the words. These are definitions.
-use mathlib.Core.Bool.{cond}
+use mathlib.Core.Bool.{Bool, cond}
 use mathlib.Core.List.{List, [], _∷_, _++_}
 use mathlib.Core.Path.{_≡_}
 use Prim.Native.Nat.{ℕ, zero, suc, _+_, _≤_}
 use lib.Dec.{ltb, eqb}
 use lib.ListN.{length, replicate}
 use Rattle.laws.specs.Lists.{All}
-use Rattle.strip.specs.Answers.{element, numberOf, countNumber}
+use Rattle.strip.specs.Answers.{numberOf, countNumber}
 use Rattle.strip.specs.declared.Element.{Element}
 use Rattle.strip.specs.declared.Refusal.the-variants.{BadRank, Full, Empty}
 use Rattle.strip.specs.declared.Answer.{Answer}
@@ -15,8 +15,7 @@ use Rattle.strip.specs.declared.Count.{Count}
 use Rattle.strip.specs.declared.Count.the-variants.{Held}
 use Rattle.strip.specs.declared.Request.{Request}
 use Rattle.strip.specs.declared.Request.the-variants.{Idle, Push, Pop, Replace}
-use Rattle.bucket_model.specs.Layout.{ranks, storeWords, word, headAt, tailAt, tagAt, nextAt, freeAt}
-use Rattle.bucket_model.specs.Storeys.{bitWords}
+use Rattle.bucket_model.specs.Layout.{Lay, bitWords, storeWords, word, headAt, tailAt, nextIn, Load, loadIn, loaded}
 use Rattle.bucket_model.specs.Calls.{Outcome, outcome, cleared, pushed, popped, replaced, heldCount}
 use Rattle.bucket_model.specs.Causes.{Shaped}
 
@@ -48,36 +47,36 @@ abbrev pub store : List ℕ → List ℕ → Store
 store b w = record { bits = b; words = w }
 
 -- asking for nothing leaves everything
-unfoldable pub asked : ℕ → Request → Store → Outcome
-asked n Idle s = outcome Done (s .bits) (s .words)
-asked n (Push e) s = pushed (s .bits) (s .words) n e
-asked n Pop s = popped (s .bits) (s .words) n
-asked n (Replace e) s = replaced (s .bits) (s .words) n e
+unfoldable pub asked : Lay → Request → Store → Outcome
+asked k Idle s = outcome Done (s .bits) (s .words)
+asked k (Push e) s = pushed k (s .bits) (s .words) e
+asked k Pop s = popped k (s .bits) (s .words)
+asked k (Replace e) s = replaced k (s .bits) (s .words) e
 
-unfoldable pub called : ℕ → Call → Store → Step Store
-called n (ask q) s = let o = asked n q s in step (answered (o .answer)) (store (o .bits) (o .words))
-called n held s = step (counted (heldCount (s .bits) (s .words) n)) s
+unfoldable pub called : Lay → Call → Store → Step Store
+called k (ask q) s = let o = asked k q s in step (answered (o .answer)) (store (o .bits) (o .words))
+called k held s = step (counted (heldCount k (s .bits) (s .words))) s
 
 -- what a list of calls says, and what it leaves
-unfoldable pub says : ℕ → List Call → Store → List Said
-says n [] s = []
-says n (c ∷ cs) s = let x = called n c s in x .said ∷ says n cs (x .next)
+unfoldable pub says : Lay → List Call → Store → List Said
+says k [] s = []
+says k (c ∷ cs) s = let x = called k c s in x .said ∷ says k cs (x .next)
 
-unfoldable pub after : ℕ → List Call → Store → Store
-after n [] s = s
-after n (c ∷ cs) s = after n cs (called n c s .next)
+unfoldable pub after : Lay → List Call → Store → Store
+after k [] s = s
+after k (c ∷ cs) s = after k cs (called k c s .next)
 
 -- the store that clear leaves
-abbrev pub start : List ℕ → List ℕ → ℕ → Store
-start b w n = store (cleared b w n .bits) (cleared b w n .words)
+abbrev pub start : Lay → List ℕ → List ℕ → Store
+start k b w = store (cleared k b w .bits) (cleared k b w .words)
 
 -- a store that a queue's own calls lead to: cleared on slices long enough, whatever was in them, and then any calls
-pub record Reached (n : ℕ) (s : Store) : Type 0 where
+pub record Reached (k : Lay) (s : Store) : Type 0 where
   pub bits : List ℕ
   pub words : List ℕ
-  pub shaped : Shaped bits words n
+  pub shaped : Shaped k bits words
   pub calls : List Call
-  pub is : s ≡ after n calls (start bits words n)
+  pub is : s ≡ after k calls (start k bits words)
 
 -- ---- on the plain list
 
@@ -97,49 +96,53 @@ plainReplace e (x ∷ l) =
     cond (ltb (e .rank .0) (x .rank .0)) (step (answered (Out e)) (x ∷ l)) (step (answered (Out x)) (insert e l))
 
 -- only ranks that there are
-abbrev pub ranked : Element → List Element → Step (List Element) → Step (List Element)
-ranked e l x = cond (ltb (e .rank .0) ranks) x (step (answered (Refused BadRank)) l)
+abbrev pub ranked : ℕ → Element → List Element → Step (List Element) → Step (List Element)
+ranked ranks e l x = cond (ltb (e .rank .0) ranks) x (step (answered (Refused BadRank)) l)
 
-unfoldable pub plain : ℕ → Call → List Element → Step (List Element)
-plain n (ask Idle) l = step (answered Done) l
-plain n (ask (Push e)) l = ranked e l (cond (eqb (length l) n) (step (answered (Refused Full)) l) (step (answered Done) (insert e l)))
-plain n (ask Pop) l = plainPop l
-plain n (ask (Replace e)) l = ranked e l (plainReplace e l)
-plain n held l = step (counted (Held (length l))) l
+-- only while there is room
+abbrev pub roomy : Bool → List Element → Step (List Element) → Step (List Element)
+roomy room l x = cond room x (step (answered (Refused Full)) l)
 
-unfoldable pub plainSays : ℕ → List Call → List Element → List Said
-plainSays n [] l = []
-plainSays n (c ∷ cs) l = let x = plain n c l in x .said ∷ plainSays n cs (x .next)
+unfoldable pub plain : Lay → Call → List Element → Step (List Element)
+plain k (ask Idle) l = step (answered Done) l
+plain k (ask (Push e)) l = ranked (k .ranks) e l (roomy (ltb (length l) (k .nodes)) l (step (answered Done) (insert e l)))
+plain k (ask Pop) l = plainPop l
+plain k (ask (Replace e)) l = ranked (k .ranks) e l (plainReplace e l)
+plain k held l = step (counted (Held (length l))) l
 
-unfoldable pub plainAfter : ℕ → List Call → List Element → List Element
-plainAfter n [] l = l
-plainAfter n (c ∷ cs) l = plainAfter n cs (plain n c l .next)
+unfoldable pub plainSays : Lay → List Call → List Element → List Said
+plainSays k [] l = []
+plainSays k (c ∷ cs) l = let x = plain k c l in x .said ∷ plainSays k cs (x .next)
+
+unfoldable pub plainAfter : Lay → List Call → List Element → List Element
+plainAfter k [] l = l
+plainAfter k (c ∷ cs) l = plainAfter k cs (plain k c l .next)
 
 -- ---- what a store holds
 
--- the tags of the chain from link l on, at most k of them
-unfoldable pub walk : List ℕ → ℕ → ℕ → List ℕ
-walk w zero l = []
-walk w (suc k) zero = []
-walk w (suc k) (suc l) = word w (tagAt (suc l)) ∷ walk w k (word w (nextAt (suc l)))
+-- the loads of the chain from link l on, at most i of them
+unfoldable pub walk : ℕ → List ℕ → ℕ → ℕ → List Load
+walk stem w zero l = []
+walk stem w (suc i) zero = []
+walk stem w (suc i) (suc l) = loadIn stem w (suc l) ∷ walk stem w i (word w (nextIn stem (suc l)))
 
--- a rank's tags, from its head
-abbrev pub lane : List ℕ → ℕ → ℕ → List ℕ
-lane w n r = walk w n (word w (headAt r))
+-- a rank's loads, from its head
+abbrev pub lane : Lay → List ℕ → ℕ → List Load
+lane k w r = walk (k .stem) w (k .nodes) (word w (headAt k r))
 
--- tags as elements of rank r
-abbrev pub elements : ℕ → List ℕ → List Element
+-- loads as elements of rank r
+abbrev pub elements : ℕ → List Load → List Element
 elements r [] = []
-elements r (t ∷ ts) = element r t ∷ elements r ts
+elements r (t ∷ ts) = loaded r t ∷ elements r ts
 
--- k ranks from i on, one behind the other
-unfoldable pub inOrder : (ℕ → List ℕ) → ℕ → ℕ → List Element
+-- n ranks from i on, one behind the other
+unfoldable pub inOrder : (ℕ → List Load) → ℕ → ℕ → List Element
 inOrder m i zero = []
-inOrder m i (suc k) = elements i (m i) ++ inOrder m (suc i) k
+inOrder m i (suc n) = elements i (m i) ++ inOrder m (suc i) n
 
 -- all that the store holds, by ascending rank, each rank from its head
-unfoldable pub stored : List ℕ → ℕ → List Element
-stored w n = inOrder (lane w n) 0 ranks
+unfoldable pub stored : Lay → List ℕ → List Element
+stored k w = inOrder (lane k w) 0 (k .ranks)
 
 -- ---- what goes in and out
 
@@ -175,40 +178,43 @@ abbrev pub went : Said → List Element
 went (answered a) = gave a
 went (counted c) = []
 
-unfoldable pub arrivals : ℕ → List Call → Store → List Element
-arrivals n [] s = []
-arrivals n (c ∷ cs) s = let x = called n c s in came c (x .said) ++ arrivals n cs (x .next)
+-- .. over a list of calls, by what was said to them
+unfoldable pub brought : List Call → List Said → List Element
+brought [] ss = []
+brought (c ∷ cs) [] = []
+brought (c ∷ cs) (s ∷ ss) = came c s ++ brought cs ss
 
-unfoldable pub departures : ℕ → List Call → Store → List Element
-departures n [] s = []
-departures n (c ∷ cs) s = let x = called n c s in went (x .said) ++ departures n cs (x .next)
+unfoldable pub gone : List Said → List Element
+gone [] = []
+gone (s ∷ ss) = went s ++ gone ss
 
--- the tags of a rank, in their order
-unfoldable pub tagsAt : ℕ → List Element → List ℕ
-tagsAt r [] = []
-tagsAt r (x ∷ xs) = cond (eqb (x .rank .0) r) (x .tag .0 ∷ tagsAt r xs) (tagsAt r xs)
+-- the elements of a rank, in their order
+unfoldable pub ofRank : ℕ → List Element → List Element
+ofRank r [] = []
+ofRank r (x ∷ xs) = cond (eqb (x .rank .0) r) (x ∷ ofRank r xs) (ofRank r xs)
 
--- how often a number stands in a list
-unfoldable pub times : ℕ → List ℕ → ℕ
-times t [] = 0
-times t (x ∷ xs) = cond (eqb x t) 1 0 + times t xs
+-- how many of a list pass a test
+unfoldable pub times : (Element → Bool) → List Element → ℕ
+times f [] = 0
+times f (x ∷ xs) = cond (f x) 1 0 + times f xs
 
--- how often a pair of rank and tag stands in a list
-abbrev pub copies : Element → List Element → ℕ
-copies e l = times (e .tag .0) (tagsAt (e .rank .0) l)
+-- in leaving order: no rank is below an earlier one
+abbrev pub Sorted : List Element → Type 0
+Sorted [] = Unit {0}
+Sorted (x ∷ l) = All (λ y. x .rank .0 ≤ y .rank .0) l × Sorted l
 
 -- ---- what a pop gives, and what becomes of its room
 
 -- what a pop gives is the first of all that is held, and nothing held has a lower rank
-pub record FirstOut (n : ℕ) (s : Store) (x : Element) : Type 0 where
-  pub first : stored (s .words) n ≡ x ∷ stored (asked n Pop s .words) n
-  pub lowest : All (λ y. x .rank .0 ≤ y .rank .0) (stored (s .words) n)
+pub record FirstOut (k : Lay) (s : Store) (x : Element) : Type 0 where
+  pub first : stored k (s .words) ≡ x ∷ stored k (asked k Pop s .words)
+  pub lowest : All (λ y. x .rank .0 ≤ y .rank .0) (stored k (s .words))
 
 -- "The freed node .. becomes first in the free chain, so freed room is used at once": after a pop that gives x, the free link names the node that held x; a push of any rank that there is is taken then, even where the pool was full, and that node is the tail of its bucket
-pub record Reused (n : ℕ) (s t : Store) (x e : Element) : Type 0 where
-  pub free : word (t .words) (freeAt n) ≡ word (s .words) (headAt (x .rank .0))
-  pub taken : asked n (Push e) t .answer ≡ Done
-  pub node : word (asked n (Push e) t .words) (tailAt (e .rank .0)) ≡ word (s .words) (headAt (x .rank .0))
+pub record Reused (k : Lay) (s t : Store) (x e : Element) : Type 0 where
+  pub free : word (t .words) (k .free) ≡ word (s .words) (headAt k (x .rank .0))
+  pub taken : asked k (Push e) t .answer ≡ Done
+  pub node : word (asked k (Push e) t .words) (tailAt k (e .rank .0)) ≡ word (s .words) (headAt k (x .rank .0))
 
 -- ---- a run to read off
 
@@ -217,10 +223,10 @@ abbrev pub saidNumber : Said → ℕ
 saidNumber (answered a) = numberOf a
 saidNumber (counted c) = countNumber c
 
-unfoldable pub answersFrom : ℕ → List Request → Store → List Answer
-answersFrom n [] s = []
-answersFrom n (q ∷ qs) s = let o = asked n q s in o .answer ∷ answersFrom n qs (store (o .bits) (o .words))
+unfoldable pub answersFrom : Lay → List Request → Store → List Answer
+answersFrom k [] s = []
+answersFrom k (q ∷ qs) s = let o = asked k q s in o .answer ∷ answersFrom k qs (store (o .bits) (o .words))
 
--- what a list of requests is answered from a cleared queue of n nodes
-unfoldable pub bucketAnswers : ℕ → List Request → List Answer
-bucketAnswers n qs = answersFrom n qs (start (replicate bitWords 0) (replicate (storeWords n) 0) n)
+-- what a list of requests is answered from a cleared queue
+unfoldable pub bucketAnswers : Lay → List Request → List Answer
+bucketAnswers k qs = answersFrom k qs (start k (replicate (bitWords k) 0) (replicate (storeWords k) 0))

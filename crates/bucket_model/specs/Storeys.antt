@@ -6,28 +6,24 @@ use lib.Count.{trailingZeros}
 use lib.Dec.{eqb}
 use lib.ListN.{set}
 use Rattle.bitmap.specs.Bits.{bitAt}
-use Rattle.bucket_model.specs.Layout.{word, depth}
+use Rattle.bucket_model.specs.Layout.{Lay, word, wordsOf}
 
 -- a storey's place: so many words from base on. Bit j of it is bit j % 64 of its word j / 64
 pub record Storey : Type 0 where
   pub base : ℕ
   pub words : ℕ
 
--- the words of all storeys: 1, 64, .. of them, "top first"
-abbrev pub wordsOf : ℕ → ℕ
-wordsOf zero = 0
-wordsOf (suc d) = wordsOf d + 64 ^ d
+-- the storey below d others, which begin at word o
+abbrev pub storey : ℕ → ℕ → Storey
+storey o d = record { base = o + wordsOf d; words = 64 ^ d }
 
--- the storeys, lowest first: each has a bit for each word of the one below it
-abbrev pub storeysOf : ℕ → List Storey
-storeysOf zero = []
-storeysOf (suc d) = record { base = wordsOf d; words = 64 ^ d } ∷ storeysOf d
+-- d storeys from word o on, "top first"; in the list the lowest is first, and each has a bit for each word of the one below it
+abbrev pub storeysFrom : ℕ → ℕ → List Storey
+storeysFrom o zero = []
+storeysFrom o (suc d) = storey o d ∷ storeysFrom o d
 
-abbrev pub bitWords : ℕ
-bitWords = wordsOf depth
-
-abbrev pub storeys : List Storey
-storeys = storeysOf depth
+abbrev pub storeysAt : Lay → List Storey
+storeysAt k = storeysFrom (k .bits) (k .storeys)
 
 -- ---- one storey
 
@@ -38,14 +34,19 @@ abbrev pub bitOf : List ℕ → Storey → ℕ → Bool
 bitOf b p j = eqb (bitAt (wordOf b p j) (j % 64)) 1
 
 -- a word with one bit more, or one less
-abbrev pub put : Bool → ℕ → ℕ → ℕ
-put true w k = w + 2 ^ k
-put false w k = w - 2 ^ k
+abbrev pub turned : Bool → ℕ → ℕ → ℕ
+turned true w k = w + 2 ^ k
+turned false w k = w - 2 ^ k
+
+-- .. and that bit
+abbrev pub bitFor : Bool → ℕ
+bitFor true = 1
+bitFor false = 0
 
 -- does the storey above change: the word was 0, or is 0 now
-abbrev pub goesUp : Bool → ℕ → ℕ → Bool
-goesUp true w v = eqb w 0
-goesUp false w v = eqb v 0
+abbrev pub tellsAbove : Bool → ℕ → ℕ → Bool
+tellsAbove true w v = eqb w 0
+tellsAbove false w v = eqb v 0
 
 -- ---- all storeys
 
@@ -54,9 +55,9 @@ abbrev pub edit : Bool → List ℕ → List Storey → ℕ → List ℕ
 edit on b [] j = b
 edit on b (p ∷ ps) j =
     let w = wordOf b p j in
-    let v = put on w (j % 64) in
+    let v = turned on w (j % 64) in
     let b1 = set b (p .base + j / 64) v in
-    cond (goesUp on w v) (edit on b1 ps (j / 64)) b1
+    cond (tellsAbove on w v) (edit on b1 ps (j / 64)) b1
 
 -- "The lowest set bit of a word is found by the language's own count of trailing zeros": the lowest rank, from the top storey down
 abbrev pub find : List ℕ → List Storey → ℕ
@@ -68,33 +69,22 @@ abbrev pub opens : List ℕ → List Storey → Bool
 opens b [] = true
 opens b (p ∷ ps) = opens b ps && not (eqb (word b (p .base + find b ps)) 0)
 
--- "the group's bit must agree with whether its word is 0": on the way up from bit j, at each storey but the lowest
-abbrev pub agree : List ℕ → List Storey → ℕ → Bool
-agree b [] j = true
-agree b (p ∷ []) j = true
-agree b (p ∷ u ∷ us) j = not (Bool·beq (eqb (wordOf b p j) 0) (bitOf b u (j / 64))) && agree b (u ∷ us) (j / 64)
-
--- is bit j of the lowest storey set
-abbrev pub bitIs : List ℕ → List Storey → ℕ → Bool
-bitIs b [] j = false
-bitIs b (p ∷ ps) j = bitOf b p j
+-- "head, tail and the rank's bit must agree on emptiness; the group's bit must agree with whether its word is 0": on the way up from bit j each bit agrees with what is below it, a bucket that is empty or not, and then the words
+abbrev pub agree : List ℕ → List Storey → ℕ → Bool → Bool
+agree b [] j empty = true
+agree b (p ∷ ps) j empty = not (Bool·beq empty (bitOf b p j)) && agree b ps (j / 64) (eqb (wordOf b p j) 0)
 
 -- ---- the queue's ranks
 
-unfoldable pub marked : List ℕ → ℕ → List ℕ
-marked b r = edit true b storeys r
+-- a rank's bits set, or cleared
+unfoldable pub marked : Bool → Lay → List ℕ → ℕ → List ℕ
+marked on k b r = edit on b (storeysAt k) r
 
-unfoldable pub unmarked : List ℕ → ℕ → List ℕ
-unmarked b r = edit false b storeys r
+unfoldable pub lowestRank : Lay → List ℕ → ℕ
+lowestRank k b = find b (storeysAt k)
 
-unfoldable pub lowestRank : List ℕ → ℕ
-lowestRank b = find b storeys
+unfoldable pub lowestOpen : Lay → List ℕ → Bool
+lowestOpen k b = opens b (storeysAt k)
 
-unfoldable pub lowestOpen : List ℕ → Bool
-lowestOpen b = opens b storeys
-
-unfoldable pub rankBit : List ℕ → ℕ → Bool
-rankBit b r = bitIs b storeys r
-
-unfoldable pub rankAgrees : List ℕ → ℕ → Bool
-rankAgrees b r = agree b storeys r
+unfoldable pub rankAgrees : Lay → List ℕ → ℕ → Bool → Bool
+rankAgrees k b r empty = agree b (storeysAt k) r empty

@@ -1,13 +1,13 @@
 -- The sizes are the calls' own: a shape is taken exactly if its size is not 0 and the slices are as long. Assumes nothing.
-use Prim.Native.Nat.{_*_, _<_, _≤_, suc, zero, ℕ}
+use Prim.Native.Nat.{_*_, _+_, _<_, _≤_, suc, zero, ℕ}
 use native.Mathlib.Nat.{mul-le-mul-right}
 use native.Mathlib.Omega.{arith}
 use mathlib.Core.Bool.{_&&_, Bool, cond, false, false≢true, not, true}
 use mathlib.Core.Path.{_∙_, _≡_, ap, refl, sym}
-use lib.Dec.{eqb, leb}
-use borrow.Author.Tests.{le-leb, leb-false, leb-true, lt-leb, ne-eqb, not-false, not-true}
+use lib.Dec.{eqb, leb, ltb}
+use borrow.Author.Tests.{le-leb, leb-false, leb-true, lt-leb, lt-ltb, ltb-false, ltb-true, ne-eqb, not-false, not-true}
 use Rattle.bucket_model.specs.Checks as bucket
-use Rattle.bucket_model.specs.Layout.{pool, storeWords}
+use Rattle.bucket_model.specs.Layout.{pool, queue, storeWords}
 use Rattle.card.specs.Sizes.{bucketBits, bucketWords, treeWords}
 use Rattle.laws.specs.Tests.{and-left, and-right}
 use Rattle.node.proofs.Steps.{order-range}
@@ -75,7 +75,18 @@ tree-size m levels len = go (tree.orderOk m) refl (leb 1 levels) refl (leb (room
     go false p b q c = refl
 
 -- ---- the bucket queue
+-- held is the last word
+last-word : (x len : ℕ) → ltb x len ≡ leb (x + 1) len
+last-word x len = go (ltb x len) refl
+  where
+    go : (t : Bool) → ltb x len ≡ t → t ≡ leb (x + 1) len
+    go true e = sym (le-leb (x + 1) len (omega (arith, ltb-true x len e)))
+    go false e = sym (lt-leb (x + 1) len (omega (arith, ltb-false x len e)))
+
 module _ (n : ℕ) where
+  abbrev words : ℕ
+  words = storeWords (queue n)
+
   pub bucket-none : n < 1 → 0 ≡ bucketWords n
   unfolding bucketWords bucket.shapeOk
   bucket-none h = rw (lt-leb 1 n h)
@@ -84,21 +95,24 @@ module _ (n : ℕ) where
   unfolding bucketWords bucket.shapeOk
   bucket-above h = rw (lt-leb n pool h) (go (leb 1 n))
     where
-      go : (b : Bool) → 0 ≡ cond (((b && false) && leb bucketBits bucketBits) && leb (storeWords n) (storeWords n)) (storeWords n) 0
+      go : (b : Bool) → 0 ≡ cond (((b && false) && leb bucketBits bucketBits) && ltb (queue n .held) words) words 0
       go true = refl
       go false = refl
 
-  pub bucket-some : 1 ≤ n → n ≤ pool → storeWords n ≡ bucketWords n
+  pub bucket-some : 1 ≤ n → n ≤ pool → words ≡ bucketWords n
   unfolding bucketWords bucket.shapeOk
-  bucket-some h k = rw (le-leb 1 n h, le-leb n pool k, le-leb (storeWords n) (storeWords n) (omega arith))
+  bucket-some h k = rw (le-leb 1 n h, le-leb n pool k, lt-ltb (queue n .held) words (omega arith))
 
-pub bucket-size : (bits words n : ℕ) → bucket.shapeOk bits words n ≡ ((not (eqb (bucketWords n) 0) && leb bucketBits bits) && leb (bucketWords n) words)
+pub bucket-size : (bits words n : ℕ) → bucket.shapeOk (queue n) bits words ≡ ((not (eqb (bucketWords n) 0) && leb bucketBits bits) && leb (bucketWords n) words)
 unfolding bucketWords bucket.shapeOk
 bucket-size bits words n = go (leb 1 n) (leb n pool)
   where
-    go : (a b : Bool) → (((a && b) && leb bucketBits bits) && leb (storeWords n) words) ≡ ((not (eqb (cond (((a && b) && leb bucketBits bucketBits) && leb (storeWords n) (storeWords n)) (storeWords n) 0) 0) && leb bucketBits bits) && leb (cond (((a && b) && leb bucketBits bucketBits) && leb (storeWords n) (storeWords n)) (storeWords n) 0) words)
+    size : ℕ
+    size = storeWords (queue n)
+
+    go : (a b : Bool) → (((a && b) && leb bucketBits bits) && ltb (queue n .held) words) ≡ ((not (eqb (cond (((a && b) && leb bucketBits bucketBits) && ltb (queue n .held) size) size 0) 0) && leb bucketBits bits) && leb (cond (((a && b) && leb bucketBits bucketBits) && ltb (queue n .held) size) size 0) words)
     go true true =
-        let more : storeWords n ≡ 0 → ⊥ = λ z. omega arith in
-        rw (le-leb (storeWords n) (storeWords n) (omega arith), ne-eqb (storeWords n) 0 more)
+        let more : size ≡ 0 → ⊥ = λ z. omega arith in
+        rw (lt-ltb (queue n .held) size (omega arith), ne-eqb size 0 more) (ap (λ (t : Bool). leb bucketBits bits && t) (last-word (queue n .held) words))
     go true false = refl
     go false b = refl

@@ -5,6 +5,7 @@ use mathlib.Core.Bool.{cond}
 use mathlib.Core.List.{List}
 use lib.Dec.{leb}
 use lib.ListN.{length}
+use Rattle.bucket_model.specs.Layout.{queue}
 use Rattle.bucket_model.specs.Calls.{cleared, heldCount, Outcome, popped, pushed, replaced}
 use Rattle.card.specs.Out.{answerOut, badShape, CountAfter, countAnswered}
 use Rattle.strip.specs.Answers.{element, numberOf}
@@ -38,16 +39,16 @@ bucketAnswered o b w out = cond (leb 2 (length out)) (bucketAfterOut (numberOf (
 -- ---- the calls
 module _ (b w : List ℕ) (n : ℕ) where
   abbrev pub bucketClear : BucketAfter
-  bucketClear = bucketDone (cleared b w n)
+  bucketClear = bucketDone (cleared (queue n) b w)
 
   abbrev pub bucketPush : ℕ → ℕ → BucketAfter
-  bucketPush rank tag = bucketDone (pushed b w n (element rank tag))
+  bucketPush rank tag = bucketDone (pushed (queue n) b w (element rank tag))
 
   abbrev pub bucketPop : List ℕ → BucketAfterOut
-  bucketPop out = bucketAnswered (popped b w n) b w out
+  bucketPop out = bucketAnswered (popped (queue n) b w) b w out
 
   abbrev pub bucketReplace : ℕ → ℕ → List ℕ → BucketAfterOut
-  bucketReplace rank tag out = bucketAnswered (replaced b w n (element rank tag)) b w out
+  bucketReplace rank tag out = bucketAnswered (replaced (queue n) b w (element rank tag)) b w out
 
   abbrev pub bucketHeld : List ℕ → CountAfter
-  bucketHeld out = countAnswered (heldCount b w n) out
+  bucketHeld out = countAnswered (heldCount (queue n) b w) out

@@ -3,8 +3,7 @@
 use Prim.Native.Nat.{_*_, ℕ}
 use mathlib.Core.Bool.{cond}
 use Rattle.bucket_model.specs.Checks as bucket
-use Rattle.bucket_model.specs.Layout.{storeWords}
-use Rattle.bucket_model.specs.Storeys.{bitWords}
+use Rattle.bucket_model.specs.Layout.{bitWords, queue, storeWords}
 use Rattle.tree_model.specs.Calls as tree
 use Rattle.tree_model.specs.Damage.{room}
 use Rattle.tree_model.specs.Words.{width}
@@ -13,9 +12,9 @@ use Rattle.tree_model.specs.Words.{width}
 unfoldable pub treeWords : ℕ → ℕ → ℕ
 treeWords m levels = cond (tree.shapeOk m levels (width * room m levels)) (width * room m levels) 0
 
--- a bucket queue: its words of 64 bits, and its words of 32 bits for n nodes
+-- a bucket queue: its words of 64 bits, as many whatever the nodes, and its words of 32 bits for n nodes
 abbrev pub bucketBits : ℕ
-bucketBits = bitWords
+bucketBits = bitWords (queue 0)
 
 unfoldable pub bucketWords : ℕ → ℕ
-bucketWords n = cond (bucket.shapeOk bucketBits (storeWords n) n) (storeWords n) 0
+bucketWords n = cond (bucket.shapeOk (queue n) bucketBits (storeWords (queue n))) (storeWords (queue n)) 0

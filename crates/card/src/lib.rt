@@ -145,7 +145,11 @@ pub extern "C" fn card_bucket_push(
 ) -> u32
     ensures { λ r. ⌜ bucketAfter r (now (bits .exit)) (now (words .exit)) ≡ bucketPush (now (bits .entry)) (now (words .entry)) nodes rank tag ⌝ }
 {
-    number(bucket::push(bits, words, nodes, Rank(rank), Tag(tag)))
+    let e = Element {
+        rank: Rank(rank),
+        tag: Tag(tag),
+    };
+    number(bucket::push(bits, words, nodes, e))
 }
 
 #[no_mangle]
@@ -178,7 +182,11 @@ pub extern "C" fn card_bucket_replace(
     if out.len() < OUT {
         return 1;
     }
-    let answer = bucket::replace(bits, words, nodes, Rank(rank), Tag(tag));
+    let e = Element {
+        rank: Rank(rank),
+        tag: Tag(tag),
+    };
+    let answer = bucket::replace(bits, words, nodes, e);
     tell(out, answer)
 }
 

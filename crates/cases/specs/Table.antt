@@ -4,6 +4,7 @@ use mathlib.Core.List.{[], _++_, _∷_, List, map}
 use mathlib.Core.Path.{_≡_}
 use lib.ListN.{length, replicate}
 use Rattle.bucket_model.specs.Case8.{case8}
+use Rattle.bucket_model.specs.Layout.{queue}
 use Rattle.bucket_model.specs.Plain.{bucketAnswers}
 use Rattle.clocked_model.specs.Cases.{caseSix, caseSixSays}
 use Rattle.promise.specs.Queue.{answers}
@@ -39,7 +40,7 @@ Right (tree m l rs said left h) =
     (map told (answers (treeQueue m l) rs (start m l (garbage (length left)))) ≡ said) × (after m l rs (garbage (length left)) ≡ left) × (toldHeld (counted m l left) ≡ h)
 Right (held m l ws said) = toldHeld (counted m l ws) ≡ said
 Right (clocked words said) = words ≡ said
-Right (bucket n rs said) = map told (bucketAnswers n rs) ≡ said
+Right (bucket n rs said) = map told (bucketAnswers (queue n) rs) ≡ said
 
 -- "Tree cases have order 2, levels 2, capacity 6. Store A is cleared, then push 5/50, 3/30, 8/80, 1/10"
 abbrev pub A : List Request

@@ -103,7 +103,11 @@ fn shapes() {
 }
 
 fn bucket_push(bits: &mut [u64], words: &mut [u32], rank: u32, tag: u32) {
-    say_answer(b"push ", bucket::push(bits, words, 3, Rank(rank), Tag(tag)));
+    let e = Element {
+        rank: Rank(rank),
+        tag: Tag(tag),
+    };
+    say_answer(b"push ", bucket::push(bits, words, 3, e));
 }
 
 fn bucket_pop(bits: &mut [u64], words: &mut [u32]) {

@@ -2,7 +2,7 @@
 use Prim.Native.Nat.{ℕ}
 use native.Mathlib.Decide.{ℕ-discrete}
 use mathlib.Core.Path.{_≡_, refl, sym, ap, _∙_}
-use mathlib.Core.Bool.{Bool, true, false, cond}
+use mathlib.Core.Bool.{cond}
 use borrow.Author.Tests.{eq-eqb, ne-eqb}
 use lib.Dec.{eqb}
 
@@ -20,11 +20,3 @@ is-upd f i v = record { here = simp (eq-eqb i i refl); else = λ j h. simp (ne-e
 -- a change that changes nothing
 pub same-upd : {A : Type 0} (f f′ : ℕ → A) (i : ℕ) (x : A) → Upd f f′ i x → f i ≡ x → (j : ℕ) → f′ j ≡ f j
 same-upd f f′ i x u e j = elim (ℕ-discrete j i) [ yes p ↦ ap f′ p ∙ u .here ∙ sym e ∙ ap f (sym p) | no p ↦ u .else j p ]
-
--- a function of what changed
-pub upd-map : {A B : Type 0} (f : A → B) (g : ℕ → A) (i : ℕ) (v : A) (j : ℕ) → upd (λ r. f (g r)) i (f v) j ≡ f (upd g i v j)
-upd-map {A} {B} f g i v j = go (eqb j i)
-  where
-    go : (t : Bool) → cond t (f v) (f (g j)) ≡ f (cond t v (g j))
-    go true = refl
-    go false = refl

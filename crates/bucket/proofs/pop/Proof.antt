@@ -1,42 +1,17 @@
--- `bucket::pop` meets its contract. Assumes nothing.
-use mathlib.Core.Path.{_≡_, sym, _∙_}
-use mathlib.Core.Bool.{true}
-use borrow.Author.Tests.{not-true, not-false}
-use Rattle.bucket_model.specs.Layout.{word, heldAt}
-use Rattle.bucket_model.specs.Calls.{shapely, wholly}
-use Rattle.bucket_model.specs.Causes.{Shaped, Whole}
-use Rattle.bucket_model.proofs.Facts.{shape-facts, whole-facts}
-use Rattle.bucket_reads.specs.Ready.{asLow, Takable}
-use Rattle.bucket.proofs.Ready.{top>, takable}
-use Rattle.bucket_model.proofs.Returns.{pop-bad, pop-torn, pop-none, pop-unfit, pop-out}
+-- `bucket::pop` meets its contract.
+use mathlib.Core.Path.{ap, _∙_}
+use Rattle.bucket_model.specs.declared.Lay.{Lay}
+use Rattle.bucket_model.specs.Calls.{popped}
+use Rattle.bucket.proofs.Steps.{queue-placed}
 use borrow.Author.Needs.{needs}
 use Rattle.bucket.proofs.pop.Statement.{statement}
 use Rattle.bucket.proofs.pop.Tie as tie
 
--- the shape is good
-ok : (c : tie.Else1) → shapely (c .before .before .before .before .before .before .args .bits .now) (c .before .before .before .before .before .before .args .words .now) (c .before .before .before .before .before .before .args .n) ≡ true
-ok c = sym (c .before .is-shaped .ensures) ∙ not-false (c .before .is-shaped .result) (c .if1 .left)
+queue-of-requires : tie.Need-queue-of-requires
+queue-of-requires c κs = search needs
 
-shaped : (c : tie.Else1) → Shaped (c .before .before .before .before .before .before .args .bits .now) (c .before .before .before .before .before .before .args .words .now) (c .before .before .before .before .before .before .args .n)
-shaped c = shape-facts (c .before .before .before .before .before .before .args .bits .now) (c .before .before .before .before .before .before .args .words .now) (c .before .before .before .before .before .before .args .n) (ok c)
-
--- the whole queue is
-sound : (c : tie.Else2) → wholly (c .before .before .before .before .before .before .before .before .before .before .args .bits .now) (c .before .before .before .before .before .before .before .before .before .before .args .words .now) (c .before .before .before .before .before .before .before .before .before .before .args .n) ≡ true
-sound c = sym (c .before .is-whole .ensures) ∙ not-false (c .before .is-whole .result) (c .if2 .left)
-
-whole : (c : tie.Else2) → Whole (c .before .before .before .before .before .before .before .before .before .before .args .bits .now) (c .before .before .before .before .before .before .before .before .before .before .args .words .now) (c .before .before .before .before .before .before .before .before .before .before .args .n)
-whole c = whole-facts (c .before .before .before .before .before .before .before .before .before .before .args .bits .now) (c .before .before .before .before .before .before .before .before .before .before .args .words .now) (c .before .before .before .before .before .before .before .before .before .before .args .n) (sound c)
-
--- something is held
-some : (c : tie.Else3) → word (c .before .before .before .before .before .before .before .before .before .before .before .before .before .args .words .now) (heldAt (c .before .before .before .before .before .before .before .before .before .before .before .before .before .args .n)) ≡ 0 → ⊥
-some c z = c .if3 .left (c .before .held-count .ensures ∙ z)
-
--- the lowest bucket can be taken from
-takes : (c : tie.Else4) → Takable (c .before .before .before .before .before .before .before .before .before .before .before .before .before .before .before .before .before .before .args .bits .now) (c .before .before .before .before .before .before .before .before .before .before .before .before .before .before .before .before .before .before .args .words .now) (c .before .before .before .before .before .before .before .before .before .before .before .before .before .before .before .before .before .before .args .n) (asLow (c .before .before .find-lowest .result))
-takes c = takable _ _ _ _ (shaped (c .before .before .before .before .before .before .before .before .before .before .before .before)) (some (c .before .before .before .before .before)) (c .before .before .find-lowest .ensures) (not-false (c .before .before .find-lowest .result .good) (c .if4 .left))
-
-is-shaped-requires : tie.Need-is-shaped-requires
-is-shaped-requires c κs = search needs
+pop-laid-requires : tie.Need-pop-laid-requires
+pop-laid-requires c κs = queue-placed _ _ (c .queue-of .ensures)
 
 same-length : tie.Need-same-length
 same-length c = search needs
@@ -45,81 +20,8 @@ same-length-2 : tie.Need-same-length-2
 same-length-2 c = search needs
 
 returns : tie.Need-returns
-returns c = pop-bad _ _ _ (sym (c .before .is-shaped .ensures) ∙ not-true (c .before .is-shaped .result) (c .if1 .taken))
-
-is-whole-requires : tie.Need-is-whole-requires
-is-whole-requires c κs = shaped (c .before .before)
-
-same-length-3 : tie.Need-same-length-3
-same-length-3 c = search needs
-
-same-length-4 : tie.Need-same-length-4
-same-length-4 c = search needs
-
-returns-2 : tie.Need-returns-2
-returns-2 c = pop-torn _ _ _ (ok (c .before .before .before .before)) (sym (c .before .is-whole .ensures) ∙ not-true (c .before .is-whole .result) (c .if2 .taken))
-
-held-count-requires : tie.Need-held-count-requires
-held-count-requires c κs = shaped (c .before .before .before .before .before) .words
-
-same-length-5 : tie.Need-same-length-5
-same-length-5 c = search needs
-
-same-length-6 : tie.Need-same-length-6
-same-length-6 c = search needs
-
-returns-3 : tie.Need-returns-3
-returns-3 c = pop-none _ _ _ (ok (c .before .before .before .before .before .before .before)) (sound (c .before .before .before)) (sym (c .before .held-count .ensures) ∙ c .if3 .taken)
-
-find-lowest-requires : tie.Need-find-lowest-requires
-find-lowest-requires c κs = (shaped (c .before .before .before .before .before .before .before .before .before), top> _ _ _ (whole (c .before .before .before .before .before)) (some (c .before .before)))
-
-same-length-7 : tie.Need-same-length-7
-same-length-7 c = search needs
-
-same-length-8 : tie.Need-same-length-8
-same-length-8 c = search needs
-
-returns-4 : tie.Need-returns-4
-returns-4 c = pop-unfit _ _ _ (ok (c .before .before .before .before .before .before .before .before .before .before .before .before)) (sound (c .before .before .before .before .before .before .before .before)) (some (c .before .before .before .before .before)) _ (c .before .before .find-lowest .ensures .is) (not-true (c .before .before .find-lowest .result .good) (c .if4 .taken))
-
-tag-of-requires : tie.Need-tag-of-requires
-tag-of-requires c κs = (shaped (c .before .before .before .before .before .before .before .before .before .before .before .before .before) .words, takes (c .before) .frees .head≤)
-
-take-requires : tie.Need-take-requires
-take-requires c κs = takes (c .before .before .before .before)
-
-same-length-9 : tie.Need-same-length-9
-same-length-9 c = search needs
-
-same-length-10 : tie.Need-same-length-10
-same-length-10 c = search needs
-
-returns-5 : tie.Need-returns-5
-returns-5 c = pop-out _ _ _ (ok (c .before .before .before .before .before .before .before .before .before .before .before .before .before .before .before .before .before .before .before .before .before)) (sound (c .before .before .before .before .before .before .before .before .before .before .before .before .before .before .before .before .before)) (some (c .before .before .before .before .before .before .before .before .before .before .before .before .before .before)) _ (c .before .before .before .before .before .before .before .before .before .before .before .find-lowest .ensures .is) _ _ _ (not-false (c .before .before .before .before .before .before .before .before .before .before .before .find-lowest .result .good) (c .before .before .before .before .before .before .before .before .before .if4 .left)) (c .before .before .before .before .before .before .before .tag-of .ensures) (c .before .before .before .before .take .ensures .0) (c .before .before .before .before .take .ensures .1)
+returns c = c .before .before .before .before .pop-laid .ensures ∙ ap (λ (k : Lay). popped k (c .before .before .before .before .before .before .before .before .before .before .args .bits .now) (c .before .before .before .before .before .before .before .before .before .before .args .words .now)) (c .before .before .before .before .before .queue-of .ensures)
 
 pub pop-spec : {M : Type 1} → statement M
 pop-spec =
-    tie.close
-    (tie.spec
-    is-shaped-requires
-    same-length
-    same-length-2
-    returns
-    is-whole-requires
-    same-length-3
-    same-length-4
-    returns-2
-    held-count-requires
-    same-length-5
-    same-length-6
-    returns-3
-    find-lowest-requires
-    same-length-7
-    same-length-8
-    returns-4
-    tag-of-requires
-    take-requires
-    same-length-9
-    same-length-10
-    returns-5)
+    tie.close (tie.spec queue-of-requires pop-laid-requires same-length same-length-2 returns)

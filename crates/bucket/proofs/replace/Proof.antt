@@ -1,49 +1,17 @@
--- `bucket::replace` meets its contract. Assumes nothing.
-use mathlib.Core.Path.{_≡_, sym, _∙_}
-use mathlib.Core.Bool.{true}
-use Prim.Native.Nat.{_<_}
-use native.Mathlib.Omega.{arith}
-use borrow.Author.Tests.{not-true, not-false}
-use Rattle.strip.specs.Answers.{element}
-use Rattle.bucket_model.specs.Layout.{ranks, word, heldAt}
-use Rattle.bucket_model.specs.Calls.{shapely, wholly}
-use Rattle.bucket_model.specs.Causes.{Shaped, Whole}
-use Rattle.bucket_model.proofs.Facts.{shape-facts, whole-facts}
-use Rattle.bucket_reads.specs.Ready.{asLow, Takable}
-use Rattle.bucket.proofs.Ready.{top>, takable, joinable-after}
-use Rattle.bucket_model.proofs.Returns.{replace-bad, replace-high, replace-torn, replace-none, replace-unfit, replace-back, replace-shut, replace-out}
+-- `bucket::replace` meets its contract.
+use mathlib.Core.Path.{ap, _∙_}
+use Rattle.bucket_model.specs.declared.Lay.{Lay}
+use Rattle.bucket_model.specs.Calls.{replaced}
+use Rattle.bucket.proofs.Steps.{queue-placed}
 use borrow.Author.Needs.{needs}
 use Rattle.bucket.proofs.replace.Statement.{statement}
 use Rattle.bucket.proofs.replace.Tie as tie
 
--- the shape is good
-ok : (c : tie.Else1) → shapely (c .before .before .before .before .before .before .args .bits .now) (c .before .before .before .before .before .before .args .words .now) (c .before .before .before .before .before .before .args .n) ≡ true
-ok c = sym (c .before .is-shaped .ensures) ∙ not-false (c .before .is-shaped .result) (c .if1 .left)
+queue-of-requires : tie.Need-queue-of-requires
+queue-of-requires c κs = search needs
 
-shaped : (c : tie.Else1) → Shaped (c .before .before .before .before .before .before .args .bits .now) (c .before .before .before .before .before .before .args .words .now) (c .before .before .before .before .before .before .args .n)
-shaped c = shape-facts (c .before .before .before .before .before .before .args .bits .now) (c .before .before .before .before .before .before .args .words .now) (c .before .before .before .before .before .before .args .n) (ok c)
-
--- the rank is one that there is
-rank : (c : tie.Else2) → c .before .before .before .before .before .before .before .args .rank .0 < ranks
-rank c = omega (arith, c .if2 .left)
-
--- the whole queue is
-sound : (c : tie.Else3) → wholly (c .before .before .before .before .before .before .before .before .before .before .before .args .bits .now) (c .before .before .before .before .before .before .before .before .before .before .before .args .words .now) (c .before .before .before .before .before .before .before .before .before .before .before .args .n) ≡ true
-sound c = sym (c .before .is-whole .ensures) ∙ not-false (c .before .is-whole .result) (c .if3 .left)
-
-whole : (c : tie.Else3) → Whole (c .before .before .before .before .before .before .before .before .before .before .before .args .bits .now) (c .before .before .before .before .before .before .before .before .before .before .before .args .words .now) (c .before .before .before .before .before .before .before .before .before .before .before .args .n)
-whole c = whole-facts (c .before .before .before .before .before .before .before .before .before .before .before .args .bits .now) (c .before .before .before .before .before .before .before .before .before .before .before .args .words .now) (c .before .before .before .before .before .before .before .before .before .before .before .args .n) (sound c)
-
--- something is held
-some : (c : tie.Else4) → word (c .before .before .before .before .before .before .before .before .before .before .before .before .before .before .args .words .now) (heldAt (c .before .before .before .before .before .before .before .before .before .before .before .before .before .before .args .n)) ≡ 0 → ⊥
-some c z = c .if4 .left (c .before .held-count .ensures ∙ z)
-
--- the lowest bucket can be taken from
-takes : (c : tie.Else5) → Takable (c .before .before .before .before .before .before .before .before .before .before .before .before .before .before .before .before .before .before .before .args .bits .now) (c .before .before .before .before .before .before .before .before .before .before .before .before .before .before .before .before .before .before .before .args .words .now) (c .before .before .before .before .before .before .before .before .before .before .before .before .before .before .before .before .before .before .before .args .n) (asLow (c .before .before .find-lowest .result))
-takes c = takable _ _ _ _ (shaped (c .before .before .before .before .before .before .before .before .before .before .before .before .before)) (some (c .before .before .before .before .before)) (c .before .before .find-lowest .ensures) (not-false (c .before .before .find-lowest .result .good) (c .if5 .left))
-
-is-shaped-requires : tie.Need-is-shaped-requires
-is-shaped-requires c κs = search needs
+replace-laid-requires : tie.Need-replace-laid-requires
+replace-laid-requires c κs = queue-placed _ _ (c .queue-of .ensures)
 
 same-length : tie.Need-same-length
 same-length c = search needs
@@ -52,125 +20,8 @@ same-length-2 : tie.Need-same-length-2
 same-length-2 c = search needs
 
 returns : tie.Need-returns
-returns c = replace-bad _ _ _ (element (c .before .before .before .before .before .before .args .rank .0) (c .before .before .before .before .before .before .args .tag .0)) (sym (c .before .is-shaped .ensures) ∙ not-true (c .before .is-shaped .result) (c .if1 .taken))
-
-same-length-3 : tie.Need-same-length-3
-same-length-3 c = search needs
-
-same-length-4 : tie.Need-same-length-4
-same-length-4 c = search needs
-
-returns-2 : tie.Need-returns-2
-returns-2 c = replace-high _ _ _ (element (c .before .before .before .before .before .before .before .args .rank .0) (c .before .before .before .before .before .before .before .args .tag .0)) (ok (c .before)) (c .if2 .taken)
-
-is-whole-requires : tie.Need-is-whole-requires
-is-whole-requires c κs = shaped (c .before .before .before)
-
-same-length-5 : tie.Need-same-length-5
-same-length-5 c = search needs
-
-same-length-6 : tie.Need-same-length-6
-same-length-6 c = search needs
-
-returns-3 : tie.Need-returns-3
-returns-3 c = replace-torn _ _ _ (element (c .before .before .before .before .before .before .before .before .before .before .before .args .rank .0) (c .before .before .before .before .before .before .before .before .before .before .before .args .tag .0)) (ok (c .before .before .before .before .before)) (rank (c .before .before .before .before)) (sym (c .before .is-whole .ensures) ∙ not-true (c .before .is-whole .result) (c .if3 .taken))
-
-held-count-requires : tie.Need-held-count-requires
-held-count-requires c κs = shaped (c .before .before .before .before .before .before) .words
-
-same-length-7 : tie.Need-same-length-7
-same-length-7 c = search needs
-
-same-length-8 : tie.Need-same-length-8
-same-length-8 c = search needs
-
-returns-4 : tie.Need-returns-4
-returns-4 c = replace-none _ _ _ (element (c .before .before .before .before .before .before .before .before .before .before .before .before .before .before .args .rank .0) (c .before .before .before .before .before .before .before .before .before .before .before .before .before .before .args .tag .0)) (ok (c .before .before .before .before .before .before .before .before)) (rank (c .before .before .before .before .before .before .before)) (sound (c .before .before .before)) (sym (c .before .held-count .ensures) ∙ c .if4 .taken)
-
-find-lowest-requires : tie.Need-find-lowest-requires
-find-lowest-requires c κs = (shaped (c .before .before .before .before .before .before .before .before .before .before), top> _ _ _ (whole (c .before .before .before .before .before)) (some (c .before .before)))
-
-same-length-9 : tie.Need-same-length-9
-same-length-9 c = search needs
-
-same-length-10 : tie.Need-same-length-10
-same-length-10 c = search needs
-
-returns-5 : tie.Need-returns-5
-returns-5 c = replace-unfit _ _ _ (element (c .before .before .before .before .before .before .before .before .before .before .before .before .before .before .before .before .before .before .before .args .rank .0) (c .before .before .before .before .before .before .before .before .before .before .before .before .before .before .before .before .before .before .before .args .tag .0)) (ok (c .before .before .before .before .before .before .before .before .before .before .before .before .before)) (rank (c .before .before .before .before .before .before .before .before .before .before .before .before)) (sound (c .before .before .before .before .before .before .before .before)) (some (c .before .before .before .before .before)) _ (c .before .before .find-lowest .ensures .is) (not-true (c .before .before .find-lowest .result .good) (c .if5 .taken))
-
-same-length-11 : tie.Need-same-length-11
-same-length-11 c = search needs
-
-same-length-12 : tie.Need-same-length-12
-same-length-12 c = search needs
-
-returns-6 : tie.Need-returns-6
-returns-6 c = replace-back _ _ _ (element (c .before .before .before .before .before .before .before .before .before .before .before .before .before .before .before .before .before .before .before .before .before .args .rank .0) (c .before .before .before .before .before .before .before .before .before .before .before .before .before .before .before .before .before .before .before .before .before .args .tag .0)) (ok (c .before .before .before .before .before .before .before .before .before .before .before .before .before .before .before)) (rank (c .before .before .before .before .before .before .before .before .before .before .before .before .before .before)) (sound (c .before .before .before .before .before .before .before .before .before .before)) (some (c .before .before .before .before .before .before .before)) _ (c .before .before .before .before .find-lowest .ensures .is) (not-false (c .before .before .before .before .find-lowest .result .good) (c .before .before .if5 .left)) (c .if6 .taken)
-
-find-room-requires : tie.Need-find-room-requires
-find-room-requires c κs = (takes (c .before .before .before .before), (rank (c .before .before .before .before .before .before .before .before .before .before .before .before .before .before .before .before), whole (c .before .before .before .before .before .before .before .before .before .before .before .before) .held≤))
-
-same-length-13 : tie.Need-same-length-13
-same-length-13 c = search needs
-
-same-length-14 : tie.Need-same-length-14
-same-length-14 c = search needs
-
-returns-7 : tie.Need-returns-7
-returns-7 c = replace-shut _ _ _ (element (c .before .before .before .before .before .before .before .before .before .before .before .before .before .before .before .before .before .before .before .before .before .before .before .before .before .before .args .rank .0) (c .before .before .before .before .before .before .before .before .before .before .before .before .before .before .before .before .before .before .before .before .before .before .before .before .before .before .args .tag .0)) (ok (c .before .before .before .before .before .before .before .before .before .before .before .before .before .before .before .before .before .before .before .before)) (rank (c .before .before .before .before .before .before .before .before .before .before .before .before .before .before .before .before .before .before .before)) (sound (c .before .before .before .before .before .before .before .before .before .before .before .before .before .before .before)) (some (c .before .before .before .before .before .before .before .before .before .before .before .before)) _ (c .before .before .before .before .before .before .before .before .before .find-lowest .ensures .is) (not-false (c .before .before .before .before .before .before .before .before .before .find-lowest .result .good) (c .before .before .before .before .before .before .before .if5 .left)) (c .before .before .before .before .before .if6 .left) _ (c .before .before .find-room .ensures) (not-true (c .before .before .find-room .result .good) (c .if7 .taken))
-
-tag-of-requires : tie.Need-tag-of-requires
-tag-of-requires c κs = (shaped (c .before .before .before .before .before .before .before .before .before .before .before .before .before .before .before .before .before .before .before .before .before) .words, takes (c .before .before .before .before .before .before .before .before) .frees .head≤)
-
-take-requires : tie.Need-take-requires
-take-requires c κs = takes (c .before .before .before .before .before .before .before .before .before .before .before)
-
-join-requires : tie.Need-join-requires
-join-requires c κs = joinable-after _ _ _ _ _ _ _ _ (takes (c .before .before .before .before .before .before .before .before .before .before .before .before .before .before .before .before .before .before)) (rank (c .before .before .before .before .before .before .before .before .before .before .before .before .before .before .before .before .before .before .before .before .before .before .before .before .before .before .before .before .before .before)) (whole (c .before .before .before .before .before .before .before .before .before .before .before .before .before .before .before .before .before .before .before .before .before .before .before .before .before .before) .held≤) (c .before .before .before .before .before .before .before .before .before .before .before .before .before .find-room .ensures) (not-false (c .before .before .before .before .before .before .before .before .before .before .before .before .before .find-room .result .good) (c .before .before .before .before .before .before .before .before .before .before .before .if7 .left)) (c .before .before .before .before .before .before .take .ensures .0) (c .before .before .before .before .before .before .take .ensures .1)
-
-same-length-15 : tie.Need-same-length-15
-same-length-15 c = search needs
-
-same-length-16 : tie.Need-same-length-16
-same-length-16 c = search needs
-
-returns-8 : tie.Need-returns-8
-returns-8 c = replace-out _ _ _ (element (c .before .before .before .before .before .before .before .before .before .before .before .before .before .before .before .before .before .before .before .before .before .before .before .before .before .before .before .before .before .before .before .before .before .before .before .before .before .before .before .before .before .before .args .rank .0) (c .before .before .before .before .before .before .before .before .before .before .before .before .before .before .before .before .before .before .before .before .before .before .before .before .before .before .before .before .before .before .before .before .before .before .before .before .before .before .before .before .before .before .args .tag .0)) (ok (c .before .before .before .before .before .before .before .before .before .before .before .before .before .before .before .before .before .before .before .before .before .before .before .before .before .before .before .before .before .before .before .before .before .before .before .before)) (rank (c .before .before .before .before .before .before .before .before .before .before .before .before .before .before .before .before .before .before .before .before .before .before .before .before .before .before .before .before .before .before .before .before .before .before .before)) (sound (c .before .before .before .before .before .before .before .before .before .before .before .before .before .before .before .before .before .before .before .before .before .before .before .before .before .before .before .before .before .before .before)) (some (c .before .before .before .before .before .before .before .before .before .before .before .before .before .before .before .before .before .before .before .before .before .before .before .before .before .before .before .before)) _ (c .before .before .before .before .before .before .before .before .before .before .before .before .before .before .before .before .before .before .before .before .before .before .before .before .before .find-lowest .ensures .is) (not-false (c .before .before .before .before .before .before .before .before .before .before .before .before .before .before .before .before .before .before .before .before .before .before .before .before .before .find-lowest .result .good) (c .before .before .before .before .before .before .before .before .before .before .before .before .before .before .before .before .before .before .before .before .before .before .before .if5 .left)) (c .before .before .before .before .before .before .before .before .before .before .before .before .before .before .before .before .before .before .before .before .before .if6 .left) _ (c .before .before .before .before .before .before .before .before .before .before .before .before .before .before .before .before .before .before .find-room .ensures) _ _ _ _ _ (not-false (c .before .before .before .before .before .before .before .before .before .before .before .before .before .before .before .before .before .before .find-room .result .good) (c .before .before .before .before .before .before .before .before .before .before .before .before .before .before .before .before .if7 .left)) (c .before .before .before .before .before .before .before .before .before .before .before .before .before .before .tag-of .ensures) (c .before .before .before .before .before .before .before .before .before .before .before .take .ensures .0) (c .before .before .before .before .before .before .before .before .before .before .before .take .ensures .1) (c .before .before .before .before .join .ensures .0) (c .before .before .before .before .join .ensures .1)
+returns c = c .before .before .before .before .replace-laid .ensures ∙ ap (λ (k : Lay). replaced k (c .before .before .before .before .before .before .before .before .before .before .args .bits .now) (c .before .before .before .before .before .before .before .before .before .before .args .words .now) (c .before .before .before .before .before .before .before .before .before .before .args .e)) (c .before .before .before .before .before .queue-of .ensures)
 
 pub replace-spec : {M : Type 1} → statement M
 replace-spec =
-    tie.close
-    (tie.spec
-    is-shaped-requires
-    same-length
-    same-length-2
-    returns
-    same-length-3
-    same-length-4
-    returns-2
-    is-whole-requires
-    same-length-5
-    same-length-6
-    returns-3
-    held-count-requires
-    same-length-7
-    same-length-8
-    returns-4
-    find-lowest-requires
-    same-length-9
-    same-length-10
-    returns-5
-    same-length-11
-    same-length-12
-    returns-6
-    find-room-requires
-    same-length-13
-    same-length-14
-    returns-7
-    tag-of-requires
-    take-requires
-    join-requires
-    same-length-15
-    same-length-16
-    returns-8)
+    tie.close (tie.spec queue-of-requires replace-laid-requires same-length same-length-2 returns)

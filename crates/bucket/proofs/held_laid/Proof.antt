@@ -1,0 +1,44 @@
+-- `bucket::held_laid` meets its contract.
+use mathlib.Core.Path.{_≡_, sym, _∙_}
+use mathlib.Core.Bool.{true}
+use borrow.Author.Tests.{not-true, not-false}
+use Rattle.bucket_model.specs.Calls.{isShaped, isWhole}
+use Rattle.bucket_tests.specs.Stores.{Stands}
+use Rattle.bucket_model.proofs.Returns.{held-bad, held-torn, held-told}
+use Rattle.bucket.proofs.Steps.{stands, fits}
+use borrow.Author.Needs.{needs}
+use Rattle.bucket.proofs.held_laid.Statement.{statement}
+use Rattle.bucket.proofs.held_laid.Tie as tie
+
+-- what has been tested so far
+ok : (c : tie.Else1) → isShaped (c .before .before .before .before .args .k) (c .before .before .before .before .args .bits .now) (c .before .before .before .before .args .words .now) ≡ true
+ok c = sym (c .before .is-shaped .ensures) ∙ not-false (c .before .is-shaped .result) (c .if1 .left)
+
+st : (c : tie.Else1) → Stands (c .before .before .before .before .args .k) (c .before .before .before .before .args .bits .now) (c .before .before .before .before .args .words .now)
+st c = stands _ _ _ (c .before .before .before .before .pre) (ok c)
+
+sound : (c : tie.Else2) → isWhole (c .before .before .before .before .before .before .args .k) (c .before .before .before .before .before .before .args .bits .now) (c .before .before .before .before .before .before .args .words .now) ≡ true
+sound c = sym (c .before .is-whole .ensures) ∙ not-false (c .before .is-whole .result) (c .if2 .left)
+
+is-shaped-requires : tie.Need-is-shaped-requires
+is-shaped-requires c κs = search needs
+
+returns : tie.Need-returns
+returns c = held-bad _ _ _ (sym (c .before .is-shaped .ensures) ∙ not-true (c .before .is-shaped .result) (c .if1 .taken))
+
+is-whole-requires : tie.Need-is-whole-requires
+is-whole-requires c κs = st (c)
+
+returns-2 : tie.Need-returns-2
+returns-2 c = held-torn _ _ _ (ok (c .before .before)) (sym (c .before .is-whole .ensures) ∙ not-true (c .before .is-whole .result) (c .if2 .taken))
+
+held-count-requires : tie.Need-held-count-requires
+held-count-requires c κs = fits _ _ _ (st (c .before .before))
+
+returns-3 : tie.Need-returns-3
+returns-3 c = held-told _ _ _ _ (ok (c .before .before .before)) (sound (c .before)) (c .held-count .ensures)
+
+pub held-laid-spec : {M : Type 1} → statement M
+held-laid-spec =
+    tie.close
+    (tie.spec is-shaped-requires returns is-whole-requires returns-2 held-count-requires returns-3)

@@ -1,0 +1,73 @@
+-- `bucket_bits::agreement` meets its contract.
+use Prim.Native.Nat.{_-_, _<_}
+use native.Mathlib.Omega.{arith}
+use Rattle.bucket_bits.specs.Climbs.{Climbable}
+use Rattle.bucket_bits.proofs.Up.{Climbing, climbing-start, climbing-room, climbing-step, climbing-end}
+use borrow.Author.Needs.{needs}
+use Rattle.bucket_bits.proofs.agreement.Statement.{statement}
+use Rattle.bucket_bits.proofs.agreement.Tie as tie
+
+abbrev Inv-loop : tie.InvT-loop
+Inv-loop bits base storeys tower clears gone empty own c₀ d₀ g₀ i₀ c d g i = Climbing bits base storeys clears gone empty own c d g i
+
+abbrev μ-loop : tie.MeasureT-loop
+μ-loop bits base storeys tower clears gone empty own c₀ d₀ g₀ i₀ c d g i = d
+
+add-g : tie.Need-add-g Inv-loop μ-loop
+add-g c = search needs
+
+add-i : tie.Need-add-i Inv-loop μ-loop
+add-i c = search needs
+
+loop-holds : tie.Need-loop-holds Inv-loop μ-loop
+loop-holds c = climbing-start _ _ _ _ _ _ _ _ (c .before .pre .0 .words) (c .before .pre .1 .0) (c .before .pre .1 .1 .0) (c .before .pre .1 .1 .1)
+
+-- the numbers of both bits, and their words
+room : (c : tie.In-loop Inv-loop μ-loop) → (0 < c .before .loop .g) × (0 < c .before .loop .i) × Climbable (c .before .before .before .args .bits .now) (c .before .before .before .args .base) (c .before .loop .c .clears) (c .before .loop .g - 1) (c .before .loop .i - 1)
+room c = climbing-room _ _ _ _ _ _ _ _ _ _ _ (c .before .before .before .pre .0 .long) (c .loop-test .taken) (c .before .loop .inv)
+
+sub-climb-one : tie.Need-sub-climb-one Inv-loop μ-loop
+sub-climb-one c = room c .0
+
+sub-climb-one-2 : tie.Need-sub-climb-one-2 Inv-loop μ-loop
+sub-climb-one-2 c = room c .1
+
+climb-one-requires : tie.Need-climb-one-requires Inv-loop μ-loop
+climb-one-requires c κs = room c .2
+
+sub-g : tie.Need-sub-g Inv-loop μ-loop
+sub-g c = room (c .before) .0
+
+sub-i : tie.Need-sub-i Inv-loop μ-loop
+sub-i c = room (c .before) .1
+
+sub-d : tie.Need-sub-d Inv-loop μ-loop
+sub-d c = search needs
+
+loop-less : tie.Need-loop-less Inv-loop μ-loop
+loop-less c = search needs
+
+loop-again : tie.Need-loop-again Inv-loop μ-loop
+loop-again c = rw (c .climb-one .ensures) (climbing-step _ _ _ _ _ _ _ _ _ _ _ (c .before .before .before .before .pre .0 .long) (c .before .loop-test .taken) (c .before .before .loop .inv))
+
+returns : tie.Need-returns Inv-loop μ-loop
+returns c = climbing-end _ _ _ _ _ _ _ _ _ _ _ (c .before .before .before .pre .0 .some) (omega (arith, c .loop-test .left)) (c .before .loop .inv)
+
+pub agreement-spec : {M : Type 1} → statement M
+agreement-spec =
+    tie.close
+    (tie.spec
+    Inv-loop
+    μ-loop
+    add-g
+    add-i
+    loop-holds
+    sub-climb-one
+    sub-climb-one-2
+    climb-one-requires
+    sub-g
+    sub-i
+    sub-d
+    loop-less
+    loop-again
+    returns)

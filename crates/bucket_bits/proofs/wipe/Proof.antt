@@ -1,0 +1,54 @@
+-- `bucket_bits::wipe` meets its contract.
+use mathlib.Core.Path.{_≡_, refl, ap, _∙_}
+use Prim.Native.Nat.{ℕ, _-_, _≤_}
+use native.Mathlib.Omega.{arith}
+use lib.ListN.{length, length-set}
+use Rattle.bucket_model.specs.Calls.{fill}
+use Rattle.bucket_model.proofs.Fill.{fill-none, fill-step}
+use Rattle.bucket_bits.proofs.wipe.Statement.{statement}
+use Rattle.bucket_bits.proofs.wipe.Tie as tie
+
+abbrev Inv-loop : tie.InvT-loop
+Inv-loop bits₀ end j₀ bits j = (bits ≡ fill (λ j. 0) j bits₀) × (j ≤ end) × (length bits ≡ length bits₀)
+
+abbrev μ-loop : tie.MeasureT-loop
+μ-loop bits₀ end j₀ bits j = end - j
+
+loop-holds : tie.Need-loop-holds Inv-loop μ-loop
+loop-holds c = (fill-none _ _, omega arith, refl)
+
+mul-bits : tie.Need-mul-bits Inv-loop μ-loop
+mul-bits c = omega arith
+
+slice-write-bits : tie.Need-slice-write-bits Inv-loop μ-loop
+slice-write-bits c = omega arith
+
+add-j : tie.Need-add-j Inv-loop μ-loop
+add-j c = omega arith
+
+loop-less : tie.Need-loop-less Inv-loop μ-loop
+loop-less c = omega arith
+
+loop-again : tie.Need-loop-again Inv-loop μ-loop
+loop-again c = (cc (fill-step (λ j. 0) (c .before .loop .j) (c .before .before .args .bits .now) (omega arith)), omega arith, simp length-set (c .before .loop .inv .2))
+
+same-length : tie.Need-same-length Inv-loop μ-loop
+same-length c = c .before .loop .inv .2
+
+returns : tie.Need-returns Inv-loop μ-loop
+returns c = c .before .loop .inv .0 ∙ ap (λ (j : ℕ). fill (λ j. 0) j (c .before .before .args .bits .now)) (omega arith)
+
+pub wipe-spec : {M : Type 1} → statement M
+wipe-spec =
+    tie.close
+    (tie.spec
+    Inv-loop
+    μ-loop
+    loop-holds
+    mul-bits
+    slice-write-bits
+    add-j
+    loop-less
+    loop-again
+    same-length
+    returns)

@@ -1,0 +1,167 @@
+-- The words past the end of each part: no call touches them.
+use mathlib.Core.Path.{_≡_, refl, ap, _∙_}
+use mathlib.Core.Bool.{Bool, true, false, cond, not}
+use mathlib.Core.List.{List, [], _∷_}
+use Prim.Native.Nat.{ℕ, zero, suc, _+_, _-_, _^_, _≤_, _<_}
+use native.Mathlib.Nat.{pow-suc, not-suc-le-zero, le-of-suc-le-suc}
+use native.Mathlib.Omega.{arith}
+use borrow.Author.Tests.{ltb-true}
+use lib.Dec.{leb, eqb, ltb}
+use lib.ListN.{length}
+use Rattle.laws.specs.Tests.{cond-path}
+use Rattle.bitmap.specs.Bits as word64
+use Rattle.strip.specs.declared.Element.{Element}
+use Rattle.strip.specs.declared.Answer.{Answer}
+use Rattle.bucket_model.specs.Layout.{Lay, Laid, bitWords, storeWords, wordsOf, word}
+use Rattle.bucket_model.specs.Storeys.{storeysFrom, find, marked, lowestRank}
+use Rattle.bucket_model.specs.Calls.{Outcome, outcome, fillFrom, fill, blankWord, cleared, Lowest, Room, lowestOf, takenWords, takenBits, roomOf, roomAfter, joinedBits, popFound, popped, pushFound, pushed, replaceFound, replaceJoined, replaced, isShaped, isWhole}
+use Rattle.bucket_model.specs.Causes.{Whole, Opens, Untouched}
+use Rattle.bucket_model.proofs.Facts.{shape-means, whole-means, pop-means, pop-way, low-is, low-rank, push-means, room-means}
+use Rattle.bucket_model.proofs.Fill.{fill-length}
+use Rattle.bucket_model.proofs.Taken.{taken-past, free-after}
+use Rattle.bucket_model.proofs.Joined.{joined-past}
+use Rattle.bucket_model.proofs.Pop.{taken-length, taken-bits-length}
+use Rattle.bucket_model.proofs.Push.{joined-length, joined-bits-length}
+use Rattle.bucket_model.proofs.Tower.{marked-off, past-all}
+
+-- ---- a list filled from the front, past its end
+
+from-past : (f : ℕ → ℕ) (i n : ℕ) (w : List ℕ) (j : ℕ) → n ≤ j → word (fillFrom f i n w) j ≡ word w j
+from-past f i zero w j h = refl
+from-past f i (suc n) [] j h = refl
+from-past f i (suc n) (x ∷ xs) zero h = absurd (not-suc-le-zero h)
+from-past f i (suc n) (x ∷ xs) (suc j) h = from-past f (suc i) n xs j (le-of-suc-le-suc h)
+
+fill-past : (f : ℕ → ℕ) (n : ℕ) (w : List ℕ) (j : ℕ) → n ≤ j → word (fill f n w) j ≡ word w j
+unfolding fill
+fill-past f n w j h = from-past f 0 n w j h
+
+-- ---- the lowest rank of words of 64 bits
+
+find-lt : (b : List ℕ) (o d : ℕ) → ((i : ℕ) → word b i < 2 ^ 64) → Opens b (storeysFrom o d) → find b (storeysFrom o d) < 64 ^ d
+find-lt b o zero f w = omega arith
+find-lt b o (suc d) f w =
+    let ih = find-lt b o d f (w .0) in
+    let i = word64.lowest 64 (word b (o + wordsOf d + find b (storeysFrom o d))) (omega (arith, w .1)) (f (o + wordsOf d + find b (storeysFrom o d))) in
+    omega (arith, i .within, pow-suc 64 d)
+
+-- a call leaves everything behind, unless a test holds
+guard : (k : Lay) (b w : List ℕ) (t : Bool) (x : Outcome) (a : Answer) → (t ≡ true → Untouched k b w x) → Untouched k b w (cond t x (outcome a b w))
+guard k b w true x a f = f refl
+guard k b w false x a f = record { bits-long = refl; words-long = refl; bits-rest = λ i l. refl; words-rest = λ i l. refl }
+
+pub rest-clear : (k : Lay) (b w : List ℕ) → Untouched k b w (cleared k b w)
+unfolding cleared
+rest-clear k b w = guard k b w (isShaped k b w) _ _ (λ s. record {
+  bits-long = fill-length (λ j. 0) (bitWords k) b;
+  words-long = fill-length (blankWord k) (storeWords k) w;
+  bits-rest = fill-past (λ j. 0) (bitWords k) b;
+  words-rest = fill-past (blankWord k) (storeWords k) w;
+})
+
+module _ (k : Lay) (laid : Laid k) where
+  marked-past : (on : Bool) (b : List ℕ) (r i : ℕ) → r < k .ranks → bitWords k ≤ i → word (marked on k b r) i ≡ word b i
+  marked-past on b r i h l = marked-off on k laid b r i h (past-all (k .bits) (k .storeys) i (omega (arith, laid .tower)))
+
+  taken-bits-past : (b : List ℕ) (low : Lowest) (i : ℕ) → low .rank < k .ranks → bitWords k ≤ i → word (takenBits k b low) i ≡ word b i
+  unfolding takenBits
+  taken-bits-past b low i h l = cond-path (λ x. word x i) (eqb (low .next) 0) (marked false k b (low .rank)) b (word b i) (marked-past false b (low .rank) i h l) refl
+
+  joined-bits-past : (b : List ℕ) (e : Element) (to : Room) (i : ℕ) → e .rank .0 < k .ranks → bitWords k ≤ i → word (joinedBits k b e to) i ≡ word b i
+  unfolding joinedBits
+  joined-bits-past b e to i h l = cond-path (λ x. word x i) (eqb (to .tail) 0) (marked true k b (e .rank .0)) b (word b i) (marked-past true b (e .rank .0) i h l) refl
+
+  pub rank-lt : (b : List ℕ) → ((i : ℕ) → word b i < 2 ^ 64) → Opens b (storeysFrom (k .bits) (k .storeys)) → lowestRank k b < k .ranks
+  unfolding lowestRank
+  rank-lt b f o = omega (arith, find-lt b (k .bits) (k .storeys) f o, laid .ranks)
+
+  -- ---- call by call
+
+  module _ (b w : List ℕ) where
+    module _ (e : Element) (l : e .rank .0 < k .ranks) (h : Whole k b w) where
+      abbrev to : Room
+      to = roomOf k b w (e .rank .0)
+
+      push-found-rest : Untouched k b w (pushFound k b w e to)
+      unfolding pushFound roomOf
+      push-found-rest = guard k b w (to .good) _ _ (λ g. record {
+        bits-long = joined-bits-length k b e to;
+        words-long = joined-length k w e to;
+        bits-rest = λ i m. joined-bits-past b e to i l m;
+        words-rest = λ i m. joined-past k laid w e to l (h .free≤) (push-means k b w (e .rank .0) .says g .tail≤) i m;
+      })
+
+    pub rest-push : (e : Element) → Untouched k b w (pushed k b w e)
+    unfolding pushed
+    rest-push e =
+        guard k b w (isShaped k b w) _ _
+        (λ s. guard k b w (ltb (e .rank .0) (k .ranks)) _ _
+        (λ l. guard k b w (isWhole k b w) _ _
+        (λ h. guard k b w (not (eqb (word w (k .held)) (k .nodes))) _ _
+        (λ z. push-found-rest e (ltb-true (e .rank .0) (k .ranks) l) (whole-means k b w .says h)))))
+
+    module _ (fits : (i : ℕ) → word b i < 2 ^ 64) where
+      abbrev low : Lowest
+      low = lowestOf k b w
+
+      -- the lowest bucket that has passed its tests
+      low-lt : lowestOf k b w .good ≡ true → lowestOf k b w .rank < k .ranks
+      low-lt g = rw (low-rank k b w g) (rank-lt b fits (pop-means k b w .says g .way))
+
+      low-head : lowestOf k b w .good ≡ true → (1 ≤ lowestOf k b w .head) × (lowestOf k b w .head ≤ k .nodes)
+      low-head g = let f = pop-means k b w .says g in rw (ap (λ (x : Lowest). x .head) (low-is k b w (pop-way k b w g))) (omega (arith, f .head≢), f .head≤)
+
+      low-past : storeWords k ≤ length w → lowestOf k b w .good ≡ true → (i : ℕ) → storeWords k ≤ i → word (takenWords k w (lowestOf k b w)) i ≡ word w i
+      low-past s g = taken-past k laid w low s (low-lt g) (low-head g .0) (low-head g .1)
+
+      pop-found-rest : storeWords k ≤ length w → Untouched k b w (popFound k b w (lowestOf k b w))
+      unfolding popFound
+      pop-found-rest s = guard k b w (low .good) _ _ (λ g. record {
+        bits-long = taken-bits-length k b low;
+        words-long = taken-length k w low;
+        bits-rest = λ i h. taken-bits-past b low i (low-lt g) h;
+        words-rest = low-past s g;
+      })
+
+      pub rest-pop : Untouched k b w (popped k b w)
+      unfolding popped
+      rest-pop =
+          guard k b w (isShaped k b w) _ _
+          (λ s. guard k b w (isWhole k b w) _ _
+          (λ h. guard k b w (not (eqb (word w (k .held)) 0)) _ _ (λ z. pop-found-rest (shape-means k b w .says s .words))))
+
+      module _ (e : Element) (l : e .rank .0 < k .ranks) (words : storeWords k ≤ length w) where
+        abbrev B : List ℕ
+        B = takenBits k b (lowestOf k b w)
+
+        abbrev W : List ℕ
+        W = takenWords k w (lowestOf k b w)
+
+        abbrev room : Room
+        room = roomAfter k B W (e .rank .0)
+
+        room-tail : room .good ≡ true → room .tail ≤ k .nodes
+        unfolding roomAfter roomOf
+        room-tail g = room-means k B W (e .rank .0) .says g .1 .tail≤
+
+        replace-joined-rest : low .good ≡ true → Untouched k b w (replaceJoined k b w e low room)
+        unfolding replaceJoined
+        replace-joined-rest g = guard k b w (room .good) _ _ (λ h. record {
+          bits-long = joined-bits-length k B e room ∙ taken-bits-length k b low;
+          words-long = joined-length k W e room ∙ taken-length k w low;
+          bits-rest = λ i j. joined-bits-past B e room i l j ∙ taken-bits-past b low i (low-lt g) j;
+          words-rest = λ i j. joined-past k laid W e room l (rw (free-after k laid w low words) (low-head g .1)) (room-tail h) i j ∙ low-past words g i j;
+        })
+
+        replace-found-rest : Untouched k b w (replaceFound k b w e low)
+        unfolding replaceFound
+        replace-found-rest = guard k b w (low .good) _ _ (λ g. guard k b w (leb (low .rank) (e .rank .0)) _ _ (λ h. replace-joined-rest g))
+
+      pub rest-replace : (e : Element) → Untouched k b w (replaced k b w e)
+      unfolding replaced
+      rest-replace e =
+          guard k b w (isShaped k b w) _ _
+          (λ s. guard k b w (ltb (e .rank .0) (k .ranks)) _ _
+          (λ l. guard k b w (isWhole k b w) _ _
+          (λ h. guard k b w (not (eqb (word w (k .held)) 0)) _ _
+          (λ z. replace-found-rest e (ltb-true (e .rank .0) (k .ranks) l) (shape-means k b w .says s .words)))))

@@ -1,0 +1,36 @@
+-- What the functions on the words ask of their callers. These are definitions.
+use mathlib.Core.List.{List}
+use Prim.Native.Nat.{ℕ, _≤_, _<_}
+use lib.ListN.{length}
+use Rattle.bucket_model.specs.declared.Lay.{Lay}
+use Rattle.bucket_model.specs.declared.Lowest.{Lowest}
+use Rattle.bucket_model.specs.Layout.{Laid, storeWords, word}
+
+-- all words of the layout are there
+pub record Fits (k : Lay) (w : List ℕ) : Type 0 where
+  pub laid : Laid k
+  pub words : storeWords k ≤ length w
+
+-- a node's link
+pub record NodeOf (k : Lay) (w : List ℕ) (link : ℕ) : Type 0 where
+  pub fits : Fits k w
+  pub some : 1 ≤ link
+  pub high : link ≤ k .nodes
+
+-- a bucket whose head a pop can take
+pub record Takable (k : Lay) (w : List ℕ) (low : Lowest) : Type 0 where
+  pub node : NodeOf k w (low .head)
+  pub rank< : low .rank < k .ranks
+  pub held> : 1 ≤ word w (k .held)
+
+-- a bucket that a push can join
+pub record Linkable (k : Lay) (r tail : ℕ) : Type 0 where
+  pub laid : Laid k
+  pub rank< : r < k .ranks
+  pub tail≤ : tail ≤ k .nodes
+
+pub record Joinable (k : Lay) (w : List ℕ) (r tail : ℕ) : Type 0 where
+  pub node : NodeOf k w (word w (k .free))
+  pub rank< : r < k .ranks
+  pub tail≤ : tail ≤ k .nodes
+  pub held< : word w (k .held) < k .nodes

@@ -1,0 +1,223 @@
+// The bucket queue's words of 32 bits: heads, tails, nodes, the free link and the held count, wherever they stand.
+//
+// A link is a node's number plus one, and 0 is "none". Each function takes the layout and touches no other word.
+use bucket_model::Lay;
+use bucket_model::Lowest;
+use bucket_model::Room;
+use strip::Element;
+use strip::Rank;
+use strip::Tag;
+ghost use mathlib.Core.Path.{_≡_};
+ghost use Prim.Native.Nat.{_≤_, _<_};
+ghost use Rattle.bucket_model.specs.Layout.{storeWords, word, headAt, tailAt, loadIn, loaded};
+ghost use Rattle.bucket_model.specs.Layout as layout;
+ghost use Rattle.bucket_model.specs.Checks.{nextOf};
+ghost use Rattle.bucket_model.specs.Calls.{fill, blankWord, tailLeft, takenWords, linkAt, joinedWords, blankCell};
+ghost use Rattle.bucket_nodes.specs.Places.{Fits, NodeOf, Takable, Linkable, Joinable};
+
+// How many storeys of bits a queue has, how many words these have, and how many ranks they tell of.
+const STOREYS: usize = 2;
+
+const TOWER: usize = 65;
+
+const RANKS: u32 = 4096;
+
+// A head and a tail for each rank.
+const LISTS: usize = 8192;
+
+// The words of a node, and which of them is its tag and which its next.
+const NODE: usize = 2;
+
+const TAG: usize = 0;
+
+const NEXT: usize = 1;
+
+// Where the words of a queue of n nodes stand.
+pub fn queue_of(n: u32) -> Lay
+    ensures { λ r. ⌜ r ≡ layout.queue n ⌝ }
+{
+    let free = LISTS + NODE * (n as usize);
+    Lay {
+        storeys: STOREYS,
+        tower: TOWER,
+        bits: 0,
+        ranks: RANKS,
+        heads: 0,
+        stem: LISTS - NODE,
+        nodes: n,
+        free,
+        held: free + 1,
+    }
+}
+
+// ---- reading
+
+pub fn free_link(words: &[u32], k: Lay) -> u32
+    requires { ⌜ Fits k (now words) ⌝ }
+    ensures { λ r. ⌜ r ≡ word (now (words .entry)) (k .free) ⌝ }
+{
+    let at = k.free;
+    words[at]
+}
+
+pub fn held_count(words: &[u32], k: Lay) -> u32
+    requires { ⌜ Fits k (now words) ⌝ }
+    ensures { λ r. ⌜ r ≡ word (now (words .entry)) (k .held) ⌝ }
+{
+    let at = k.held;
+    words[at]
+}
+
+pub fn head_of(words: &[u32], k: Lay, rank: u32) -> u32
+    requires { ⌜ Fits k (now words) ⌝ ∗ ⌜ rank < k .ranks ⌝ }
+    ensures { λ r. ⌜ r ≡ word (now (words .entry)) (headAt k rank) ⌝ }
+{
+    words[k.heads + rank as usize]
+}
+
+pub fn tail_of(words: &[u32], k: Lay, rank: u32) -> u32
+    requires { ⌜ Fits k (now words) ⌝ ∗ ⌜ rank < k .ranks ⌝ }
+    ensures { λ r. ⌜ r ≡ word (now (words .entry)) (tailAt k rank) ⌝ }
+{
+    words[k.heads + rank as usize + k.ranks as usize]
+}
+
+// The next of the node that link names; 0 where it names none of the nodes, so that garbage can be read before it is tested.
+pub fn next_of(words: &[u32], k: Lay, link: u32) -> u32
+    requires { ⌜ Fits k (now words) ⌝ }
+    ensures { λ r. ⌜ r ≡ nextOf k (now (words .entry)) link ⌝ }
+{
+    if link == 0 {
+        return 0;
+    }
+    if k.nodes < link {
+        return 0;
+    }
+    words[k.stem + NODE * (link as usize) + NEXT]
+}
+
+// The element of this rank whose load is in the node that link names.
+pub fn element_of(words: &[u32], k: Lay, rank: u32, link: u32) -> Element
+    requires { ⌜ NodeOf k (now words) link ⌝ }
+    ensures { λ r. ⌜ r ≡ loaded rank (loadIn (k .stem) (now (words .entry)) link) ⌝ }
+{
+    let tag = words[k.stem + NODE * (link as usize) + TAG];
+    Element {
+        rank: Rank(rank),
+        tag: Tag(tag),
+    }
+}
+
+// The tail of a bucket whose head is taken away.
+pub fn tail_left(next: u32, tail: u32) -> u32
+    ensures { λ r. ⌜ r ≡ tailLeft next tail ⌝ }
+{
+    if next == 0 {
+        return 0;
+    }
+    tail
+}
+
+// ---- a pop
+
+// Takes the head out of its bucket, and puts the freed node first in the free chain.
+pub fn take_words(words: &mut [u32], k: Lay, low: Lowest)
+    requires { ⌜ Takable k (now words) low ⌝ }
+    ensures { λ _. ⌜ now (words .exit) ≡ takenWords k (now (words .entry)) low ⌝ }
+{
+    let head_at = k.heads + low.rank as usize;
+    let node = k.stem + NODE * (low.head as usize);
+    let free_at = k.free;
+    let held_at = k.held;
+    let free = words[free_at];
+    let held = words[held_at];
+    let tail = tail_left(low.next, low.tail);
+    words[head_at] = low.next;
+    words[head_at + k.ranks as usize] = tail;
+    words[node + TAG] = 0;
+    words[node + NEXT] = free;
+    words[free_at] = low.head;
+    words[held_at] = held - 1;
+}
+
+// ---- a push
+
+// Where the link to a newcomer stands: the head of an empty bucket, or the next of its tail.
+fn link_at(k: Lay, rank: u32, tail: u32) -> usize
+    requires { ⌜ Linkable k rank tail ⌝ }
+    ensures is { λ r. ⌜ r ≡ linkAt k rank tail ⌝ }
+    ensures within { λ r. ⌜ r < k .free ⌝ }
+{
+    if tail == 0 {
+        return k.heads + rank as usize;
+    }
+    k.stem + NODE * (tail as usize) + NEXT
+}
+
+// Takes the node at the free link, and joins it behind the tail.
+pub fn join_words(words: &mut [u32], k: Lay, e: Element, to: Room)
+    requires { ⌜ Joinable k (now words) (e .rank .0) (to .tail) ⌝ }
+    ensures { λ _. ⌜ now (words .exit) ≡ joinedWords k (now (words .entry)) e to ⌝ }
+{
+    let rank = e.rank;
+    let tag = e.tag;
+    let free_at = k.free;
+    let held_at = k.held;
+    let free = words[free_at];
+    let held = words[held_at];
+    let node = k.stem + NODE * (free as usize);
+    let tail = to.tail;
+    let link = link_at(k, rank.0, tail);
+    let tail_at = k.heads + rank.0 as usize + k.ranks as usize;
+    words[free_at] = to.next;
+    words[node + TAG] = tag.0;
+    words[node + NEXT] = 0;
+    words[link] = free;
+    words[tail_at] = free;
+    words[held_at] = held + 1;
+}
+
+// ---- clear
+
+// Word j of a cleared store.
+fn blank(k: Lay, j: usize) -> u32
+    requires { ⌜ layout.Laid k ⌝ ∗ ⌜ j < storeWords k ⌝ ∗ ⌜ k .nodes ≤ layout.pool ⌝ }
+    ensures { λ r. ⌜ r ≡ blankWord k j ⌝ }
+{
+    if j < k.stem + NODE {
+        return 0;
+    }
+    if j < k.free {
+        return blank_cell(k.nodes, (j - k.stem) / NODE, (j - k.stem) % NODE);
+    }
+    if j == k.free {
+        return 1;
+    }
+    0
+}
+
+// Word i of the node that link names: its next names the node after it, the last node's none.
+fn blank_cell(n: u32, link: usize, i: usize) -> u32
+    requires { ⌜ link ≤ n ⌝ ∗ ⌜ n ≤ layout.pool ⌝ }
+    ensures { λ r. ⌜ r ≡ blankCell n link i ⌝ }
+{
+    if i != NEXT {
+        return 0;
+    }
+    if link == n as usize {
+        return 0;
+    }
+    (link + 1) as u32
+}
+
+pub fn wipe_words(words: &mut [u32], k: Lay)
+    requires { ⌜ Fits k (now words) ⌝ ∗ ⌜ k .nodes ≤ layout.pool ⌝ }
+    ensures { λ _. ⌜ now (words .exit) ≡ fill (blankWord k) (storeWords k) (now (words .entry)) ⌝ }
+{
+    let end = k.held + 1;
+    let mut j = 0;
+    while j < end {
+        words[j] = blank(k, j);
+        j += 1;
+    }
+}
