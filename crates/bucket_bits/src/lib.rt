@@ -1,7 +1,8 @@
 // The bucket queue's bits: storeys of 64-bit words above one another, as many as there are, the top word first.
 //
-// The words are numbered from 0, the top one, on: bit k of word w tells of word 64 w + k + 1, and bit k of a word w of the
-// lowest storey tells of a rank: as many words from it on as there are, then the ranks would be numbered in the same way.
+// The words are numbered from the top one, 0, on, and past the last of them the ranks: with `tower` words, rank r is number
+// tower + r. Bit k of word w tells of number 64 w + k + 1, so the way up from number i leads to bit (i - 1) % 64 of word
+// (i - 1) / 64, however many storeys there are.
 ghost use mathlib.Core.Path.{_≡_};
 ghost use mathlib.Core.Bool.{true, false, cond};
 ghost use Prim.Native.Nat.{_+_, _≤_, _<_, _^_};
