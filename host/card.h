@@ -19,9 +19,9 @@
  *
  * `out` receives the answer: two words, rank and tag (pop, replace, cycle), or one word, the count
  * (held), or two words, cycles run and whether work is left (drain). A refusal writes zeros, but
- * a drain refused 2 writes the cycles already run, and 1. An `out` that is too short, a mark or
- * records that are too short, a mark above 1, a record's kind above 3 and a request above 3 are
- * refusal 1 as well, and then nothing at all is written.
+ * a drain refused 2 writes the cycles already run, and 1. A mark or records that are too short, a
+ * mark above 1, a record's kind above 3 and a request above 3 are refusal 1 as well; so is an
+ * `out` that is too short, and then nothing at all is written.
  */
 #ifndef CARD_H
 #define CARD_H

@@ -2,9 +2,9 @@
 -- drains of the model does. Assumes nothing.
 use Prim.Native.Nat.{_-_, _≤_, pred, ℕ}
 use native.Mathlib.Omega.{arith}
-use mathlib.Core.Bool.{_&&_, Bool, cond, false, not, true, true≢false}
+use mathlib.Core.Bool.{_&&_, Bool, cond, false, true, true≢false}
 use mathlib.Core.List.{[], _∷_, List}
-use mathlib.Core.Logic.{_⊎_, inl, inr}
+use mathlib.Core.Logic.{_⊎_, inl, inr, ⊎-elim}
 use mathlib.Core.Path.{_∙_, _≡_, ap, ap₂, refl, subst, sym}
 use lib.Dec.{leb, ltb}
 use lib.ListN.{length, length-replicate, replicate}
@@ -22,7 +22,7 @@ use Rattle.clocked_model.proofs.Drain.{drain-state, ticked-length}
 use Rattle.clocked_model.proofs.Exactly.{stands}
 use Rattle.clocked_model.proofs.Promises.{shape-kept}
 use Rattle.clocked_model.specs.Calls.{cycleOutcome, CycleOutcome, DrainOutcome, drains, fresh, recordCount, restarted, ticked}
-use Rattle.clocked_model.specs.Promise.{idles}
+use Rattle.clocked_model.specs.Promise.{cycleLeft, runs}
 use Rattle.clocked_model.specs.declared.State.{State}
 use Rattle.laws.specs.Tests.{and-true, sub-one}
 use Rattle.promise.specs.Queue.{leaves}
@@ -155,7 +155,8 @@ module _ (m levels : ℕ) (out : List ℕ) (room : 2 ≤ length out) (s : State)
       stood : ran (numberOf (o .answer)) ≡ false → p .state ≡ s
       stood e =
           let n = not-run (p .answer) (ap (λ (a : Answer). ran (numberOf a)) (sym (same .answer)) ∙ e) in
-          ap (λ (c : CycleOutcome). c .state) (stands m levels r s ws (n .0) (n .1) (n .2))
+          ap (λ (c : CycleOutcome). c .state) (stands m levels r s ws (n .0) (ap numberOf (n .2)))
+          ∙ ⊎-elim (λ q. ap (λ (n : Refusal). cycleLeft m levels s ws n .state) q) (λ q. ap (λ (n : Refusal). cycleLeft m levels s ws n .state) q) (n .1)
 
   drain-goes : (budget : ℕ) → Goes m levels (callC m levels out (drain budget) ws rs mark) (callM m levels out (drain budget) s ws)
   unfolding callC callM clockedDrain leaves
@@ -183,7 +184,7 @@ module _ (m levels : ℕ) (out : List ℕ) (room : 2 ≤ length out) (s : State)
       stood : ltb 0 (d .cycles) ≡ false → e .state ≡ s
       stood f =
           let none : e .cycles ≡ 0 = omega (arith, same .cycles, ltb-false 0 (d .cycles) f) in
-          drain-state m levels budget s ws .1 ∙ ap (λ (n : ℕ). idles m levels n s ws .state) none
+          drain-state m levels budget s ws .1 ∙ ap (λ (n : ℕ). runs m levels (replicate n Idle) s ws .state) none
 
   call-goes : (c : Call) → Goes m levels (callC m levels out c ws rs mark) (callM m levels out c s ws)
   call-goes (asks r) = cycle-goes r
@@ -216,7 +217,7 @@ module _ (m levels : ℕ) (out : List ℕ) (room : 2 ≤ length out) where
 
 -- ---- from a clear
 kept-shape : (m levels : ℕ) (ws : List ℕ) → shapeOk m levels (length ws) ≡ true → shapeOk m levels (length (restarted m levels ws .words)) ≡ true
-unfolding leaves
+unfolding runs
 kept-shape m levels ws shape = is-shape m levels _ (shape-kept m ws [] levels (shape-is m levels (length ws) shape))
 
 module _ (m levels : ℕ) (ws rs mark : List ℕ) (shape : shapeOk m levels (length ws) ≡ true) (e : roomy (levels - 1) rs mark ≡ true) where

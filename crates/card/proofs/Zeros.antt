@@ -12,7 +12,7 @@ use Rattle.card.specs.Bucket.{bucketPop, bucketReplace, bucketAfterOut, 
 use Rattle.card.specs.Clocked.{ClockedAfterOut, clockedCycle, clockedDrain, cycleOf, drainOf, requestOf, saysNo, stateIn, taken}
 use Rattle.card.specs.Out.{answerOut, badShape, countAnswered, refusedOut, countAfter}
 use Rattle.card.specs.Tree.{treePop, treeReplace, treeAfterOut, treeAnswered}
-use Rattle.clocked_model.proofs.Drain.{exactly-drain}
+use Rattle.clocked_model.proofs.Drain.{done, drain-ends, End, jammed}
 use Rattle.clocked_model.specs.Calls.{DrainOutcome, drains, ticked}
 use Rattle.laws.specs.Tests.{and-right}
 use Rattle.strip.specs.Answers.{blank, countNumber, countOf, numberOf}
@@ -20,7 +20,6 @@ use Rattle.strip.specs.declared.Answer.{Answer}
 use Rattle.strip.specs.declared.Answer.the-variants.{Done, Out, Refused}
 use Rattle.strip.specs.declared.Count.{Count}
 use Rattle.strip.specs.declared.Count.the-variants.{Held, Unknown}
-use Rattle.strip.specs.declared.Refusal.the-variants.{BadRank, BadShape, Damaged, Empty, Full, TooSoon}
 use Rattle.tree_model.proofs.Exactly.{shape-is}
 use Rattle.tree_model.specs.Calls as tree
 
@@ -94,22 +93,17 @@ module _ (m levels : ℕ) (ws rs mark out : List ℕ) where
       d : DrainOutcome
       d = drains m levels budget (stateIn levels rs mark) ws
 
-      only-shape : (a : Answer) → numberOf a ≡ badShape → a ≡ Refused BadShape
-      only-shape Done e = absurd (omega arith)
-      only-shape (Out x) e = absurd (omega arith)
-      only-shape (Refused BadShape) e = refl
-      only-shape (Refused Damaged) e = absurd (omega arith)
-      only-shape (Refused TooSoon) e = absurd (omega arith)
-      only-shape (Refused BadRank) e = absurd (omega arith)
-      only-shape (Refused Full) e = absurd (omega arith)
-      only-shape (Refused Empty) e = absurd (omega arith)
+      -- a drain of a good shape is done or refused 2
+      not-bad : End m levels budget (d .cycles) (stateIn levels rs mark) ws d → numberOf (d .answer) ≡ badShape → ⊥
+      not-bad (done a l) e = omega (arith, ap numberOf a)
+      not-bad (jammed a l j) e = omega (arith, ap numberOf a)
 
       go : (t : Bool) → (leb 2 (length out) && taken m levels (length ws) rs mark 0) ≡ t → cond t (drainOf levels rs mark d out) (saysNo m levels ws rs mark out) .number ≡ badShape
           → cond t (drainOf levels rs mark d out) (saysNo m levels ws rs mark out) .out ≡ refusedOut out
       go false e h = refl
       go true e h =
-          absurd (exactly-drain m levels budget (stateIn levels rs mark) ws BadShape .0 (only-shape (d .answer) h)
-          (shape-is m levels (length ws) (taken-shape m levels (length ws) rs mark 0 (and-right (leb 2 (length out)) (taken m levels (length ws) rs mark 0) e))))
+          let sh = shape-is m levels (length ws) (taken-shape m levels (length ws) rs mark 0 (and-right (leb 2 (length out)) (taken m levels (length ws) rs mark 0) e)) in
+          absurd (not-bad (drain-ends m levels budget (stateIn levels rs mark) ws sh) h)
 
 -- held answers 0
 pub zeros-held : (c : Count) (out : List ℕ) → (countAnswered c out .number ≡ 0 → ⊥) → countAnswered c out .out ≡ cond (leb 1 (length out)) (set out 0 0) out

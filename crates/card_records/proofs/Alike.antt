@@ -11,10 +11,10 @@ use Rattle.clocked_model.proofs.Exactly.{sound}
 use Rattle.clocked_model.proofs.Turn.{after-length, plain-rest, works-after}
 use Rattle.clocked_model.specs.Calls.{askedOk, cycleOutcome, CycleOutcome, drainFrom, drainOutcome, DrainOutcome, drains, heard, hearing, isRefused, pending, ticked, turned}
 use Rattle.clocked_model.specs.Cycle.{cycleOk, cycleWords, cycleWorks, quiet, Works}
+use Rattle.clocked_model.specs.Promise.{runs}
 use Rattle.clocked_model.specs.Records.{worksOf}
-use Rattle.clocked_model.specs.Promise.{clockedQueue, idles, machine}
 use Rattle.clocked_model.specs.declared.State.{State}
-use Rattle.promise.specs.Queue.{leaves-keep}
+use Rattle.promise.specs.Queue.{leaves}
 use Rattle.strip.specs.declared.Answer.{Answer}
 use Rattle.strip.specs.declared.Answer.the-variants.{Done, Refused}
 use Rattle.strip.specs.declared.Refusal.the-variants.{BadShape, Damaged}
@@ -140,15 +140,15 @@ module _ (m levels : ℕ) where
       go true false = refl
       go true true = after-length m (pred levels) (restWords m (pred levels) (work (g .op) 0) 0 1 ws) 0 (s .records) (under m (pred levels) ws 0 1)
 
-  idles-kept : (n : ℕ) (s : State) (ws : List ℕ)
-      → (length (idles m levels n s ws .state .records) ≡ length (s .records)) × (length (idles m levels n s ws .words) ≡ length ws)
-  idles-kept n s ws =
-      leaves-keep (clockedQueue m levels) (λ x. (length (x .state .records) ≡ length (s .records)) × (length (x .words) ≡ length ws))
-      (λ r x h. (ticked-records r (x .state) (x .words) ∙ h .0, ticked-length m levels r (x .state) (x .words) ∙ h .1))
-      (replicate n Idle) (machine s ws) (refl, refl)
+  runs-kept : (rs : List Request) (s : State) (ws : List ℕ) → (length (runs m levels rs s ws .state .records) ≡ length (s .records)) × (length (runs m levels rs s ws .words) ≡ length ws)
+  unfolding leaves
+  runs-kept [] s ws = (refl, refl)
+  runs-kept (r ∷ rs) s ws =
+      let h = runs-kept rs (ticked m levels r s ws .state) (ticked m levels r s ws .words) in
+      (h .0 ∙ ticked-records r s ws, h .1 ∙ ticked-length m levels r s ws)
 
   pub drains-kept : (budget : ℕ) (s : State) (ws : List ℕ) → (length (drains m levels budget s ws .state .records) ≡ length (s .records)) × (length (drains m levels budget s ws .words) ≡ length ws)
   drains-kept budget s ws =
       let e = drain-state m levels budget s ws in
-      let h = idles-kept (drains m levels budget s ws .cycles) s ws in
+      let h = runs-kept (replicate (drains m levels budget s ws .cycles) Idle) s ws in
       (ap (λ (s : State). length (s .records)) (e .1) ∙ h .0, ap length (e .0) ∙ h .1)

@@ -45,9 +45,12 @@ module _ (m levels : ℕ) where
       let o = ticked m levels r (x .state) (x .words) in
       step (o .answer) (machine (o .state) (o .words))
 
-  -- so many idle cycles
+  -- what a list of cycles leaves, and so many idle ones
+  abbrev pub runs : List Request → State → List ℕ → Machine
+  runs rs s ws = leaves clockedQueue rs (machine s ws)
+
   abbrev pub idles : ℕ → State → List ℕ → Machine
-  idles n s ws = leaves clockedQueue (replicate n Idle) (machine s ws)
+  idles n s ws = runs (replicate n Idle) s ws
 
   -- any list of cycles from the cleared machine: what it is answered, and what is left
   abbrev pub cleared : List ℕ → Machine

@@ -35,30 +35,29 @@ module _ {R O A : Type 0} (says : O → A) (no : R → O) where
   pub climb-fine : (o : O) → Granted o → Exactly o fine
   climb-fine o g = record { only = g; always = λ r f. absurd f }
 
-  -- asked only where P holds; elsewhere nothing is refused
-  pub climb-provided : (t : Bool) (P : Type 0) (o g : O) (l : Ladder R) → Means t P → Granted g → Exactly o l → Exactly (cond t o g) (provided P l)
-  climb-provided true P o g l m n z = record { only = λ r e. (m .says refl, z .only r e); always = λ r f. z .always r (f .1) }
+  -- asked only where P holds; elsewhere nothing is refused. What comes below a rung may count on it
+  pub climb-provided : (t : Bool) (P : Type 0) (o g : O) (l : Ladder R) → Means t P → Granted g → (P → Exactly o l) → Exactly (cond t o g) (provided P l)
+  climb-provided true P o g l m n z = let p = m .says refl in record { only = λ r e. (p, z p .only r e); always = λ r f. z p .always r (f .1) }
   climb-provided false P o g l m n z = record { only = λ r e. absurd (n r e); always = λ r f. absurd (false≢true (m .holds (f .0))) }
 
-  module _ (same : (x y : R) → says (no x) ≡ says (no y) → x ≡ y) where
-    -- by whether the fact holds, whatever computes the outcome
-    pub climb-by : (x : R) (P : Type 0) (o : O) (l : Ladder R) → (P × Exactly o l) ⊎ ((P → ⊥) × (o ≡ no x)) → Exactly o (rung x P l)
-    climb-by x P o l (inl h) = record { only = λ r e. inr (h .0, h .1 .only r e); always = λ r u. ⊎-elim (λ v. absurd (v .0 (h .0))) (λ v. h .1 .always r (v .1)) u }
-    climb-by x P o l (inr h) =
-        record {
-          only = λ r e. inl (h .0, sym (same x r (ap says (sym (h .1)) ∙ e)));
-          always = λ r u. ⊎-elim (λ v. h .1 ∙ ap no (sym (v .1))) (λ v. absurd (h .0 (v .0))) u;
-        }
+  -- by whether the fact holds, whatever computes the outcome
+  pub climb-by : ((x y : R) → says (no x) ≡ says (no y) → x ≡ y) → (x : R) (P : Type 0) (o : O) (l : Ladder R) → (P × Exactly o l) ⊎ ((P → ⊥) × (o ≡ no x)) → Exactly o (rung x P l)
+  climb-by same x P o l (inl h) = record { only = λ r e. inr (h .0, h .1 .only r e); always = λ r u. ⊎-elim (λ v. absurd (v .0 (h .0))) (λ v. h .1 .always r (v .1)) u }
+  climb-by same x P o l (inr h) =
+      record {
+        only = λ r e. inl (h .0, sym (same x r (ap says (sym (h .1)) ∙ e)));
+        always = λ r u. ⊎-elim (λ v. h .1 ∙ ap no (sym (v .1))) (λ v. absurd (h .0 (v .0))) u;
+      }
 
-    pub climb-stop : (x : R) (P : Type 0) (o : O) (l : Ladder R) → ((P → ⊥) × Exactly o l) ⊎ (P × (o ≡ no x)) → Exactly o (stop x P l)
-    climb-stop x P o l (inl h) = record { only = λ r e. inr (h .0, h .1 .only r e); always = λ r u. ⊎-elim (λ v. absurd (h .0 (v .0))) (λ v. h .1 .always r (v .1)) u }
-    climb-stop x P o l (inr h) =
-        record {
-          only = λ r e. inl (h .0, sym (same x r (ap says (sym (h .1)) ∙ e)));
-          always = λ r u. ⊎-elim (λ v. h .1 ∙ ap no (sym (v .1))) (λ v. absurd (v .0 (h .0))) u;
-        }
+  pub climb-stop : ((x y : R) → says (no x) ≡ says (no y) → x ≡ y) → (x : R) (P : Type 0) (o : O) (l : Ladder R) → ((P → ⊥) × Exactly o l) ⊎ (P × (o ≡ no x)) → Exactly o (stop x P l)
+  climb-stop same x P o l (inl h) = record { only = λ r e. inr (h .0, h .1 .only r e); always = λ r u. ⊎-elim (λ v. absurd (h .0 (v .0))) (λ v. h .1 .always r (v .1)) u }
+  climb-stop same x P o l (inr h) =
+      record {
+        only = λ r e. inl (h .0, sym (same x r (ap says (sym (h .1)) ∙ e)));
+        always = λ r u. ⊎-elim (λ v. h .1 ∙ ap no (sym (v .1))) (λ v. absurd (v .0 (h .0))) u;
+      }
 
-    -- .. and by a test
-    pub climb : (t : Bool) (P : Type 0) (x : R) (o : O) (l : Ladder R) → Means t P → Exactly o l → Exactly (cond t o (no x)) (rung x P l)
-    climb true P x o l m z = climb-by x P o l (inl (m .says refl, z))
-    climb false P x o l m z = climb-by x P (no x) l (inr ((λ p. false≢true (m .holds p)), refl))
+  -- .. and by a test
+  pub climb : ((x y : R) → says (no x) ≡ says (no y) → x ≡ y) → (t : Bool) (P : Type 0) (x : R) (o : O) (l : Ladder R) → Means t P → (P → Exactly o l) → Exactly (cond t o (no x)) (rung x P l)
+  climb same true P x o l m z = climb-by same x P o l (inl (m .says refl, z (m .says refl)))
+  climb same false P x o l m z = climb-by same x P (no x) l (inr ((λ p. false≢true (m .holds p)), refl))

@@ -4,19 +4,21 @@ use Prim.Native.Nat.{_*_, _≤_, pred, suc, zero, ℕ}
 use native.Mathlib.Omega.{arith}
 use mathlib.Core.Bool.{_&&_, _||_, Bool, cond, false, true}
 use mathlib.Core.List.{[], _++_, _∷_, List}
+use mathlib.Core.Logic.{_⊎_, ⊎-elim}
 use mathlib.Core.Path.{_∙_, _≡_, ap, ap₂, refl, subst, sym}
 use lib.Dec.{eqb, leb, ltb}
 use lib.ListN.{drop, length, length-replicate}
 use borrow.Author.Tests.{le-leb, leb-true}
 use Rattle.clocked_model.proofs.Drain.{drain-left, drain-state}
 use Rattle.clocked_model.proofs.Exactly.{no-damage-sound, ticked-fine}
-use Rattle.clocked_model.proofs.Promises.{drained-fine, drained-left, held-says, shape-kept, undamaged}
+use Rattle.clocked_model.proofs.Promises.{drained-fine, drained-left, held-says, numbers, shape-kept, undamaged}
 use Rattle.clocked_model.specs.Calls.{CycleOutcome, DrainOutcome, drains, heard, pending, popsOrReplaces, restarted, ticked, turned}
-use Rattle.clocked_model.specs.Promise.{cleared, clockedQueue, Machine, ran}
+use Rattle.clocked_model.specs.Promise.{ran, runs}
 use Rattle.clocked_model.specs.declared.State.{State}
-use Rattle.promise.specs.Queue.{leaves}
 use Rattle.laws.specs.Tests.{and-left, and-right, and-true}
-use Rattle.strip.specs.Answers.{countOf, key, numberOf}
+use Rattle.promise.specs.Queue.{leaves}
+use Rattle.promise.specs.Served.{always}
+use Rattle.strip.specs.Answers.{countOf, key, numberOf, refusalNumber}
 use Rattle.strip.specs.declared.Answer.the-variants.{Done, Out, Refused}
 use Rattle.strip.specs.declared.Refusal.{Refusal}
 use Rattle.strip.specs.declared.Refusal.the-variants.{BadRank, BadShape, Damaged, Empty, Full, TooSoon}
@@ -34,7 +36,6 @@ use Rattle.tree_model.specs.Calls.{counted, orderOk, rule, ruling, shapeOk, slo
 use Rattle.tree_model.specs.Damage.{room}
 use Rattle.tree_model.specs.Node.{low, sumCounts}
 use Rattle.tree_model.specs.Promise.{Shape, stored}
-use Rattle.promise.specs.Served.{always}
 use Rattle.tree_model.specs.Words.{width}
 use Rattle.tree_model.specs.declared.Op.the-variants.{Nothing, Put, Swap, Take}
 use Rattle.tree_model.specs.declared.Slot.{Slot}
@@ -73,10 +74,12 @@ pred-le (suc n) = omega arith
 
 -- ---- one request more
 module _ (m levels : ℕ) where
-  run-next : (rs : List Request) (r : Request) (x : Machine) → leaves (clockedQueue m levels) (rs ++ (r ∷ [])) x ≡ clockedQueue m levels r (leaves (clockedQueue m levels) rs x) .next
+  run-next : (rs : List Request) (r : Request) (s : State) (ws : List ℕ)
+      → (runs m levels (rs ++ (r ∷ [])) s ws .state ≡ ticked m levels r (runs m levels rs s ws .state) (runs m levels rs s ws .words) .state)
+      × (runs m levels (rs ++ (r ∷ [])) s ws .words ≡ ticked m levels r (runs m levels rs s ws .state) (runs m levels rs s ws .words) .words)
   unfolding leaves
-  run-next [] r x = refl
-  run-next (q ∷ rs) r x = run-next rs r (clockedQueue m levels q x .next)
+  run-next [] r s ws = (refl, refl)
+  run-next (x ∷ rs) r s ws = run-next rs r (ticked m levels x s ws .state) (ticked m levels x s ws .words)
 
 -- ---- from a cleared machine, whatever the words before, with a shape
 module _ (m levels : ℕ) (ws : List ℕ) (sh : Shape m levels (length ws)) where
@@ -86,6 +89,21 @@ module _ (m levels : ℕ) (ws : List ℕ) (sh : Shape m levels (length ws)) wher
   abbrev wordsAt : List Request → List ℕ
   wordsAt rs = ran m levels rs ws .words
 
+  -- NONE SILENT: after any list of cycles no cycle is refused 1, 2 or 4
+  pub none-silent : (rs : List Request) (r : Request) (n : Refusal) → Silent n → ticked m levels r (stateAt rs) (wordsAt rs) .answer ≡ Refused n → ⊥
+  none-silent rs r n q e = go n q (sym (ap numberOf e)) (numbers m ws rs levels sh r)
+    where
+      other : (a k : ℕ) → k ≡ a → (k ≡ 0 → ⊥) → (k ≡ 3 → ⊥) → (k ≡ 5 → ⊥) → (k ≡ 6 → ⊥) → (a ≡ 0) ⊎ (a ≡ 3) ⊎ (a ≡ 5) ⊎ (a ≡ 6) → ⊥
+      other a k h no0 no3 no5 no6 = ⊎-elim (λ d. no0 (h ∙ d)) (⊎-elim (λ d. no3 (h ∙ d)) (⊎-elim (λ d. no5 (h ∙ d)) (λ d. no6 (h ∙ d))))
+
+      go : (n : Refusal) → Silent n → refusalNumber n ≡ numberOf (ticked m levels r (stateAt rs) (wordsAt rs) .answer) → (numberOf (ticked m levels r (stateAt rs) (wordsAt rs) .answer) ≡ 0) ⊎ (numberOf (ticked m levels r (stateAt rs) (wordsAt rs) .answer) ≡ 3) ⊎ (numberOf (ticked m levels r (stateAt rs) (wordsAt rs) .answer) ≡ 5) ⊎ (numberOf (ticked m levels r (stateAt rs) (wordsAt rs) .answer) ≡ 6) → ⊥
+      go BadShape q h = other _ 1 h (λ d. omega arith) (λ d. omega arith) (λ d. omega arith) (λ d. omega arith)
+      go Damaged q h = other _ 2 h (λ d. omega arith) (λ d. omega arith) (λ d. omega arith) (λ d. omega arith)
+      go TooSoon q h = absurd q
+      go BadRank q h = other _ 4 h (λ d. omega arith) (λ d. omega arith) (λ d. omega arith) (λ d. omega arith)
+      go Full q h = absurd q
+      go Empty q h = absurd q
+
   word-some : (rs : List Request) (r : Request) → wordOf r (ticked m levels r (stateAt rs) (wordsAt rs) .answer) ≡ [] → ⊥
   unfolding turned
   word-some rs r e =
@@ -94,21 +112,12 @@ module _ (m levels : ℕ) (ws : List ℕ) (sh : Shape m levels (length ws)) wher
       (is-shape m levels (length (wordsAt rs)) (shape-kept m ws rs levels sh))
       (no-damage-sound m levels r (stateAt rs) (wordsAt rs) (undamaged m ws rs levels sh r)))) ∙ e)
 
-  -- NONE SILENT: after any list of cycles no cycle is refused 1, 2 or 4
-  pub none-silent : (rs : List Request) (r : Request) (n : Refusal) → Silent n → ticked m levels r (stateAt rs) (wordsAt rs) .answer ≡ Refused n → ⊥
-  unfolding wordOf refusalWord
-  none-silent rs r BadShape q e = word-some rs r (ap (wordOf r) e)
-  none-silent rs r Damaged q e = word-some rs r (ap (wordOf r) e)
-  none-silent rs r TooSoon q e = q
-  none-silent rs r BadRank q e = word-some rs r (ap (wordOf r) e)
-  none-silent rs r Full q e = q
-  none-silent rs r Empty q e = q
-
   worded-from : (es : List Record) (rs : List Request) → Worded m levels (stateAt rs) (wordsAt rs) es
   worded-from [] rs = tt
   worded-from (Bad ∷ es) rs = tt
   worded-from (Good r ∷ es) rs =
-      (word-some rs r, subst (λ (x : Machine). Worded m levels (x .state) (x .words) es) (run-next m levels rs r (cleared m levels ws)) (worded-from es (rs ++ (r ∷ []))))
+      let n = run-next m levels rs r (restarted m levels ws .state) (restarted m levels ws .words) in
+      (word-some rs r, subst (λ (x : State × List ℕ). Worded m levels (x .0) (x .1) es) (ap₂ (λ (s : State) (w : List ℕ). (s, w)) (n .0) (n .1)) (worded-from es (rs ++ (r ∷ []))))
 
   -- THE LAST LINE: after any list of cycles the drain is not refused and leaves no work, and the line says how many are stored
   abbrev drained : List Request → DrainOutcome
@@ -119,10 +128,10 @@ module _ (m levels : ℕ) (ws : List ℕ) (sh : Shape m levels (length ws)) wher
 
   pub end-says : (rs : List Request) → endOf m levels (stateAt rs) (wordsAt rs) ≡ endLine (stored (room m levels) (drained rs .words) always) (drained rs .cycles)
   unfolding endOf
-  end-says rs = ap (λ (n : ℕ). endLine n (drained rs .cycles)) (held-at rs)
+  end-says rs = ap (λ (n : ℕ). endLine n (drained rs .cycles)) held-now
     where
-      held-at : (rs : List Request) → countOf (counted m levels (drained rs .words)) ≡ stored (room m levels) (drained rs .words) always
-      held-at rs =
+      held-now : countOf (counted m levels (drained rs .words)) ≡ stored (room m levels) (drained rs .words) always
+      held-now =
           let d = drain-state m levels levels (stateAt rs) (wordsAt rs) in
           subst (λ (v : List ℕ). countOf (counted m levels v) ≡ stored (room m levels) v always) (sym (d .0))
           (held-says m ws rs levels sh (drained rs .cycles)

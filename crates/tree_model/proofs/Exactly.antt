@@ -137,10 +137,8 @@ order-means m =
 pub shape-means : (m levels len : ℕ) → Means (shapeOk m levels len) (Shape m levels len)
 unfolding shapeOk
 shape-means m levels len =
-    means-by _ _ (Shape m levels len) (λ p. record { order = p .0; some = p .1 .0; capacity = p .1 .1 .0; slice = p .1 .1 .1 }) (λ s. (s .order, (s .some, (s .capacity, s .slice))))
-    (means-and (orderOk m) _ _ _ (order-means m)
-    (means-and (leb 1 levels) _ _ _ (means-leb 1 levels)
-    (means-and (leb (room m levels) 5460) _ _ _ (means-leb (room m levels) 5460) (means-leb (3 * room m levels) len))))
+    means-by (means-and (order-means m) (means-and (means-leb 1 levels) (means-and (means-leb (room m levels) 5460) (means-leb (3 * room m levels) len))))
+    (λ p. record { order = p .0; some = p .1 .0; capacity = p .1 .1 .0; slice = p .1 .1 .1 }) (λ s. (s .order, (s .some, (s .capacity, s .slice))))
 
 pub shape-is : (m levels len : ℕ) → shapeOk m levels len ≡ true → Shape m levels len
 shape-is m levels len = shape-means m levels len .says

@@ -363,3 +363,29 @@ fn around_the_end_of_a_piece() {
         }
     }
 }
+
+/// A write that fails is told on standard error, and nothing more is read: the writer of an endless trace is let go.
+#[test]
+fn a_write_that_fails_ends_the_play() {
+    let full = std::fs::OpenOptions::new().write(true).open("/dev/full").unwrap();
+    let mut child = x86(&play()).stdin(Stdio::piped()).stdout(full).stderr(Stdio::piped()).spawn().unwrap();
+    let mut stdin = child.stdin.take().unwrap();
+    let records = record(0, 0, 0).repeat(4096);
+    let mut sent = stdin.write_all(&header(2, 2)).map(|()| 0);
+    // far more than any pipe holds
+    for n in 0..1000 {
+        sent = sent.and_then(|_| stdin.write_all(&records)).map(|()| n);
+    }
+    assert!(sent.is_err(), "the program read on");
+    drop(stdin);
+    let output = child.wait_with_output().unwrap();
+    assert_eq!(String::from_utf8_lossy(&output.stderr), "play: a write failed\n");
+}
+
+/// A read that fails is no end of input: no line is written for it, and standard error says so.
+#[test]
+fn a_read_that_fails_is_told_apart() {
+    let folder = std::fs::File::open("/").unwrap();
+    let output = x86(&play()).stdin(folder).output().unwrap();
+    assert_eq!((output.stdout, String::from_utf8_lossy(&output.stderr).as_ref()), (vec![], "play: a read failed\n"));
+}

@@ -1,7 +1,7 @@
 //! The calls as the C library offers them: slices of numbers in, a refusal number out.
 //!
 //! What is the boundary's own, and not the paper's, stands here and nowhere else: which faults it
-//! has (`faults`), what a refusal leaves in `out` (`clears_out`), and how a record is read and
+//! has (`faults`), what a refusal leaves in `out` (`tell`), and how a record is read and
 //! written (`read_record`, `normalise`).
 
 use crate::call::{Call, Op, Slices};
@@ -70,21 +70,10 @@ fn out_fault(out: &[u32], need: usize) -> Causes {
     }
 }
 
-/// Whether a refusal writes zeros to an `out` that is long enough: every one but those that the boundary itself gives, and those
-/// that have a fault of the boundary beside a bad shape.
-fn clears_out(no: No) -> bool {
-    !matches!(no, No::BadShape(c) if c & shape_cause::BOUNDARY != 0)
-}
-
-/// What a call leaves in `out`: the words of its answer, or what a refusal leaves there. An `out` that is too short is not touched.
+/// What a call leaves in `out`: the words of its answer, zeros on a refusal. An `out` that is too short is not touched.
 fn tell<const NEED: usize>(result: Result<[u32; NEED], No>, out: &mut [u32]) -> Result<(), No> {
-    let told = match result {
-        Ok(answer) => Some(answer),
-        Err(no) if clears_out(no) => Some([0; NEED]),
-        Err(_) => None,
-    };
-    if let (Some(words), true) = (told, out.len() >= NEED) {
-        out[..NEED].copy_from_slice(&words);
+    if out.len() >= NEED {
+        out[..NEED].copy_from_slice(&result.unwrap_or([0; NEED]));
     }
     result.map(|_| ())
 }

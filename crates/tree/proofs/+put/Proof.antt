@@ -31,21 +31,13 @@ abbrev cs : ℕ → put-lts.Claims
 cs t = (look-least-reads.Asked, look-least-reads.Learnt, slot-at-reads.Asked, slot-at-reads.Learnt, write-slot-reads.Asked, write-slot-reads.Learnt, goes-down-reads.Asked, goes-down-reads.Learnt, stays-reads.Asked, stays-reads.Learnt, put-below t, put.Post)
 
 look-least-requires : (t : ℕ) → put-lts.Need-look-least-requires (cs t) (put-at t) put.Post
-look-least-requires t c κs =
-    let start = c .before .before in
-    look-in (start .pre .1)
+look-least-requires t c κs = look-in (c .before .before .pre .1)
 
 add-i : (t : ℕ) → put-lts.Need-add-i (cs t) (put-at t) put.Post
-add-i t c =
-    let at-look = c .before in
-    let start = at-look .before .before .before in
-    omega (arith, numbers (start .pre .1), at-look .look-least .ensures .1 .1)
+add-i t c = omega (arith, numbers (c .before .before .before .before .pre .1), c .before .look-least .ensures .1 .1)
 
 slot-at-requires : (t : ℕ) → put-lts.Need-slot-at-requires (cs t) (put-at t) put.Post
-slot-at-requires t c κs =
-    let at-look = c .before .before in
-    let start = at-look .before .before .before in
-    omega (arith, numbers (start .pre .1), at-look .look-least .ensures .1 .1)
+slot-at-requires t c κs = omega (arith, numbers (c .before .before .before .before .before .pre .1), c .before .before .look-least .ensures .1 .1)
 
 cast-if1 : (t : ℕ) → put-lts.Need-cast-if1 (cs t) (put-at t) put.Post
 cast-if1 t c = search needs
@@ -61,15 +53,10 @@ returns t c =
     put-off (start .pre .1) (start .args .x) _ _ (at-look .look-least .ensures .0) (at-look .look-least .ensures .1 .0) (at-look .look-least .ensures .1 .1) _ (at-slot .slot-at .ensures) (c .if1 .taken)
 
 write-slot-requires : (t : ℕ) → put-lts.Need-write-slot-requires (cs t) (put-at t) put.Post
-write-slot-requires t c κs =
-    let at-look = c .before .before .before .before .before .before .before in
-    let start = at-look .before .before .before in
-    omega (arith, numbers (start .pre .1), at-look .look-least .ensures .1 .1)
+write-slot-requires t c κs = omega (arith, numbers (c .before .before .before .before .before .before .before .before .before .before .pre .1), c .before .before .before .before .before .before .before .look-least .ensures .1 .1)
 
 same-length-2 : (t : ℕ) → put-lts.Need-same-length-2 (cs t) (put-at t) put.Post
-same-length-2 t c =
-    let at-wrote = c .before .before in
-    at-wrote .write-slot .kept .0
+same-length-2 t c = c .before .before .write-slot .kept .0
 
 returns-2 : (t : ℕ) → put-lts.Need-returns-2 (cs t) (put-at t) put.Post
 returns-2 t c =
@@ -88,10 +75,7 @@ stays-requires : (t : ℕ) → put-lts.Need-stays-requires (cs t) (put-at t) put
 stays-requires t c κs = search needs
 
 add-below : (t : ℕ) → put-lts.Need-add-below (cs t) (put-at t) put.Post
-add-below t c =
-    let at-look = c .before .before .before .before .before .before .before .before .before in
-    let start = at-look .before .before .before in
-    omega (arith, numbers (start .pre .1), at-look .look-least .ensures .1 .1)
+add-below t c = omega (arith, numbers (c .before .before .before .before .before .before .before .before .before .before .before .before .pre .1), c .before .before .before .before .before .before .before .before .before .look-least .ensures .1 .1)
 
 mul-below : (t : ℕ) → put-lts.Need-mul-below (cs t) (put-at t) put.Post
 mul-below t c =
@@ -109,14 +93,10 @@ sub-under t c =
     put-cap (start .pre .1) (start .args .x) _ _ (at-look .look-least .ensures .0) (at-look .look-least .ensures .1 .0) (at-look .look-least .ensures .1 .1) _ (at-slot .slot-at .ensures) (at-if1 .if1 .left) (at-if2 .if2 .left)
 
 div-under : (t : ℕ) → put-lts.Need-div-under (cs t) (put-at t) put.Post
-div-under t c =
-    let start = c .before .before .before .before .before .before .before .before .before .before .before .before in
-    omega (arith, numbers (start .pre .1))
+div-under t c = omega (arith, numbers (c .before .before .before .before .before .before .before .before .before .before .before .before .pre .1))
 
 sub-put : (t : ℕ) → put-lts.Need-sub-put (cs t) (put-at t) put.Post
-sub-put t c =
-    let start = c .before .before .before .before .before .before .before .before .before .before .before .before .before in
-    omega (arith, start .pre .1 .some)
+sub-put t c = omega (arith, c .before .before .before .before .before .before .before .before .before .before .before .before .before .pre .1 .some)
 
 put-requires : (t : ℕ) → put-lts.Need-put-requires (cs t) (put-at t) put.Post
 put-requires t c κs =
@@ -128,9 +108,7 @@ put-requires t c κs =
     (omega (arith, start .pre .0, start .pre .1 .some), put-stands (start .pre .1) (start .args .x) _ _ (at-look .look-least .ensures .0) (at-look .look-least .ensures .1 .0) (at-look .look-least .ensures .1 .1) _ (at-slot .slot-at .ensures) (at-if1 .if1 .left) (at-if2 .if2 .left))
 
 same-length-3 : (t : ℕ) → put-lts.Need-same-length-3 (cs t) (put-at t) put.Post
-same-length-3 t c =
-    let at-below = c .before .before .before in
-    at-below .put .kept .0
+same-length-3 t c = c .before .before .before .put .kept .0
 
 returns-3 : (t : ℕ) → put-lts.Need-returns-3 (cs t) (put-at t) put.Post
 returns-3 t c =
@@ -160,10 +138,7 @@ write-slot-requires-2 t c κs =
     omega (arith, numbers (start .pre .1), at-look .look-least .ensures .1 .1, at-below .put .kept .0)
 
 same-length-4 : (t : ℕ) → put-lts.Need-same-length-4 (cs t) (put-at t) put.Post
-same-length-4 t c =
-    let at-wrote = c .before .before in
-    let at-below = at-wrote .before .before .before .before .before in
-    at-wrote .write-slot2 .kept .0 ∙ at-below .put .kept .0
+same-length-4 t c = c .before .before .write-slot2 .kept .0 ∙ c .before .before .before .before .before .before .before .put .kept .0
 
 returns-4 : (t : ℕ) → put-lts.Need-returns-4 (cs t) (put-at t) put.Post
 returns-4 t c =

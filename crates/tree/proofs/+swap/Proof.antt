@@ -30,14 +30,10 @@ abbrev cs : ℕ → swap-lts.Claims
 cs t = (slot-at-reads.Asked, slot-at-reads.Learnt, write-slot-reads.Asked, write-slot-reads.Learnt, look-low-reads.Asked, look-low-reads.Learnt, lower-reads.Asked, lower-reads.Learnt, swap-below t, swap.Post)
 
 add-i : (t : ℕ) → swap-lts.Need-add-i (cs t) (swap-at t) swap.Post
-add-i t c =
-    let start = c .before in
-    omega (arith, numbers (start .pre .1 .stands), start .pre .1 .inside)
+add-i t c = omega (arith, numbers (c .before .pre .1 .stands), c .before .pre .1 .inside)
 
 slot-at-requires : (t : ℕ) → swap-lts.Need-slot-at-requires (cs t) (swap-at t) swap.Post
-slot-at-requires t c κs =
-    let start = c .before .before in
-    omega (arith, numbers (start .pre .1 .stands), start .pre .1 .inside)
+slot-at-requires t c κs = omega (arith, numbers (c .before .before .pre .1 .stands), c .before .before .pre .1 .inside)
 
 write-slot-requires : (t : ℕ) → swap-lts.Need-write-slot-requires (cs t) (swap-at t) swap.Post
 write-slot-requires t c κs =
@@ -45,9 +41,7 @@ write-slot-requires t c κs =
     omega (arith, numbers (start .pre .1 .stands), start .pre .1 .inside)
 
 same-length : (t : ℕ) → swap-lts.Need-same-length (cs t) (swap-at t) swap.Post
-same-length t c =
-    let at-wrote = c .before .before in
-    at-wrote .write-slot .kept .0
+same-length t c = c .before .before .write-slot .kept .0
 
 returns : (t : ℕ) → swap-lts.Need-returns (cs t) (swap-at t) swap.Post
 returns t c =
@@ -58,25 +52,16 @@ returns t c =
     swap-last (start .pre .1) _ (at-slot .slot-at .ensures) (at-if1 .if1 .taken) _ _ (at-wrote .write-slot .ensures)
 
 add-below : (t : ℕ) → swap-lts.Need-add-below (cs t) (swap-at t) swap.Post
-add-below t c =
-    let start = c .before .before .before .before in
-    omega (arith, numbers (start .pre .1 .stands), start .pre .1 .inside)
+add-below t c = omega (arith, numbers (c .before .before .before .before .pre .1 .stands), c .before .before .before .before .pre .1 .inside)
 
 mul-below : (t : ℕ) → swap-lts.Need-mul-below (cs t) (swap-at t) swap.Post
-mul-below t c =
-    let start = c .before .before .before .before in
-    omega (arith, below-small (start .pre .1 .stands) (start .args .j) (start .pre .1 .inside))
+mul-below t c = omega (arith, below-small (c .before .before .before .before .pre .1 .stands) (c .before .before .before .before .args .j) (c .before .before .before .before .pre .1 .inside))
 
 sub-under : (t : ℕ) → swap-lts.Need-sub-under (cs t) (swap-at t) swap.Post
-sub-under t c =
-    let at-slot = c .before in
-    let start = at-slot .before .before .before in
-    lift-cap (start .pre .1) _ (at-slot .slot-at .ensures) (c .if1 .left)
+sub-under t c = lift-cap (c .before .before .before .before .pre .1) _ (c .before .slot-at .ensures) (c .if1 .left)
 
 div-under : (t : ℕ) → swap-lts.Need-div-under (cs t) (swap-at t) swap.Post
-div-under t c =
-    let start = c .before .before .before .before in
-    omega (arith, numbers (start .pre .1 .stands))
+div-under t c = omega (arith, numbers (c .before .before .before .before .pre .1 .stands))
 
 look-low-requires : (t : ℕ) → swap-lts.Need-look-low-requires (cs t) (swap-at t) swap.Post
 look-low-requires t c κs =
@@ -123,9 +108,7 @@ write-slot-requires-2 t c κs =
     omega (arith, numbers (start .pre .1 .stands), start .pre .1 .inside)
 
 same-length-3 : (t : ℕ) → swap-lts.Need-same-length-3 (cs t) (swap-at t) swap.Post
-same-length-3 t c =
-    let at-wrote = c .before .before in
-    at-wrote .write-slot2 .kept .0
+same-length-3 t c = c .before .before .write-slot2 .kept .0
 
 returns-3 : (t : ℕ) → swap-lts.Need-returns-3 (cs t) (swap-at t) swap.Post
 returns-3 t c =
@@ -141,9 +124,7 @@ returns-3 t c =
     swap-keeps (start .pre .1) _ (at-slot .slot-at .ensures) (at-if1 .if1 .left) _ _ (at-look .look-low .ensures .0) (at-look .look-low .ensures .1 .0) (at-look .look-low .ensures .1 .1) (at-if2 .if2 .left) _ (at-low .slot-at2 .ensures) (start .args .x) _ (at-lower .lower .ensures) (at-if3 .if3 .taken) _ (at-wrote .write-slot2 .ensures)
 
 sub-swap : (t : ℕ) → swap-lts.Need-sub-swap (cs t) (swap-at t) swap.Post
-sub-swap t c =
-    let start = c .before .before .before .before .before .before .before .before .before .before .before .before .before .before in
-    omega (arith, start .pre .1 .stands .some)
+sub-swap t c = omega (arith, c .before .before .before .before .before .before .before .before .before .before .before .before .before .before .pre .1 .stands .some)
 
 swap-requires : (t : ℕ) → swap-lts.Need-swap-requires (cs t) (swap-at t) swap.Post
 swap-requires t c κs =
@@ -155,9 +136,7 @@ swap-requires t c κs =
     (omega (arith, start .pre .0, start .pre .1 .stands .some), lift-looked (start .pre .1) _ (at-slot .slot-at .ensures) (at-if1 .if1 .left) _ _ (at-look .look-low .ensures .0) (at-look .look-low .ensures .1 .0) (at-look .look-low .ensures .1 .1) (at-if2 .if2 .left))
 
 same-length-4 : (t : ℕ) → swap-lts.Need-same-length-4 (cs t) (swap-at t) swap.Post
-same-length-4 t c =
-    let at-below = c .before .before .before in
-    at-below .swap .kept .0
+same-length-4 t c = c .before .before .before .swap .kept .0
 
 returns-4 : (t : ℕ) → swap-lts.Need-returns-4 (cs t) (swap-at t) swap.Post
 returns-4 t c =
@@ -179,10 +158,7 @@ write-slot-requires-3 t c κs =
     omega (arith, numbers (start .pre .1 .stands), start .pre .1 .inside, at-below .swap .kept .0)
 
 same-length-5 : (t : ℕ) → swap-lts.Need-same-length-5 (cs t) (swap-at t) swap.Post
-same-length-5 t c =
-    let at-wrote = c .before .before in
-    let at-below = at-wrote .before .before .before .before .before in
-    at-wrote .write-slot3 .kept .0 ∙ at-below .swap .kept .0
+same-length-5 t c = c .before .before .write-slot3 .kept .0 ∙ c .before .before .before .before .before .before .before .swap .kept .0
 
 returns-5 : (t : ℕ) → swap-lts.Need-returns-5 (cs t) (swap-at t) swap.Post
 returns-5 t c =

@@ -30,14 +30,10 @@ abbrev cs : ℕ → take-lts.Claims
 cs t = (slot-at-reads.Asked, slot-at-reads.Learnt, no-element-reads.Asked, no-element-reads.Learnt, write-slot-reads.Asked, write-slot-reads.Learnt, look-low-reads.Asked, look-low-reads.Learnt, take-below t, take.Post)
 
 add-i : (t : ℕ) → take-lts.Need-add-i (cs t) (take-at t) take.Post
-add-i t c =
-    let start = c .before in
-    omega (arith, numbers (start .pre .1 .stands), start .pre .1 .inside)
+add-i t c = omega (arith, numbers (c .before .pre .1 .stands), c .before .pre .1 .inside)
 
 slot-at-requires : (t : ℕ) → take-lts.Need-slot-at-requires (cs t) (take-at t) take.Post
-slot-at-requires t c κs =
-    let start = c .before .before in
-    omega (arith, numbers (start .pre .1 .stands), start .pre .1 .inside)
+slot-at-requires t c κs = omega (arith, numbers (c .before .before .pre .1 .stands), c .before .before .pre .1 .inside)
 
 no-element-requires : (t : ℕ) → take-lts.Need-no-element-requires (cs t) (take-at t) take.Post
 no-element-requires t c κs = search needs
@@ -48,9 +44,7 @@ write-slot-requires t c κs =
     omega (arith, numbers (start .pre .1 .stands), start .pre .1 .inside)
 
 same-length : (t : ℕ) → take-lts.Need-same-length (cs t) (take-at t) take.Post
-same-length t c =
-    let at-wrote = c .before .before in
-    at-wrote .write-slot .kept .0
+same-length t c = c .before .before .write-slot .kept .0
 
 returns : (t : ℕ) → take-lts.Need-returns (cs t) (take-at t) take.Post
 returns t c =
@@ -62,25 +56,16 @@ returns t c =
     take-last (start .pre .1) _ (at-slot .slot-at .ensures) (at-if1 .if1 .taken) _ _ (at-none .no-element .ensures) (at-wrote .write-slot .ensures)
 
 add-below : (t : ℕ) → take-lts.Need-add-below (cs t) (take-at t) take.Post
-add-below t c =
-    let start = c .before .before .before .before in
-    omega (arith, numbers (start .pre .1 .stands), start .pre .1 .inside)
+add-below t c = omega (arith, numbers (c .before .before .before .before .pre .1 .stands), c .before .before .before .before .pre .1 .inside)
 
 mul-below : (t : ℕ) → take-lts.Need-mul-below (cs t) (take-at t) take.Post
-mul-below t c =
-    let start = c .before .before .before .before in
-    omega (arith, below-small (start .pre .1 .stands) (start .args .j) (start .pre .1 .inside))
+mul-below t c = omega (arith, below-small (c .before .before .before .before .pre .1 .stands) (c .before .before .before .before .args .j) (c .before .before .before .before .pre .1 .inside))
 
 sub-under : (t : ℕ) → take-lts.Need-sub-under (cs t) (take-at t) take.Post
-sub-under t c =
-    let at-slot = c .before in
-    let start = at-slot .before .before .before in
-    lift-cap (start .pre .1) _ (at-slot .slot-at .ensures) (c .if1 .left)
+sub-under t c = lift-cap (c .before .before .before .before .pre .1) _ (c .before .slot-at .ensures) (c .if1 .left)
 
 div-under : (t : ℕ) → take-lts.Need-div-under (cs t) (take-at t) take.Post
-div-under t c =
-    let start = c .before .before .before .before in
-    omega (arith, numbers (start .pre .1 .stands))
+div-under t c = omega (arith, numbers (c .before .before .before .before .pre .1 .stands))
 
 look-low-requires : (t : ℕ) → take-lts.Need-look-low-requires (cs t) (take-at t) take.Post
 look-low-requires t c κs =
@@ -119,9 +104,7 @@ slot-at-requires-2 t c κs =
     omega (arith, numbers (lift-stands (start .pre .1) _ (at-slot .slot-at .ensures) (at-if1 .if1 .left)), lift-looked (start .pre .1) _ (at-slot .slot-at .ensures) (at-if1 .if1 .left) _ _ (at-look .look-low .ensures .0) (at-look .look-low .ensures .1 .0) (at-look .look-low .ensures .1 .1) (at-if2 .if2 .left))
 
 sub-take : (t : ℕ) → take-lts.Need-sub-take (cs t) (take-at t) take.Post
-sub-take t c =
-    let start = c .before .before .before .before .before .before .before .before .before .before .before .before in
-    omega (arith, start .pre .1 .stands .some)
+sub-take t c = omega (arith, c .before .before .before .before .before .before .before .before .before .before .before .before .pre .1 .stands .some)
 
 take-requires : (t : ℕ) → take-lts.Need-take-requires (cs t) (take-at t) take.Post
 take-requires t c κs =
@@ -133,9 +116,7 @@ take-requires t c κs =
     (omega (arith, start .pre .0, start .pre .1 .stands .some), lift-looked (start .pre .1) _ (at-slot .slot-at .ensures) (at-if1 .if1 .left) _ _ (at-look .look-low .ensures .0) (at-look .look-low .ensures .1 .0) (at-look .look-low .ensures .1 .1) (at-if2 .if2 .left))
 
 same-length-3 : (t : ℕ) → take-lts.Need-same-length-3 (cs t) (take-at t) take.Post
-same-length-3 t c =
-    let at-below = c .before .before .before in
-    at-below .take .kept .0
+same-length-3 t c = c .before .before .before .take .kept .0
 
 returns-3 : (t : ℕ) → take-lts.Need-returns-3 (cs t) (take-at t) take.Post
 returns-3 t c =
@@ -158,10 +139,7 @@ write-slot-requires-2 t c κs =
     omega (arith, numbers (start .pre .1 .stands), start .pre .1 .inside, at-below .take .kept .0)
 
 same-length-4 : (t : ℕ) → take-lts.Need-same-length-4 (cs t) (take-at t) take.Post
-same-length-4 t c =
-    let at-wrote = c .before .before in
-    let at-below = at-wrote .before .before .before .before .before in
-    at-wrote .write-slot2 .kept .0 ∙ at-below .take .kept .0
+same-length-4 t c = c .before .before .write-slot2 .kept .0 ∙ c .before .before .before .before .before .before .before .take .kept .0
 
 returns-4 : (t : ℕ) → take-lts.Need-returns-4 (cs t) (take-at t) take.Post
 returns-4 t c =

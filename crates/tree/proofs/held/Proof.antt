@@ -17,44 +17,28 @@ shape-ok-requires : tie.Need-shape-ok-requires
 shape-ok-requires c κs = search needs
 
 returns : tie.Need-returns
-returns c =
-    let at-shape = c .before in
-    counted-shape _ _ _ _ (at-shape .shape-ok .ensures) (c .if1 .taken)
+returns c = counted-shape _ _ _ _ (c .before .shape-ok .ensures) (c .if1 .taken)
 
 sub-capacity : tie.Need-sub-capacity
-sub-capacity c =
-    let at-shape = c .before in
-    let start = at-shape .before .before in
-    omega (arith, shape-here (start .args .order) (start .args .levels) (start .args .store .now) _ (at-shape .shape-ok .ensures) (c .if1 .left))
+sub-capacity c = omega (arith, shape-here (c .before .before .before .args .order) (c .before .before .before .args .levels) (c .before .before .before .args .store .now) _ (c .before .shape-ok .ensures) (c .if1 .left))
 
 capacity-requires : tie.Need-capacity-requires
-capacity-requires c κs =
-    let at-shape = c .before in
-    let start = at-shape .before .before in
-    shape-few (start .args .order) (start .args .levels) (start .args .store .now) _ (at-shape .shape-ok .ensures) (c .if1 .left)
+capacity-requires c κs = shape-few (c .before .before .before .args .order) (c .before .before .before .args .levels) (c .before .before .before .args .store .now) _ (c .before .shape-ok .ensures) (c .if1 .left)
 
 look-low-requires : tie.Need-look-low-requires
 look-low-requires c κs = look-in (root-stands (fitting c))
 
 returns-2 : tie.Need-returns-2
-returns-2 c =
-    let at-look = c .before .before in
-    counted-root (fitting (c .before .before .before)) _ (at-look .look-low .ensures .0) (c .if2 .taken)
+returns-2 c = counted-root (fitting (c .before .before .before)) _ (c .before .before .look-low .ensures .0) (c .if2 .taken)
 
 sum-counts-requires : tie.Need-sum-counts-requires
 sum-counts-requires c κs = let r = look-in (root-stands (fitting (c .before .before .before))) in (r .0, r .1)
 
 cast-t11 : tie.Need-cast-t11
-cast-t11 c =
-    let at-if2 = c .before in
-    let at-look = at-if2 .before .before in
-    omega (arith, counted-sum (fitting (c .before .before .before .before)) (at-look .look-low .result .ok) (at-look .look-low .ensures .0) (at-if2 .if2 .left) (c .sum-counts .result) (c .sum-counts .ensures))
+cast-t11 c = omega (arith, counted-sum (fitting (c .before .before .before .before)) (c .before .before .before .look-low .result .ok) (c .before .before .before .look-low .ensures .0) (c .before .if2 .left) (c .sum-counts .result) (c .sum-counts .ensures))
 
 returns-3 : tie.Need-returns-3
-returns-3 c =
-    let at-if2 = c .before in
-    let at-look = at-if2 .before .before in
-    counted-sum (fitting (c .before .before .before .before)) _ (at-look .look-low .ensures .0) (at-if2 .if2 .left) _ (c .sum-counts .ensures) .1
+returns-3 c = counted-sum (fitting (c .before .before .before .before)) _ (c .before .before .before .look-low .ensures .0) (c .before .if2 .left) _ (c .sum-counts .ensures) .1
 
 pub held-spec : {M : Type 1} → statement M
 held-spec = tie.close (tie.spec shape-ok-requires returns sub-capacity capacity-requires look-low-requires returns-2 sum-counts-requires cast-t11 returns-3)

@@ -17,21 +17,13 @@ shape-ok-requires : tie.Need-shape-ok-requires
 shape-ok-requires c κs = search needs
 
 returns : tie.Need-returns
-returns c =
-    let at-shape = c .before in
-    called-shape _ _ _ _ _ (at-shape .shape-ok .ensures) (c .if1 .taken)
+returns c = called-shape _ _ _ _ _ (c .before .shape-ok .ensures) (c .if1 .taken)
 
 sub-capacity : tie.Need-sub-capacity
-sub-capacity c =
-    let at-shape = c .before in
-    let start = at-shape .before .before in
-    omega (arith, shape-here (start .args .order) (start .args .levels) (start .args .store .now) _ (at-shape .shape-ok .ensures) (c .if1 .left))
+sub-capacity c = omega (arith, shape-here (c .before .before .before .args .order) (c .before .before .before .args .levels) (c .before .before .before .args .store .now) _ (c .before .shape-ok .ensures) (c .if1 .left))
 
 capacity-requires : tie.Need-capacity-requires
-capacity-requires c κs =
-    let at-shape = c .before in
-    let start = at-shape .before .before in
-    shape-few (start .args .order) (start .args .levels) (start .args .store .now) _ (at-shape .shape-ok .ensures) (c .if1 .left)
+capacity-requires c κs = shape-few (c .before .before .before .args .order) (c .before .before .before .args .levels) (c .before .before .before .args .store .now) _ (c .before .shape-ok .ensures) (c .if1 .left)
 
 put-requires : tie.Need-put-requires
 put-requires c κs = root-stands (fitting (c .before))
@@ -40,9 +32,7 @@ same-length : tie.Need-same-length
 same-length c = search needs
 
 returns-2 : tie.Need-returns-2
-returns-2 c =
-    let at-done = c .before .before .before in
-    push-done (fitting (c .before .before .before .before .before)) (start (c .before .before .before .before .before) .args .x) _ _ (at-done .put .ensures) (c .if2 .taken)
+returns-2 c = push-done (fitting (c .before .before .before .before .before)) (start (c .before .before .before .before .before) .args .x) _ _ (c .before .before .before .put .ensures) (c .if2 .taken)
 
 held-requires : tie.Need-held-requires
 held-requires c κs = search needs
