@@ -1,5 +1,5 @@
 -- The clocked tree's calls: what is tested, what is refused, and what is handed back. Assumes nothing.
-use Prim.Native.Nat.{_-_, _<_, _≤_, pred, ℕ}
+use Prim.Native.Nat.{_-_, _<_, _≤_, pred, suc, ℕ}
 use native.Mathlib.Omega.{arith}
 use mathlib.Core.Bool.{_&&_, Bool, cond, false, not, true}
 use mathlib.Core.List.{List}
@@ -11,13 +11,16 @@ use Rattle.card.specs.Clocked.{clockedAfterOut, clockedClear, clockedCyc
 use Rattle.card.specs.Out.{answerOut, refusedOut}
 use Rattle.card_records.proofs.Nodes.{drained-fits, Fits, fresh-fit, read-fits, ticked-fits}
 use Rattle.card_records.proofs.Records.{lent, readable-roomy}
-use Rattle.card_records.specs.Records.{Fit, Lent, wordLimit, markWritten, readable, roomy, worksWritten}
+use Rattle.card_records.specs.Records.{Fit, Lent, wordLimit, markWritten, readable, roomy, stateRead, worksWritten}
 use Rattle.clocked_model.proofs.Demand.{few-levels}
 use Rattle.clocked_model.proofs.Drain.{drain-within}
 use Rattle.clocked_model.specs.Calls.{cycleOutcome, CycleOutcome, drainOutcome, DrainOutcome, drains, recordCount, restarted, ticked}
 use Rattle.clocked_model.specs.Records.{worksOf}
 use Rattle.clocked_model.specs.declared.State.{State}
 use Rattle.laws.specs.Tests.{and-left, and-right, sub-one}
+use Rattle.node.proofs.Shapes.{shaped-below, shaped-levels}
+use Rattle.node.specs.Shaping.{Shaped}
+use Rattle.node.specs.declared.shape.Shape.{Shape}
 use Rattle.strip.specs.Answers.{blank, element, numberOf}
 use Rattle.strip.specs.declared.Answer.{Answer}
 use Rattle.strip.specs.declared.Answer.the-variants.{Refused}
@@ -26,6 +29,7 @@ use Rattle.strip.specs.declared.Request.{Request}
 use Rattle.strip.specs.declared.Request.the-variants.{Idle, Pop, Push, Replace}
 use Rattle.tree_model.proofs.Exactly.{shape-is}
 use Rattle.tree_model.specs.Calls.{shapeOk}
+use Rattle.tree_model.specs.Damage.{room}
 
 -- ---- the tests
 pub request-idle : (n rank tag : ℕ) → (n ≡ 1 → ⊥) → (n ≡ 2 → ⊥) → (n ≡ 3 → ⊥) → Idle ≡ requestOf n rank tag
@@ -74,17 +78,48 @@ module _ (m levels n : ℕ) (rs mark : List ℕ) (request : ℕ) (b : Bool) (tes
   is-taken : taken m levels n rs mark request ≡ true
   is-taken = sym tested ∙ not-false b e
 
-  pub some-levels : 1 ≤ levels
-  some-levels = shape-few m levels n (taken-shape m levels n rs mark request is-taken) .0
-
   pub taken-lent : Lent (levels - 1) rs mark
   taken-lent =
       lent (levels - 1) rs mark (shape-few m levels n (taken-shape m levels n rs mark request is-taken) .1)
       (readable-roomy (levels - 1) rs mark (taken-readable m levels n rs mark request is-taken))
 
+-- .. by the shape that the code has computed, whose number of levels below the root is that of the records
+module _ (m levels n : ℕ) (rs mark : List ℕ) (request : ℕ) (f : Shape) (sh : Shaped m levels f) (b : Bool) (tested : b ≡ taken m levels n rs mark request) (e : not b ≡ false) where
+  fits : shapeOk m levels n ≡ true
+  fits = taken-shape m levels n rs mark request (sym tested ∙ not-false b e)
+
+  pub below-is : f .below ≡ levels - 1
+  below-is = shaped-below m levels n f sh fits
+
+  pub levels-are : levels ≡ suc (f .below)
+  levels-are = shaped-levels m levels n f sh fits
+
+  pub below-lent : Lent (f .below) rs mark
+  below-lent = subst (λ (k : ℕ). Lent k rs mark) (sym below-is) (taken-lent m levels n rs mark request b tested e)
+
+  pub below-shape : (shapeOk m (suc (f .below)) n ≡ true) × (f .room ≡ room m (f .below))
+  below-shape = (ap (λ (l : ℕ). shapeOk m l n) (sym levels-are) ∙ fits, sh .fits)
+
+pub readable-at : (m levels n : ℕ) (rs mark : List ℕ) (f : Shape) → Shaped m levels f → (t : Bool) → t ≡ shapeOk m levels n → not t ≡ false
+    → (b : Bool) → b ≡ readable (f .below) rs mark → b ≡ readable (levels - 1) rs mark
+readable-at m levels n rs mark f sh t p e b r = r ∙ ap (λ (k : ℕ). readable k rs mark) (shaped-below m levels n f sh (sym p ∙ not-false t e))
+
 -- ---- what is handed back
-abbrev Back : ℕ → List ℕ → List ℕ → Bool → State → List ℕ → List ℕ → Type 0
+abbrev pub Back : ℕ → List ℕ → List ℕ → Bool → State → List ℕ → List ℕ → Type 0
 Back k rs mark r s rs₁ mark₁ = (rs₁ ≡ cond r (worksWritten k (s .records) rs) rs) × (mark₁ ≡ cond r (markWritten s mark) mark)
+
+module _ (levels k : ℕ) (rs mark : List ℕ) (e : k ≡ levels - 1) where
+  pub state-at : (s : State) → s ≡ stateRead k rs mark → s ≡ stateIn levels rs mark
+  state-at s p = p ∙ ap (λ (k : ℕ). stateRead k rs mark) e
+
+  pub back-at : (r : Bool) (s : State) (rs₁ mark₁ : List ℕ) → Back k rs mark r s rs₁ mark₁ → Back (levels - 1) rs mark r s rs₁ mark₁
+  back-at r s rs₁ mark₁ p = subst (λ (k : ℕ). Back k rs mark r s rs₁ mark₁) e p
+
+  pub fit-at : (s : State) → Fit (levels - 1) (worksOf (levels - 1) (s .records) 0) → Fit k (worksOf k (s .records) 0)
+  fit-at s p = subst (λ (k : ℕ). Fit k (worksOf k (s .records) 0)) (sym e) p
+
+pub ticked-at : (m levels k : ℕ) (q : Request) (s : State) (ws : List ℕ) (o : CycleOutcome) → levels ≡ suc k → o ≡ ticked m (suc k) q s ws → o ≡ ticked m levels q s ws
+ticked-at m levels k q s ws o e p = p ∙ ap (λ (n : ℕ). ticked m n q s ws) (sym e)
 
 module _ (m levels : ℕ) (ws rs mark : List ℕ) where
   -- ---- clear

@@ -1,8 +1,10 @@
 // The static library for C and Rust: the three queues over numbers and slices. Each function returns 01's number, 0 where nothing is
 // refused, and writes what it answers to `out`, zeros on a refusal. An `out` that is too short is refusal 1, and nothing changes.
 ghost use mathlib.Core.Path.{_≡_};
-ghost use Prim.Native.Nat.{_≤_};
+ghost use Prim.Native.Nat.{_≤_, ℕ};
 ghost use lib.ListN.{length, set};
+ghost use Rattle.tree_model.specs.Calls.{slotLimit};
+ghost use Rattle.node.specs.Shaping.{Shaped};
 ghost use Rattle.strip.specs.Answers.{numberOf, countNumber, countOf};
 ghost use Rattle.card.specs.Out.{answerOut, countAfter};
 ghost use Rattle.card.specs.Tree.{treeAfter, treeAfterOut, treeClear, treePush, treePop, treeReplace, treeHeld};
@@ -16,6 +18,9 @@ use card_records::is_roomy;
 use card_records::read_state;
 use node::SLOT_LIMIT;
 use node::capacity;
+use node::shape::Shape;
+use node::shape::shape_fits;
+use node::shape::shape_of;
 use node::shape_ok;
 use strip::Answer;
 use strip::Count;
@@ -204,20 +209,14 @@ pub extern "C" fn card_bucket_held(bits: &[u64], words: &[u32], nodes: u32, out:
 // ---- the clocked tree
 
 // Whether the boundary takes a call on a store of so many words: a shape, a request, and records and mark that can be read.
-fn is_taken(
-    order: usize,
-    levels: usize,
-    words: usize,
-    records: &[u32],
-    mark: &[u32],
-    request: u32,
-) -> bool
-    ensures { λ r. ⌜ r ≡ taken order levels words (now (records .entry)) (now (mark .entry)) request ⌝ }
+fn is_taken(shape: Shape, words: usize, records: &[u32], mark: &[u32], request: u32) -> bool
+    requires { ⌜ shape .slots ≤ slotLimit ⌝ }
+    ensures { λ r. ⌜ ((m levels : ℕ) → Shaped m levels shape → r ≡ taken m levels words (now (records .entry)) (now (mark .entry)) request) ⌝ }
 {
-    if !shape_ok(order, levels, words) {
+    if !shape_fits(shape, words) {
         return false;
     }
-    let readable = is_readable(records, mark, levels - 1);
+    let readable = is_readable(records, mark, shape.below);
     (request <= 3) & readable
 }
 
@@ -299,20 +298,20 @@ pub extern "C" fn card_clocked_cycle(
     ensures { λ r. ⌜ clockedAfterOut r (now (store .exit)) (now (records .exit)) (now (mark .exit)) (now (out .exit)) ≡ clockedCycle order levels (now (store .entry)) (now (records .entry)) (now (mark .entry)) request rank tag (now (out .entry)) ⌝ }
 {
     let m = order as usize;
-    let l = levels as usize;
     if out.len() < OUT {
         return 1;
     }
-    if !is_taken(m, l, store.len(), records, mark, request) {
+    let shape = shape_of(m, levels as usize);
+    if !is_taken(shape, store.len(), records, mark, request) {
         return tell(out, Answer::Refused(Refusal::BadShape));
     }
-    let state = read_state(records, mark, l - 1);
+    let state = read_state(records, mark, shape.below);
     let asked = request_of(request, rank, tag);
-    let done = clocked::cycle(store, m, l, state, asked);
+    let done = clocked::beat(store, m, shape.below, shape.room, state, asked);
     let answer = done.answer;
     let next = done.state;
     let back = has_run(answer);
-    hand_back(records, mark, l - 1, next, back);
+    hand_back(records, mark, shape.below, next, back);
     tell(out, answer)
 }
 
@@ -333,15 +332,16 @@ pub extern "C" fn card_clocked_drain(
     if out.len() < OUT {
         return 1;
     }
-    if !is_taken(m, l, store.len(), records, mark, 0) {
+    let shape = shape_of(m, l);
+    if !is_taken(shape, store.len(), records, mark, 0) {
         return tell_drain(out, 0, false, Answer::Refused(Refusal::BadShape));
     }
-    let state = read_state(records, mark, l - 1);
+    let state = read_state(records, mark, shape.below);
     let done = clocked::drain(store, m, l, state, budget as usize);
     let answer = done.answer;
     let next = done.state;
     let cycles = done.cycles;
-    hand_back(records, mark, l - 1, next, 0 < cycles);
+    hand_back(records, mark, shape.below, next, 0 < cycles);
     tell_drain(out, cycles as u32, done.left, answer)
 }
 

@@ -7,6 +7,7 @@ ghost use Rattle.tree_model.specs.Levels.{idle};
 ghost use Rattle.clocked_model.specs.Calls.{recordCount};
 ghost use Rattle.clocked_model.specs.Records.{worksOf};
 ghost use Rattle.card_records.specs.Records.{recordWords, workOf, workRead, worksRead, stateRead, kindOf, carried, nodeWord, workWritten, worksWritten, markWritten, kindsOk, roomy, readable, wordLimit, Fit, Lent};
+use clocked_model::RECORDS;
 use clocked_model::State;
 use strip::Element;
 use strip::Rank;
@@ -70,29 +71,22 @@ fn read_work(records: &[u32], i: usize) -> Work
     )
 }
 
-// The first so many records; past them nothing is pending.
-fn read_works(records: &[u32], count: usize) -> [Work; 10]
-    requires { ⌜ (count ≤ recordCount) × (recordWords * count ≤ length (now records)) ⌝ }
-    ensures { λ r. ⌜ r ≡ worksRead count (now (records .entry)) ⌝ }
-{
-    let mut works = [no_work(); 10];
-    let mut i = 0;
-    while i < count {
-        works[i] = read_work(records, i);
-        i += 1;
-    }
-    works
-}
-
+// The first so many records, past which nothing is pending, and the mark.
 pub fn read_state(records: &[u32], mark: &[u32], count: usize) -> State
     requires { ⌜ Lent count (now records) (now mark) ⌝ }
     ensures { λ r. ⌜ r ≡ stateRead count (now (records .entry)) (now (mark .entry)) ⌝ }
 {
-    let records = read_works(records, count);
-    State {
-        records,
+    let works = [no_work(); RECORDS];
+    let mut state = State {
+        records: works,
         mark: mark[0] == 1,
+    };
+    let mut i = 0;
+    while i < count {
+        state.records[i] = read_work(records, i);
+        i += 1;
     }
+    state
 }
 
 // ---- writing
@@ -146,18 +140,6 @@ fn write_work(records: &mut [u32], i: usize, w: Work)
     records[at + 3] = tag;
 }
 
-fn write_works(records: &mut [u32], count: usize, works: [Work; 10])
-    requires { ⌜ (count ≤ recordCount) × (recordWords * count ≤ length (now records)) × Fit count (worksOf count works 0) ⌝ }
-    ensures { λ _. ⌜ now (records .exit) ≡ worksWritten count works (now (records .entry)) ⌝ }
-{
-    let mut i = 0;
-    while i < count {
-        let w = works[i];
-        write_work(records, i, w);
-        i += 1;
-    }
-}
-
 pub fn bit(on: bool) -> u32
     ensures { λ r. ⌜ r ≡ cond on 1 0 ⌝ }
 {
@@ -172,8 +154,12 @@ pub fn hand_back(records: &mut [u32], mark: &mut [u32], count: usize, state: Sta
     if !ran {
         return;
     }
-    let works = state.records;
-    write_works(records, count, works);
+    let mut i = 0;
+    while i < count {
+        let w = state.records[i];
+        write_work(records, i, w);
+        i += 1;
+    }
     mark[0] = bit(state.mark);
 }
 

@@ -96,13 +96,7 @@ pub fn cycle(
     beat(store, order, shape.below, shape.room, state, request)
 }
 
-pub fn push(
-    store: &mut [u32],
-    order: usize,
-    levels: usize,
-    state: State,
-    x: Element,
-) -> Cycled
+pub fn push(store: &mut [u32], order: usize, levels: usize, state: State, x: Element) -> Cycled
     ensures { λ r. ⌜ cycleOutcome (r .answer) (now (store .exit)) (r .state) ≡ ticked order levels (Request.Push x) state (now (store .entry)) ⌝ }
 {
     cycle(store, order, levels, state, Request::Push(x))
@@ -114,13 +108,7 @@ pub fn pop(store: &mut [u32], order: usize, levels: usize, state: State) -> Cycl
     cycle(store, order, levels, state, Request::Pop)
 }
 
-pub fn replace(
-    store: &mut [u32],
-    order: usize,
-    levels: usize,
-    state: State,
-    x: Element,
-) -> Cycled
+pub fn replace(store: &mut [u32], order: usize, levels: usize, state: State, x: Element) -> Cycled
     ensures { λ r. ⌜ cycleOutcome (r .answer) (now (store .exit)) (r .state) ≡ ticked order levels (Request.Replace x) state (now (store .entry)) ⌝ }
 {
     cycle(store, order, levels, state, Request::Replace(x))

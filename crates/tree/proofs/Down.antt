@@ -69,4 +69,3 @@ module _ (m b c n : ℕ) (ws : List ℕ) where
           below-in : (k : ℕ) → Lies m (suc k) b c n ws → Level m b c n (length ws) → 1 ≤ k → ChildrenIn m (b + c * m + n * m * m) ws
           below-in zero l v h = absurd (not-suc-le-zero h)
           below-in (suc k) l v h = omega (arith, size-step m (suc k) c, size-step m k (c * m), l .words, v .child)
-
