@@ -99,9 +99,9 @@ module _ (n : ℕ) where
       go true = refl
       go false = refl
 
-  pub bucket-some : 1 ≤ n → n ≤ pool → words ≡ bucketWords n
+  pub bucket-some : 1 ≤ n → n ≤ pool → 8194 + 2 * n ≡ bucketWords n
   unfolding bucketWords bucket.shapeOk
-  bucket-some h k = rw (le-leb 1 n h, le-leb n pool k, lt-ltb (queue n .held) words (omega arith))
+  bucket-some h k = rw (le-leb 1 n h, le-leb n pool k, lt-ltb (queue n .held) words (omega arith)) (omega arith)
 
 pub bucket-size : (bits words n : ℕ) → bucket.shapeOk (queue n) bits words ≡ ((not (eqb (bucketWords n) 0) && leb bucketBits bits) && leb (bucketWords n) words)
 unfolding bucketWords bucket.shapeOk
