@@ -1,13 +1,16 @@
 -- What each function answers, from what it has tested.
 use mathlib.Core.Path.{_≡_, refl}
-use mathlib.Core.List.{List}
+use mathlib.Core.List.{List, [], _∷_, _++_}
 use Prim.Native.Nat.{ℕ, _+_, _-_, _/_, _%_, _≤_, _<_}
 use native.Mathlib.Omega.{arith}
 use borrow.Author.Tests.{eq-eqb, ne-eqb, lt-ltb, le-ltb}
+use Rattle.strip.specs.declared.Element.{Element}
 use Rattle.bucket_model.specs.declared.Lay.{Lay}
-use Rattle.bucket_model.specs.Layout.{nodeWords, word, headAt, nextAt}
+use Rattle.bucket_model.specs.declared.Lowest.{Lowest}
+use Rattle.bucket_model.specs.declared.Room.{Room}
+use Rattle.bucket_model.specs.Layout.{nodeWords, word, write, headAt, tailAt, nextAt, loadWrites, loadOf, noLoad}
 use Rattle.bucket_model.specs.Checks.{nextOf}
-use Rattle.bucket_model.specs.Calls.{tailLeft, linkAt, blankCell, blankWord}
+use Rattle.bucket_model.specs.Calls.{tailLeft, takenWords, linkAt, joinedWords, blankCell, blankWord}
 use Rattle.bucket_nodes.specs.Places.{Linkable}
 
 module _ (k : Lay) (w : List ℕ) (l : ℕ) where
@@ -68,3 +71,14 @@ module _ (k : Lay) (j : ℕ) where
       pub blank-held : (j ≡ k .free → ⊥) → 0 ≡ blankWord k j
       unfolding blankWord
       blank-held n = rw (le-ltb j (k .stem + nodeWords) h, le-ltb j (k .free) l, ne-eqb j (k .free) n) refl
+
+-- the words written are those of the rule
+pub taken-is : (k : Lay) (w : List ℕ) (low : Lowest) (tail : ℕ) → tail ≡ tailLeft (low .next) (low .tail)
+    → write w ((headAt k (low .rank), low .next) ∷ (tailAt k (low .rank), tail) ∷ (loadWrites (k .stem) (low .head) noLoad ++ (nextAt k (low .head), word w (k .free)) ∷ (k .free, low .head) ∷ (k .held, word w (k .held) - 1) ∷ [])) ≡ takenWords k w low
+unfolding takenWords
+taken-is k w low tail e = rw e refl
+
+pub joined-is : (k : Lay) (w : List ℕ) (e : Element) (to : Room) (link : ℕ) → link ≡ linkAt k (e .rank .0) (to .tail)
+    → write w ((k .free, to .next) ∷ (loadWrites (k .stem) (word w (k .free)) (loadOf e) ++ (nextAt k (word w (k .free)), 0) ∷ (link, word w (k .free)) ∷ (tailAt k (e .rank .0), word w (k .free)) ∷ (k .held, word w (k .held) + 1) ∷ [])) ≡ joinedWords k w e to
+unfolding joinedWords
+joined-is k w e to link p = rw p refl

@@ -1,7 +1,7 @@
 -- `bucket_nodes::join_words` meets its contract.
 use native.Mathlib.Omega.{arith}
 use lib.ListN.{length-set}
-use Rattle.bucket_model.specs.Calls.{joinedWords}
+use Rattle.bucket_nodes.proofs.Answers.{joined-is}
 use borrow.Author.Needs.{needs}
 use Rattle.bucket_nodes.proofs.join_words.Statement.{statement}
 use Rattle.bucket_nodes.proofs.join_words.Tie as tie
@@ -91,8 +91,7 @@ same-length : tie.Need-same-length
 same-length c = simp length-set
 
 returns : tie.Need-returns
-unfolding joinedWords
-returns c = simp (c .before .before .before .link-at .ensures .0)
+returns c = joined-is (c .before .before .before .before .before .before .before .before .before .before .args .k) (c .before .before .before .before .before .before .before .before .before .before .args .words .now) (c .before .before .before .before .before .before .before .before .before .before .args .e) (c .before .before .before .before .before .before .before .before .before .before .args .to) _ (c .before .before .before .link-at .ensures .0)
 
 pub join-words-spec : {M : Type 1} → statement M
 join-words-spec =

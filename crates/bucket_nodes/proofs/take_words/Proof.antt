@@ -1,7 +1,7 @@
 -- `bucket_nodes::take_words` meets its contract.
 use native.Mathlib.Omega.{arith}
 use lib.ListN.{length-set}
-use Rattle.bucket_model.specs.Calls.{takenWords}
+use Rattle.bucket_nodes.proofs.Answers.{taken-is}
 use borrow.Author.Needs.{needs}
 use Rattle.bucket_nodes.proofs.take_words.Statement.{statement}
 use Rattle.bucket_nodes.proofs.take_words.Tie as tie
@@ -91,8 +91,7 @@ same-length : tie.Need-same-length
 same-length c = simp length-set
 
 returns : tie.Need-returns
-unfolding takenWords
-returns c = simp (c .before .tail-left .ensures)
+returns c = taken-is (c .before .before .before .before .before .before .before .before .before .args .k) (c .before .before .before .before .before .before .before .before .before .args .words .now) (c .before .before .before .before .before .before .before .before .before .args .low) _ (c .before .tail-left .ensures)
 
 pub take-words-spec : {M : Type 1} → statement M
 take-words-spec =
