@@ -22,16 +22,16 @@ abbrev μ-loop : tie.MeasureT-loop
 μ-loop store₀ bytes₀ out₀ play₀ left₀ store bytes out play left = left
 
 slice-aggregate-begin : tie.Need-slice-aggregate-begin Inv-loop μ-loop
-slice-aggregate-begin c = sym (length-replicate {A = ℕ} 12282 0)
+slice-aggregate-begin c = sym (length-replicate {A = ℕ} _ 0)
 
 slice-aggregate-begin-2 : tie.Need-slice-aggregate-begin-2 Inv-loop μ-loop
-slice-aggregate-begin-2 c = sym (length-replicate {A = ℕ} 294984 0)
+slice-aggregate-begin-2 c = sym (length-replicate {A = ℕ} _ 0)
 
 begin-requires : tie.Need-begin-requires Inv-loop μ-loop
 begin-requires c κs = search needs
 
 loop-holds : tie.Need-loop-holds Inv-loop μ-loop
-loop-holds c = (c .before .before .begin .kept .0 ∙ length-replicate {A = ℕ} 12282 0, length-replicate {A = ℕ} 36864 0, c .before .before .begin .kept .1 .0 ∙ length-replicate {A = ℕ} 294984 0)
+loop-holds c = (c .before .before .begin .kept .0 ∙ length-replicate {A = ℕ} _ 0, length-replicate {A = ℕ} _ 0, c .before .before .begin .kept .1 .0 ∙ length-replicate {A = ℕ} _ 0)
 
 returns : tie.Need-returns Inv-loop μ-loop
 returns c = search needs
