@@ -8,6 +8,7 @@ pub mod Chain
 pub mod Linked
 pub mod Facts
 pub mod Exactly
+pub mod Kind
 pub mod Returns
 pub mod Order
 pub mod Sorted

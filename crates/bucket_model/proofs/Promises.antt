@@ -31,11 +31,6 @@ use Rattle.bucket_model.proofs.Runs.{stored-is, empty-list, calls, says
 pub queue-laid : (n : ℕ) → Laid (queue n)
 queue-laid n = laid-of 2 n (omega arith)
 
--- ---- pinned: any two outcomes that a contract allows are equal
-
-pub pinned : {A : Type 0} (stated x y : A) → x ≡ stated → y ≡ stated → x ≡ y
-pinned stated x y p q = p ∙ sym q
-
 -- ---- the plain list is never damaged
 
 abbrev Sane : Step (List Element) → Type 0
