@@ -1,6 +1,6 @@
 -- The kind of an answer, for all inputs: of a call that is not refused a push answers done, a pop and a replace answer an element. And what `pinned` says of each call.
 use mathlib.Core.Path.{_≡_, refl, sym}
-use mathlib.Core.Bool.{Bool, true, false, cond, not}
+use mathlib.Core.Bool.{Bool, cond, not}
 use mathlib.Core.List.{List}
 use Prim.Native.Nat.{ℕ}
 use lib.Dec.{leb, ltb, eqb}

@@ -21,4 +21,6 @@ pub mod Taken
 pub mod Joined
 pub mod Promises
 pub mod Untouched
+pub mod Places
+pub mod Replace
 pub mod Case8

@@ -4,6 +4,6 @@ pub mod Storeys
 pub mod Checks
 pub mod Calls
 pub mod Causes
-pub mod Promise
 pub mod Plain
+pub mod Promise
 pub mod Case8
