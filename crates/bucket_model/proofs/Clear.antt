@@ -165,6 +165,7 @@ module _ (k : Lay) (laid : Laid k) (b w : List ℕ) (H : Shaped k b w) where
         is = sym (order-none (λ r. loads (q0 (headAt k r))) 0 (k .ranks) (λ j a l. ap loads (q0-list (headAt k j) (omega arith))));
         held = word-is (k .held) (omega arith) ∙ blank-held k laid;
         room = omega (arith, ap length q0-free, row-length 1 (k .nodes));
+        blank = rw q0-free (row-all (λ (x : Node). x .load ≡ noLoad) 1 (k .nodes) (λ l a b. refl));
       }
 
   pub clear-done : cleared k b w ≡ outcome Done B W

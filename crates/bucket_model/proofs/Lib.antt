@@ -23,4 +23,5 @@ pub mod Promises
 pub mod Untouched
 pub mod Places
 pub mod Replace
+pub mod Spare
 pub mod Case8

@@ -99,7 +99,7 @@ module _ (k : Lay) (laid : Laid k) where
 
   -- ---- a store that the queue's own calls lead to holds what the plain list then has
 
-  reached-holds : (s : Store) → Reached k s → (l : List Element) × Sorted l × Holds k laid (s .bits) (s .words) l
+  pub reached-holds : (s : Store) → Reached k s → (l : List Element) × Sorted l × Holds k laid (s .bits) (s .words) l
   reached-holds s r = (
     plainAfter k (r .calls) [],
     through k (r .calls) [] tt .sorted,

@@ -3,6 +3,7 @@ use mathlib.Core.List.{List, [], _∷_}
 use mathlib.Core.Path.{_≡_}
 use Prim.Native.Nat.{ℕ, _+_, _*_, _≤_, _<_}
 use lib.ListN.{length}
+use Rattle.laws.specs.Lists.{All}
 use Rattle.laws.specs.Means.{Iff}
 use Rattle.promise.specs.Queue.{Pins}
 use Rattle.strip.specs.declared.Answer.the-variants.{Done}
@@ -12,7 +13,7 @@ use Rattle.bucket_model.specs.Layout.{Lay, queue, bitWords, storeWords, 
 use Rattle.bucket_model.specs.Storeys.{storeysAt}
 use Rattle.bucket_model.specs.Calls.{Outcome, cleared, pushed, popped, replaced, heldCount}
 use Rattle.bucket_model.specs.Causes.{Shaped}
-use Rattle.bucket_model.specs.Plain.{Store, store, asked}
+use Rattle.bucket_model.specs.Plain.{Store, store, asked, walk}
 
 -- "any two outcomes allowed by the statement are shown equal", call by call
 pub record Pinned (k : Lay) (b w : List ℕ) : Type 0 where
@@ -63,6 +64,13 @@ pub record Blank (n : ℕ) (b w : List ℕ) (o : Outcome) : Type 0 where
   pub words-rest : (i : ℕ) → 8194 + 2 * n ≤ i → word (o .words) i ≡ word w i
   pub bits-long : length (o .bits) ≡ length b
   pub words-long : length (o .words) ≡ length w
+
+-- ---- the free chain
+
+-- "The freed node gets tag 0": from the free link on stand as many nodes as are not held, each with tag 0
+pub record Spare (k : Lay) (s : Store) : Type 0 where
+  pub many : length (walk (k .stem) (s .words) (k .nodes) (word (s .words) (k .free))) + word (s .words) (k .held) ≡ k .nodes
+  pub tags : All (λ t. t .tag ≡ 0) (walk (k .stem) (s .words) (k .nodes) (word (s .words) (k .free)))
 
 -- ---- replace
 
