@@ -52,20 +52,20 @@ firstOf (suc j) i = i
 -- ---- the words of a cleared store
 
 module _ (k : Lay) (laid : Laid k) where
-  blank-low : (j : ℕ) → j < k .stem + nodeWords → blankWord k j ≡ 0
+  pub blank-low : (j : ℕ) → j < k .stem + nodeWords → blankWord k j ≡ 0
   unfolding blankWord
   blank-low j h = simp (lt-ltb j (k .stem + nodeWords) h)
 
-  blank-free : blankWord k (k .free) ≡ 1
+  pub blank-free : blankWord k (k .free) ≡ 1
   unfolding blankWord
   blank-free = rw (le-ltb (k .free) (k .stem + nodeWords) (omega (arith, laid .pool)), le-ltb (k .free) (k .free) (omega arith), eq-eqb (k .free) (k .free) refl) refl
 
-  blank-held : blankWord k (k .held) ≡ 0
+  pub blank-held : blankWord k (k .held) ≡ 0
   unfolding blankWord
   blank-held =
       rw (le-ltb (k .held) (k .stem + nodeWords) (omega (arith, laid .pool, laid .held)), le-ltb (k .held) (k .free) (omega (arith, laid .held)), ne-eqb (k .held) (k .free) (λ e. omega (arith, laid .held))) refl
 
-  blank-node : (l i : ℕ) → 1 ≤ l → l ≤ k .nodes → i < nodeWords → blankWord k (cell (k .stem) l i) ≡ blankCell (k .nodes) l i
+  pub blank-node : (l i : ℕ) → 1 ≤ l → l ≤ k .nodes → i < nodeWords → blankWord k (cell (k .stem) l i) ≡ blankCell (k .nodes) l i
   unfolding blankWord
   blank-node l i a b h =
       let j = cell (k .stem) l i in
@@ -165,6 +165,7 @@ module _ (k : Lay) (laid : Laid k) (b w : List ℕ) (H : Shaped k b w) where
         is = sym (order-none (λ r. loads (q0 (headAt k r))) 0 (k .ranks) (λ j a l. ap loads (q0-list (headAt k j) (omega arith))));
         held = word-is (k .held) (omega arith) ∙ blank-held k laid;
         room = omega (arith, ap length q0-free, row-length 1 (k .nodes));
+        blank = rw q0-free (row-all (λ (x : Node). x .load ≡ noLoad) 1 (k .nodes) (λ l a b. refl));
       }
 
   pub clear-done : cleared k b w ≡ outcome Done B W

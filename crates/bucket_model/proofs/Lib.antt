@@ -8,6 +8,7 @@ pub mod Chain
 pub mod Linked
 pub mod Facts
 pub mod Exactly
+pub mod Kind
 pub mod Returns
 pub mod Order
 pub mod Sorted
@@ -20,4 +21,7 @@ pub mod Taken
 pub mod Joined
 pub mod Promises
 pub mod Untouched
+pub mod Places
+pub mod Replace
+pub mod Spare
 pub mod Case8

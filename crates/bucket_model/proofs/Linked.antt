@@ -2,7 +2,7 @@
 use mathlib.Core.Path.{_≡_, refl, sym, ap, subst, _∙_}
 use mathlib.Core.List.{List, [], _∷_, _++_}
 use mathlib.Core.Logic.{_⊎_, inl, inr, ⊎-elim}
-use Prim.Native.Nat.{ℕ, suc, _+_, _-_, _*_, _≤_, _<_}
+use Prim.Native.Nat.{ℕ, _+_, _*_, _≤_, _<_}
 use native.Mathlib.Decide.{ℕ-discrete}
 use native.Mathlib.Omega.{arith}
 use borrow.Author.Tests.{eq-eqb, ne-eqb}
@@ -189,11 +189,11 @@ module _ (A : Area) where
     pub take-linked : Linked taking takenQ takenOwn
     take-linked = record { long = omega (arith, length-set s5 free l, long5, w .long); chains = c6; tails = tails6 }
 
-    -- one node more is free
-    pub taken-free : length (takenQ free) ≡ suc (length (q free))
+    -- one node more is free, without a load
+    pub taken-free : takenQ free ≡ node l noLoad ∷ q free
     taken-free =
-        ap length (is-upd q1 free (node l noLoad ∷ q1 free) .here)
-        ∙ ap (λ (k : List Node). suc (length k)) (is-upd q c xs .else free (λ p. omega (arith, c<, A .end)))
+        is-upd q1 free (node l noLoad ∷ q1 free) .here
+        ∙ ap (λ (k : List Node). node l noLoad ∷ k) (is-upd q c xs .else free (λ p. omega (arith, c<, A .end)))
 
   -- ---- a push's writes
 
@@ -328,7 +328,5 @@ module _ (A : Area) where
     join-linked = record { long = omega (arith, length-set t5 (c + R) f, length-set t4 (endSlot stem c (q c)) f, long4, w .long); chains = d6; tails = tails7 }
 
     -- one node fewer is free
-    pub joined-free : suc (length (joinedQ free)) ≡ length (q free)
-    joined-free =
-        ap (λ (l : List Node). suc (length l)) (is-upd p1 c (p1 c ++ node f t ∷ []) .else free (λ p. omega (arith, h<, A .end)) ∙ is-upd q free xs .here)
-        ∙ ap length (sym e)
+    pub joined-free : joinedQ free ≡ xs
+    joined-free = is-upd p1 c (p1 c ++ node f t ∷ []) .else free (λ p. omega (arith, h<, A .end)) ∙ is-upd q free xs .here

@@ -183,7 +183,8 @@ module _ (k : Lay) (laid : Laid k) (b w : List ℕ) (l : List Element) (h : Hold
           bits = bits-are xs refl;
           list = refl;
           count = same T (k .held) (word w (k .held) - 1) (omega (arith, h .shaped .words, long-is, length-set T (k .held) (word w (k .held) - 1))) ∙ omega (arith, h .held);
-          free = omega (arith, taken-free (area k laid) w (h .q) (h .own) z (headAt k r) hc x xs e);
+          free = omega (arith, ap length (taken-free (area k laid) w (h .q) (h .own) z (headAt k r) hc x xs e));
+          blank = rw (taken-free (area k laid) w (h .q) (h .own) z (headAt k r) hc x xs e) (refl, h .blank);
         }
 
     does : Popped (loaded r (x .load)) left

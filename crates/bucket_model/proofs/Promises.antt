@@ -31,11 +31,6 @@ use Rattle.bucket_model.proofs.Runs.{stored-is, empty-list, calls, says
 pub queue-laid : (n : ℕ) → Laid (queue n)
 queue-laid n = laid-of 2 n (omega arith)
 
--- ---- pinned: any two outcomes that a contract allows are equal
-
-pub pinned : {A : Type 0} (stated x y : A) → x ≡ stated → y ≡ stated → x ≡ y
-pinned stated x y p q = p ∙ sym q
-
 -- ---- the plain list is never damaged
 
 abbrev Sane : Step (List Element) → Type 0
@@ -104,7 +99,7 @@ module _ (k : Lay) (laid : Laid k) where
 
   -- ---- a store that the queue's own calls lead to holds what the plain list then has
 
-  reached-holds : (s : Store) → Reached k s → (l : List Element) × Sorted l × Holds k laid (s .bits) (s .words) l
+  pub reached-holds : (s : Store) → Reached k s → (l : List Element) × Sorted l × Holds k laid (s .bits) (s .words) l
   reached-holds s r = (
     plainAfter k (r .calls) [],
     through k (r .calls) [] tt .sorted,

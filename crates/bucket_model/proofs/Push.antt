@@ -26,7 +26,7 @@ use Rattle.bucket_model.proofs.Chain.{Node, node, Mine, Chain, endSlot}
 use Rattle.bucket_model.proofs.Linked.{lastFrom, lastLink, last≤, linked-off, slot-end, joining, joinedQ, joinedOwn, join-linked, joined-other, joined-here, joined-free}
 use Rattle.bucket_model.proofs.Order.{order-push}
 use Rattle.bucket_model.proofs.Sorted.{insert-length}
-use Rattle.bucket_model.proofs.Queue.{flag, loads, seg-zero, seg-le, area, head, Holds, chainOf, Change, changed, shaped-after}
+use Rattle.bucket_model.proofs.Queue.{NoLoads, flag, loads, seg-zero, seg-le, area, head, Holds, chainOf, Change, changed, shaped-after}
 use Rattle.bucket_model.proofs.Pop.{next-in, next-none, last-next}
 
 -- ---- the bucket of a rank
@@ -195,7 +195,8 @@ module _ (k : Lay) (laid : Laid k) (b w : List ℕ) (l : List Element) (h : Hold
           bits = subst (λ (v : ℕ). Ranks k (joinedBits k b e to) (upd fb r v)) (sym (flag-snoc (h .q c) (node (x .link) t))) (set-bits (h .q c) refl);
           list = list-is;
           count = same T (k .held) (word w (k .held) + 1) (omega (arith, h .shaped .words, long-is, length-set T (k .held) (word w (k .held) + 1))) ∙ omega (arith, h .held, insert-length e l);
-          free = omega (arith, insert-length e l, joined-free (area k laid) w (h .q) (h .own) y c hc x xs z t);
+          free = omega (arith, insert-length e l, ap length (joined-free (area k laid) w (h .q) (h .own) y c hc x xs z t), ap length z);
+          blank = rw (joined-free (area k laid) w (h .q) (h .own) y c hc x xs z t) ((subst NoLoads z (h .blank)) .1);
         }
 
     does : Pushed

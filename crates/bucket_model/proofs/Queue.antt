@@ -2,7 +2,7 @@
 use mathlib.Core.Path.{_≡_, refl, sym, ap, _∙_}
 use mathlib.Core.List.{List, [], _∷_}
 use mathlib.Core.Logic.{inl, inr}
-use Prim.Native.Nat.{ℕ, zero, suc, _+_, _-_, _^_, _≤_, _<_}
+use Prim.Native.Nat.{ℕ, zero, suc, _+_, _^_, _≤_, _<_}
 use native.Mathlib.Decide.{ℕ-discrete}
 use native.Mathlib.Nat.{pow-suc}
 use native.Mathlib.Omega.{arith}
@@ -11,7 +11,7 @@ use Rattle.laws.specs.Lists.{All}
 use Rattle.laws.specs.Means.{Iff}
 use Rattle.laws.specs.Updates.{upd, is-upd}
 use Rattle.strip.specs.declared.Element.{Element}
-use Rattle.bucket_model.specs.Layout.{Lay, Laid, layOf, word, headAt, Load}
+use Rattle.bucket_model.specs.Layout.{Lay, Laid, layOf, word, headAt, Load, noLoad}
 use Rattle.bucket_model.specs.Storeys.{lowestRank}
 use Rattle.bucket_model.specs.Causes.{Shaped, Whole}
 use Rattle.bucket_model.specs.Plain.{inOrder}
@@ -26,11 +26,15 @@ abbrev pub flag : List Node → ℕ
 flag [] = 0
 flag (x ∷ xs) = 1
 
+-- nodes without a load
+abbrev pub NoLoads : List Node → Type 0
+NoLoads = All (λ (x : Node). x .load ≡ noLoad)
+
 abbrev pub loads : List Node → List Load
 loads [] = []
 loads (x ∷ xs) = x .load ∷ loads xs
 
-loads-length : (xs : List Node) → length (loads xs) ≡ length xs
+pub loads-length : (xs : List Node) → length (loads xs) ≡ length xs
 loads-length [] = refl
 loads-length (x ∷ xs) = ap suc (loads-length xs)
 
@@ -80,6 +84,7 @@ module _ (k : Lay) (laid : Laid k) where
     pub is : l ≡ inOrder (λ r. loads (q (headAt k r))) 0 (k .ranks)
     pub held : word w (k .held) ≡ length l
     pub room : length l + length (q (k .free)) ≡ k .nodes
+    pub blank : NoLoads (q (k .free))
 
   module _ (b w : List ℕ) (l : List Element) (h : Holds b w l) where
     pub freeChain : Chain (k .stem) w (k .nodes) (h .own) (k .free) (h .q (k .free))
@@ -136,6 +141,7 @@ module _ (k : Lay) (laid : Laid k) where
       pub list : l′ ≡ inOrder (upd (λ j. loads (h .q (headAt k j))) r (loads ys)) 0 (k .ranks)
       pub count : word w′ (k .held) ≡ length l′
       pub free : length (q′ (k .free)) + length l′ ≡ length (h .q (k .free)) + length l
+      pub blank : NoLoads (q′ (k .free))
 
     pub changed : (r : ℕ) (b′ w′ : List ℕ) (l′ : List Element) (ys : List Node) → Change r b′ w′ l′ ys → Holds b′ w′ l′
     changed r b′ w′ l′ ys c =
@@ -148,6 +154,7 @@ module _ (k : Lay) (laid : Laid k) where
           is = c .list ∙ sym (order-else (upd (λ j. loads (h .q (headAt k j))) r (loads ys)) (λ j. loads (c .q′ (headAt k j))) 0 (k .ranks) (λ j a d. owns loads j (omega arith)));
           held = c .count;
           room = omega (arith, c .free, h .room);
+          blank = c .blank;
         }
       where
         owns : {A : Type 0} (f : List Node → A) (j : ℕ) → j < k .ranks → f (c .q′ (headAt k j)) ≡ upd (λ j. f (h .q (headAt k j))) r (f ys) j

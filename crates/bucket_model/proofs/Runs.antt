@@ -37,7 +37,7 @@ walk-one stem w i zero h = absurd (omega arith)
 walk-one stem w i (suc l) h = refl
 
 -- the walk along a chain meets its loads
-walks : (stem : ℕ) (w : List ℕ) (n : ℕ) (own : ℕ → ℕ) (c p i : ℕ) (xs : List Node) → Seg stem w p xs → All (Mine own n c) xs → length xs ≤ i → walk stem w i (word w p) ≡ loads xs
+pub walks : (stem : ℕ) (w : List ℕ) (n : ℕ) (own : ℕ → ℕ) (c p i : ℕ) (xs : List Node) → Seg stem w p xs → All (Mine own n c) xs → length xs ≤ i → walk stem w i (word w p) ≡ loads xs
 walks stem w n own c p i [] z a h = ap (walk stem w i) z ∙ walk-none stem w i
 walks stem w n own c p zero (x ∷ xs) z a h = absurd (omega arith)
 walks stem w n own c p (suc i) (x ∷ xs) z a h =

@@ -5,4 +5,5 @@ pub mod Checks
 pub mod Calls
 pub mod Causes
 pub mod Plain
+pub mod Promise
 pub mod Case8

@@ -1,0 +1,30 @@
+-- The free chain of a store that the queue's own calls lead to: all that is not held, with tag 0.
+use mathlib.Core.Path.{_≡_, sym, ap, subst}
+use mathlib.Core.List.{List, [], _∷_}
+use native.Mathlib.Omega.{arith}
+use lib.ListN.{length}
+use Rattle.laws.specs.Lists.{All}
+use Rattle.strip.specs.declared.Element.{Element}
+use Rattle.bucket_model.specs.Layout.{Lay, Laid, word, Load}
+use Rattle.bucket_model.specs.Plain.{Store, Reached, walk}
+use Rattle.bucket_model.specs.Promise.{Spare}
+use Rattle.bucket_model.proofs.Chain.{Node}
+use Rattle.bucket_model.proofs.Queue.{Holds, NoLoads, loads, loads-length, freeChain}
+use Rattle.bucket_model.proofs.Runs.{walks}
+use Rattle.bucket_model.proofs.Promises.{reached-holds}
+
+no-tags : (xs : List Node) → NoLoads xs → All (λ (t : Load). t .tag ≡ 0) (loads xs)
+no-tags [] a = tt
+no-tags (x ∷ xs) a = (ap (λ (t : Load). t .tag) (a .0), no-tags xs (a .1))
+
+module _ (k : Lay) (laid : Laid k) where
+  spares : (s : Store) (l : List Element) → Holds k laid (s .bits) (s .words) l → Spare k s
+  spares s l h =
+      let c = freeChain k laid (s .bits) (s .words) l h in
+      let xs = h .q (k .free) in
+      let e : walk (k .stem) (s .words) (k .nodes) (word (s .words) (k .free)) ≡ loads (h .q (k .free)) = walks (k .stem) (s .words) (k .nodes) (h .own) (k .free) (k .free) (k .nodes) (h .q (k .free)) (c .seg) (c .mine) (omega (arith, h .room)) in
+      record { many = omega (arith, ap length e, loads-length (h .q (k .free)), h .held, h .room); tags = subst (All (λ (t : Load). t .tag ≡ 0)) (sym e) (no-tags (h .q (k .free)) (h .blank)) }
+
+  -- SPARE
+  pub spare : (s : Store) → Reached k s → Spare k s
+  spare s r = let y = reached-holds k laid s r in spares s (y .0) (y .2)

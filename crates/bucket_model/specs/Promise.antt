@@ -1,0 +1,79 @@
+-- What is promised of the bucket queue's words, beside the plain queue. These are definitions.
+use mathlib.Core.List.{List, [], _∷_}
+use mathlib.Core.Path.{_≡_}
+use Prim.Native.Nat.{ℕ, _+_, _*_, _≤_, _<_}
+use lib.ListN.{length}
+use Rattle.laws.specs.Lists.{All}
+use Rattle.laws.specs.Means.{Iff}
+use Rattle.promise.specs.Queue.{Pins}
+use Rattle.strip.specs.declared.Answer.the-variants.{Done}
+use Rattle.strip.specs.declared.Element.{Element}
+use Rattle.strip.specs.declared.Request.the-variants.{Pop}
+use Rattle.bucket_model.specs.Layout.{Lay, queue, bitWords, storeWords, word, headAt, tailAt, nextAt, loadIn}
+use Rattle.bucket_model.specs.Storeys.{storeysAt}
+use Rattle.bucket_model.specs.Calls.{Outcome, cleared, pushed, popped, replaced, heldCount}
+use Rattle.bucket_model.specs.Causes.{Shaped}
+use Rattle.bucket_model.specs.Plain.{Store, store, asked, walk}
+
+-- "any two outcomes allowed by the statement are shown equal", call by call
+pub record Pinned (k : Lay) (b w : List ℕ) : Type 0 where
+  pub clear : Pins (cleared k b w)
+  pub push : (e : Element) → Pins (pushed k b w e)
+  pub pop : Pins (popped k b w)
+  pub replace : (e : Element) → Pins (replaced k b w e)
+  pub held : Pins (heldCount k b w)
+
+-- ---- the layout in 01's own numbers
+
+-- N and the lengths of the slices
+pub record Shape (n bitsLong wordsLong : ℕ) : Type 0 where
+  pub low : 1 ≤ n
+  pub high : n ≤ 4096
+  pub bits : 65 ≤ bitsLong
+  pub words : 8194 + 2 * n ≤ wordsLong
+
+-- "Ranks 0 to 4,095"; the top word first, then a word for each group; "4,096 heads, 4,096 tails, N pairs of tag and next, free link, held"; "Links are node number plus one"
+pub record Lies (n : ℕ) : Type 0 where
+  pub ranks : queue n .ranks ≡ 4096
+  pub nodes : queue n .nodes ≡ n
+  pub storeys : storeysAt (queue n) ≡ record { base = 1; words = 64 } ∷ record { base = 0; words = 1 } ∷ []
+  pub bits : bitWords (queue n) ≡ 65
+  pub head : (r : ℕ) → headAt (queue n) r ≡ r
+  pub tail : (r : ℕ) → tailAt (queue n) r ≡ 4096 + r
+  pub tag : (w : List ℕ) (l : ℕ) → loadIn (queue n .stem) w l .tag ≡ word w (8190 + 2 * l)
+  pub next : (l : ℕ) → nextAt (queue n) l ≡ 8191 + 2 * l
+  pub free : queue n .free ≡ 8192 + 2 * n
+  pub held : queue n .held ≡ 8193 + 2 * n
+  pub words : storeWords (queue n) ≡ 8194 + 2 * n
+  pub shaped : (b w : List ℕ) → Iff (Shaped (queue n) b w) (Shape n (length b) (length w))
+
+-- ---- clear, word by word
+
+-- bits 0; heads and tails 0; each node's tag 0, its next the link of the node after it, the last none; free link 1; held 0. Behind the shape every word is as before, and no slice is longer or shorter
+pub record Blank (n : ℕ) (b w : List ℕ) (o : Outcome) : Type 0 where
+  pub answer : o .answer ≡ Done
+  pub bits : (i : ℕ) → i < 65 → word (o .bits) i ≡ 0
+  pub head : (r : ℕ) → r < 4096 → word (o .words) r ≡ 0
+  pub tail : (r : ℕ) → r < 4096 → word (o .words) (4096 + r) ≡ 0
+  pub tag : (i : ℕ) → i < n → word (o .words) (8192 + 2 * i) ≡ 0
+  pub next : (i : ℕ) → i + 1 < n → word (o .words) (8193 + 2 * i) ≡ i + 2
+  pub last : (i : ℕ) → i + 1 ≡ n → word (o .words) (8193 + 2 * i) ≡ 0
+  pub free : word (o .words) (8192 + 2 * n) ≡ 1
+  pub held : word (o .words) (8193 + 2 * n) ≡ 0
+  pub bits-rest : (i : ℕ) → 65 ≤ i → word (o .bits) i ≡ word b i
+  pub words-rest : (i : ℕ) → 8194 + 2 * n ≤ i → word (o .words) i ≡ word w i
+  pub bits-long : length (o .bits) ≡ length b
+  pub words-long : length (o .words) ≡ length w
+
+-- ---- the free chain
+
+-- "The freed node gets tag 0": from the free link on stand as many nodes as are not held, each with tag 0
+pub record Spare (k : Lay) (s : Store) : Type 0 where
+  pub many : length (walk (k .stem) (s .words) (k .nodes) (word (s .words) (k .free))) + word (s .words) (k .held) ≡ k .nodes
+  pub tags : All (λ t. t .tag ≡ 0) (walk (k .stem) (s .words) (k .nodes) (word (s .words) (k .free)))
+
+-- ---- replace
+
+-- the store that a pop leaves
+abbrev pub popLeaves : Lay → Store → Store
+popLeaves k s = store (asked k Pop s .bits) (asked k Pop s .words)
