@@ -16,6 +16,7 @@ use card_records::hand_back;
 use card_records::is_readable;
 use card_records::is_roomy;
 use card_records::read_state;
+use clocked::fresh_state;
 use node::SLOT_LIMIT;
 use node::capacity;
 use node::shape::Shape;
@@ -267,6 +268,7 @@ pub extern "C" fn card_clocked_clear(
 ) -> u32
     ensures { λ r. ⌜ clockedAfter r (now (store .exit)) (now (records .exit)) (now (mark .exit)) ≡ clockedClear order levels (now (store .entry)) (now (records .entry)) (now (mark .entry)) ⌝ }
 {
+    let none = fresh_state();
     let m = order as usize;
     let l = levels as usize;
     if !shape_ok(m, l, store.len()) {
@@ -275,7 +277,7 @@ pub extern "C" fn card_clocked_clear(
     if !is_roomy(records, mark, l - 1) {
         return 1;
     }
-    let done = clocked::clear(store, m, l);
+    let done = clocked::clear(store, m, l, none);
     let answer = done.answer;
     let next = done.state;
     let back = has_run(answer);

@@ -155,7 +155,8 @@ fn tick(store: &mut [u32], state: State, request: Request) -> State {
 }
 
 fn restart(store: &mut [u32]) -> State {
-    let c = clocked::clear(store, 2, 2);
+    let none = clocked::fresh_state();
+    let c = clocked::clear(store, 2, 2, none);
     let answer = c.answer;
     say_answer(b"clear ", answer);
     c.state

@@ -1,13 +1,13 @@
 -- The public calls: each test and what follows it make the outcome that the definitions say. Assumes nothing.
 use Prim.Native.Nat.{_*_, _+_, _-_, _<_, _≤_, pred, suc, zero, ℕ}
 use native.Mathlib.Omega.{arith}
-use mathlib.Core.Bool.{_&&_, Bool, cond, false, not, true}
+use mathlib.Core.Bool.{_&&_, Bool, cond, false, not, true, true≢false}
 use mathlib.Core.List.{List}
 use mathlib.Core.Path.{_∙_, _≡_, ap, ap₂, refl, subst, sym}
 use lib.ListN.{length, replicate}
 use borrow.Author.Tests.{not-false, not-true}
 use Rattle.clocked_model.proofs.Demand.{few-levels}
-use Rattle.clocked_model.specs.Calls.{askedOk, CycleOutcome, cycleOutcome, fresh, hearing, marks, recordCount, restarted, stepsOk, ticked, turned}
+use Rattle.clocked_model.specs.Calls.{askedOk, clockedCleared, CycleOutcome, cycleOutcome, fresh, hearing, isRefused, marks, recordCount, restarted, stepsOk, ticked, turned}
 use Rattle.clocked_model.specs.Cycle.{cycleOk, cycleWords, quiet}
 use Rattle.clocked_model.specs.Records.{recordsAfter, worksOf}
 use Rattle.clocked_model.specs.declared.State.{State}
@@ -21,7 +21,7 @@ use Rattle.node.specs.Scan.{childOf}
 use Rattle.node.specs.Shaping.{Shaped}
 use Rattle.node.specs.declared.shape.Shape.{Shape}
 use Rattle.strip.specs.declared.Answer.{Answer}
-use Rattle.strip.specs.declared.Answer.the-variants.{Refused}
+use Rattle.strip.specs.declared.Answer.the-variants.{Done, Refused}
 use Rattle.strip.specs.declared.Refusal.the-variants.{BadShape, Damaged}
 use Rattle.strip.specs.declared.Request.{Request}
 use Rattle.tree.proofs.Calls.{shape-few, shape-here}
@@ -34,7 +34,7 @@ use Rattle.tree_model.specs.Calls.{cleared, Outcome, outcome, Ruling, shapeOk, 
 use Rattle.tree_model.specs.Damage.{fine, room, stepOk}
 use Rattle.tree_model.specs.Levels.{idle, top, work}
 use Rattle.tree_model.specs.Node.{isNothing}
-use Rattle.tree_model.specs.Words.{levelOf, levelsOf, nodeMove, nodeOf, restWords, size, stepWords, under, width}
+use Rattle.tree_model.specs.Words.{levelOf, levelsOf, nodeMove, nodeOf, restWords, size, stepWords, under, width, wipe}
 use Rattle.tree_model.specs.declared.Op.{Op}
 use Rattle.tree_model.specs.declared.Op.the-variants.{Nothing}
 use Rattle.tree_model.specs.declared.Work.{Work}
@@ -103,8 +103,34 @@ pub fresh-is : (w : Work) → w ≡ idle → stateOf (replicate recordCount w) f
 unfolding fresh
 fresh-is w e = ap (λ (w : Work). stateOf (replicate recordCount w) false) e
 
-pub clear-is : (m levels : ℕ) (ws after : List ℕ) (a : Answer) (s : State) → outcome a after ≡ cleared m levels ws → s ≡ fresh → cycleOutcome a after s ≡ restarted m levels ws
-clear-is m levels ws after a s e p = ap₂ (λ (o : Outcome) (s : State). cycleOutcome (o .answer) (o .words) s) e p
+module _ (m levels : ℕ) (ws after : List ℕ) (a : Answer) (s : State) (e : outcome a after ≡ cleared m levels ws) (t : Bool) (tells : t ≡ isRefused a) where
+  pub clear-refused : t ≡ true → cycleOutcome a after s ≡ clockedCleared m levels s ws
+  unfolding cleared clockedCleared isRefused
+  clear-refused r = go (shapeOk m levels (length ws)) e
+    where
+      go : (b : Bool) → outcome a after ≡ cond b (outcome Done (wipe (room m levels) ws)) (outcome (Refused BadShape) ws)
+          → cycleOutcome a after s ≡ cond b (cycleOutcome Done (wipe (room m levels) ws) fresh) (cycleOutcome (Refused BadShape) ws s)
+      go true p = absurd (true≢false (sym r ∙ tells ∙ ap (λ (o : Outcome). isRefused (o .answer)) p))
+      go false p = ap (λ (o : Outcome). cycleOutcome (o .answer) (o .words) s) p
+
+  pub clear-done : (u : State) → t ≡ false → u ≡ fresh → cycleOutcome a after u ≡ clockedCleared m levels s ws
+  unfolding cleared clockedCleared isRefused
+  clear-done u r q = go (shapeOk m levels (length ws)) e
+    where
+      go : (b : Bool) → outcome a after ≡ cond b (outcome Done (wipe (room m levels) ws)) (outcome (Refused BadShape) ws)
+          → cycleOutcome a after u ≡ cond b (cycleOutcome Done (wipe (room m levels) ws) fresh) (cycleOutcome (Refused BadShape) ws s)
+      go true p = ap₂ (λ (o : Outcome) (u : State). cycleOutcome (o .answer) (o .words) u) p q
+      go false p = absurd (true≢false (sym (ap (λ (o : Outcome). isRefused (o .answer)) p) ∙ sym tells ∙ r))
+
+-- a machine that was never used has no state to keep
+pub clear-restarts : (m levels : ℕ) (ws : List ℕ) (s : State) (o : CycleOutcome) → s ≡ fresh → o ≡ clockedCleared m levels s ws → o ≡ restarted m levels ws
+unfolding cleared clockedCleared
+clear-restarts m levels ws s o q e = e ∙ go (shapeOk m levels (length ws))
+  where
+    go : (b : Bool) → cond b (cycleOutcome Done (wipe (room m levels) ws) fresh) (cycleOutcome (Refused BadShape) ws s)
+        ≡ (let c = cond {A = Outcome} b (outcome Done (wipe (room m levels) ws)) (outcome (Refused BadShape) ws) in cycleOutcome (c .answer) (c .words) fresh)
+    go true = refl
+    go false = ap (λ (s : State). cycleOutcome (Refused BadShape) ws s) q
 
 -- ---- a cycle
 pub outcome-path : (a b : Answer) (ws : List ℕ) (s u : State) → (a ≡ b) × (s ≡ u) → cycleOutcome a ws s ≡ cycleOutcome b ws u

@@ -4,7 +4,7 @@ ghost use mathlib.Core.Bool.{true};
 ghost use Prim.Native.Nat.{suc};
 ghost use lib.ListN.{length};
 ghost use Rattle.tree_model.specs.Calls.{shapeOk, counted};
-ghost use Rattle.clocked_model.specs.Calls.{cycleOutcome, ticked, fresh, restarted, drainOutcome, drains};
+ghost use Rattle.clocked_model.specs.Calls.{cycleOutcome, ticked, fresh, clockedCleared, drainOutcome, drains};
 ghost use Rattle.clocked.specs.Beat.{RoomIs, stateOf};
 
 mod asked;
@@ -116,7 +116,8 @@ pub fn replace(store: &mut [u32], order: usize, levels: usize, state: State, x: 
 
 // ---- clear and held
 
-fn fresh_state() -> State
+// A state with nothing pending and the mark off, for a machine that was never used.
+pub fn fresh_state() -> State
     ensures { λ r. ⌜ r ≡ fresh ⌝ }
 {
     let records = [no_work(); RECORDS];
@@ -126,13 +127,19 @@ fn fresh_state() -> State
     }
 }
 
-// Zeros in the store, and a state with nothing pending and the mark off.
-pub fn clear(store: &mut [u32], order: usize, levels: usize) -> Cycled
-    ensures { λ r. ⌜ cycleOutcome (r .answer) (now (store .exit)) (r .state) ≡ restarted order levels (now (store .entry)) ⌝ }
+// Zeros in the store, nothing pending and the mark off. Refused, the state that was handed over comes back.
+pub fn clear(store: &mut [u32], order: usize, levels: usize, state: State) -> Cycled
+    ensures { λ r. ⌜ cycleOutcome (r .answer) (now (store .exit)) (r .state) ≡ clockedCleared order levels state (now (store .entry)) ⌝ }
 {
     let answer = tree::clear(store, order, levels);
-    let state = fresh_state();
-    Cycled { answer, state }
+    if is_refused(answer) {
+        return Cycled { answer, state };
+    }
+    let cleared = fresh_state();
+    Cycled {
+        answer,
+        state: cleared,
+    }
 }
 
 // How many are held, by the root alone: no record is read.

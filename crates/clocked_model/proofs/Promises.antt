@@ -12,9 +12,10 @@ use Rattle.clocked_model.proofs.Demand.{demand-answers, demand-idles, d
 use Rattle.clocked_model.proofs.Drain.{done, drain-ends, drain-left, drain-needed, drain-spent, drain-state, End, jammed, not-less}
 use Rattle.clocked_model.proofs.Exactly.{refused-mark, sound-no-damage}
 use Rattle.clocked_model.proofs.Step.{one-by-one-is, one-by-one-kept, root-fine, same-root, step-answer, steps-fine}
-use Rattle.clocked_model.specs.Calls.{askedOk, cycleOutcome, DrainOutcome, drains, fresh, heard, marks, pending, popsOrReplaces, recordCount, restarted, ticked}
+use Rattle.clocked_model.specs.Calls.{askedOk, clockedCleared, cycleOutcome, DrainOutcome, drains, fresh, heard, marks, pending, popsOrReplaces, recordCount, restarted, ticked}
 use Rattle.clocked_model.specs.Promise.{oneByOne, oneByOneQueue, oneByOneWords, callsOf, cycleAnswers, CycleDamage, idles, Pinned, ran}
 use Rattle.clocked_model.specs.declared.State.{State}
+use Rattle.laws.specs.Means.{means-off}
 use Rattle.laws.specs.Tests.{and-true, cond-both}
 use Rattle.promise.specs.Queue.{leaves, pins}
 use Rattle.promise.specs.Served.{all-sum, allBrought, allGiven, always, brought, given, Holds, Least, same}
@@ -22,14 +23,14 @@ use Rattle.strip.specs.Answers.{countNumber, countOf, numberOf}
 use Rattle.strip.specs.declared.Answer.{Answer}
 use Rattle.strip.specs.declared.Answer.the-variants.{Done, Refused}
 use Rattle.strip.specs.declared.Element.{Element}
-use Rattle.strip.specs.declared.Refusal.the-variants.{TooSoon}
+use Rattle.strip.specs.declared.Refusal.the-variants.{BadShape, TooSoon}
 use Rattle.strip.specs.declared.Request.{Request}
 use Rattle.strip.specs.declared.Request.the-variants.{Idle, Pop, Push, Replace}
 use Rattle.tree_model.proofs.Promises.{Kept}
-use Rattle.tree_model.proofs.Exactly.{comes-number}
+use Rattle.tree_model.proofs.Exactly.{comes-number, is-shape, shape-means}
 use Rattle.tree_model.proofs.Rules.{comes}
 use Rattle.tree_model.proofs.Slice.{clear-zeroes}
-use Rattle.tree_model.specs.Calls.{called, counted, outcome, Outcome, rootOf, Ruling, ruling}
+use Rattle.tree_model.specs.Calls.{called, cleared, counted, outcome, Outcome, rootOf, Ruling, ruling}
 use Rattle.tree_model.specs.Damage.{room}
 use Rattle.tree_model.specs.declared.Op.the-variants.{Nothing}
 use Rattle.tree_model.specs.Promise.{after, Shape, start, stored, treeQueue}
@@ -88,6 +89,15 @@ clear-fresh m levels ws sh = (
   ap not (fresh-quiet (pred levels) recordCount 0),
   fresh-mark,
 )
+
+-- .. with a shape it is that whatever state is handed over; refused it leaves everything, the state too
+pub clear-taken : (m levels : ℕ) (s : State) (ws : List ℕ) → Shape m levels (length ws) → clockedCleared m levels s ws ≡ restarted m levels ws
+unfolding clockedCleared cleared
+clear-taken m levels s ws sh = rw (is-shape m levels (length ws) sh)
+
+pub clear-stands : (m levels : ℕ) (s : State) (ws : List ℕ) → (Shape m levels (length ws) → ⊥) → clockedCleared m levels s ws ≡ cycleOutcome (Refused BadShape) ws s
+unfolding clockedCleared
+clear-stands m levels s ws none = rw (means-off (shape-means m levels (length ws)) none)
 
 -- ---- over any list of cycles from the cleared machine
 module _ (m : ℕ) (ws : List ℕ) (rs : List Request) where

@@ -12,8 +12,9 @@ use Rattle.strip.specs.declared.Refusal.the-variants.{BadShape, Damaged, TooSoo
 use Rattle.strip.specs.declared.Request.{Request}
 use Rattle.strip.specs.declared.Request.the-variants.{Idle, Pop, Push, Replace}
 use Rattle.tree_model.specs.Calls.{cleared, rootOk, ruling, Ruling, shapeOk, verdict}
+use Rattle.tree_model.specs.Damage.{room}
 use Rattle.tree_model.specs.Levels.{idle, work}
-use Rattle.tree_model.specs.Words.{levelsOf, restWords, under}
+use Rattle.tree_model.specs.Words.{levelsOf, restWords, under, wipe}
 use Rattle.tree_model.specs.declared.Op.{Op}
 use Rattle.tree_model.specs.declared.Op.the-variants.{Nothing}
 
@@ -122,6 +123,11 @@ module _ (m levels : ℕ) where
   unfoldable pub drains : ℕ → State → List ℕ → DrainOutcome
   drains budget s ws = cond (shapeOk m levels (length ws)) (drainFrom budget 0 s ws) (drainOutcome (Refused BadShape) 0 false ws s)
 
-  -- ---- clear writes zeros and hands back a fresh state; the call held is that of the tree, `counted`
+  -- ---- clear and held; the call held is that of the tree, `counted`
+  -- a machine that was never used, cleared: zeros, nothing pending and the mark off
   abbrev pub restarted : List ℕ → CycleOutcome
   restarted ws = cycleOutcome (cleared m levels ws .answer) (cleared m levels ws .words) fresh
+
+  -- "Clear writes zeros"; refused it leaves everything, the state that it is handed too
+  unfoldable pub clockedCleared : State → List ℕ → CycleOutcome
+  clockedCleared s ws = cond (shapeOk m levels (length ws)) (cycleOutcome Done (wipe (room m levels) ws) fresh) (cycleOutcome (Refused BadShape) ws s)

@@ -6,7 +6,7 @@ use mathlib.Core.Logic.{_⊎_}
 use mathlib.Core.Path.{_≡_}
 use lib.Dec.{leb}
 use lib.ListN.{getD, length, replicate}
-use Rattle.clocked_model.specs.Calls.{cycleOutcome, CycleOutcome, cycleWork, drainOutcome, DrainOutcome, drains, fresh, hearing, marks, pending, popsOrReplaces, restarted, ticked}
+use Rattle.clocked_model.specs.Calls.{clockedCleared, cycleOutcome, CycleOutcome, cycleWork, drainOutcome, DrainOutcome, drains, fresh, hearing, marks, pending, popsOrReplaces, ticked}
 use Rattle.clocked_model.specs.Cycle.{Works}
 use Rattle.clocked_model.specs.Records.{recordAt, worksOf}
 use Rattle.clocked_model.specs.declared.State.{State}
@@ -223,5 +223,5 @@ pub record Pinned (m levels : ℕ) (s : State) (ws : List ℕ) : Type 0 where
   pub pop : Pins (ticked m levels Pop s ws)
   pub replace : (x : Element) → Pins (ticked m levels (Replace x) s ws)
   pub drain : (budget : ℕ) → Pins (drains m levels budget s ws)
-  pub clear : Pins (restarted m levels ws)
+  pub clear : Pins (clockedCleared m levels s ws)
   pub held : Pins (counted m levels ws)

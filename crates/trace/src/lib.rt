@@ -9,6 +9,7 @@ ghost use Rattle.text.specs.Text.{overlay, Laid};
 ghost use Rattle.trace.specs.Format.{longestLine, longestWord, headerBytes, recordBytes, numberAt, markOk, traceShape, headerOf, onlyBlank, entryAt, entryOf, recordsFrom, cutRecord, doneWord, refusalWord, outWord, wordOf, lineOf, badLine, badTrace, endLine};
 ghost use Rattle.trace.specs.Play.{Makes, after, carry, whileLive, turn, played, ending, closing, shut, opening, begun, pieceOf};
 ghost use Rattle.trace.specs.Program.{nextNumber};
+use clocked::fresh_state;
 use clocked_model::State;
 use node::capacity;
 use strip::Answer;
@@ -19,8 +20,6 @@ use strip::Request;
 use strip::Tag;
 use text::put_bytes;
 use text::put_number;
-use tree_model::Op;
-use tree_model::Work;
 
 // More bytes than any line has.
 const LINE: usize = 72;
@@ -333,25 +332,11 @@ fn play_rest(store: &mut [u32], piece: Piece, cut: bool, last: bool, out: &mut [
 
 // ---- the calls
 
-fn no_state() -> State
-    ensures { λ r. ⌜ r ≡ fresh ⌝ }
-{
-    let nothing = Work {
-        op: Op::Nothing,
-        node: 0,
-    };
-    let records = [nothing; 10];
-    State {
-        records,
-        mark: false,
-    }
-}
-
 // A play that was never live.
 fn closed(written: usize) -> Piece
     ensures { λ r. ⌜ (r .play ≡ shut) × (r .written ≡ written) ⌝ }
 {
-    let state = no_state();
+    let state = fresh_state();
     let play = Playing {
         order: 0,
         levels: 0,
@@ -366,7 +351,8 @@ fn closed(written: usize) -> Piece
 fn opened(store: &mut [u32], order: usize, levels: usize) -> Piece
     ensures { λ r. ⌜ (r .play ≡ opening (Header.Shape order levels) (now (store .entry)) .play) × (now (store .exit) ≡ opening (Header.Shape order levels) (now (store .entry)) .words) × (r .written ≡ 0) ⌝ }
 {
-    let cleared = clocked::clear(store, order, levels);
+    let none = fresh_state();
+    let cleared = clocked::clear(store, order, levels, none);
     let state = cleared.state;
     let play = Playing {
         order,

@@ -6,13 +6,13 @@ use Rattle.trace.proofs.closed.Statement.{statement}
 use Rattle.trace.proofs.closed.Tie as tie
 use Rattle.trace.proofs.closed.Reads as reads
 use Rattle.trace.proofs.closed.Lts as lts
-use Rattle.trace.proofs.no_state.Reads as no-state-reads
+use Rattle.clocked.proofs.fresh_state.Reads as fresh-state-reads
 
-no-state-requires : tie.Need-no-state-requires
-no-state-requires c κs = search needs
+fresh-state-requires : tie.Need-fresh-state-requires
+fresh-state-requires c κs = search needs
 
 returns : tie.Need-returns
-returns c = (closed-made _ (c .no-state .ensures), refl)
+returns c = (closed-made _ (c .fresh-state .ensures), refl)
 
 pub closed-spec : {M : Type 1} → statement M
-closed-spec = tie.close (tie.spec no-state-requires returns)
+closed-spec = tie.close (tie.spec fresh-state-requires returns)
