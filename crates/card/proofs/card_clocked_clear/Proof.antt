@@ -9,9 +9,14 @@ use Rattle.card.proofs.card_clocked_clear.Lts as lts
 use Rattle.card.proofs.has_run.Reads as has-run-reads
 use Rattle.card_records.proofs.hand_back.Reads as hand-back-reads
 use Rattle.card_records.proofs.is_roomy.Reads as is-roomy-reads
+use Rattle.clocked.proofs.Public.{clear-restarts}
 use Rattle.clocked.proofs.clear.Reads as clear-reads
+use Rattle.clocked.proofs.fresh_state.Reads as fresh-state-reads
 use Rattle.node.proofs.shape_ok.Reads as shape-ok-reads
 use Rattle.strip.proofs.number.Reads as number-reads
+
+fresh-state-requires : tie.Need-fresh-state-requires
+fresh-state-requires c κs = search needs
 
 shape-ok-requires : tie.Need-shape-ok-requires
 shape-ok-requires c κs = search needs
@@ -20,7 +25,7 @@ returns : tie.Need-returns
 returns c = clear-shape _ _ _ _ _ _ (c .before .shape-ok .ensures) (c .if1 .taken)
 
 sub-is-roomy : tie.Need-sub-is-roomy
-sub-is-roomy c = let a = c .before .before .before .before .before .before .before .args in shape-some (a .order) (a .levels) (length (a .store .now)) _ (c .before .before .before .shape-ok .ensures) (c .before .before .if1 .left)
+sub-is-roomy c = let a = c .before .before .before .before .before .before .before .before .args in shape-some (a .order) (a .levels) (length (a .store .now)) _ (c .before .before .before .shape-ok .ensures) (c .before .before .if1 .left)
 
 is-roomy-requires : tie.Need-is-roomy-requires
 is-roomy-requires c κs = search needs
@@ -41,10 +46,10 @@ has-run-requires : tie.Need-has-run-requires
 has-run-requires c κs = search needs
 
 sub-hand-back : tie.Need-sub-hand-back
-sub-hand-back c = let a = c .before .before .before .before .before .before .before .before .before .before .before .before .before .before .before .before .before .args in shape-some (a .order) (a .levels) (length (a .store .now)) _ (c .before .before .before .before .before .before .before .before .before .before .before .before .before .shape-ok .ensures) (c .before .before .before .before .before .before .before .before .before .before .before .before .if1 .left)
+sub-hand-back c = let a = c .before .before .before .before .before .before .before .before .before .before .before .before .before .before .before .before .before .before .args in shape-some (a .order) (a .levels) (length (a .store .now)) _ (c .before .before .before .before .before .before .before .before .before .before .before .before .before .shape-ok .ensures) (c .before .before .before .before .before .before .before .before .before .before .before .before .if1 .left)
 
 hand-back-requires : tie.Need-hand-back-requires
-hand-back-requires c κs = let a = c .before .before .before .before .before .before .before .before .before .before .before .before .before .before .before .before .before .args in let l = roomy-lent (a .order) (a .levels) (a .store .now) (a .records .now) (a .mark .now) _ (c .before .before .before .before .before .before .before .before .before .before .before .before .before .shape-ok .ensures) (c .before .before .before .before .before .before .before .before .before .before .before .before .if1 .left) _ (c .before .before .before .before .before .before .before .before .before .is-roomy .ensures) (c .before .before .before .before .before .before .before .before .if2 .left) in (l, fresh-fits (a .order) (a .levels) (a .store .now) (a .records .now) (a .mark .now) _ _ _ l (c .before .before .before .before .before .before .clear .ensures))
+hand-back-requires c κs = let a = c .before .before .before .before .before .before .before .before .before .before .before .before .before .before .before .before .before .before .args in let l = roomy-lent (a .order) (a .levels) (a .store .now) (a .records .now) (a .mark .now) _ (c .before .before .before .before .before .before .before .before .before .before .before .before .before .shape-ok .ensures) (c .before .before .before .before .before .before .before .before .before .before .before .before .if1 .left) _ (c .before .before .before .before .before .before .before .before .before .is-roomy .ensures) (c .before .before .before .before .before .before .before .before .if2 .left) in (l, fresh-fits (a .order) (a .levels) (a .store .now) (a .records .now) (a .mark .now) _ _ _ l (clear-restarts _ _ _ _ _ (c .before .before .before .before .before .before .before .before .before .before .before .before .before .before .fresh-state .ensures) (c .before .before .before .before .before .before .clear .ensures)))
 
 number-requires : tie.Need-number-requires
 number-requires c κs = search needs
@@ -59,12 +64,13 @@ same-length-5 : tie.Need-same-length-5
 same-length-5 c = search needs
 
 returns-3 : tie.Need-returns-3
-returns-3 c = clear-done _ _ _ _ _ _ (c .before .before .before .before .before .before .before .before .before .before .before .before .before .before .before .before .before .before .before .shape-ok .ensures) (c .before .before .before .before .before .before .before .before .before .before .before .before .before .before .before .before .before .before .if1 .left) _ (c .before .before .before .before .before .before .before .before .before .before .before .before .before .before .before .is-roomy .ensures) (c .before .before .before .before .before .before .before .before .before .before .before .before .before .before .if2 .left) _ _ _ _ _ _ _ (c .before .before .before .before .before .before .before .before .before .before .before .before .clear .ensures) (c .before .before .before .before .before .before .before .before .has-run .ensures) (c .before .before .before .before .before .hand-back .ensures) (c .number .ensures)
+returns-3 c = clear-done _ _ _ _ _ _ (c .before .before .before .before .before .before .before .before .before .before .before .before .before .before .before .before .before .before .before .shape-ok .ensures) (c .before .before .before .before .before .before .before .before .before .before .before .before .before .before .before .before .before .before .if1 .left) _ (c .before .before .before .before .before .before .before .before .before .before .before .before .before .before .before .is-roomy .ensures) (c .before .before .before .before .before .before .before .before .before .before .before .before .before .before .if2 .left) _ _ _ _ _ _ _ (clear-restarts _ _ _ _ _ (c .before .before .before .before .before .before .before .before .before .before .before .before .before .before .before .before .before .before .before .before .fresh-state .ensures) (c .before .before .before .before .before .before .before .before .before .before .before .before .clear .ensures)) (c .before .before .before .before .before .before .before .before .has-run .ensures) (c .before .before .before .before .before .hand-back .ensures) (c .number .ensures)
 
 pub card-clocked-clear-spec : {M : Type 1} → statement M
 card-clocked-clear-spec =
     tie.close
     (tie.spec
+    fresh-state-requires
     shape-ok-requires
     returns
     sub-is-roomy
