@@ -69,6 +69,13 @@ asks-too (Push x) e = refl
 asks-too Pop e = refl
 asks-too (Replace x) e = refl
 
+-- nothing is done: the test is that of the root where an operation was asked for
+pub stands-not : (m : ℕ) (asked : Bool) (t : Bool) (a : Answer) (h : Heard) → not asked ≡ true → Still m true a h → Still m (not asked || t) a h
+stands-not m asked t a h e p = subst (λ (b : Bool). Still m (b || t) a h) (sym e) p
+
+pub stands-tested : (m : ℕ) (asked : Bool) (t u : Bool) (a : Answer) (h : Heard) → not asked ≡ false → u ≡ t → Still m u a h → Still m (not asked || t) a h
+stands-tested m asked t u a h e et p = subst (λ (b : Bool). Still m (b || t) a h) (sym e) (subst (λ (u : Bool). Still m u a h) et p)
+
 module _ (m r : ℕ) (ws : List ℕ) where
   abbrev root : List Slot
   root = nodeOf m ws 0

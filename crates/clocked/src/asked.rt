@@ -1,5 +1,8 @@
 // The request: its answer, and the step of its operation at the root, which is scanned once. `room` is the room below a root's slot.
 ghost use mathlib.Core.Path.{_≡_};
+ghost use mathlib.Core.Bool.{_||_, not};
+ghost use Rattle.tree_model.specs.Damage.{nodeOk};
+ghost use Rattle.tree_model.specs.Words.{nodeOf};
 ghost use Rattle.clocked_model.specs.Calls.{asks, popsOrReplaces, isRefused, marks};
 ghost use Rattle.clocked.specs.Beat.{RootIn, Still, Ruled, Hears};
 use node::lower;
@@ -76,6 +79,18 @@ fn still(order: usize, ok: bool, answer: Answer) -> Heard
     }
 }
 
+// .. and where an operation was asked for the root is tested all the same.
+fn stands(s: &[u32], order: usize, room: usize, asked: bool, answer: Answer) -> Heard
+    requires { ⌜ RootIn order room (now s) ⌝ }
+    ensures { λ r. ⌜ Still order (not asked || nodeOk room (nodeOf order (now (s .entry)) 0)) answer r ⌝ }
+{
+    if !asked {
+        return still(order, true, answer);
+    }
+    let whole = node_ok(s, 0, order, room);
+    still(order, whole, answer)
+}
+
 // A root that is whole and leaves no room is full.
 fn hear_push(s: &[u32], order: usize, room: usize, x: Element) -> Heard
     requires { ⌜ RootIn order room (now s) ⌝ }
@@ -83,8 +98,7 @@ fn hear_push(s: &[u32], order: usize, room: usize, x: Element) -> Heard
 {
     let c = choose_least(s, 0, order, room);
     if !c.ok {
-        let whole = node_ok(s, 0, order, room);
-        return still(order, whole, Answer::Refused(Refusal::Full));
+        return stands(s, order, room, true, Answer::Refused(Refusal::Full));
     }
     let slot = c.slot;
     let plan = plan_put(c.place, slot, x);
@@ -102,8 +116,7 @@ fn hear_pop(s: &[u32], order: usize, room: usize) -> Heard
 {
     let c = choose_low(s, 0, order, room);
     if !c.ok {
-        let whole = node_ok(s, 0, order, room);
-        return still(order, whole, Answer::Refused(Refusal::Empty));
+        return stands(s, order, room, true, Answer::Refused(Refusal::Empty));
     }
     let slot = c.slot;
     let under = room_under(order, room);
@@ -122,8 +135,7 @@ fn hear_replace(s: &[u32], order: usize, room: usize, x: Element) -> Heard
 {
     let c = choose_low(s, 0, order, room);
     if !c.ok {
-        let whole = node_ok(s, 0, order, room);
-        return still(order, whole, Answer::Out(x));
+        return stands(s, order, room, true, Answer::Out(x));
     }
     let slot = c.slot;
     let least = slot.element;
@@ -145,11 +157,10 @@ pub fn hear(s: &[u32], order: usize, room: usize, mark: bool, request: Request) 
     ensures { λ r. ⌜ Hears order room mark request (now (s .entry)) r ⌝ }
 {
     if mark & pops_or_replaces(request) {
-        let whole = node_ok(s, 0, order, room);
-        return still(order, whole, Answer::Refused(Refusal::TooSoon));
+        return stands(s, order, room, true, Answer::Refused(Refusal::TooSoon));
     }
     match request {
-        Request::Idle => still(order, true, Answer::Done),
+        Request::Idle => stands(s, order, room, false, Answer::Done),
         Request::Push(x) => hear_push(s, order, room, x),
         Request::Pop => hear_pop(s, order, room),
         Request::Replace(x) => hear_replace(s, order, room, x),

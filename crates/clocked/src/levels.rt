@@ -151,7 +151,8 @@ pub fn turn(
     let mut i = 0;
     while i < below {
         let own = next.records[i];
-        next.records[i] = land(load, own);
+        let due = land(load, own);
+        next.records[i] = due;
         load = no_work();
         let under = room_under(order, room);
         let does = own.op;

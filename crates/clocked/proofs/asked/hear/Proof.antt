@@ -11,26 +11,22 @@ use Rattle.clocked.proofs.asked.hear_pop.Reads as hear-pop-reads
 use Rattle.clocked.proofs.asked.hear_push.Reads as hear-push-reads
 use Rattle.clocked.proofs.asked.hear_replace.Reads as hear-replace-reads
 use Rattle.clocked.proofs.asked.pops_or_replaces.Reads as pops-or-replaces-reads
-use Rattle.clocked.proofs.asked.still.Reads as still-reads
-use Rattle.node.proofs.node_ok.Reads as node-ok-reads
+use Rattle.clocked.proofs.asked.stands.Reads as stands-reads
 
 pops-or-replaces-requires : tie.Need-pops-or-replaces-requires
 pops-or-replaces-requires c κs = search needs
 
-node-ok-requires : tie.Need-node-ok-requires
-node-ok-requires c κs = search needs
-
-still-requires : tie.Need-still-requires
-still-requires c κs = search needs
+stands-requires : tie.Need-stands-requires
+stands-requires c κs = search needs
 
 returns : tie.Need-returns
-returns c = hears-soon _ _ _ _ _ _ (c .before .before .before .pops-or-replaces .ensures) _ _ (c .before .before .if1 .taken) (c .before .node-ok .ensures) (c .still .ensures)
+returns c = hears-soon _ _ _ _ _ _ (c .before .before .pops-or-replaces .ensures) _ _ (c .before .if1 .taken) refl (c .stands .ensures)
 
 enum-told : tie.Need-enum-told
 enum-told c = search needs
 
-still-requires-2 : tie.Need-still-requires-2
-still-requires-2 c κs = search needs
+stands-requires-2 : tie.Need-stands-requires-2
+stands-requires-2 c κs = search needs
 
 enum-known-request : tie.Need-enum-known-request
 enum-known-request c = search needs
@@ -51,7 +47,7 @@ hear-replace-requires : tie.Need-hear-replace-requires
 hear-replace-requires c κs = search needs
 
 returns-2 : tie.Need-returns-2
-returns-2 c = hears-idle _ _ _ _ _ _ (c .before .before .before .before .pops-or-replaces .ensures) (c .before .before .before .if1 .left) _ (c .before .enum-told .given .1) (c .still2 .ensures)
+returns-2 c = hears-idle _ _ _ _ _ _ (c .before .before .before .before .pops-or-replaces .ensures) (c .before .before .before .if1 .left) _ (c .before .enum-told .given .1) (c .stands2 .ensures)
 
 returns-3 : tie.Need-returns-3
 unfolding asks
@@ -70,11 +66,10 @@ hear-spec =
     tie.close
     (tie.spec
     pops-or-replaces-requires
-    node-ok-requires
-    still-requires
+    stands-requires
     returns
     enum-told
-    still-requires-2
+    stands-requires-2
     enum-known-request
     hear-push-requires
     enum-told-2

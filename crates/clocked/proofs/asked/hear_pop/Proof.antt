@@ -6,8 +6,7 @@ use Rattle.clocked.proofs.asked.hear_pop.Statement.{statement}
 use Rattle.clocked.proofs.asked.hear_pop.Tie as tie
 use Rattle.clocked.proofs.asked.hear_pop.Reads as reads
 use Rattle.clocked.proofs.asked.hear_pop.Lts as lts
-use Rattle.clocked.proofs.asked.still.Reads as still-reads
-use Rattle.node.proofs.node_ok.Reads as node-ok-reads
+use Rattle.clocked.proofs.asked.stands.Reads as stands-reads
 use Rattle.node.proofs.plan.choose_low.Reads as choose-low-reads
 use Rattle.node.proofs.plan.plan_take.Reads as plan-take-reads
 use Rattle.node.proofs.room_under.Reads as room-under-reads
@@ -15,14 +14,11 @@ use Rattle.node.proofs.room_under.Reads as room-under-reads
 choose-low-requires : tie.Need-choose-low-requires
 choose-low-requires c κs = search needs
 
-node-ok-requires : tie.Need-node-ok-requires
-node-ok-requires c κs = search needs
-
-still-requires : tie.Need-still-requires
-still-requires c κs = search needs
+stands-requires : tie.Need-stands-requires
+stands-requires c κs = search needs
 
 returns : tie.Need-returns
-returns c = pop-still _ _ _ _ (c .before .before .before .before .choose-low .ensures .0) _ _ (c .before .before .if1 .taken) (c .before .node-ok .ensures) (c .still .ensures)
+returns c = pop-still _ _ _ _ (c .before .before .before .choose-low .ensures .0) _ _ (c .before .if1 .taken) refl (c .stands .ensures)
 
 room-under-requires : tie.Need-room-under-requires
 room-under-requires c κs = search needs
@@ -38,8 +34,7 @@ hear-pop-spec =
     tie.close
     (tie.spec
     choose-low-requires
-    node-ok-requires
-    still-requires
+    stands-requires
     returns
     room-under-requires
     plan-take-requires

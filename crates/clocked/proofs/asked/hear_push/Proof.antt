@@ -7,22 +7,18 @@ use Rattle.clocked.proofs.asked.hear_push.Statement.{statement}
 use Rattle.clocked.proofs.asked.hear_push.Tie as tie
 use Rattle.clocked.proofs.asked.hear_push.Reads as reads
 use Rattle.clocked.proofs.asked.hear_push.Lts as lts
-use Rattle.clocked.proofs.asked.still.Reads as still-reads
-use Rattle.node.proofs.node_ok.Reads as node-ok-reads
+use Rattle.clocked.proofs.asked.stands.Reads as stands-reads
 use Rattle.node.proofs.plan.choose_least.Reads as choose-least-reads
 use Rattle.node.proofs.plan.plan_put.Reads as plan-put-reads
 
 choose-least-requires : tie.Need-choose-least-requires
 choose-least-requires c κs = search needs
 
-node-ok-requires : tie.Need-node-ok-requires
-node-ok-requires c κs = search needs
-
-still-requires : tie.Need-still-requires
-still-requires c κs = search needs
+stands-requires : tie.Need-stands-requires
+stands-requires c κs = search needs
 
 returns : tie.Need-returns
-returns c = push-still _ _ _ _ _ (c .before .before .before .before .choose-least .ensures .0) _ _ (c .before .before .if1 .taken) (c .before .node-ok .ensures) (c .still .ensures)
+returns c = push-still _ _ _ _ _ (c .before .before .before .choose-least .ensures .0) _ _ (c .before .if1 .taken) refl (c .stands .ensures)
 
 plan-put-requires : tie.Need-plan-put-requires
 plan-put-requires c κs = c .before .before .before .choose-least .ensures .1 .1 (not-false _ (c .before .if1 .left))
@@ -32,11 +28,4 @@ returns-2 c = push-step _ _ _ _ _ (c .before .before .before .before .choose-lea
 
 pub hear-push-spec : {M : Type 1} → statement M
 hear-push-spec =
-    tie.close
-    (tie.spec
-    choose-least-requires
-    node-ok-requires
-    still-requires
-    returns
-    plan-put-requires
-    returns-2)
+    tie.close (tie.spec choose-least-requires stands-requires returns plan-put-requires returns-2)

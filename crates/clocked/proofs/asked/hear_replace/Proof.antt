@@ -6,9 +6,9 @@ use Rattle.clocked.proofs.asked.hear_replace.Statement.{statement}
 use Rattle.clocked.proofs.asked.hear_replace.Tie as tie
 use Rattle.clocked.proofs.asked.hear_replace.Reads as reads
 use Rattle.clocked.proofs.asked.hear_replace.Lts as lts
+use Rattle.clocked.proofs.asked.stands.Reads as stands-reads
 use Rattle.clocked.proofs.asked.still.Reads as still-reads
 use Rattle.node.proofs.lower.Reads as lower-reads
-use Rattle.node.proofs.node_ok.Reads as node-ok-reads
 use Rattle.node.proofs.plan.choose_low.Reads as choose-low-reads
 use Rattle.node.proofs.plan.plan_swap.Reads as plan-swap-reads
 use Rattle.node.proofs.room_under.Reads as room-under-reads
@@ -16,23 +16,20 @@ use Rattle.node.proofs.room_under.Reads as room-under-reads
 choose-low-requires : tie.Need-choose-low-requires
 choose-low-requires c κs = search needs
 
-node-ok-requires : tie.Need-node-ok-requires
-node-ok-requires c κs = search needs
-
-still-requires : tie.Need-still-requires
-still-requires c κs = search needs
+stands-requires : tie.Need-stands-requires
+stands-requires c κs = search needs
 
 returns : tie.Need-returns
-returns c = replace-still _ _ _ _ (c .before .before .before .before .choose-low .ensures .0) _ _ _ (c .before .before .if1 .taken) (c .before .node-ok .ensures) (c .still .ensures)
+returns c = replace-still _ _ _ _ (c .before .before .before .choose-low .ensures .0) _ _ _ (c .before .if1 .taken) refl (c .stands .ensures)
 
 lower-requires : tie.Need-lower-requires
 lower-requires c κs = search needs
 
-still-requires-2 : tie.Need-still-requires-2
-still-requires-2 c κs = search needs
+still-requires : tie.Need-still-requires
+still-requires c κs = search needs
 
 returns-2 : tie.Need-returns-2
-returns-2 c = replace-stands _ _ _ _ (c .before .before .before .before .before .before .before .choose-low .ensures .0) (c .before .before .before .before .before .if1 .left) _ _ (c .before .before .before .before .before .before .before .choose-low .ensures .1) _ _ (c .before .before .lower .ensures) _ (c .before .if2 .taken) (c .still2 .ensures)
+returns-2 c = replace-stands _ _ _ _ (c .before .before .before .before .before .before .before .choose-low .ensures .0) (c .before .before .before .before .before .if1 .left) _ _ (c .before .before .before .before .before .before .before .choose-low .ensures .1) _ _ (c .before .before .lower .ensures) _ (c .before .if2 .taken) (c .still .ensures)
 
 room-under-requires : tie.Need-room-under-requires
 room-under-requires c κs = search needs
@@ -48,11 +45,10 @@ hear-replace-spec =
     tie.close
     (tie.spec
     choose-low-requires
-    node-ok-requires
-    still-requires
+    stands-requires
     returns
     lower-requires
-    still-requires-2
+    still-requires
     returns-2
     room-under-requires
     plan-swap-requires

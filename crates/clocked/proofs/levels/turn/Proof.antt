@@ -47,11 +47,11 @@ element-copy-out-own c = omega (arith, c .before .before .before .before .before
 land-requires : tie.Need-land-requires Inv-loop μ-loop
 land-requires c κs = search needs
 
-mul-t29 : tie.Need-mul-t29 Inv-loop μ-loop
-mul-t29 c = omega (arith, c .before .before .before .before .before .before .before .before .before .before .before .before .pre .0 .records)
+mul-due : tie.Need-mul-due Inv-loop μ-loop
+mul-due c = omega (arith, c .before .before .before .before .before .before .before .before .before .before .before .before .pre .0 .records)
 
-element-set-from-next : tie.Need-element-set-from-next Inv-loop μ-loop
-element-set-from-next c = omega (arith, c .before .before .before .before .before .before .before .before .before .before .before .before .pre .0 .records)
+element-set-from-due : tie.Need-element-set-from-due Inv-loop μ-loop
+element-set-from-due c = omega (arith, c .before .before .before .before .before .before .before .before .before .before .before .before .pre .0 .records)
 
 no-work-requires : tie.Need-no-work-requires Inv-loop μ-loop
 no-work-requires c κs = search needs
@@ -120,8 +120,8 @@ turn-spec =
     mul-own
     element-copy-out-own
     land-requires
-    mul-t29
-    element-set-from-next
+    mul-due
+    element-set-from-due
     no-work-requires
     room-under-requires-2
     is-nothing-requires
