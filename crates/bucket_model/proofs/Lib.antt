@@ -24,4 +24,5 @@ pub mod Untouched
 pub mod Places
 pub mod Replace
 pub mod Spare
+pub mod Shown
 pub mod Case8
