@@ -26,3 +26,4 @@ pub mod Replace
 pub mod Spare
 pub mod Shown
 pub mod Case8
+pub mod CaseWords
