@@ -21,6 +21,7 @@ pub mod Taken
 pub mod Joined
 pub mod Promises
 pub mod Untouched
+pub mod Unread
 pub mod Places
 pub mod Replace
 pub mod Spare

@@ -66,6 +66,17 @@ pub record Blank (n : ℕ) (b w : List ℕ) (o : Outcome) : Type 0 where
   pub bits-long : length (o .bits) ≡ length b
   pub words-long : length (o .words) ≡ length w
 
+-- ---- what stands behind the shape
+
+abbrev pub Agree : ℕ → List ℕ → List ℕ → Type 0
+Agree n w v = (i : ℕ) → i < n → word w i ≡ word v i
+
+-- the same answer, and the same words within the shape
+pub record Alike (k : Lay) (o p : Outcome) : Type 0 where
+  pub answer : o .answer ≡ p .answer
+  pub bits : Agree (bitWords k) (o .bits) (p .bits)
+  pub words : Agree (storeWords k) (o .words) (p .words)
+
 -- ---- bits
 
 -- something is held of rank r
