@@ -24,6 +24,7 @@ pub mod Untouched
 pub mod Unread
 pub mod Places
 pub mod Replace
+pub mod Served
 pub mod Spare
 pub mod Shown
 pub mod Case8

@@ -1,4 +1,5 @@
 -- What is promised of the bucket queue's words, beside the plain queue. These are definitions.
+use mathlib.Core.Bool.{Bool}
 use mathlib.Core.List.{List, [], _∷_}
 use mathlib.Core.Path.{_≡_}
 use Prim.Native.Nat.{ℕ, _+_, _*_, _/_, _%_, _≤_, _<_}
@@ -6,15 +7,18 @@ use lib.ListN.{length}
 use Rattle.bitmap.specs.Bits.{bitAt}
 use Rattle.laws.specs.Lists.{All}
 use Rattle.laws.specs.Means.{Iff}
+use Rattle.promise.specs.Queue as served
 use Rattle.promise.specs.Queue.{Pins}
+use Rattle.strip.specs.declared.Answer.{Answer}
 use Rattle.strip.specs.declared.Answer.the-variants.{Done}
 use Rattle.strip.specs.declared.Element.{Element}
+use Rattle.strip.specs.declared.Request.{Request}
 use Rattle.strip.specs.declared.Request.the-variants.{Pop}
 use Rattle.bucket_model.specs.Layout.{Lay, queue, bitWords, storeWords, word, headAt, tailAt, nextAt, loadIn}
 use Rattle.bucket_model.specs.Storeys.{Storey, storeysAt}
 use Rattle.bucket_model.specs.Calls.{Outcome, cleared, pushed, popped, replaced, heldCount}
 use Rattle.bucket_model.specs.Causes.{Shaped, bitNo}
-use Rattle.bucket_model.specs.Plain.{Store, store, asked, walk, lane}
+use Rattle.bucket_model.specs.Plain.{Store, store, asked, walk, lane, stored, times}
 
 -- "any two outcomes allowed by the statement are shown equal", call by call
 pub record Pinned (k : Lay) (b w : List ℕ) : Type 0 where
@@ -105,3 +109,11 @@ pub record Spare (k : Lay) (s : Store) : Type 0 where
 -- the store that a pop leaves
 abbrev pub popLeaves : Lay → Store → Store
 popLeaves k s = store (asked k Pop s .bits) (asked k Pop s .words)
+
+-- ---- the queue as a step function, and how many of what it holds pass a test
+
+abbrev pub bucketQueue : Lay → Request → Store → served.Step Answer Store
+bucketQueue k q s = served.step (asked k q s .answer) (store (asked k q s .bits) (asked k q s .words))
+
+abbrev pub storedBy : Lay → Store → (Element → Bool) → ℕ
+storedBy k s f = times f (stored k (s .words))
