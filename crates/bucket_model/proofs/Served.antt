@@ -1,5 +1,5 @@
 -- What goes in and out and what is least, in 01's numbers: by the number of an answer, its rank and its tag.
-use mathlib.Core.Path.{_≡_, refl, ap}
+use mathlib.Core.Path.{_≡_, refl, sym, ap, _∙_}
 use mathlib.Core.Bool.{Bool, true, false, cond}
 use mathlib.Core.List.{List, [], _∷_}
 use Prim.Native.Nat.{ℕ, _+_, _≤_}
@@ -12,22 +12,25 @@ use Rattle.laws.specs.Tests.{cond-both}
 use Rattle.promise.specs.Queue as served
 use Rattle.promise.specs.Served.{hit, lower, given, brought, all-sum, Least, IsOut}
 use Rattle.promise.specs.Served as said
-use Rattle.strip.specs.Answers.{rankOf}
+use Rattle.strip.specs.Answers.{rankOf, countNumber, countOf}
 use Rattle.strip.specs.declared.Element.{Element}
 use Rattle.strip.specs.declared.Refusal.the-variants.{BadRank, Full}
 use Rattle.strip.specs.declared.Answer.{Answer}
 use Rattle.strip.specs.declared.Answer.the-variants.{Done, Out, Refused}
+use Rattle.strip.specs.declared.Count.{Count}
+use Rattle.strip.specs.declared.Count.the-variants.{Held}
 use Rattle.strip.specs.declared.Request.{Request}
 use Rattle.strip.specs.declared.Request.the-variants.{Idle, Push, Pop, Replace}
 use Rattle.bucket_model.specs.Layout.{Lay, Laid}
+use Rattle.bucket_model.specs.Calls.{heldCount}
 use Rattle.bucket_model.specs.Causes.{Shaped}
-use Rattle.bucket_model.specs.Plain.{ask, Said, answered, counted, Step, step, Store, store, asked, called, start, Reached, insert, roomy, plainPop, plainReplace, plain, stored, times}
+use Rattle.bucket_model.specs.Plain.{ask, held, Said, answered, counted, Step, step, Store, store, asked, called, start, Reached, insert, roomy, plainPop, plainReplace, plain, stored, times}
 use Rattle.bucket_model.specs.Promise.{bucketQueue, storedBy}
 use Rattle.bucket_model.proofs.Kind.{kind}
 use Rattle.bucket_model.proofs.Sorted.{times-insert}
 use Rattle.bucket_model.proofs.Queue.{Holds}
 use Rattle.bucket_model.proofs.Runs.{stored-is, calls, Agree}
-use Rattle.bucket_model.proofs.Promises.{start-holds, least, least-replace}
+use Rattle.bucket_model.proofs.Promises.{start-holds, reached-holds, least, least-replace}
 
 abbrev answerOf : Said → Answer
 answerOf (answered a) = a
@@ -119,3 +122,14 @@ module _ (k : Lay) (laid : Laid k) where
       go Done p o = absurd o
       go (Refused r) p o = absurd o
       go (Out x) p o = let y = least-replace k laid s e x h p in (none-lower (x .rank .0) (stored k (s .words)) (y .1), y .0)
+
+  -- held says how many are held: number 0, and so many
+  counted-same : (c d : Count) → counted c ≡ counted d → c ≡ d
+  counted-same c d e = cc
+
+  pub held-says : (s : Store) → Reached k s → (countNumber (heldCount k (s .bits) (s .words)) ≡ 0) × (countOf (heldCount k (s .bits) (s .words)) ≡ length (stored k (s .words)))
+  unfolding called plain
+  held-says s r =
+      let y = reached-holds k laid s r in
+      let e : heldCount k (s .bits) (s .words) ≡ Held (length (y .0)) = counted-same _ _ (calls k laid s (y .0) (y .2) held .alike) in
+      (ap countNumber e, ap countOf e ∙ ap length (sym (stored-is k laid (s .bits) (s .words) (y .0) (y .2))))
