@@ -3,16 +3,16 @@ use mathlib.Core.Path.{_≡_, sym, subst}
 use mathlib.Core.Bool.{Bool, cond, not}
 use mathlib.Core.List.{List}
 use Prim.Native.Nat.{ℕ, _≤_, _<_}
-use native.Mathlib.Omega.{arith}
 use lib.Dec.{leb, ltb, eqb}
 use Rattle.laws.specs.Ladder as ladder
 use Rattle.laws.specs.Ladder.{Ladder, fine, rung, provided}
 use Rattle.laws.specs.Means.{Means, means-ltb, means-leb, means-eqb, means-not}
+use Rattle.promise.specs.Refused.{refusal-told, zero-told}
+use Rattle.strip.specs.Answers.{numberOf, countNumber}
 use Rattle.strip.specs.declared.Element.{Element}
 use Rattle.strip.specs.declared.Refusal.{Refusal}
 use Rattle.strip.specs.declared.Refusal.the-variants.{BadShape, Damaged, BadRank, Full, Empty}
-use Rattle.strip.specs.declared.Answer.the-variants.{Done, Out, Refused}
-use Rattle.strip.specs.declared.Count.{Count}
+use Rattle.strip.specs.declared.Answer.the-variants.{Done, Out}
 use Rattle.strip.specs.declared.Count.the-variants.{Held, Unknown}
 use Rattle.bucket_model.specs.Layout.{Lay, word}
 use Rattle.bucket_model.specs.Storeys.{lowestRank}
@@ -20,39 +20,22 @@ use Rattle.bucket_model.specs.Calls.{Outcome, outcome, refused, isShaped
 use Rattle.bucket_model.specs.Causes.{Shaped, Whole, PopFit, PushFit, Some, clearLadder, heldLadder, popLadder, pushLadder, bitsAfter, wordsAfter, replaceLadder, Exactly, ExactlyCount}
 use Rattle.bucket_model.proofs.Facts.{shape-means, whole-means, pop-means, low-rank, push-means, room-means}
 
--- ---- refusals are told apart, and from what is none
-
-done-granted : (r : Refusal) → Done ≡ Refused r → ⊥
-done-granted r e = let z : _≡_ {A = ℕ} 0 1 = cc in omega arith
-
-out-granted : (x : Element) (r : Refusal) → Out x ≡ Refused r → ⊥
-out-granted x r e = let z : _≡_ {A = ℕ} 0 1 = cc in omega arith
-
-refused-same : (x y : Refusal) → Refused x ≡ Refused y → x ≡ y
-refused-same x y e = cc
-
-unknown-same : (x y : Refusal) → Unknown x ≡ Unknown y → x ≡ y
-unknown-same x y e = cc
-
 -- ---- one rung of a call that leaves b and w behind
 
 module _ (b w : List ℕ) where
   step : (t : Bool) (P : Type 0) (x : Refusal) (o : Outcome) (l : Ladder Refusal) → Means t P → (P → Exactly o b w l) → Exactly (cond t o (refused x b w)) b w (rung x P l)
-  step = ladder.climb (λ (o : Outcome). o .answer) (λ (r : Refusal). refused r b w) refused-same
+  step = ladder.climb (λ (o : Outcome). numberOf (o .answer)) (λ (r : Refusal). refused r b w) refusal-told
 
   aside : (t : Bool) (P : Type 0) (o : Outcome) (x : Element) (l : Ladder Refusal) → Means t P → (P → Exactly o b w l) → Exactly (cond t o (outcome (Out x) b w)) b w (provided P l)
-  aside t P o x l m = ladder.climb-provided (λ (o : Outcome). o .answer) (λ (r : Refusal). refused r b w) t P o (outcome (Out x) b w) l m (out-granted x)
+  aside t P o x l m = ladder.climb-provided (λ (o : Outcome). numberOf (o .answer)) (λ (r : Refusal). refused r b w) t P o (outcome (Out x) b w) l m zero-told
 
   done : (b′ w′ : List ℕ) → Exactly (outcome Done b′ w′) b w fine
-  done b′ w′ = ladder.climb-fine (λ (o : Outcome). o .answer) (λ (r : Refusal). refused r b w) (outcome Done b′ w′) done-granted
+  done b′ w′ = ladder.climb-fine (λ (o : Outcome). numberOf (o .answer)) (λ (r : Refusal). refused r b w) (outcome Done b′ w′) zero-told
 
   out : (x : Element) (b′ w′ : List ℕ) → Exactly (outcome (Out x) b′ w′) b w fine
-  out x b′ w′ = ladder.climb-fine (λ (o : Outcome). o .answer) (λ (r : Refusal). refused r b w) (outcome (Out x) b′ w′) (out-granted x)
+  out x b′ w′ = ladder.climb-fine (λ (o : Outcome). numberOf (o .answer)) (λ (r : Refusal). refused r b w) (outcome (Out x) b′ w′) zero-told
 
 -- ---- the table
-
-held-granted : (n : ℕ) (r : Refusal) → Held n ≡ Unknown r → ⊥
-held-granted n r e = let z : _≡_ {A = ℕ} 0 1 = cc in omega arith
 
 module _ (k : Lay) (b w : List ℕ) where
   pub exactly-clear : Exactly (cleared k b w) b w (clearLadder k b w)
@@ -62,10 +45,10 @@ module _ (k : Lay) (b w : List ℕ) where
   pub exactly-held : ExactlyCount (heldCount k b w) (heldLadder k b w)
   unfolding heldCount
   exactly-held =
-      let climb = ladder.climb (λ (c : Count). c) (λ (r : Refusal). Unknown r) unknown-same in
+      let climb = ladder.climb countNumber (λ (r : Refusal). Unknown r) refusal-told in
       climb (isShaped k b w) (Shaped k b w) BadShape _ _ (shape-means k b w)
       (λ _. climb (isWhole k b w) (Whole k b w) Damaged _ _ (whole-means k b w)
-      (λ _. ladder.climb-fine (λ (c : Count). c) (λ (r : Refusal). Unknown r) (Held (word w (k .held))) (held-granted (word w (k .held)))))
+      (λ _. ladder.climb-fine countNumber (λ (r : Refusal). Unknown r) (Held (word w (k .held))) zero-told))
 
   some-means : Means (not (eqb (word w (k .held)) 0)) (Some k b w)
   some-means = means-not (means-eqb (word w (k .held)) 0)

@@ -21,7 +21,11 @@ pub mod Taken
 pub mod Joined
 pub mod Promises
 pub mod Untouched
+pub mod Unread
 pub mod Places
 pub mod Replace
+pub mod Served
 pub mod Spare
+pub mod Shown
 pub mod Case8
+pub mod CaseWords

@@ -62,7 +62,7 @@ plain-undamaged k [] l = tt
 plain-undamaged k (c ∷ cs) l = (plain-sane k c l, plain-undamaged k cs (plain k c l .next))
 
 module _ (k : Lay) (laid : Laid k) where
-  start-holds : (b w : List ℕ) → Shaped k b w → Holds k laid (start k b w .bits) (start k b w .words) []
+  pub start-holds : (b w : List ℕ) → Shaped k b w → Holds k laid (start k b w .bits) (start k b w .words) []
   start-holds b w h = rw (clear-done k laid b w h) (clear-holds k laid b w h)
 
   -- ---- from clear on slices long enough, whatever was in them, for any list of calls

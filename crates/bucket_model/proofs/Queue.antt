@@ -168,6 +168,10 @@ module _ (k : Lay) (laid : Laid k) where
 pub shaped-after : (k : Lay) (b w b′ w′ : List ℕ) → length b′ ≡ length b → length w′ ≡ length w → Shaped k b w → Shaped k b′ w′
 shaped-after k b w b′ w′ p q h = record { low = h .low; high = h .high; bits = omega (arith, h .bits); words = omega (arith, h .words) }
 
+pub pow-pos64 : (d : ℕ) → 1 ≤ 64 ^ d
+pow-pos64 zero = omega arith
+pow-pos64 (suc d) = omega (arith, pow-pos64 d, pow-suc 64 d)
+
 -- ---- a queue of its own store is laid so, whatever its storeys and nodes
 
 pub laid-of : (d n : ℕ) → 1 ≤ d → Laid (layOf d n)
@@ -175,7 +179,3 @@ laid-of zero n h = absurd (omega arith)
 laid-of (suc d) n h =
     let p : 1 ≤ 64 ^ d = pow-pos64 d in
     record { deep = h; tower = refl; ranks = refl; lists = omega (arith, pow-suc 64 d); pool = omega (arith, pow-suc 64 d); held = omega arith }
-  where
-    pow-pos64 : (d : ℕ) → 1 ≤ 64 ^ d
-    pow-pos64 zero = omega arith
-    pow-pos64 (suc d) = omega (arith, pow-pos64 d, pow-suc 64 d)

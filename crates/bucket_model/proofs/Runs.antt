@@ -46,14 +46,15 @@ walks stem w n own c p (suc i) (x ∷ xs) z a h =
     ∙ ap (λ (ts : List Load). x .load ∷ ts) (walks stem w n own c (nextIn stem (x .link)) i xs (z .2) (a .1) (omega arith))
 
 module _ (k : Lay) (laid : Laid k) where
+  -- rank by rank
+  pub lane-is : (b w : List ℕ) (l : List Element) (h : Holds k laid b w l) (r : ℕ) → r < k .ranks → lane k w r ≡ loads (h .q (headAt k r))
+  lane-is b w l h r r< =
+      let c = chainOf k laid b w l h r r< in
+      walks (k .stem) w (k .nodes) (h .own) (headAt k r) (headAt k r) (k .nodes) (h .q (headAt k r)) (c .seg) (c .mine) (omega (arith, lane-le k laid b w l h r r<, h .room))
+
   pub stored-is : (b w : List ℕ) (l : List Element) → Holds k laid b w l → stored k w ≡ l
   unfolding stored
-  stored-is b w l h = order-else (λ r. loads (h .q (headAt k r))) (lane k w) 0 (k .ranks) (λ j a c. lane-is j (omega arith)) ∙ sym (h .is)
-    where
-      lane-is : (r : ℕ) → r < k .ranks → lane k w r ≡ loads (h .q (headAt k r))
-      lane-is r r< =
-          let c = chainOf k laid b w l h r r< in
-          walks (k .stem) w (k .nodes) (h .own) (headAt k r) (headAt k r) (k .nodes) (h .q (headAt k r)) (c .seg) (c .mine) (omega (arith, lane-le k laid b w l h r r<, h .room))
+  stored-is b w l h = order-else (λ r. loads (h .q (headAt k r))) (lane k w) 0 (k .ranks) (λ j a c. lane-is b w l h j (omega arith)) ∙ sym (h .is)
 
   -- ---- one call
 

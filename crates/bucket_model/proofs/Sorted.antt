@@ -100,7 +100,7 @@ pub record Kept (c : Call) (l : List Element) (x : Step (List Element)) : Type 0
 rank-still : (r : ℕ) (l : List Element) → ofRank r l ++ ofRank r [] ≡ ofRank r [] ++ ofRank r l
 rank-still r l = rw (rank-nil r) (append-nil (ofRank r l))
 
-times-insert : (g : Element → Bool) (e : Element) (l : List Element) → times g (insert e l) ≡ cond (g e) 1 0 + times g l
+pub times-insert : (g : Element → Bool) (e : Element) (l : List Element) → times g (insert e l) ≡ cond (g e) 1 0 + times g l
 unfolding times
 times-insert g e [] = refl
 times-insert g e (x ∷ l) = go (ltb (e .rank .0) (x .rank .0)) (times-insert g e l)

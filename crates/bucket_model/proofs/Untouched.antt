@@ -2,7 +2,7 @@
 use mathlib.Core.Path.{_≡_, refl, ap, _∙_}
 use mathlib.Core.Bool.{Bool, true, false, cond, not}
 use mathlib.Core.List.{List, [], _∷_}
-use Prim.Native.Nat.{ℕ, zero, suc, _+_, _-_, _^_, _≤_, _<_}
+use Prim.Native.Nat.{ℕ, zero, suc, _+_, _^_, _≤_, _<_}
 use native.Mathlib.Nat.{pow-suc, not-suc-le-zero, le-of-suc-le-suc}
 use native.Mathlib.Omega.{arith}
 use borrow.Author.Tests.{ltb-true}
@@ -38,7 +38,7 @@ fill-past f n w j h = from-past f 0 n w j h
 
 -- ---- the lowest rank of words of 64 bits
 
-find-lt : (b : List ℕ) (o d : ℕ) → ((i : ℕ) → word b i < 2 ^ 64) → Opens b (storeysFrom o d) → find b (storeysFrom o d) < 64 ^ d
+pub find-lt : (b : List ℕ) (o d : ℕ) → ((i : ℕ) → word b i < 2 ^ 64) → Opens b (storeysFrom o d) → find b (storeysFrom o d) < 64 ^ d
 find-lt b o zero f w = omega arith
 find-lt b o (suc d) f w =
     let ih = find-lt b o d f (w .0) in

@@ -7,6 +7,7 @@ use Rattle.laws.specs.Ladder as ladder
 use Rattle.laws.specs.Ladder.{Ladder, fine, rung, provided}
 use Rattle.laws.specs.Means.{Iff}
 use Rattle.bitmap.specs.Bits.{bitAt}
+use Rattle.strip.specs.Answers.{numberOf, countNumber}
 use Rattle.strip.specs.declared.Refusal.{Refusal}
 use Rattle.strip.specs.declared.Refusal.the-variants.{BadShape, Damaged, BadRank, Full, Empty}
 use Rattle.strip.specs.declared.Count.{Count}
@@ -116,13 +117,13 @@ module _ (k : Lay) (b w : List ℕ) where
       (provided (lowestRank k b ≤ r)
       (rung Damaged (Whole k bitsAfter wordsAfter × PushFit k bitsAfter wordsAfter r) fine))))))
 
--- the columns "Exactly when" and "Left behind": a refusal is that of the first rung that does not hold, and where a rung does not hold there is its refusal, and everything is left behind
+-- the columns "Exactly when" and "Left behind": a refusal's number is that of the first rung that does not hold, and where a rung does not hold there is its refusal, and everything is left behind
 abbrev pub Exactly : Outcome → List ℕ → List ℕ → Ladder Refusal → Type 0
-Exactly o b w l = ladder.Exactly (λ (o : Outcome). o .answer) (λ (r : Refusal). refused r b w) o l
+Exactly o b w l = ladder.Exactly (λ (o : Outcome). numberOf (o .answer)) (λ (r : Refusal). refused r b w) o l
 
 -- .. and for held, which writes nothing
 abbrev pub ExactlyCount : Count → Ladder Refusal → Type 0
-ExactlyCount c l = ladder.Exactly (λ (c : Count). c) (λ (r : Refusal). Unknown r) c l
+ExactlyCount c l = ladder.Exactly countNumber (λ (r : Refusal). Unknown r) c l
 
 -- ---- the rest of longer slices
 

@@ -7,3 +7,4 @@ pub mod Causes
 pub mod Plain
 pub mod Promise
 pub mod Case8
+pub mod CaseWords

@@ -1,19 +1,24 @@
 -- What is promised of the bucket queue's words, beside the plain queue. These are definitions.
+use mathlib.Core.Bool.{Bool}
 use mathlib.Core.List.{List, [], _∷_}
 use mathlib.Core.Path.{_≡_}
-use Prim.Native.Nat.{ℕ, _+_, _*_, _≤_, _<_}
+use Prim.Native.Nat.{ℕ, _+_, _*_, _/_, _%_, _≤_, _<_}
 use lib.ListN.{length}
+use Rattle.bitmap.specs.Bits.{bitAt}
 use Rattle.laws.specs.Lists.{All}
 use Rattle.laws.specs.Means.{Iff}
+use Rattle.promise.specs.Queue as served
 use Rattle.promise.specs.Queue.{Pins}
+use Rattle.strip.specs.declared.Answer.{Answer}
 use Rattle.strip.specs.declared.Answer.the-variants.{Done}
 use Rattle.strip.specs.declared.Element.{Element}
+use Rattle.strip.specs.declared.Request.{Request}
 use Rattle.strip.specs.declared.Request.the-variants.{Pop}
 use Rattle.bucket_model.specs.Layout.{Lay, queue, bitWords, storeWords, word, headAt, tailAt, nextAt, loadIn}
-use Rattle.bucket_model.specs.Storeys.{storeysAt}
+use Rattle.bucket_model.specs.Storeys.{Storey, storeysAt}
 use Rattle.bucket_model.specs.Calls.{Outcome, cleared, pushed, popped, replaced, heldCount}
-use Rattle.bucket_model.specs.Causes.{Shaped}
-use Rattle.bucket_model.specs.Plain.{Store, store, asked, walk}
+use Rattle.bucket_model.specs.Causes.{Shaped, bitNo}
+use Rattle.bucket_model.specs.Plain.{Store, store, asked, walk, lane, stored, times}
 
 -- "any two outcomes allowed by the statement are shown equal", call by call
 pub record Pinned (k : Lay) (b w : List ℕ) : Type 0 where
@@ -65,6 +70,33 @@ pub record Blank (n : ℕ) (b w : List ℕ) (o : Outcome) : Type 0 where
   pub bits-long : length (o .bits) ≡ length b
   pub words-long : length (o .words) ≡ length w
 
+-- ---- what stands behind the shape
+
+abbrev pub Agree : ℕ → List ℕ → List ℕ → Type 0
+Agree n w v = (i : ℕ) → i < n → word w i ≡ word v i
+
+-- the same answer, and the same words within the shape
+pub record Alike (k : Lay) (o p : Outcome) : Type 0 where
+  pub answer : o .answer ≡ p .answer
+  pub bits : Agree (bitWords k) (o .bits) (p .bits)
+  pub words : Agree (storeWords k) (o .words) (p .words)
+
+-- ---- bits
+
+-- something is held of rank r
+abbrev pub Occupied : Lay → List ℕ → ℕ → Type 0
+Occupied k w r = lane k w r ≡ [] → ⊥
+
+-- "A bit is set exactly if something is held below it", storey by storey from the lowest up, of any number of storeys: below bit j of the lowest is P j, below a bit of another one are the 64 bits of a word
+abbrev pub Shows : List ℕ → List Storey → (ℕ → Type 0) → Type 0
+Shows b [] P = Unit {0}
+Shows b (p ∷ ps) P = ((j : ℕ) → j < 64 * p .words → Iff (bitNo b p j ≡ 1) (P j)) × Shows b ps (λ g. (u : ℕ) × (u < 64) × P (64 * g + u))
+
+-- .. in 01's own numbers: a rank's bit, and a group's
+pub record BitsTell (n : ℕ) (s : Store) : Type 0 where
+  pub rank : (r : ℕ) → r < 4096 → Iff (bitAt (word (s .bits) (1 + r / 64)) (r % 64) ≡ 1) (Occupied (queue n) (s .words) r)
+  pub group : (g : ℕ) → g < 64 → Iff (bitAt (word (s .bits) 0) g ≡ 1) ((r : ℕ) × (r / 64 ≡ g) × Occupied (queue n) (s .words) r)
+
 -- ---- the free chain
 
 -- "The freed node gets tag 0": from the free link on stand as many nodes as are not held, each with tag 0
@@ -77,3 +109,11 @@ pub record Spare (k : Lay) (s : Store) : Type 0 where
 -- the store that a pop leaves
 abbrev pub popLeaves : Lay → Store → Store
 popLeaves k s = store (asked k Pop s .bits) (asked k Pop s .words)
+
+-- ---- the queue as a step function, and how many of what it holds pass a test
+
+abbrev pub bucketQueue : Lay → Request → Store → served.Step Answer Store
+bucketQueue k q s = served.step (asked k q s .answer) (store (asked k q s .bits) (asked k q s .words))
+
+abbrev pub storedBy : Lay → Store → (Element → Bool) → ℕ
+storedBy k s f = times f (stored k (s .words))

@@ -1,0 +1,135 @@
+-- What goes in and out and what is least, in 01's numbers: by the number of an answer, its rank and its tag.
+use mathlib.Core.Path.{_≡_, refl, sym, ap, _∙_}
+use mathlib.Core.Bool.{Bool, true, false, cond}
+use mathlib.Core.List.{List, [], _∷_}
+use Prim.Native.Nat.{ℕ, _+_, _≤_}
+use native.Mathlib.Omega.{arith}
+use borrow.Author.Tests.{le-ltb}
+use lib.Dec.{ltb}
+use lib.ListN.{length}
+use Rattle.laws.specs.Lists.{All}
+use Rattle.laws.specs.Tests.{cond-both}
+use Rattle.promise.specs.Queue as served
+use Rattle.promise.specs.Served.{hit, lower, given, brought, all-sum, Least, IsOut}
+use Rattle.promise.specs.Served as said
+use Rattle.strip.specs.Answers.{rankOf, countNumber, countOf}
+use Rattle.strip.specs.declared.Element.{Element}
+use Rattle.strip.specs.declared.Refusal.the-variants.{BadRank, Full}
+use Rattle.strip.specs.declared.Answer.{Answer}
+use Rattle.strip.specs.declared.Answer.the-variants.{Done, Out, Refused}
+use Rattle.strip.specs.declared.Count.{Count}
+use Rattle.strip.specs.declared.Count.the-variants.{Held}
+use Rattle.strip.specs.declared.Request.{Request}
+use Rattle.strip.specs.declared.Request.the-variants.{Idle, Push, Pop, Replace}
+use Rattle.bucket_model.specs.Layout.{Lay, Laid}
+use Rattle.bucket_model.specs.Calls.{heldCount}
+use Rattle.bucket_model.specs.Causes.{Shaped}
+use Rattle.bucket_model.specs.Plain.{ask, held, Said, answered, counted, Step, step, Store, store, asked, called, start, Reached, insert, roomy, plainPop, plainReplace, plain, stored, times}
+use Rattle.bucket_model.specs.Promise.{bucketQueue, storedBy}
+use Rattle.bucket_model.proofs.Kind.{kind}
+use Rattle.bucket_model.proofs.Sorted.{times-insert}
+use Rattle.bucket_model.proofs.Queue.{Holds}
+use Rattle.bucket_model.proofs.Runs.{stored-is, calls, Agree}
+use Rattle.bucket_model.proofs.Promises.{start-holds, reached-holds, least, least-replace}
+
+abbrev answerOf : Said → Answer
+answerOf (answered a) = a
+answerOf (counted c) = Done
+
+hit-is : (t : Bool) → cond t 1 0 ≡ hit t
+hit-is true = refl
+hit-is false = refl
+
+-- ---- on the plain list, call by call
+
+module _ (l : List Element) (f : Element → Bool) where
+  abbrev Sums : Request → Step (List Element) → Type 0
+  Sums q x = times f (x .next) + given q (answerOf (x .said)) f ≡ times f l + brought q (answerOf (x .said)) f
+
+  sum-push : (k : Lay) (e : Element) → Sums (Push e) (plain k (ask (Push e)) l)
+  unfolding plain
+  sum-push k e =
+      cond-both (Sums (Push e)) (ltb (e .rank .0) (k .ranks)) (roomy (ltb (length l) (k .nodes)) l (step (answered Done) (insert e l))) (step (answered (Refused BadRank)) l)
+      (λ _. cond-both (Sums (Push e)) (ltb (length l) (k .nodes)) (step (answered Done) (insert e l)) (step (answered (Refused Full)) l) (λ _. omega (arith, times-insert f e l, hit-is (f e))) (λ _. refl)) (λ _. refl)
+
+sum-pop : (l : List Element) (f : Element → Bool) → Sums l f Pop (plainPop l)
+unfolding times
+sum-pop [] f = refl
+sum-pop (x ∷ l) f = omega (arith, hit-is (f x))
+
+sum-replace : (e : Element) (l : List Element) (f : Element → Bool) → Sums l f (Replace e) (plainReplace e l)
+unfolding times
+sum-replace e [] f = refl
+sum-replace e (x ∷ l) f =
+    cond-both (Sums (x ∷ l) f (Replace e)) (ltb (e .rank .0) (x .rank .0)) (step (answered (Out e)) (x ∷ l)) (step (answered (Out x)) (insert e l))
+    (λ _. refl) (λ _. omega (arith, times-insert f e l, hit-is (f e), hit-is (f x)))
+
+sums : (k : Lay) (q : Request) (l : List Element) (f : Element → Bool) → Sums l f q (plain k (ask q) l)
+unfolding plain
+sums k Idle l f = refl
+sums k (Push e) l f = sum-push l f k e
+sums k Pop l f = sum-pop l f
+sums k (Replace e) l f =
+    cond-both (Sums l f (Replace e)) (ltb (e .rank .0) (k .ranks)) (plainReplace e l) (step (answered (Refused BadRank)) l) (λ _. sum-replace e l f) (λ _. refl)
+
+-- ---- on the words
+
+module _ (k : Lay) (laid : Laid k) where
+  abbrev Kept : Store → Type 0
+  Kept s = (l : List Element) × Holds k laid (s .bits) (s .words) l
+
+  runs : (q : Request) (s : Store) (l : List Element) (h : Holds k laid (s .bits) (s .words) l) → Agree k laid (step (answered (asked k q s .answer)) (store (asked k q s .bits) (asked k q s .words))) (plain k (ask q) l)
+  unfolding called
+  runs q s l h = calls k laid s l h (ask q)
+
+  keep : (q : Request) (s : Store) → Kept s → Kept (bucketQueue k q s .next)
+  keep q s x = (plain k (ask q) (x .0) .next, runs q s (x .0) (x .1) .holds)
+
+  sum : (q : Request) (s : Store) → Kept s → (f : Element → Bool) → storedBy k (bucketQueue k q s .next) f + given q (bucketQueue k q s .said) f ≡ storedBy k s f + brought q (bucketQueue k q s .said) f
+  sum q s x f =
+      let l = x .0 in
+      let a = runs q s l (x .1) in
+      let e : asked k q s .answer ≡ answerOf (plain k (ask q) l .said) = ap answerOf (a .alike) in
+      rw (stored-is k laid _ _ _ (a .holds), stored-is k laid (s .bits) (s .words) l (x .1), e) (sums k q l f)
+
+  -- HOLDS: from clear on slices long enough, whatever was in them, for any list of requests
+  pub served-holds : (b w : List ℕ) → Shaped k b w → (qs : List Request) → said.Holds (storedBy k (served.leaves (bucketQueue k) qs (start k b w))) qs (served.answers (bucketQueue k) qs (start k b w))
+  unfolding times
+  served-holds b w h qs f =
+      let z = start-holds k laid b w h in
+      let none : times f (stored k (start k b w .words)) ≡ 0 = ap (times f) (stored-is k laid (start k b w .bits) (start k b w .words) [] z) in
+      omega (arith, all-sum (bucketQueue k) Kept keep (storedBy k) sum qs (start k b w) ([], z) f)
+
+  -- ---- LEAST, on a store that the queue's own calls lead to
+
+  none-lower : (r : ℕ) (l : List Element) → All (λ y. r ≤ y .rank .0) l → times (lower r) l ≡ 0
+  unfolding times
+  none-lower r [] a = refl
+  none-lower r (y ∷ l) a = rw (le-ltb (y .rank .0) r (a .0)) (omega (arith, none-lower r l (a .1)))
+
+  pub served-least : (s : Store) → Reached k s → (q : Request) → Least (storedBy k s) q (asked k q s .answer)
+  served-least s h Idle = tt
+  served-least s h (Push e) = tt
+  served-least s h Pop = λ n. go (asked k Pop s .answer) refl (kind k Pop s n)
+    where
+      go : (a : Answer) → asked k Pop s .answer ≡ a → IsOut a → storedBy k s (lower (rankOf a)) ≡ 0
+      go Done p o = absurd o
+      go (Refused r) p o = absurd o
+      go (Out x) p o = none-lower (x .rank .0) (stored k (s .words)) (least k laid s x h p .lowest)
+  served-least s h (Replace e) = λ n. go (asked k (Replace e) s .answer) refl (kind k (Replace e) s n)
+    where
+      go : (a : Answer) → asked k (Replace e) s .answer ≡ a → IsOut a → (storedBy k s (lower (rankOf a)) ≡ 0) × (rankOf a ≤ e .rank .0)
+      go Done p o = absurd o
+      go (Refused r) p o = absurd o
+      go (Out x) p o = let y = least-replace k laid s e x h p in (none-lower (x .rank .0) (stored k (s .words)) (y .1), y .0)
+
+  -- held says how many are held: number 0, and so many
+  counted-same : (c d : Count) → counted c ≡ counted d → c ≡ d
+  counted-same c d e = cc
+
+  pub held-says : (s : Store) → Reached k s → (countNumber (heldCount k (s .bits) (s .words)) ≡ 0) × (countOf (heldCount k (s .bits) (s .words)) ≡ length (stored k (s .words)))
+  unfolding called plain
+  held-says s r =
+      let y = reached-holds k laid s r in
+      let e : heldCount k (s .bits) (s .words) ≡ Held (length (y .0)) = counted-same _ _ (calls k laid s (y .0) (y .2) held .alike) in
+      (ap countNumber e, ap countOf e ∙ ap length (sym (stored-is k laid (s .bits) (s .words) (y .0) (y .2))))

@@ -1,0 +1,98 @@
+-- "A bit is set exactly if something is held below it": on a store that the queue's own calls lead to, storey by storey.
+use mathlib.Core.Path.{_≡_, refl, sym, ap, subst, _∙_}
+use mathlib.Core.List.{List, [], _∷_}
+use Prim.Native.Nat.{ℕ, suc, _+_, _*_, _/_, _%_, _^_, _≤_, _<_, zero}
+use native.Mathlib.Decide.{ℕ-discrete}
+use native.Mathlib.Nat.{pow-suc}
+use native.Mathlib.Omega.{arith}
+use lib.Count.{trailingZeros}
+use lib.ListN.{length}
+use Rattle.laws.specs.Means.{Iff}
+use Rattle.bitmap.specs.Bits.{bitAt}
+use Rattle.strip.specs.declared.Element.{Element}
+use Rattle.bucket_model.specs.Layout.{Lay, Laid, queue, word, headAt, Load}
+use Rattle.bucket_model.specs.Storeys.{Storey, storeysFrom, storeysAt}
+use Rattle.bucket_model.specs.Plain.{Store, Reached}
+use Rattle.bucket_model.specs.Promise.{Occupied, Shows, BitsTell}
+use Rattle.bucket_model.proofs.Tells.{Tells, nz, nz-one, up, storey-down, storey-none}
+use Rattle.bucket_model.proofs.Tower.{Tower, Bits, Shape, shape-from}
+use Rattle.bucket_model.proofs.Chain.{Node}
+use Rattle.bucket_model.proofs.Queue.{Holds, flag, loads}
+use Rattle.bucket_model.proofs.Runs.{lane-is}
+use Rattle.bucket_model.proofs.Promises.{queue-laid, reached-holds}
+
+-- a word is not 0 exactly if one of its bits is set
+word-tells : (b : List ℕ) (base m : ℕ) (f : ℕ → ℕ) (P : ℕ → Type 0) → Tells b base m f → ((j : ℕ) → j < 64 * m → Iff (f j ≡ 1) (P j)) → (g : ℕ) → g < m
+    → Iff (up b base g ≡ 1) ((u : ℕ) × (u < 64) × P (64 * g + u))
+word-tells b base m f P z i g h = record { to = to; from = from }
+  where
+    some : up b base g ≡ 1 → 0 < word b (base + g)
+    some e = elim (ℕ-discrete (word b (base + g)) 0) [ yes o ↦ absurd (none o) | no o ↦ omega arith ]
+      where
+        none : word b (base + g) ≡ 0 → ⊥
+        none o = let c : nz (word b (base + g)) ≡ 0 = ap nz o in omega (arith, c, e)
+
+    to : up b base g ≡ 1 → (u : ℕ) × (u < 64) × P (64 * g + u)
+    to e =
+        let d = storey-down b base m f g h (some e) z in
+        let t = trailingZeros 64 (word b (base + g)) in
+        (t, d .within, i (64 * g + t) (omega (arith, d .within)) .to (d .here))
+
+    from : (u : ℕ) × (u < 64) × P (64 * g + u) → up b base g ≡ 1
+    from x = elim (ℕ-discrete (word b (base + g)) 0) [
+      | yes o ↦ absurd (omega (arith, storey-none b base m f g h o z (x .0) (x .1), i (64 * g + x .0) (omega (arith, x .1)) .from (x .2)))
+      | no o ↦ nz-one (word b (base + g)) (omega arith)
+    ]
+
+-- a bit is set exactly if that is so which it tells of
+bit-tells : (b : List ℕ) (base m : ℕ) (f : ℕ → ℕ) (P : ℕ → Type 0) → Tells b base m f → ((j : ℕ) → j < 64 * m → Iff (f j ≡ 1) (P j)) → (j : ℕ) → j < 64 * m → Iff (bitAt (word b (base + j / 64)) (j % 64) ≡ 1) (P j)
+bit-tells b base m f P z i j l = record { to = λ e. i j l .to (sym (z .bit j l) ∙ e); from = λ x. z .bit j l ∙ i j l .from x }
+
+-- from storey to storey
+shows : (b : List ℕ) (ps : List Storey) (f : ℕ → ℕ) (P : ℕ → Type 0) → Shape ps → Tower b ps f → ((j : ℕ) → Bits ps j → Iff (f j ≡ 1) (P j)) → Shows b ps P
+shows b [] f P s z i = tt
+shows b (p ∷ []) f P s z i = (bit-tells b (p .base) (p .words) f P (z .0) i, tt)
+shows b (p ∷ v ∷ vs) f P s z i = (
+  bit-tells b (p .base) (p .words) f P (z .0) i,
+  shows b (v ∷ vs) (up b (p .base)) (λ g. (u : ℕ) × (u < 64) × P (64 * g + u)) (s .2) (z .1) (λ g l. word-tells b (p .base) (p .words) f P (z .0) i g (omega (arith, s .1))),
+)
+
+flag-loads : (xs : List Node) → Iff (flag xs ≡ 1) (loads xs ≡ [] → ⊥)
+flag-loads [] = record { to = λ e. absurd (omega arith); from = λ n. absurd (n refl) }
+flag-loads (x ∷ xs) = record { to = λ e n. let c : suc (length (loads xs)) ≡ 0 = ap length n in absurd (omega arith); from = λ n. refl }
+
+module _ (k : Lay) (laid : Laid k) where
+  held-by : (s : Store) (l : List Element) (h : Holds k laid (s .bits) (s .words) l) (r : ℕ) → r < k .ranks → Iff (flag (h .q (headAt k r)) ≡ 1) (Occupied k (s .words) r)
+  held-by s l h r r< = subst (λ (ts : List Load). Iff (flag (h .q (headAt k r)) ≡ 1) (ts ≡ [] → ⊥)) (sym (lane-is k laid (s .bits) (s .words) l h r r<)) (flag-loads (h .q (headAt k r)))
+
+  -- SHOWN, whatever the number of storeys
+  pub shown : (s : Store) → Reached k s → Shows (s .bits) (storeysAt k) (Occupied k (s .words))
+  shown s r = go (reached-holds k laid s r .0) (reached-holds k laid s r .2)
+    where
+      go : (l : List Element) → Holds k laid (s .bits) (s .words) l → Shows (s .bits) (storeysAt k) (Occupied k (s .words))
+      go l h = shows (s .bits) (storeysAt k) (λ r. flag (h .q (headAt k r))) (Occupied k (s .words)) (shape-from (k .bits) (k .storeys)) (h .bits .tower) (λ j i. held-by s l h j (within (k .storeys) (laid .deep) (laid .ranks) j i))
+        where
+          within : (d : ℕ) → 1 ≤ d → k .ranks ≡ 64 ^ d → (j : ℕ) → Bits (storeysFrom (k .bits) d) j → j < k .ranks
+          within zero a e j i = absurd (omega arith)
+          within (suc d) a e j i = omega (arith, pow-suc 64 d)
+
+-- .. of 01's queue
+pub bits-tell : (n : ℕ) (s : Store) → Reached (queue n) s → BitsTell n s
+bits-tell n s r =
+    let z = shown (queue n) (queue-laid n) s r in
+    record {
+      rank = λ r l. z .0 r (omega arith);
+      group = λ g l. record {
+        to = λ e. to g (z .1 .0 g (omega arith) .to (rank-bit g l e));
+        from = λ x. bit-rank g l (z .1 .0 g (omega arith) .from (x .0 % 64, omega arith, subst (Occupied (queue n) (s .words)) (omega (arith, x .1)) (x .2)));
+      };
+    }
+  where
+    rank-bit : (g : ℕ) → g < 64 → bitAt (word (s .bits) 0) g ≡ 1 → bitAt (word (s .bits) (0 + g / 64)) (g % 64) ≡ 1
+    rank-bit g l e = let a : g / 64 ≡ 0 = omega arith in let c : g % 64 ≡ g = omega arith in rw (a, c) e
+
+    bit-rank : (g : ℕ) → g < 64 → bitAt (word (s .bits) (0 + g / 64)) (g % 64) ≡ 1 → bitAt (word (s .bits) 0) g ≡ 1
+    bit-rank g l e = let a : g / 64 ≡ 0 = omega arith in let c : g % 64 ≡ g = omega arith in rw (a, c) at e
+
+    to : (g : ℕ) → (u : ℕ) × (u < 64) × Occupied (queue n) (s .words) (64 * g + u) → (r : ℕ) × (r / 64 ≡ g) × Occupied (queue n) (s .words) r
+    to g x = (64 * g + x .0, omega (arith, x .1), x .2)
