@@ -9,12 +9,12 @@ use lib.ListN.{getD, length, set}
 use borrow.Author.Tests.{eq-eqb, le-leb, lt-leb, ne-eqb, not-false, not-true}
 use Rattle.card.specs.Clocked.{clockedAfterOut, clockedClear, clockedCycle, clockedDrain, cycleOf, drainOf, drainOut, markBack, ran, recordsBack, requestOf, clockedAfter, clearOf, saysNo, stateIn, taken}
 use Rattle.card.specs.Out.{answerOut, refusedOut}
-use Rattle.card_records.proofs.Nodes.{drained-fits, Fits, fresh-fit, read-fits, ticked-fits}
+use Rattle.card_records.proofs.Nodes.{drained-fits, Fits, fresh-fit, read-fits, cycled-fits}
 use Rattle.card_records.proofs.Records.{lent, readable-roomy}
 use Rattle.card_records.specs.Records.{Fit, Lent, wordLimit, markWritten, readable, roomy, stateRead, worksWritten}
 use Rattle.clocked_model.proofs.Demand.{few-levels}
 use Rattle.clocked_model.proofs.Drain.{drain-within}
-use Rattle.clocked_model.specs.Calls.{cycleOutcome, CycleOutcome, drainOutcome, DrainOutcome, drains, recordCount, restarted, ticked}
+use Rattle.clocked_model.specs.Calls.{cycleOutcome, CycleOutcome, drainOutcome, DrainOutcome, drains, recordCount, restarted, cycled}
 use Rattle.clocked_model.specs.Records.{worksOf}
 use Rattle.clocked_model.specs.declared.State.{State}
 use Rattle.laws.specs.Tests.{and-left, and-right, sub-one}
@@ -118,8 +118,8 @@ module _ (levels k : ℕ) (rs mark : List ℕ) (e : k ≡ levels - 1) where
   pub fit-at : (s : State) → Fit (levels - 1) (worksOf (levels - 1) (s .records) 0) → Fit k (worksOf k (s .records) 0)
   fit-at s p = subst (λ (k : ℕ). Fit k (worksOf k (s .records) 0)) (sym e) p
 
-pub ticked-at : (m levels k : ℕ) (q : Request) (s : State) (ws : List ℕ) (o : CycleOutcome) → levels ≡ suc k → o ≡ ticked m (suc k) q s ws → o ≡ ticked m levels q s ws
-ticked-at m levels k q s ws o e p = p ∙ ap (λ (n : ℕ). ticked m n q s ws) (sym e)
+pub cycled-at : (m levels k : ℕ) (q : Request) (s : State) (ws : List ℕ) (o : CycleOutcome) → levels ≡ suc k → o ≡ cycled m (suc k) q s ws → o ≡ cycled m levels q s ws
+cycled-at m levels k q s ws o e p = p ∙ ap (λ (n : ℕ). cycled m n q s ws) (sym e)
 
 module _ (m levels : ℕ) (ws rs mark : List ℕ) where
   -- ---- clear
@@ -173,7 +173,7 @@ module _ (m levels : ℕ) (ws rs mark : List ℕ) where
 
       module _ (e : not b ≡ false) where
         pub cycle-done : (asked : Request) (state : State) (a : Answer) (after : List ℕ) (s : State) (n : ℕ) (r : Bool) (rs₁ mark₁ out₁ : List ℕ)
-            → asked ≡ requestOf request rank tag → state ≡ stateIn levels rs mark → cycleOutcome a after s ≡ ticked m levels asked state ws
+            → asked ≡ requestOf request rank tag → state ≡ stateIn levels rs mark → cycleOutcome a after s ≡ cycled m levels asked state ws
             → r ≡ ran (numberOf a) → Back (levels - 1) rs mark r s rs₁ mark₁ → (n ≡ numberOf a) × (out₁ ≡ answerOut a out)
             → clockedAfterOut n after rs₁ mark₁ out₁ ≡ clockedCycle m levels ws rs mark request rank tag out
         unfolding clockedCycle
@@ -181,7 +181,7 @@ module _ (m levels : ℕ) (ws rs mark : List ℕ) where
             rw (le-leb 2 (length out) room, sym tested ∙ not-false b e)
             ((λ i. record { number = told .0 i; store = after; records = back .0 i; mark = back .1 i; out = told .1 i })
             ∙ ap (λ (r : Bool). clockedAfterOut (numberOf a) after (recordsBack levels rs mark r s) (markBack levels rs mark r s) (answerOut a out)) q
-            ∙ ap (λ (o : CycleOutcome). cycleOf levels rs mark o out) (o ∙ ap₂ (λ (q : Request) (s : State). ticked m levels q s ws) h k))
+            ∙ ap (λ (o : CycleOutcome). cycleOf levels rs mark o out) (o ∙ ap₂ (λ (q : Request) (s : State). cycled m levels q s ws) h k))
 
   -- ---- a drain
   module _ (out : List ℕ) (budget : ℕ) where
@@ -221,12 +221,12 @@ few-pred : (levels : ℕ) (rs mark : List ℕ) → Lent (levels - 1) rs mark →
 few-pred levels rs mark l = subst (λ (k : ℕ). k ≤ recordCount) (sub-one levels) (l .few)
 
 pub cycle-fits : (m levels : ℕ) (ws rs mark : List ℕ) (asked : Request) (state : State) (a : Answer) (after : List ℕ) (s : State)
-    → ((i : ℕ) → getD rs i 0 < wordLimit) → Lent (levels - 1) rs mark → state ≡ stateIn levels rs mark → cycleOutcome a after s ≡ ticked m levels asked state ws
+    → ((i : ℕ) → getD rs i 0 < wordLimit) → Lent (levels - 1) rs mark → state ≡ stateIn levels rs mark → cycleOutcome a after s ≡ cycled m levels asked state ws
     → Fit (levels - 1) (worksOf (levels - 1) (s .records) 0)
 cycle-fits m levels ws rs mark asked state a after s words l e o =
     fit-levels levels s
     (subst (λ (o : CycleOutcome). Fits levels (o .state)) (sym o)
-    (ticked-fits m levels asked state ws (subst (Fits levels) (sym e) (read-fits levels (levels - 1) rs mark words (few-pred levels rs mark l)))))
+    (cycled-fits m levels asked state ws (subst (Fits levels) (sym e) (read-fits levels (levels - 1) rs mark words (few-pred levels rs mark l)))))
 
 pub drain-fits : (m levels : ℕ) (ws rs mark : List ℕ) (budget : ℕ) (state : State) (a : Answer) (n : ℕ) (left : Bool) (after : List ℕ) (s : State)
     → ((i : ℕ) → getD rs i 0 < wordLimit) → Lent (levels - 1) rs mark → state ≡ stateIn levels rs mark → drainOutcome a n left after s ≡ drains m levels budget state ws

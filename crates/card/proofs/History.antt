@@ -13,15 +13,15 @@ use Rattle.card.proofs.Clocked.{shape-few}
 use Rattle.card.specs.Clocked.{ClockedAfterOut, clockedClear, clockedCycle, clockedDrain, cycleOf, drainOf, drainOut, markBack, ran, recordsBack, requestOf, clockedAfter, ClockedAfter, clearOf, saysNo, stateIn, taken}
 use Rattle.card.specs.History.{asks, broughtBy, Call, callC, callM, codeOf, Did, drain, Holds, leftC, leftM, saidC, saidM}
 use Rattle.card.specs.Out.{answerOut, badShape, CountAfter, countAfter}
-use Rattle.card_records.proofs.Alike.{Alike, drains-kept, drains-same, SameCycle, SameDrain, ticked-records, ticked-same}
+use Rattle.card_records.proofs.Alike.{Alike, drains-kept, drains-same, SameCycle, SameDrain, cycled-records, cycled-same}
 use Rattle.card_records.proofs.Handed.{handed-on, mark-on, readable-again}
 use Rattle.card_records.proofs.Nodes.{works-few}
 use Rattle.card_records.proofs.Records.{readable-roomy, roomy-mark, roomy-words}
 use Rattle.card_records.specs.Records.{markWritten, readable, roomy, worksWritten}
-use Rattle.clocked_model.proofs.Drain.{drain-state, ticked-length}
+use Rattle.clocked_model.proofs.Drain.{drain-state, cycled-length}
 use Rattle.clocked_model.proofs.Exactly.{stands}
 use Rattle.clocked_model.proofs.Promises.{shape-kept}
-use Rattle.clocked_model.specs.Calls.{cycleOutcome, CycleOutcome, DrainOutcome, drains, fresh, recordCount, restarted, ticked}
+use Rattle.clocked_model.specs.Calls.{cycleOutcome, CycleOutcome, DrainOutcome, drains, fresh, recordCount, restarted, cycled}
 use Rattle.clocked_model.specs.Promise.{cycleLeft, runs}
 use Rattle.clocked_model.specs.declared.State.{State}
 use Rattle.laws.specs.Tests.{and-true, sub-one}
@@ -134,23 +134,23 @@ module _ (m levels : ℕ) (out : List ℕ) (room : 2 ≤ length out) (s : State)
       (record {
         said = ap (λ (a : Answer). countAfter (numberOf a) (answerOut a out)) (same .answer);
         store = same .words;
-        holds = back (ran (numberOf (o .answer))) (o .state) (p .state) (same .state) (ticked-records m levels r t ws ∙ works-few (levels - 1) rs) (ticked-records m levels r s ws ∙ q .few) stood;
-        shape = ap (shapeOk m levels) (ticked-length m levels r s ws) ∙ shape;
+        holds = back (ran (numberOf (o .answer))) (o .state) (p .state) (same .state) (cycled-records m levels r t ws ∙ works-few (levels - 1) rs) (cycled-records m levels r s ws ∙ q .few) stood;
+        shape = ap (shapeOk m levels) (cycled-length m levels r s ws) ∙ shape;
       })
     where
       o : CycleOutcome
-      o = ticked m levels r t ws
+      o = cycled m levels r t ws
 
       p : CycleOutcome
-      p = ticked m levels r s ws
+      p = cycled m levels r s ws
 
       same : SameCycle (pred levels) o p
-      same = ticked-same m levels r t s ws alike
+      same = cycled-same m levels r t s ws alike
 
       here : clockedCycle m levels ws rs mark (codeOf r) (broughtBy r .rank .0) (broughtBy r .tag .0) out ≡ cycleOf levels rs mark o out
       here =
-          ap (λ (b : Bool). cond b (cycleOf levels rs mark (ticked m levels (requestOf (codeOf r) (broughtBy r .rank .0) (broughtBy r .tag .0)) t ws) out) (saysNo m levels ws rs mark out)) (takes (codeOf r) (code-low r))
-          ∙ ap (λ (r : Request). cycleOf levels rs mark (ticked m levels r t ws) out) (request-handed r)
+          ap (λ (b : Bool). cond b (cycleOf levels rs mark (cycled m levels (requestOf (codeOf r) (broughtBy r .rank .0) (broughtBy r .tag .0)) t ws) out) (saysNo m levels ws rs mark out)) (takes (codeOf r) (code-low r))
+          ∙ ap (λ (r : Request). cycleOf levels rs mark (cycled m levels r t ws) out) (request-handed r)
 
       stood : ran (numberOf (o .answer)) ≡ false → p .state ≡ s
       stood e =

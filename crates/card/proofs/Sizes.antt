@@ -14,37 +14,37 @@ use Rattle.node.proofs.Steps.{order-range}
 use Rattle.node.specs.Scan.{Capacity}
 use Rattle.tree_model.specs.Calls as tree
 use Rattle.tree_model.specs.Damage.{room}
-use Rattle.tree_model.specs.Words.{width}
+use Rattle.tree_model.specs.Words.{slotWords}
 
 -- ---- the tree
 module _ (m levels : ℕ) where
   -- a store for the largest tree is long enough for any, so what is left of its test is the shape's own
-  tree-any : tree.shapeOk m levels (width * tree.slotLimit) ≡ tree.shapeOk m levels (width * room m levels)
+  tree-any : tree.shapeOk m levels (slotWords * tree.slotLimit) ≡ tree.shapeOk m levels (slotWords * room m levels)
   unfolding tree.shapeOk
   tree-any = ap (λ (b : Bool). tree.orderOk m && (leb 1 levels && b)) (go (leb (room m levels) tree.slotLimit) refl)
     where
-      go : (b : Bool) → leb (room m levels) tree.slotLimit ≡ b → (b && leb (width * room m levels) (width * tree.slotLimit)) ≡ (b && leb (width * room m levels) (width * room m levels))
+      go : (b : Bool) → leb (room m levels) tree.slotLimit ≡ b → (b && leb (slotWords * room m levels) (slotWords * tree.slotLimit)) ≡ (b && leb (slotWords * room m levels) (slotWords * room m levels))
       go true e =
-          le-leb (width * room m levels) (width * tree.slotLimit) (omega (arith, leb-true (room m levels) tree.slotLimit e)) ∙ sym (le-leb (width * room m levels) (width * room m levels) (omega arith))
+          le-leb (slotWords * room m levels) (slotWords * tree.slotLimit) (omega (arith, leb-true (room m levels) tree.slotLimit e)) ∙ sym (le-leb (slotWords * room m levels) (slotWords * room m levels) (omega arith))
       go false e = refl
 
-  module _ (ok : Bool) (shape : ok ≡ tree.shapeOk m levels (width * tree.slotLimit)) where
+  module _ (ok : Bool) (shape : ok ≡ tree.shapeOk m levels (slotWords * tree.slotLimit)) where
     pub tree-none : not ok ≡ true → 0 ≡ treeWords m levels
     unfolding treeWords
     tree-none e = rw (← tree-any, ← shape, not-true ok e)
 
     module _ (e : not ok ≡ false) where
-      taken : (tree.orderOk m && (leb 1 levels && (leb (room m levels) tree.slotLimit && leb (width * room m levels) (width * tree.slotLimit)))) ≡ true
+      taken : (tree.orderOk m && (leb 1 levels && (leb (room m levels) tree.slotLimit && leb (slotWords * room m levels) (slotWords * tree.slotLimit)))) ≡ true
       unfolding tree.shapeOk
       taken = sym shape ∙ not-false ok e
 
       pub tree-order : (0 < m) × (m ≤ 8)
       tree-order =
-          order-range m (and-left (tree.orderOk m) (leb 1 levels && (leb (room m levels) tree.slotLimit && leb (width * room m levels) (width * tree.slotLimit))) taken)
+          order-range m (and-left (tree.orderOk m) (leb 1 levels && (leb (room m levels) tree.slotLimit && leb (slotWords * room m levels) (slotWords * tree.slotLimit))) taken)
 
       tree-room : room m levels ≤ tree.slotLimit
       tree-room =
-          leb-true (room m levels) tree.slotLimit (and-left (leb (room m levels) tree.slotLimit) (leb (width * room m levels) (width * tree.slotLimit)) (and-right (leb 1 levels) (leb (room m levels) tree.slotLimit && leb (width * room m levels) (width * tree.slotLimit)) (and-right (tree.orderOk m) (leb 1 levels && (leb (room m levels) tree.slotLimit && leb (width * room m levels) (width * tree.slotLimit))) taken)))
+          leb-true (room m levels) tree.slotLimit (and-left (leb (room m levels) tree.slotLimit) (leb (slotWords * room m levels) (slotWords * tree.slotLimit)) (and-right (leb 1 levels) (leb (room m levels) tree.slotLimit && leb (slotWords * room m levels) (slotWords * tree.slotLimit)) (and-right (tree.orderOk m) (leb 1 levels && (leb (room m levels) tree.slotLimit && leb (slotWords * room m levels) (slotWords * tree.slotLimit))) taken)))
 
       module _ (slots : ℕ) (c : Capacity m levels slots) where
         pub tree-most : slots ≤ tree.slotLimit
@@ -65,11 +65,11 @@ pub tree-size : (m levels len : ℕ) → tree.shapeOk m levels len ≡ (not (eqb
 unfolding treeWords tree.shapeOk
 tree-size m levels len = go (tree.orderOk m) refl (leb 1 levels) refl (leb (room m levels) tree.slotLimit)
   where
-    go : (a : Bool) → tree.orderOk m ≡ a → (b : Bool) → leb 1 levels ≡ b → (c : Bool) → (a && (b && (c && leb (width * room m levels) len))) ≡ (not (eqb (cond (a && (b && (c && leb (width * room m levels) (width * room m levels)))) (width * room m levels) 0) 0) && leb (cond (a && (b && (c && leb (width * room m levels) (width * room m levels)))) (width * room m levels) 0) len)
+    go : (a : Bool) → tree.orderOk m ≡ a → (b : Bool) → leb 1 levels ≡ b → (c : Bool) → (a && (b && (c && leb (slotWords * room m levels) len))) ≡ (not (eqb (cond (a && (b && (c && leb (slotWords * room m levels) (slotWords * room m levels)))) (slotWords * room m levels) 0) 0) && leb (cond (a && (b && (c && leb (slotWords * room m levels) (slotWords * room m levels)))) (slotWords * room m levels) 0) len)
     go true p true q true =
         let some : 0 < room m levels = some-room m levels p (leb-true 1 levels q) in
-        let more : width * room m levels ≡ 0 → ⊥ = λ z. omega arith in
-        rw (le-leb (width * room m levels) (width * room m levels) (omega arith), ne-eqb (width * room m levels) 0 more)
+        let more : slotWords * room m levels ≡ 0 → ⊥ = λ z. omega arith in
+        rw (le-leb (slotWords * room m levels) (slotWords * room m levels) (omega arith), ne-eqb (slotWords * room m levels) 0 more)
     go true p true q false = refl
     go true p false q c = refl
     go false p b q c = refl

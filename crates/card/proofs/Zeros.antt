@@ -13,7 +13,7 @@ use Rattle.card.specs.Clocked.{ClockedAfterOut, clockedCycle, clockedDra
 use Rattle.card.specs.Out.{answerOut, badShape, countAnswered, refusedOut, countAfter}
 use Rattle.card.specs.Tree.{treePop, treeReplace, treeAfterOut, treeAnswered}
 use Rattle.clocked_model.proofs.Drain.{done, drain-ends, End, jammed}
-use Rattle.clocked_model.specs.Calls.{DrainOutcome, drains, ticked}
+use Rattle.clocked_model.specs.Calls.{DrainOutcome, drains, cycled}
 use Rattle.laws.specs.Tests.{and-right}
 use Rattle.strip.specs.Answers.{blank, countNumber, countOf, numberOf}
 use Rattle.strip.specs.declared.Answer.{Answer}
@@ -75,10 +75,10 @@ module _ (m levels : ℕ) (ws rs mark out : List ℕ) where
   zeros-clocked-cycle request rank tag h = go (leb 2 (length out)) refl (taken m levels (length ws) rs mark request) h
     where
       a : Answer
-      a = ticked m levels (requestOf request rank tag) (stateIn levels rs mark) ws .answer
+      a = cycled m levels (requestOf request rank tag) (stateIn levels rs mark) ws .answer
 
       done : ClockedAfterOut
-      done = cycleOf levels rs mark (ticked m levels (requestOf request rank tag) (stateIn levels rs mark) ws) out
+      done = cycleOf levels rs mark (cycled m levels (requestOf request rank tag) (stateIn levels rs mark) ws) out
 
       go : (b : Bool) → leb 2 (length out) ≡ b → (t : Bool) → (cond (b && t) done (saysNo m levels ws rs mark out) .number ≡ 0 → ⊥) → cond (b && t) done (saysNo m levels ws rs mark out) .out ≡ refusedOut out
       go true e true h = told-zeros a out true e h

@@ -7,12 +7,12 @@ use lib.Dec.{eqb, leb, ltb}
 use lib.ListN.{length, set}
 use Rattle.card.specs.Out.{answerOut, badShape, CountAfter, countAnswered, refusedOut}
 use Rattle.card_records.specs.Records.{markWritten, readable, roomy, stateRead, worksWritten}
-use Rattle.clocked_model.specs.Calls.{CycleOutcome, DrainOutcome, drains, restarted, ticked}
+use Rattle.clocked_model.specs.Calls.{CycleOutcome, DrainOutcome, drains, restarted, cycled}
 use Rattle.clocked_model.specs.declared.State.{State}
 use Rattle.strip.specs.Answers.{element, numberOf}
 use Rattle.strip.specs.declared.Request.{Request}
 use Rattle.strip.specs.declared.Request.the-variants.{Idle, Pop, Push, Replace}
-use Rattle.tree_model.specs.Calls.{counted, shapeOk}
+use Rattle.tree_model.specs.Calls.{heldCount, shapeOk}
 
 -- ---- clear: the number, and all words afterwards
 pub record ClockedAfter : Type 0 where
@@ -90,7 +90,7 @@ module _ (m levels : ℕ) (ws rs mark : List ℕ) where
   unfoldable pub clockedCycle : ℕ → ℕ → ℕ → List ℕ → ClockedAfterOut
   clockedCycle request rank tag out =
       cond (leb 2 (length out) && taken m levels (length ws) rs mark request)
-      (cycleOf levels rs mark (ticked m levels (requestOf request rank tag) (stateIn levels rs mark) ws) out) (saysNo out)
+      (cycleOf levels rs mark (cycled m levels (requestOf request rank tag) (stateIn levels rs mark) ws) out) (saysNo out)
 
   unfoldable pub clockedDrain : ℕ → List ℕ → ClockedAfterOut
   clockedDrain budget out =
@@ -98,4 +98,4 @@ module _ (m levels : ℕ) (ws rs mark : List ℕ) where
       (drainOf levels rs mark (drains m levels budget (stateIn levels rs mark) ws) out) (saysNo out)
 
 abbrev pub clockedHeld : ℕ → ℕ → List ℕ → List ℕ → CountAfter
-clockedHeld m levels ws out = countAnswered (counted m levels ws) out
+clockedHeld m levels ws out = countAnswered (heldCount m levels ws) out

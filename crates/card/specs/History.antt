@@ -8,7 +8,7 @@ use lib.ListN.{length}
 use Rattle.card.specs.Clocked.{clockedAfterOut, ClockedAfterOut, clockedCycle, clockedDrain, drainOut, stateIn}
 use Rattle.card.specs.Out.{answerOut, CountAfter, countAfter}
 use Rattle.card_records.specs.Records.{readable}
-use Rattle.clocked_model.specs.Calls.{drains, recordCount, ticked}
+use Rattle.clocked_model.specs.Calls.{drains, recordCount, cycled}
 use Rattle.clocked_model.specs.Records.{worksOf}
 use Rattle.clocked_model.specs.declared.State.{State}
 use Rattle.strip.specs.Answers.{blank, numberOf}
@@ -63,7 +63,7 @@ module _ (m levels : ℕ) (out : List ℕ) where
   -- ---- the same of the model
   unfoldable pub callM : Call → State → List ℕ → Did
   callM (asks r) s ws =
-      let o = ticked m levels r s ws in
+      let o = cycled m levels r s ws in
       record { said = countAfter (numberOf (o .answer)) (answerOut (o .answer) out); words = o .words; state = o .state }
   callM (drain budget) s ws =
       let d = drains m levels budget s ws in

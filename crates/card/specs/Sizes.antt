@@ -6,11 +6,11 @@ use Rattle.bucket_model.specs.Checks as bucket
 use Rattle.bucket_model.specs.Layout.{bitWords, queue, storeWords}
 use Rattle.tree_model.specs.Calls as tree
 use Rattle.tree_model.specs.Damage.{room}
-use Rattle.tree_model.specs.Words.{width}
+use Rattle.tree_model.specs.Words.{slotWords}
 
 -- a tree of this order and these levels: three words a slot
 unfoldable pub treeWords : ℕ → ℕ → ℕ
-treeWords m levels = cond (tree.shapeOk m levels (width * room m levels)) (width * room m levels) 0
+treeWords m levels = cond (tree.shapeOk m levels (slotWords * room m levels)) (slotWords * room m levels) 0
 
 -- a bucket queue: its words of 64 bits, as many whatever the nodes, and its words of 32 bits for n nodes
 abbrev pub bucketBits : ℕ

@@ -8,7 +8,7 @@ use lib.ListN.{length}
 use Rattle.card.specs.Out.{answerOut, badShape, CountAfter, countAnswered}
 use Rattle.strip.specs.Answers.{element, numberOf}
 use Rattle.strip.specs.declared.Request.the-variants.{Pop, Push, Replace}
-use Rattle.tree_model.specs.Calls.{called, cleared, counted, Outcome}
+use Rattle.tree_model.specs.Calls.{called, cleared, heldCount, Outcome}
 
 -- ---- clear and push: the number, and the store afterwards
 pub record TreeAfter : Type 0 where
@@ -49,4 +49,4 @@ module _ (m levels : ℕ) (ws : List ℕ) where
   treeReplace rank tag out = treeAnswered (called m levels (Replace (element rank tag)) ws) ws out
 
   abbrev pub treeHeld : List ℕ → CountAfter
-  treeHeld out = countAnswered (counted m levels ws) out
+  treeHeld out = countAnswered (heldCount m levels ws) out

@@ -31,7 +31,7 @@ use strip::Refusal;
 use strip::Request;
 use strip::Tag;
 use strip::count_number;
-use strip::counted;
+use strip::count_of;
 use strip::given;
 use strip::number;
 
@@ -58,7 +58,7 @@ fn tell_count(out: &mut [u32], count: Count) -> u32
     requires { ⌜ 1 ≤ length (now out) ⌝ }
     ensures { λ r. ⌜ (r ≡ countNumber count) × (now (out .exit) ≡ set (now (out .entry)) 0 (countOf count)) ⌝ }
 {
-    out[0] = counted(count);
+    out[0] = count_of(count);
     count_number(count)
 }
 

@@ -6,10 +6,10 @@ use mathlib.Core.Bool.{_&&_, Bool, cond, false, false≢true, not, true, true≢
 use mathlib.Core.List.{[], _∷_, List}
 use mathlib.Core.Path.{_∙_, _≡_, ap, ap₂, refl, subst, sym}
 use lib.ListN.{length, replicate}
-use Rattle.clocked_model.proofs.Drain.{drain-state, ticked-length}
+use Rattle.clocked_model.proofs.Drain.{drain-state, cycled-length}
 use Rattle.clocked_model.proofs.Exactly.{sound}
 use Rattle.clocked_model.proofs.Turn.{after-length, plain-rest, works-after}
-use Rattle.clocked_model.specs.Calls.{askedOk, cycleOutcome, CycleOutcome, drainFrom, drainOutcome, DrainOutcome, drains, heard, hearing, isRefused, pending, ticked, turned}
+use Rattle.clocked_model.specs.Calls.{askedOk, cycleOutcome, CycleOutcome, drainFrom, drainOutcome, DrainOutcome, drains, ruleMarked, ruleNow, isRefused, pending, cycled, cycleRun}
 use Rattle.clocked_model.specs.Cycle.{cycleOk, cycleWords, cycleWorks, quiet, Works}
 use Rattle.clocked_model.specs.Promise.{runs}
 use Rattle.clocked_model.specs.Records.{worksOf}
@@ -20,7 +20,7 @@ use Rattle.strip.specs.declared.Answer.the-variants.{Done, Refused}
 use Rattle.strip.specs.declared.Refusal.the-variants.{BadShape, Damaged}
 use Rattle.strip.specs.declared.Request.{Request}
 use Rattle.strip.specs.declared.Request.the-variants.{Idle}
-use Rattle.tree_model.specs.Calls.{Ruling, shapeOk, verdict}
+use Rattle.tree_model.specs.Calls.{Ruling, shapeOk, ruleAt}
 use Rattle.tree_model.specs.Levels.{Levels, top, work}
 use Rattle.tree_model.specs.Words.{levelOf, levelsOf, restWords, under}
 use Rattle.tree_model.specs.declared.Work.{Work}
@@ -48,16 +48,16 @@ module _ (m levels : ℕ) where
   abbrev k : ℕ
   k = pred levels
 
-  hearing-same : (r : Request) (s t : State) (ws : List ℕ) → Alike k s t → hearing m levels r s ws ≡ hearing m levels r t ws
-  hearing-same r s t ws a = ap (λ (b : Bool). heard b r (verdict m levels r ws)) (a .mark)
+  ruleNow-same : (r : Request) (s t : State) (ws : List ℕ) → Alike k s t → ruleNow m levels r s ws ≡ ruleNow m levels r t ws
+  ruleNow-same r s t ws a = ap (λ (b : Bool). ruleMarked b r (ruleAt m levels r ws)) (a .mark)
 
   sound-same : (r : Request) (s t : State) (ws : List ℕ) → Alike k s t → sound m levels r s ws ≡ sound m levels r t ws
   sound-same r s t ws a =
-      ap₂ (λ (g : Ruling) (p : Works k). askedOk m levels r ws && cycleOk m (suc k) (work (g .op) 0, p) (levelsOf m (suc k) ws 0 1)) (hearing-same r s t ws a) (a .works)
+      ap₂ (λ (g : Ruling) (p : Works k). askedOk m levels r ws && cycleOk m (suc k) (work (g .op) 0, p) (levelsOf m (suc k) ws 0 1)) (ruleNow-same r s t ws a) (a .works)
 
-  turned-same : (r : Request) (g : Ruling) (s t : State) (ws : List ℕ) → Alike k s t → SameCycle k (turned m levels r g s ws) (turned m levels r g t ws)
-  unfolding turned
-  turned-same r g s t ws a =
+  cycleRun-same : (r : Request) (g : Ruling) (s t : State) (ws : List ℕ) → Alike k s t → SameCycle k (cycleRun m levels r g s ws) (cycleRun m levels r g t ws)
+  unfolding cycleRun
+  cycleRun-same r g s t ws a =
       let q : Work = restWords m k (work (g .op) 0) 0 1 ws in
       let ls : Levels k = under m k ws 0 1 in
       let plain = plain-rest m (work (g .op) 0) (levelOf m ws 0 1) (top k ls) in
@@ -76,15 +76,15 @@ module _ (m levels : ℕ) where
   stood-same : (n : Answer) (s t : State) (ws : List ℕ) → Alike k s t → SameCycle k (cycleOutcome n ws s) (cycleOutcome n ws t)
   stood-same n s t ws a = record { answer = refl; words = refl; state = a }
 
-  pub ticked-same : (r : Request) (s t : State) (ws : List ℕ) → Alike k s t → SameCycle k (ticked m levels r s ws) (ticked m levels r t ws)
-  unfolding ticked
-  ticked-same r s t ws a = go (shapeOk m levels (length ws)) (sound m levels r s ws) (sound m levels r t ws) (sound-same r s t ws a) (hearing m levels r s ws) (hearing m levels r t ws) (hearing-same r s t ws a)
+  pub cycled-same : (r : Request) (s t : State) (ws : List ℕ) → Alike k s t → SameCycle k (cycled m levels r s ws) (cycled m levels r t ws)
+  unfolding cycled
+  cycled-same r s t ws a = go (shapeOk m levels (length ws)) (sound m levels r s ws) (sound m levels r t ws) (sound-same r s t ws a) (ruleNow m levels r s ws) (ruleNow m levels r t ws) (ruleNow-same r s t ws a)
     where
       go : (c b d : Bool) → b ≡ d → (g h : Ruling) → g ≡ h
-          → SameCycle k (cond c (cond b (turned m levels r g s ws) (cycleOutcome (Refused Damaged) ws s)) (cycleOutcome (Refused BadShape) ws s))
-          (cond c (cond d (turned m levels r h t ws) (cycleOutcome (Refused Damaged) ws t)) (cycleOutcome (Refused BadShape) ws t))
+          → SameCycle k (cond c (cond b (cycleRun m levels r g s ws) (cycleOutcome (Refused Damaged) ws s)) (cycleOutcome (Refused BadShape) ws s))
+          (cond c (cond d (cycleRun m levels r h t ws) (cycleOutcome (Refused Damaged) ws t)) (cycleOutcome (Refused BadShape) ws t))
       go false b d e g h f = stood-same (Refused BadShape) s t ws a
-      go true true true e g h f = subst (λ (h : Ruling). SameCycle k (turned m levels r g s ws) (turned m levels r h t ws)) f (turned-same r g s t ws a)
+      go true true true e g h f = subst (λ (h : Ruling). SameCycle k (cycleRun m levels r g s ws) (cycleRun m levels r h t ws)) f (cycleRun-same r g s t ws a)
       go true false false e g h f = stood-same (Refused Damaged) s t ws a
       go true true false e g h f = absurd (true≢false e)
       go true false true e g h f = absurd (false≢true e)
@@ -96,7 +96,7 @@ module _ (m levels : ℕ) where
   unfolding drainFrom
   drain-from-same zero n s t ws a = record { answer = refl; cycles = refl; left = pending-same s t a; words = refl; state = a }
   drain-from-same (suc b) n s t ws a =
-      go (pending m levels s) (pending m levels t) (pending-same s t a) (ticked m levels Idle s ws) (ticked m levels Idle t ws) (ticked-same Idle s t ws a)
+      go (pending m levels s) (pending m levels t) (pending-same s t a) (cycled m levels Idle s ws) (cycled m levels Idle t ws) (cycled-same Idle s t ws a)
       (drain-from-same b (suc n))
     where
       go : (x y : Bool) → x ≡ y → (o p : CycleOutcome) → SameCycle k o p
@@ -128,14 +128,14 @@ module _ (m levels : ℕ) where
 
 -- ---- how many records and words there are stays
 module _ (m levels : ℕ) where
-  pub ticked-records : (r : Request) (s : State) (ws : List ℕ) → length (ticked m levels r s ws .state .records) ≡ length (s .records)
-  unfolding ticked turned
-  ticked-records r s ws = go (shapeOk m levels (length ws)) (sound m levels r s ws)
+  pub cycled-records : (r : Request) (s : State) (ws : List ℕ) → length (cycled m levels r s ws .state .records) ≡ length (s .records)
+  unfolding cycled cycleRun
+  cycled-records r s ws = go (shapeOk m levels (length ws)) (sound m levels r s ws)
     where
       g : Ruling
-      g = hearing m levels r s ws
+      g = ruleNow m levels r s ws
 
-      go : (a b : Bool) → length (cond a (cond b (turned m levels r g s ws) (cycleOutcome (Refused Damaged) ws s)) (cycleOutcome (Refused BadShape) ws s) .state .records) ≡ length (s .records)
+      go : (a b : Bool) → length (cond a (cond b (cycleRun m levels r g s ws) (cycleOutcome (Refused Damaged) ws s)) (cycleOutcome (Refused BadShape) ws s) .state .records) ≡ length (s .records)
       go false b = refl
       go true false = refl
       go true true = after-length m (pred levels) (restWords m (pred levels) (work (g .op) 0) 0 1 ws) 0 (s .records) (under m (pred levels) ws 0 1)
@@ -144,8 +144,8 @@ module _ (m levels : ℕ) where
   unfolding leaves
   runs-kept [] s ws = (refl, refl)
   runs-kept (r ∷ rs) s ws =
-      let h = runs-kept rs (ticked m levels r s ws .state) (ticked m levels r s ws .words) in
-      (h .0 ∙ ticked-records r s ws, h .1 ∙ ticked-length m levels r s ws)
+      let h = runs-kept rs (cycled m levels r s ws .state) (cycled m levels r s ws .words) in
+      (h .0 ∙ cycled-records r s ws, h .1 ∙ cycled-length m levels r s ws)
 
   pub drains-kept : (budget : ℕ) (s : State) (ws : List ℕ) → (length (drains m levels budget s ws .state .records) ≡ length (s .records)) × (length (drains m levels budget s ws .words) ≡ length ws)
   drains-kept budget s ws =

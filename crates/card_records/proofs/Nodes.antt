@@ -12,9 +12,9 @@ use borrow.Author.Tests.{ltb-true}
 use Rattle.card_records.specs.Records.{Fit, nodeWord, recordWords, stateRead, wordLimit, workOf, workRead, worksRead}
 use Rattle.clocked_model.proofs.Demand.{few-levels}
 use Rattle.clocked_model.proofs.Drain.{drain-state}
-use Rattle.clocked_model.proofs.Exactly.{sound, ticked-bad, ticked-damaged, ticked-fine}
+use Rattle.clocked_model.proofs.Exactly.{sound, cycled-bad, cycled-damaged, cycled-fine}
 use Rattle.clocked_model.proofs.Turn.{after-length, plain-rest, works-after}
-use Rattle.clocked_model.specs.Calls.{askedOk, CycleOutcome, cycleWork, drains, fresh, hearing, recordCount, stepsOk, ticked, turned}
+use Rattle.clocked_model.specs.Calls.{askedOk, CycleOutcome, cycleWork, drains, fresh, ruleNow, recordCount, stepsOk, cycled, cycleRun}
 use Rattle.clocked_model.specs.Cycle.{cycleOk, cycleWorks, Works}
 use Rattle.clocked_model.specs.Promise.{clockedQueue, machine}
 use Rattle.clocked_model.specs.Records.{recordAt, worksOf}
@@ -30,7 +30,7 @@ use Rattle.tree_model.proofs.Exactly.{order-pos, shape-is}
 use Rattle.tree_model.proofs.Nothing.{is-none, work-none}
 use Rattle.tree_model.proofs.Words.{level-length, level-node, node-length, place-inside, size-room}
 use Rattle.tree_model.specs.Calls.{Ruling, shapeOk, slotLimit}
-use Rattle.tree_model.specs.Damage.{fine, readOk, room, stepOk}
+use Rattle.tree_model.specs.Damage.{workOk, readOk, room, stepOk}
 use Rattle.tree_model.specs.Levels.{idle, Level, levelMove, Levels, stepWork, top, work}
 use Rattle.tree_model.specs.Node.{isNothing, low}
 use Rattle.tree_model.specs.Words.{levelOf, levelsOf, restWords, size, under}
@@ -74,8 +74,8 @@ module _ (m : ℕ) (pos : 0 < m) (k : ℕ) (w : Work) (ws : List ℕ) (b c : ℕ
       let place : v .place < length own = place-inside (w .op) (room m k) own (λ j. low (getD below (w .node * m + j) [])) p (omega arith) (and-left (readOk (w .op) (room m k) own) _ (and-right here passes h)) in
       omega (arith, work-le (v .rest) (w .node * m + v .place), mul-le-mul-right m inside, suc-mul (w .node) m)
 
-  rest-low : fine m k w (levelOf m ws b c) below ≡ true → stepWork m w (levelOf m ws b c) below .node ≤ c * m
-  unfolding fine
+  rest-low : workOk m k w (levelOf m ws b c) below ≡ true → stepWork m w (levelOf m ws b c) below .node ≤ c * m
+  unfolding workOk
   rest-low e = go (isNothing (w .op)) refl e
     where
       go : (t : Bool) → isNothing (w .op) ≡ t → (t || (here && passes)) ≡ true → stepWork m w (levelOf m ws b c) below .node ≤ c * m
@@ -89,7 +89,7 @@ module _ (m : ℕ) (pos : 0 < m) where
   cycle-fit zero q p ws b c h s e = tt
   cycle-fit (suc k) q p ws b c h s e =
       let below : Levels k = levelsOf m k ws (b + c * m) (c * m) in
-      let f : Bool = fine m k (p .0) (levelOf m ws b c) (top k below) in
+      let f : Bool = workOk m k (p .0) (levelOf m ws b c) (top k below) in
       let r : Bool = cycleOk m k (p .1) below in
       let q₁ : Work = stepWork m (p .0) (levelOf m ws b c) (top k below) in
       let less : q₁ .node ≤ c * m = rest-low m pos k (p .0) ws b c (top k below) (and-left f r e) in
@@ -101,10 +101,10 @@ pub record Fits (levels : ℕ) (s : State) : Type 0 where
   pub nodes : Fit (pred levels) (worksOf (pred levels) (s .records) 0)
 
 module _ (m levels : ℕ) where
-  turned-fits : (r : Request) (g : Ruling) (s : State) (ws : List ℕ) → shapeOk m levels (length ws) ≡ true → stepsOk m levels (g .op) s ws ≡ true → Fits levels s
-      → Fits levels (turned m levels r g s ws .state)
-  unfolding turned cycleWorks levelsOf
-  turned-fits r g s ws e h f =
+  cycleRun-fits : (r : Request) (g : Ruling) (s : State) (ws : List ℕ) → shapeOk m levels (length ws) ≡ true → stepsOk m levels (g .op) s ws ≡ true → Fits levels s
+      → Fits levels (cycleRun m levels r g s ws .state)
+  unfolding cycleRun cycleWorks levelsOf
+  cycleRun-fits r g s ws e h f =
       let sh = shape-is m levels (length ws) e in
       let k : ℕ = pred levels in
       let q : Work = restWords m k (work (g .op) 0) 0 1 ws in
@@ -116,21 +116,21 @@ module _ (m levels : ℕ) where
       }
 
   -- every cycle, with any request and on any words, leaves nodes that fit
-  pub ticked-fits : (r : Request) (s : State) (ws : List ℕ) → Fits levels s → Fits levels (ticked m levels r s ws .state)
-  ticked-fits r s ws f = go (shapeOk m levels (length ws)) refl (sound m levels r s ws) refl
+  pub cycled-fits : (r : Request) (s : State) (ws : List ℕ) → Fits levels s → Fits levels (cycled m levels r s ws .state)
+  cycled-fits r s ws f = go (shapeOk m levels (length ws)) refl (sound m levels r s ws) refl
     where
-      go : (a : Bool) → shapeOk m levels (length ws) ≡ a → (b : Bool) → sound m levels r s ws ≡ b → Fits levels (ticked m levels r s ws .state)
-      go false e b h = subst (λ (o : CycleOutcome). Fits levels (o .state)) (sym (ticked-bad m levels r s ws e)) f
-      go true e false h = subst (λ (o : CycleOutcome). Fits levels (o .state)) (sym (ticked-damaged m levels r s ws e h)) f
+      go : (a : Bool) → shapeOk m levels (length ws) ≡ a → (b : Bool) → sound m levels r s ws ≡ b → Fits levels (cycled m levels r s ws .state)
+      go false e b h = subst (λ (o : CycleOutcome). Fits levels (o .state)) (sym (cycled-bad m levels r s ws e)) f
+      go true e false h = subst (λ (o : CycleOutcome). Fits levels (o .state)) (sym (cycled-damaged m levels r s ws e h)) f
       go true e true h =
-          subst (λ (o : CycleOutcome). Fits levels (o .state)) (sym (ticked-fine m levels r s ws e h))
-          (turned-fits r (hearing m levels r s ws) s ws e (and-right (askedOk m levels r ws) (stepsOk m levels (hearing m levels r s ws .op) s ws) h) f)
+          subst (λ (o : CycleOutcome). Fits levels (o .state)) (sym (cycled-fine m levels r s ws e h))
+          (cycleRun-fits r (ruleNow m levels r s ws) s ws e (and-right (askedOk m levels r ws) (stepsOk m levels (ruleNow m levels r s ws .op) s ws) h) f)
 
   -- .. and so does every drain
   pub drained-fits : (budget : ℕ) (s : State) (ws : List ℕ) → Fits levels s → Fits levels (drains m levels budget s ws .state)
   drained-fits budget s ws f =
       subst (Fits levels) (sym (drain-state m levels budget s ws .1))
-      (leaves-keep (clockedQueue m levels) (λ x. Fits levels (x .state)) (λ r x. ticked-fits r (x .state) (x .words)) (replicate (drains m levels budget s ws .cycles) Idle) (machine s ws) f)
+      (leaves-keep (clockedQueue m levels) (λ x. Fits levels (x .state)) (λ r x. cycled-fits r (x .state) (x .words)) (replicate (drains m levels budget s ws .cycles) Idle) (machine s ws) f)
 
 -- ---- what is read from words of 32 bits fits
 read-low : (kind node rank tag : ℕ) → workOf kind node rank tag .node ≤ node

@@ -13,7 +13,7 @@ use Rattle.strip.specs.declared.Answer.{Answer}
 use Rattle.strip.specs.declared.Count.{Count}
 use Rattle.strip.specs.declared.Request.{Request}
 use Rattle.strip.specs.declared.Request.the-variants.{Pop, Push, Replace}
-use Rattle.tree_model.specs.Calls.{counted}
+use Rattle.tree_model.specs.Calls.{heldCount}
 use Rattle.tree_model.specs.Promise.{after, start, treeQueue}
 
 -- what is said, in 01's numbers: the number, and the rank and tag; of held the number and how many
@@ -37,8 +37,8 @@ garbage n = replicate n 9
 -- what a row claims of the definitions
 abbrev pub Right : Row → Type 0
 Right (tree m l rs said left h) =
-    (map told (answers (treeQueue m l) rs (start m l (garbage (length left)))) ≡ said) × (after m l rs (garbage (length left)) ≡ left) × (toldHeld (counted m l left) ≡ h)
-Right (held m l ws said) = toldHeld (counted m l ws) ≡ said
+    (map told (answers (treeQueue m l) rs (start m l (garbage (length left)))) ≡ said) × (after m l rs (garbage (length left)) ≡ left) × (toldHeld (heldCount m l left) ≡ h)
+Right (held m l ws said) = toldHeld (heldCount m l ws) ≡ said
 Right (clocked words said) = words ≡ said
 Right (bucket n rs said) = map told (bucketAnswers (queue n) rs) ≡ said
 

@@ -79,7 +79,7 @@ fn filled(store: &mut [u32]) {
     push(store, 7, 7);
     push(store, 8, 8);
     io::write_all(1, b"held ");
-    say(strip::counted(tree::held(store, 2, 2)));
+    say(strip::count_of(tree::held(store, 2, 2)));
     io::write_all(1, b"\n");
 }
 

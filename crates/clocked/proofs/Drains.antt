@@ -6,7 +6,7 @@ use mathlib.Core.Bool.{Bool, cond, false, not, true}
 use mathlib.Core.List.{List}
 use mathlib.Core.Path.{_∙_, _≡_, ap, ap₂, refl, sym}
 use lib.ListN.{length}
-use Rattle.clocked_model.specs.Calls.{CycleOutcome, cycleOutcome, drainFrom, drainOutcome, DrainOutcome, drains, isRefused, pending, ticked}
+use Rattle.clocked_model.specs.Calls.{CycleOutcome, cycleOutcome, drainFrom, drainOutcome, DrainOutcome, drains, isRefused, pending, cycled}
 use Rattle.clocked_model.specs.Cycle.{quiet}
 use Rattle.clocked_model.specs.Records.{worksOf}
 use Rattle.clocked_model.specs.declared.State.{State}
@@ -43,14 +43,14 @@ module _ (m levels n k : ℕ) (below : levels ≡ suc k) (s : State) (ws : List 
     on : pending m levels s ≡ true
     on = sym waits ∙ ap not e
 
-    module _ (b : ℕ) (some : b ≡ 0 → ⊥) (x : Answer) (ws₁ : List ℕ) (s₁ : State) (ran : cycleOutcome x ws₁ s₁ ≡ ticked m levels Idle s ws) (t : Bool) (tested : t ≡ isRefused x) where
+    module _ (b : ℕ) (some : b ≡ 0 → ⊥) (x : Answer) (ws₁ : List ℕ) (s₁ : State) (ran : cycleOutcome x ws₁ s₁ ≡ cycled m levels Idle s ws) (t : Bool) (tested : t ≡ isRefused x) where
       one-cycle : drainFrom m levels b n s ws ≡ cond t (drainOutcome x n true ws₁ s₁) (drainFrom m levels (b - 1) (n + 1) s₁ ws₁)
       unfolding drainFrom
       one-cycle = go b some
         where
           step : (b : ℕ) → drainFrom m levels (suc b) n s ws ≡ cond t (drainOutcome x n true ws₁ s₁) (drainFrom m levels b (suc n) s₁ ws₁)
           step b =
-              ap (λ (t : Bool). cond t (cond (isRefused (ticked m levels Idle s ws .answer)) (drainOutcome (ticked m levels Idle s ws .answer) n true (ticked m levels Idle s ws .words) (ticked m levels Idle s ws .state)) (drainFrom m levels b (suc n) (ticked m levels Idle s ws .state) (ticked m levels Idle s ws .words))) (drainOutcome Done n false ws s)) on
+              ap (λ (t : Bool). cond t (cond (isRefused (cycled m levels Idle s ws .answer)) (drainOutcome (cycled m levels Idle s ws .answer) n true (cycled m levels Idle s ws .words) (cycled m levels Idle s ws .state)) (drainFrom m levels b (suc n) (cycled m levels Idle s ws .state) (cycled m levels Idle s ws .words))) (drainOutcome Done n false ws s)) on
               ∙ ap (λ (o : CycleOutcome). cond (isRefused (o .answer)) (drainOutcome (o .answer) n true (o .words) (o .state)) (drainFrom m levels b (suc n) (o .state) (o .words))) (sym ran)
               ∙ ap (λ (t : Bool). cond t (drainOutcome x n true ws₁ s₁) (drainFrom m levels b (suc n) s₁ ws₁)) (sym tested)
 

@@ -7,13 +7,13 @@ use mathlib.Core.Path.{_∙_, _≡_, ap, ap₂, refl, subst, sym}
 use lib.ListN.{length, replicate}
 use borrow.Author.Tests.{not-false, not-true}
 use Rattle.clocked_model.proofs.Demand.{few-levels}
-use Rattle.clocked_model.specs.Calls.{askedOk, clockedCleared, CycleOutcome, cycleOutcome, fresh, hearing, isRefused, marks, recordCount, restarted, stepsOk, ticked, turned}
+use Rattle.clocked_model.specs.Calls.{askedOk, clockedCleared, CycleOutcome, cycleOutcome, fresh, ruleNow, isRefused, marks, recordCount, restarted, stepsOk, cycled, cycleRun}
 use Rattle.clocked_model.specs.Cycle.{cycleOk, cycleWords, quiet}
 use Rattle.clocked_model.specs.Records.{recordsAfter, worksOf}
 use Rattle.clocked_model.specs.declared.State.{State}
 use Rattle.clocked.proofs.Works.{still-ok, still-records, still-words}
-use Rattle.clocked.specs.Beat.{Hears, RoomIs, Rooted, RootIn, RootPlanned, stateOf, turnedBy}
-use Rattle.clocked.specs.declared.asked.Heard.{Heard}
+use Rattle.clocked.specs.Beat.{RulesRoot, RoomIs, Rooted, RootIn, RootPlanned, stateOf, turnedBy}
+use Rattle.clocked.specs.declared.asked.RootStep.{RootStep}
 use Rattle.laws.specs.Tests.{and-assoc, and-left, and-right, sub-one}
 use Rattle.node.proofs.Shapes.{shaped-levels}
 use Rattle.node.proofs.Steps.{room-up}
@@ -31,10 +31,10 @@ use Rattle.tree_model.proofs.Nothing.{is-none, work-none}
 use Rattle.tree_model.proofs.Place.{fine-here}
 use Rattle.tree_model.proofs.Words.{size-room}
 use Rattle.tree_model.specs.Calls.{cleared, Outcome, outcome, Ruling, shapeOk, slotLimit}
-use Rattle.tree_model.specs.Damage.{fine, room, stepOk}
+use Rattle.tree_model.specs.Damage.{workOk, room, stepOk}
 use Rattle.tree_model.specs.Levels.{idle, top, work}
 use Rattle.tree_model.specs.Node.{isNothing}
-use Rattle.tree_model.specs.Words.{levelOf, levelsOf, nodeMove, nodeOf, restWords, size, stepWords, under, width, wipe}
+use Rattle.tree_model.specs.Words.{levelOf, levelsOf, nodeMove, nodeOf, restWords, size, stepWords, under, slotWords, wipe}
 use Rattle.tree_model.specs.declared.Op.{Op}
 use Rattle.tree_model.specs.declared.Op.the-variants.{Nothing}
 use Rattle.tree_model.specs.declared.Work.{Work}
@@ -95,8 +95,8 @@ module _ (m levels : ℕ) (ws : List ℕ) (f : Shape) (shaped : Shaped m levels 
   pub shape-below : (shapeOk m (suc (f .below)) (length ws) ≡ true) × RoomIs m (f .below) (f .room)
   shape-below = (ap (λ (n : ℕ). shapeOk m n (length ws)) (sym levels-are) ∙ e, shaped .fits)
 
-  pub cycle-beat : (q : Request) (s : State) (o : CycleOutcome) → o ≡ ticked m (suc (f .below)) q s ws → o ≡ ticked m levels q s ws
-  cycle-beat q s o p = p ∙ ap (λ (n : ℕ). ticked m n q s ws) (sym levels-are)
+  pub cycle-beat : (q : Request) (s : State) (o : CycleOutcome) → o ≡ cycled m (suc (f .below)) q s ws → o ≡ cycled m levels q s ws
+  cycle-beat q s o p = p ∙ ap (λ (n : ℕ). cycled m n q s ws) (sym levels-are)
 
 -- ---- clear
 pub fresh-is : (w : Work) → w ≡ idle → stateOf (replicate recordCount w) false ≡ fresh
@@ -137,15 +137,15 @@ pub outcome-path : (a b : Answer) (ws : List ℕ) (s u : State) → (a ≡ b) ×
 outcome-path a b ws s u p = λ i. record { answer = p .0 i; words = ws; state = p .1 i }
 
 pub cycle-shape : (m levels : ℕ) (r : Request) (s : State) (ws : List ℕ) (t : Bool) → t ≡ shapeOk m levels (length ws) → (a : Answer) (u : State) → not t ≡ true
-    → (a ≡ Refused BadShape) × (u ≡ s) → cycleOutcome a ws u ≡ ticked m levels r s ws
-unfolding ticked
+    → (a ≡ Refused BadShape) × (u ≡ s) → cycleOutcome a ws u ≡ cycled m levels r s ws
+unfolding cycled
 cycle-shape m levels r s ws t shaped a u e p = rw (shape-no m levels ws t shaped e) (outcome-path a (Refused BadShape) ws u s p)
 
 -- with nothing to do at any level
-pub turned-still : (m k : ℕ) (ws : List ℕ) (o : Op) (a x : Answer) (mark : Bool) (s u : State) (t q : Bool) → t ≡ isNothing o → t ≡ true
+pub cycleRun-still : (m k : ℕ) (ws : List ℕ) (o : Op) (a x : Answer) (mark : Bool) (s u : State) (t q : Bool) → t ≡ isNothing o → t ≡ true
     → q ≡ quiet k (worksOf k (s .records) 0) → q ≡ true → (x ≡ a) × (u ≡ stateOf (s .records) mark) → cycleOutcome x ws u ≡ turnedBy m k a o mark s ws
 unfolding turnedBy cycleWords stepWords work isNothing
-turned-still m k ws o a x mark s u t q none e still f p =
+cycleRun-still m k ws o a x mark s u t q none e still f p =
     let z : quiet k (worksOf k (s .records) 0) ≡ true = sym still ∙ f in
     let is : o ≡ Nothing = is-none o (sym none ∙ e) in
     outcome-path x a ws u (stateOf (s .records) mark) p
@@ -154,14 +154,14 @@ turned-still m k ws o a x mark s u t q none e still f p =
     (ap₂ (λ (v : List ℕ) (rs : List Work). cycleOutcome a v (stateOf rs mark)) (still-words m k (s .records) 0 (0 + 1 * m) (1 * m) ws z)
     (ap (λ (w : Work). recordsAfter m k w 0 (s .records) (under m k ws 0 1)) (work-none m idle (levelOf m ws 0 1) (top k (under m k ws 0 1)) refl) ∙ still-records m k (s .records) 0 (under m k ws 0 1) z)))
 
-module _ (m k r : ℕ) (q : Request) (s : State) (ws : List ℕ) (shape : shapeOk m (suc k) (length ws) ≡ true) (fits : RoomIs m k r) (h : Heard) (hears : Hears m r (s .mark) q ws h) where
+module _ (m k r : ℕ) (q : Request) (s : State) (ws : List ℕ) (shape : shapeOk m (suc k) (length ws) ≡ true) (fits : RoomIs m k r) (h : RootStep) (hears : RulesRoot m r (s .mark) q ws h) where
   abbrev g : Ruling
-  g = hearing m (suc k) q s ws
+  g = ruleNow m (suc k) q s ws
 
   abbrev rest : Bool
   rest = cycleOk m k (worksOf k (s .records) 0) (under m k ws 0 1)
 
-  root-fine : (o : Op) → fine m k (work o 0) (levelOf m ws 0 1) (top k (under m k ws 0 1)) ≡ stepOk m k o (nodeOf m ws 0) (childOf m m ws)
+  root-fine : (o : Op) → workOk m k (work o 0) (levelOf m ws 0 1) (top k (under m k ws 0 1)) ≡ stepOk m k o (nodeOf m ws 0) (childOf m m ws)
   root-fine o =
       fine-here m k 0 1 0 ws (omega arith) o
       ∙ ap₂ (λ (i f : ℕ). stepOk m k o (nodeOf m ws i) (childOf m f ws)) (omega arith) (omega arith)
@@ -173,8 +173,8 @@ module _ (m k r : ℕ) (q : Request) (s : State) (ws : List ℕ) (shape : shapeO
       ap (λ (b : Bool). askedOk m (suc k) q ws && (b && rest)) (root-fine (g .op))
       ∙ sym (and-assoc (askedOk m (suc k) q ws) (stepOk m k (g .op) (nodeOf m ws 0) (childOf m m ws)) rest) ∙ ap (λ (b : Bool). b && rest) (sym (hears k fits .0))
 
-  pub beat-damaged : (a : Answer) (u : State) → not (h .plan .ok) ≡ true → (a ≡ Refused Damaged) × (u ≡ s) → cycleOutcome a ws u ≡ ticked m (suc k) q s ws
-  unfolding ticked
+  pub beat-damaged : (a : Answer) (u : State) → not (h .plan .ok) ≡ true → (a ≡ Refused Damaged) × (u ≡ s) → cycleOutcome a ws u ≡ cycled m (suc k) q s ws
+  unfolding cycled
   beat-damaged a u e p =
       rw (shape, tests ∙ ap (λ (b : Bool). b && rest) (not-true (h .plan .ok) e)) (outcome-path a (Refused Damaged) ws u s p)
 
@@ -190,9 +190,9 @@ module _ (m k r : ℕ) (q : Request) (s : State) (ws : List ℕ) (shape : shapeO
           p .2 ∙ ap (λ (o : Op). nodeMove m o 0 m ws) (sym (p .1)),
         )
 
-    pub beat-turned : (mark : Bool) (o : CycleOutcome) → mark ≡ marks q (h .answer) → o ≡ turnedBy m k (h .answer) (h .op) mark s ws → o ≡ ticked m (suc k) q s ws
-    unfolding ticked turned turnedBy
-    beat-turned mark o em eo =
+    pub beat-cycleRun : (mark : Bool) (o : CycleOutcome) → mark ≡ marks q (h .answer) → o ≡ turnedBy m k (h .answer) (h .op) mark s ws → o ≡ cycled m (suc k) q s ws
+    unfolding cycled cycleRun turnedBy
+    beat-cycleRun mark o em eo =
         let p = hears k fits .1 ok in
         eo ∙ ap (λ (b : Bool). turnedBy m k (h .answer) (h .op) b s ws) em
         ∙ ap₂ (λ (a : Answer) (o : Op). turnedBy m k a o (marks q a) s ws) (p .0) (p .1) ∙ sym (rw (shape, tests ∙ ap (λ (b : Bool). b && rest) ok))

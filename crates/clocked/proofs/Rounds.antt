@@ -17,7 +17,7 @@ use Rattle.clocked_model.specs.Records.{landed, recordAt, recordsAfter, worksOf
 use Rattle.clocked_model.specs.declared.State.{State}
 use Rattle.clocked.proofs.Works.{fine-plain, rest-plain, words-plain}
 use Rattle.clocked.specs.Beat.{Does, LevelIn, LevelPlanned, noWrite, RoomIs, Rooted, RootPlanned, stateOf, StepOf, turnedBy, Within, written}
-use Rattle.clocked.specs.declared.asked.Heard.{Heard}
+use Rattle.clocked.specs.declared.asked.RootStep.{RootStep}
 use Rattle.clocked.specs.declared.levels.Step.{Step}
 use Rattle.clocked.specs.declared.levels.Write.{Write}
 use Rattle.laws.specs.Tests.{and-left, and-right, sub-one}
@@ -33,10 +33,10 @@ use Rattle.tree_model.proofs.Nothing.{is-none, op-work, work-none}
 use Rattle.tree_model.proofs.Place.{fine-here, move-here, place-here, rest-here, write-here}
 use Rattle.tree_model.proofs.Words.{level-length, levels-before, size-room}
 use Rattle.tree_model.specs.Calls.{slotLimit}
-use Rattle.tree_model.specs.Damage.{fine, room, stepOk}
+use Rattle.tree_model.specs.Damage.{workOk, room, stepOk}
 use Rattle.tree_model.specs.Levels.{idle, Level, levelMove, Levels, stepWork, top, work}
 use Rattle.tree_model.specs.Node.{isNothing, move}
-use Rattle.tree_model.specs.Words.{levelOf, levelsOf, nodeMove, nodeOf, restWords, size, stepWords, under, width, write}
+use Rattle.tree_model.specs.Words.{levelOf, levelsOf, nodeMove, nodeOf, restWords, size, stepWords, under, slotWords, write}
 use Rattle.tree_model.specs.declared.Move.{Move}
 use Rattle.tree_model.specs.declared.Op.{Op}
 use Rattle.tree_model.specs.declared.Op.the-variants.{Nothing}
@@ -59,7 +59,7 @@ module _ (m b c r u : ℕ) (ws : List ℕ) (level : LevelIn m b c r u ws) (w : W
   child = b + c * m + w .node * m * m
 
   pub level-lacks : (s : Step) → isNothing (w .op) ≡ false → c ≤ w .node → s .ok ≡ false → LevelPlanned m b c r u w ws s
-  unfolding fine
+  unfolding workOk
   level-lacks s some h e k er eu = (e ∙ rw (some, level-length m ws b c, le-ltb (w .node) c h), λ z. absurd (true≢false (sym z ∙ e)))
 
   module _ (inside : w .node < c) where
@@ -86,7 +86,7 @@ module _ (m b c r u : ℕ) (ws : List ℕ) (level : LevelIn m b c r u ws) (w : W
         }
 
     module _ (t : Bool) (v : Move) (planned : Planned m r u (w .op) own child ws t v) where
-      level-test : (k : ℕ) → RoomIs m k r → RoomIs m (pred k) u → t ≡ fine m k w (levelOf m ws b c) (top k (under m k ws b c))
+      level-test : (k : ℕ) → RoomIs m k r → RoomIs m (pred k) u → t ≡ workOk m k w (levelOf m ws b c) (top k (under m k ws b c))
       level-test k er eu =
           planned k er eu .0 ∙ sym (fine-here m k b c (w .node) ws inside (w .op)) ∙ fine-plain m k (w .op) (w .node) (levelOf m ws b c) (top k (under m k ws b c))
 
@@ -152,7 +152,7 @@ pub record Turning (m left b c i n r : ℕ) (ws : List ℕ) (l : List Write) (q 
   pub fits : RoomIs m (pred left) r
   pub few : n ≤ suc i
   pub spare : length l ≡ suc recordCount
-  pub inside : (j : ℕ) → j < n → width * (getD l j noWrite .at) + 3 ≤ length ws
+  pub inside : (j : ℕ) → j < n → slotWords * (getD l j noWrite .at) + 3 ≤ length ws
   pub stands : levelsOf m left (written n l ws) b c ≡ levelsOf m left ws b c
   pub tests : cycleOk m left (worksOf left rs i) (levelsOf m left ws b c) ≡ t
   pub records : recordsAfter m left q i rs (levelsOf m left ws b c) ≡ rs′
@@ -181,7 +181,7 @@ module _ (m k b c i n r : ℕ) (ws : List ℕ) (l : List Write) (q : Work) (rs :
   unfolding size
   level-size = now .lies .small
 
-  level-words : width * (b + (c * m + size m k (c * m))) ≤ length ws
+  level-words : slotWords * (b + (c * m + size m k (c * m))) ≤ length ws
   unfolding size
   level-words = now .lies .words
 
@@ -226,7 +226,7 @@ module _ (m k b c i n r : ℕ) (ws : List ℕ) (l : List Write) (q : Work) (rs :
   }
 
   -- the level's work, by its record
-  ok-split : (fine m k w here (top k deep) && cycleOk m k (worksOf k rs (suc i)) deep) ≡ t
+  ok-split : (workOk m k w here (top k deep) && cycleOk m k (worksOf k rs (suc i)) deep) ≡ t
   unfolding cycleOk worksOf levelsOf recordAt
   ok-split = ap (λ (a : Bool). a && cycleOk m k (worksOf k rs (suc i)) deep) (sym (fine-plain m k (w .op) (w .node) here (top k deep))) ∙ now .tests
 
@@ -243,7 +243,7 @@ module _ (m k b c i n r : ℕ) (ws : List ℕ) (l : List Write) (q : Work) (rs :
   -- damage
   pub turn-damaged : (u : ℕ) → RoomUnder m r u → (s : Step) → LevelPlanned m b c r u w ws s → not (s .ok) ≡ true → t ≡ false
   turn-damaged u f s p e =
-      let z : fine m k w here (top k deep) ≡ false = sym (p k (now .fits) (f k (now .fits)) .0) ∙ not-true (s .ok) e in
+      let z : workOk m k w here (top k deep) ≡ false = sym (p k (now .fits) (f k (now .fits)) .0) ∙ not-true (s .ok) e in
       sym ok-split ∙ ap (λ (a : Bool). a && cycleOk m k (worksOf k rs (suc i)) deep) z
 
   module _ (landing : Work) (lands : landing ≡ landed q w) (u : ℕ) (f : RoomUnder m r u) where
@@ -251,9 +251,9 @@ module _ (m k b c i n r : ℕ) (ws : List ℕ) (l : List Write) (q : Work) (rs :
     works-stand = works-set k rs (i + 1) i landing (omega arith) ∙ ap (worksOf k rs) (add-one i)
 
     -- what is left once the level's step is planned, and its words are those of the first n′ of the writes l′
-    turn-on : (q′ : Work) (n′ : ℕ) (l′ : List Write) → fine m k w here (top k deep) ≡ true → q′ ≡ restWords m k w b c ws
+    turn-on : (q′ : Work) (n′ : ℕ) (l′ : List Write) → workOk m k w here (top k deep) ≡ true → q′ ≡ restWords m k w b c ws
         → written n′ l′ ws ≡ stepWords m k w b c (written n l ws) → levelsOf m k (written n′ l′ ws) (b + c * m) (c * m) ≡ deep
-        → n′ ≤ suc (i + 1) → length l′ ≡ suc recordCount → ((j : ℕ) → j < n′ → width * (getD l′ j noWrite .at) + 3 ≤ length ws)
+        → n′ ≤ suc (i + 1) → length l′ ≡ suc recordCount → ((j : ℕ) → j < n′ → slotWords * (getD l′ j noWrite .at) + 3 ≤ length ws)
         → Turning m k (b + c * m) (c * m) (i + 1) n′ u ws l′ q′ (set rs i landing) t rs′ ws′
     turn-on q′ n′ l′ ok eq ew stand few spare inside = record {
       lies = next-lies;
@@ -279,7 +279,7 @@ module _ (m k b c i n r : ℕ) (ws : List ℕ) (l : List Write) (q : Work) (rs :
 
     -- a level with nothing to do
     pub turn-idle : (none : Work) → none ≡ idle → isNothing (w .op) ≡ true → Turning m k (b + c * m) (c * m) (i + 1) n u ws l none (set rs i landing) t rs′ ws′
-    unfolding fine stepWords
+    unfolding workOk stepWords
     turn-idle none en e =
         turn-on none n l (rw e) (en ∙ sym (work-none m w here (top k deep) (is-none (w .op) e))) (rw e) deep-stands (omega (arith, now .few)) (now .spare) (now .inside)
 
@@ -298,8 +298,8 @@ module _ (m k b c i n r : ℕ) (ws : List ℕ) (l : List Write) (q : Work) (rs :
         (ap (λ (v : List ℕ). levelsOf m k v (b + c * m) (c * m)) more ∙ levels-before m k (written n l ws) (b + c * m) (c * m) (s .write .at) (s .write .slot) (d .own) ∙ deep-stands)
         (omega (arith, now .few)) (length-set l n (s .write) ∙ now .spare)
         (λ j h. ⊎-elim
-        (λ z. subst (λ (w : Write). width * (w .at) + 3 ≤ length ws) (sym (ap (λ (j : ℕ). getD (set l n (s .write)) j noWrite) z ∙ getD-set-same l n (s .write) noWrite fit)) (omega (arith, d .own, level-words)))
-        (λ z. subst (λ (w : Write). width * (w .at) + 3 ≤ length ws) (sym (getD-set-other l n j (s .write) noWrite (λ g. omega arith))) (now .inside j z))
+        (λ z. subst (λ (w : Write). slotWords * (w .at) + 3 ≤ length ws) (sym (ap (λ (j : ℕ). getD (set l n (s .write)) j noWrite) z ∙ getD-set-same l n (s .write) noWrite fit)) (omega (arith, d .own, level-words)))
+        (λ z. subst (λ (w : Write). slotWords * (w .at) + 3 ≤ length ws) (sym (getD-set-other l n j (s .write) noWrite (λ g. omega arith))) (now .inside j z))
         (either j n (omega arith)))
       where
         either : (j n : ℕ) → j < suc n → (j ≡ n) ⊎ (j < n)
@@ -335,7 +335,7 @@ module _ (m k b c i n r : ℕ) (ws : List ℕ) (l : List Write) (q : Work) (rs :
   going-end h = let e : k - i ≡ 0 = omega arith in subst (λ (j : ℕ). Turning m j b c i n r ws l q rs t rs′ ws′) e now
 
 -- ---- the root's step comes first
-module _ (m k : ℕ) (ws : List ℕ) (rooted : Rooted m k ws) (h : Heard) (planned : RootPlanned m k h ws) where
+module _ (m k : ℕ) (ws : List ℕ) (rooted : Rooted m k ws) (h : RootStep) (planned : RootPlanned m k h ws) where
   abbrev o : Op
   o = h .op
 
@@ -357,7 +357,7 @@ module _ (m k : ℕ) (ws : List ℕ) (rooted : Rooted m k ws) (h : Heard) (plann
   root-moved : nodeMove m o (0 + 0 * m) (0 + 1 * m + 0 * m * m) ws ≡ v
   root-moved = ap₂ (λ (i f : ℕ). nodeMove m o i f ws) node-zero child-zero ∙ sym (planned .1)
 
-  root-words : (width * m ≤ length ws) × (m ≤ slotLimit)
+  root-words : (slotWords * m ≤ length ws) × (m ≤ slotLimit)
   unfolding size
   root-words = (omega (arith, rooted .lies .words), omega (arith, rooted .lies .small))
 
@@ -386,13 +386,13 @@ module _ (m k : ℕ) (ws : List ℕ) (rooted : Rooted m k ws) (h : Heard) (plann
     pub few : n ≤ 1
     pub words : written n (replicate (suc recordCount) first) ws ≡ stepWords m k (work o 0) 0 1 ws
     pub stands : levelsOf m k (written n (replicate (suc recordCount) first) ws) m m ≡ levelsOf m k ws m m
-    pub inside : (j : ℕ) → j < n → width * (getD (replicate (suc recordCount) first) j noWrite .at) + 3 ≤ length ws
+    pub inside : (j : ℕ) → j < n → slotWords * (getD (replicate (suc recordCount) first) j noWrite .at) + 3 ≤ length ws
 
   begun : (n : ℕ) → n ≡ cond (isNothing o) 0 1 → Begun n
   unfolding written stepWords
   begun n e = subst Begun (sym e) (go (isNothing o) refl)
     where
-      none-at : (j : ℕ) → j < 0 → width * (getD (replicate (suc recordCount) first) j noWrite .at) + 3 ≤ length ws
+      none-at : (j : ℕ) → j < 0 → slotWords * (getD (replicate (suc recordCount) first) j noWrite .at) + 3 ≤ length ws
       none-at j h = absurd (not-suc-le-zero h)
 
       go : (b : Bool) → isNothing o ≡ b → Begun (cond b 0 1)
@@ -457,11 +457,11 @@ module _ (m k : ℕ) (ws : List ℕ) (rooted : Rooted m k ws) (h : Heard) (plann
     abbrev whole : Bool
     whole = cycleOk m k (worksOf k (s .records) 0) (under m k ws 0 1)
 
-    pub turned-off : (x : Answer) (u : State) → whole ≡ false → (x ≡ Refused Damaged) × (u ≡ s) → cycleOutcome x ws u ≡ turnedBy m k a o mark s ws
+    pub cycleRun-off : (x : Answer) (u : State) → whole ≡ false → (x ≡ Refused Damaged) × (u ≡ s) → cycleOutcome x ws u ≡ turnedBy m k a o mark s ws
     unfolding turnedBy
-    turned-off x u e p = rw e (λ i. record { answer = p .0 i; words = ws; state = p .1 i })
+    cycleRun-off x u e p = rw e (λ i. record { answer = p .0 i; words = ws; state = p .1 i })
 
-    pub turned-on : (rs : List Work) (after : List ℕ) → true ≡ whole → rs ≡ recordsAfter m k (restWords m k (work o 0) 0 1 ws) 0 (s .records) (under m k ws 0 1)
+    pub cycleRun-on : (rs : List Work) (after : List ℕ) → true ≡ whole → rs ≡ recordsAfter m k (restWords m k (work o 0) 0 1 ws) 0 (s .records) (under m k ws 0 1)
         → after ≡ cycleWords m (suc k) (work o 0, worksOf k (s .records) 0) 0 1 ws → cycleOutcome a after (stateOf rs mark) ≡ turnedBy m k a o mark s ws
     unfolding turnedBy
-    turned-on rs after e er ew = rw (← e) (ap₂ (λ (v : List ℕ) (rs : List Work). cycleOutcome a v (stateOf rs mark)) ew er)
+    cycleRun-on rs after e er ew = rw (← e) (ap₂ (λ (v : List ℕ) (rs : List Work). cycleOutcome a v (stateOf rs mark)) ew er)

@@ -12,7 +12,7 @@ use Rattle.clocked_model.specs.Cycle.{cycleOk, cycleWords, quiet}
 use Rattle.clocked_model.specs.Records.{landed, recordAt, recordsAfter, worksOf}
 use Rattle.laws.specs.Tests.{and-assoc, and-left, and-right, and-unit}
 use Rattle.tree_model.proofs.Nothing.{is-none, op-work, work-none}
-use Rattle.tree_model.specs.Damage.{fine}
+use Rattle.tree_model.specs.Damage.{workOk}
 use Rattle.tree_model.specs.Levels.{idle, Level, Levels, stepWork, top, work}
 use Rattle.tree_model.specs.Node.{isNothing}
 use Rattle.tree_model.specs.Words.{levelsOf, stepWords}
@@ -53,8 +53,8 @@ steps-one o t read e = rw (← read, e)
 
 -- ---- a record's numbers that its kind does not use are not read
 module _ (m k : ℕ) where
-  pub fine-plain : (o : Op) (n : ℕ) (l below : Level) → fine m k (work o n) l below ≡ fine m k (record { op = o; node = n }) l below
-  unfolding fine work isNothing
+  pub fine-plain : (o : Op) (n : ℕ) (l below : Level) → workOk m k (work o n) l below ≡ workOk m k (record { op = o; node = n }) l below
+  unfolding workOk work isNothing
   fine-plain Nothing n l below = refl
   fine-plain (Put x) n l below = refl
   fine-plain Take n l below = refl
@@ -114,11 +114,11 @@ module _ (m : ℕ) where
   recordAt-idle rs i e = ap (λ (o : Op). work o (getD rs i idle .node)) e
 
   pub still-ok : (k : ℕ) (rs : List Work) (i : ℕ) (ls : Levels k) → quiet k (worksOf k rs i) ≡ true → cycleOk m k (worksOf k rs i) ls ≡ true
-  unfolding cycleOk worksOf fine isNothing
+  unfolding cycleOk worksOf workOk isNothing
   still-ok zero rs i ls e = refl
   still-ok (suc k) rs i ls e =
       let p = still-step k rs i e in
-      ap (λ (w : Work). fine m k w (ls .0) (top k (ls .1)) && cycleOk m k (worksOf k rs (suc i)) (ls .1)) (recordAt-idle rs i (p .0)) ∙ still-ok k rs (suc i) (ls .1) (p .1)
+      ap (λ (w : Work). workOk m k w (ls .0) (top k (ls .1)) && cycleOk m k (worksOf k rs (suc i)) (ls .1)) (recordAt-idle rs i (p .0)) ∙ still-ok k rs (suc i) (ls .1) (p .1)
 
   pub still-words : (k : ℕ) (rs : List Work) (i b c : ℕ) (ws : List ℕ) → quiet k (worksOf k rs i) ≡ true → cycleWords m k (worksOf k rs i) b c ws ≡ ws
   unfolding cycleWords worksOf stepWords isNothing

@@ -4,11 +4,11 @@ use mathlib.Core.Bool.{_&&_, Bool, cond, true}
 use mathlib.Core.List.{List}
 use mathlib.Core.Path.{_≡_}
 use lib.ListN.{getD, length}
-use Rattle.clocked_model.specs.Calls.{askedOk, CycleOutcome, cycleOutcome, heard, recordCount}
+use Rattle.clocked_model.specs.Calls.{askedOk, CycleOutcome, cycleOutcome, ruleMarked, recordCount}
 use Rattle.clocked_model.specs.Cycle.{cycleOk, cycleWords}
 use Rattle.clocked_model.specs.Records.{recordsAfter, worksOf}
 use Rattle.clocked_model.specs.declared.State.{State}
-use Rattle.clocked.specs.declared.asked.Heard.{Heard}
+use Rattle.clocked.specs.declared.asked.RootStep.{RootStep}
 use Rattle.clocked.specs.declared.levels.Step.{Step}
 use Rattle.clocked.specs.declared.levels.Write.{Write}
 use Rattle.node.specs.Scan.{childOf, ChildrenIn, NodeIn}
@@ -18,11 +18,11 @@ use Rattle.strip.specs.declared.Answer.the-variants.{Refused}
 use Rattle.strip.specs.declared.Refusal.the-variants.{Damaged}
 use Rattle.strip.specs.declared.Request.{Request}
 use Rattle.tree.specs.Down.{Lies}
-use Rattle.tree_model.specs.Calls.{rootOk, Ruling, slotLimit, verdict}
-use Rattle.tree_model.specs.Damage.{fine, room, stepOk}
+use Rattle.tree_model.specs.Calls.{rootOk, Ruling, slotLimit, ruleAt}
+use Rattle.tree_model.specs.Damage.{workOk, room, stepOk}
 use Rattle.tree_model.specs.Levels.{levelMove, top, work}
 use Rattle.tree_model.specs.Node.{move}
-use Rattle.tree_model.specs.Words.{levelOf, nodeMove, nodeOf, restWords, under, width, write}
+use Rattle.tree_model.specs.Words.{levelOf, nodeMove, nodeOf, restWords, under, slotWords, write}
 use Rattle.tree_model.specs.declared.Move.{Move}
 use Rattle.tree_model.specs.declared.Op.{Op}
 use Rattle.tree_model.specs.declared.Op.the-variants.{Nothing}
@@ -45,36 +45,36 @@ pub record RootIn (m r : ℕ) (ws : List ℕ) : Type 0 where
   pub children : 1 ≤ r → ChildrenIn m m ws
 
 -- nothing is done
-abbrev pub Still : ℕ → Bool → Answer → Heard → Type 0
+abbrev pub Still : ℕ → Bool → Answer → RootStep → Type 0
 Still m ok a h = (h .plan .ok ≡ ok) × (h .answer ≡ a) × (h .op ≡ Nothing) × (h .plan .step ≡ move m blank 0 Nothing)
 
 -- the test of the root is t, and the ruling g: the plan is in order where the root is and the ruling's step is; then the answer, the
 -- operation and the step are those of the ruling
-abbrev pub Settles : ℕ → ℕ → Bool → Ruling → List ℕ → Heard → Type 0
+abbrev pub Settles : ℕ → ℕ → Bool → Ruling → List ℕ → RootStep → Type 0
 Settles m k t g ws h =
     (h .plan .ok ≡ (t && stepOk m k (g .op) (nodeOf m ws 0) (childOf m m ws)))
     × (h .plan .ok ≡ true → (h .answer ≡ g .answer) × (h .op ≡ g .op) × (h .plan .step ≡ nodeMove m (g .op) 0 m ws))
 
 -- .. whatever number of levels has this room: a request that is not too soon, and any request with its mark
-abbrev pub Ruled : ℕ → ℕ → Request → List ℕ → Heard → Type 0
-Ruled m r q ws h = (k : ℕ) → RoomIs m k r → Settles m k (rootOk m (suc k) ws) (verdict m (suc k) q ws) ws h
+abbrev pub Ruled : ℕ → ℕ → Request → List ℕ → RootStep → Type 0
+Ruled m r q ws h = (k : ℕ) → RoomIs m k r → Settles m k (rootOk m (suc k) ws) (ruleAt m (suc k) q ws) ws h
 
-abbrev pub Hears : ℕ → ℕ → Bool → Request → List ℕ → Heard → Type 0
-Hears m r mark q ws h = (k : ℕ) → RoomIs m k r → Settles m k (askedOk m (suc k) q ws) (heard mark q (verdict m (suc k) q ws)) ws h
+abbrev pub RulesRoot : ℕ → ℕ → Bool → Request → List ℕ → RootStep → Type 0
+RulesRoot m r mark q ws h = (k : ℕ) → RoomIs m k r → Settles m k (askedOk m (suc k) q ws) (ruleMarked mark q (ruleAt m (suc k) q ws)) ws h
 
 -- ---- one level: c nodes from slot b, with room for r below each slot and, where that is any, the next level with room for u; so many as
 -- some number of levels has
 pub record LevelIn (m b c r u : ℕ) (ws : List ℕ) : Type 0 where
   pub order : 0 < m
   pub few : m ≤ 8
-  pub words : width * (b + c * m) ≤ length ws
+  pub words : slotWords * (b + c * m) ≤ length ws
   pub small : b + c * m ≤ slotLimit
   pub limit : r ≤ slotLimit
   pub deeper : u ≤ slotLimit
   pub below : ℕ
   pub fits : RoomIs m below r
   pub under : RoomIs m (pred below) u
-  pub children : 1 ≤ r → width * (b + c * m + c * m * m) ≤ length ws
+  pub children : 1 ≤ r → slotWords * (b + c * m + c * m * m) ≤ length ws
 
 -- the step v at the node from slot f of a level that begins at slot b
 abbrev pub StepOf : ℕ → ℕ → Move → Step → Type 0
@@ -89,7 +89,7 @@ pub record Does (m k : ℕ) (w : Work) (b c : ℕ) (ws : List ℕ) (s : Step) : 
 
 abbrev pub LevelPlanned : ℕ → ℕ → ℕ → ℕ → ℕ → Work → List ℕ → Step → Type 0
 LevelPlanned m b c r u w ws s =
-    (k : ℕ) → RoomIs m k r → RoomIs m (pred k) u → (s .ok ≡ fine m k w (levelOf m ws b c) (top k (under m k ws b c))) × (s .ok ≡ true → Does m k w b c ws s)
+    (k : ℕ) → RoomIs m k r → RoomIs m (pred k) u → (s .ok ≡ workOk m k w (levelOf m ws b c) (top k (under m k ws b c))) × (s .ok ≡ true → Does m k w b c ws s)
 
 -- ---- the writes
 abbrev pub noWrite : Write
@@ -103,7 +103,7 @@ written (suc n) l ws = write (written n l ws) (getD l n noWrite .at) (getD l n n
 -- .. and all of them lie within the words
 pub record Within (n : ℕ) (l : List Write) (ws : List ℕ) : Type 0 where
   pub few : n ≤ suc recordCount
-  pub inside : (j : ℕ) → j < n → width * (getD l j noWrite .at) + 3 ≤ length ws
+  pub inside : (j : ℕ) → j < n → slotWords * (getD l j noWrite .at) + 3 ≤ length ws
 
 -- ---- all levels: the root with k levels below it, and a record for each of them
 pub record Rooted (m k : ℕ) (ws : List ℕ) : Type 0 where
@@ -111,7 +111,7 @@ pub record Rooted (m k : ℕ) (ws : List ℕ) : Type 0 where
   pub records : k ≤ recordCount
 
 -- the operation's step at the root has been planned, and is in order
-abbrev pub RootPlanned : ℕ → ℕ → Heard → List ℕ → Type 0
+abbrev pub RootPlanned : ℕ → ℕ → RootStep → List ℕ → Type 0
 RootPlanned m k h ws = (stepOk m k (h .op) (nodeOf m ws 0) (childOf m m ws) ≡ true) × (h .plan .step ≡ nodeMove m (h .op) 0 m ws)
 
 -- the cycle in which the operation o, whose step is in order, is done at the root and answered a

@@ -4,7 +4,7 @@ ghost use mathlib.Core.Bool.{_||_, not};
 ghost use Rattle.tree_model.specs.Damage.{nodeOk};
 ghost use Rattle.tree_model.specs.Words.{nodeOf};
 ghost use Rattle.clocked_model.specs.Calls.{asks, popsOrReplaces, isRefused, marks};
-ghost use Rattle.clocked.specs.Beat.{RootIn, Still, Ruled, Hears};
+ghost use Rattle.clocked.specs.Beat.{RootIn, Still, Ruled, RulesRoot};
 use node::lower;
 use node::node_ok;
 use node::plan::Plan;
@@ -22,7 +22,7 @@ use strip::Request;
 use tree_model::Op;
 
 // What a request comes to: its answer, the operation at the root, and the plan of that operation's step.
-pub struct Heard {
+pub struct RootStep {
     pub answer: Answer,
     pub op: Op,
     pub plan: Plan,
@@ -68,11 +68,11 @@ pub fn leaves_mark(request: Request, answer: Answer) -> bool
 }
 
 // Nothing is done at the root.
-fn still(order: usize, ok: bool, answer: Answer) -> Heard
+fn still(order: usize, ok: bool, answer: Answer) -> RootStep
     ensures { λ r. ⌜ Still order ok answer r ⌝ }
 {
     let plan = no_plan(order, ok);
-    Heard {
+    RootStep {
         answer,
         op: Op::Nothing,
         plan,
@@ -80,7 +80,7 @@ fn still(order: usize, ok: bool, answer: Answer) -> Heard
 }
 
 // .. and where an operation was asked for the root is tested all the same.
-fn stands(s: &[u32], order: usize, room: usize, asked: bool, answer: Answer) -> Heard
+fn stands(s: &[u32], order: usize, room: usize, asked: bool, answer: Answer) -> RootStep
     requires { ⌜ RootIn order room (now s) ⌝ }
     ensures { λ r. ⌜ Still order (not asked || nodeOk room (nodeOf order (now (s .entry)) 0)) answer r ⌝ }
 {
@@ -92,7 +92,7 @@ fn stands(s: &[u32], order: usize, room: usize, asked: bool, answer: Answer) -> 
 }
 
 // A root that is whole and leaves no room is full.
-fn hear_push(s: &[u32], order: usize, room: usize, x: Element) -> Heard
+fn rule_push(s: &[u32], order: usize, room: usize, x: Element) -> RootStep
     requires { ⌜ RootIn order room (now s) ⌝ }
     ensures { λ r. ⌜ Ruled order room (Request.Push x) (now (s .entry)) r ⌝ }
 {
@@ -102,7 +102,7 @@ fn hear_push(s: &[u32], order: usize, room: usize, x: Element) -> Heard
     }
     let slot = c.slot;
     let plan = plan_put(c.place, slot, x);
-    Heard {
+    RootStep {
         answer: Answer::Done,
         op: Op::Put(x),
         plan,
@@ -110,7 +110,7 @@ fn hear_push(s: &[u32], order: usize, room: usize, x: Element) -> Heard
 }
 
 // A root that is whole and has no lowest is empty.
-fn hear_pop(s: &[u32], order: usize, room: usize) -> Heard
+fn rule_pop(s: &[u32], order: usize, room: usize) -> RootStep
     requires { ⌜ RootIn order room (now s) ⌝ }
     ensures { λ r. ⌜ Ruled order room Request.Pop (now (s .entry)) r ⌝ }
 {
@@ -122,14 +122,14 @@ fn hear_pop(s: &[u32], order: usize, room: usize) -> Heard
     let under = room_under(order, room);
     let plan = plan_take(s, order, order, under, c.place, slot);
     let least = slot.element;
-    Heard {
+    RootStep {
         answer: Answer::Out(least),
         op: Op::Take,
         plan,
     }
 }
 
-fn hear_replace(s: &[u32], order: usize, room: usize, x: Element) -> Heard
+fn rule_replace(s: &[u32], order: usize, room: usize, x: Element) -> RootStep
     requires { ⌜ RootIn order room (now s) ⌝ }
     ensures { λ r. ⌜ Ruled order room (Request.Replace x) (now (s .entry)) r ⌝ }
 {
@@ -144,7 +144,7 @@ fn hear_replace(s: &[u32], order: usize, room: usize, x: Element) -> Heard
     }
     let under = room_under(order, room);
     let plan = plan_swap(s, order, order, under, c.place, slot, x);
-    Heard {
+    RootStep {
         answer: Answer::Out(least),
         op: Op::Swap(x),
         plan,
@@ -152,17 +152,17 @@ fn hear_replace(s: &[u32], order: usize, room: usize, x: Element) -> Heard
 }
 
 // What the request comes to with this mark. An idle cycle reads no root, and a pop or replace with the mark on is too soon.
-pub fn hear(s: &[u32], order: usize, room: usize, mark: bool, request: Request) -> Heard
+pub fn rule_root(s: &[u32], order: usize, room: usize, mark: bool, request: Request) -> RootStep
     requires { ⌜ RootIn order room (now s) ⌝ }
-    ensures { λ r. ⌜ Hears order room mark request (now (s .entry)) r ⌝ }
+    ensures { λ r. ⌜ RulesRoot order room mark request (now (s .entry)) r ⌝ }
 {
     if mark & pops_or_replaces(request) {
         return stands(s, order, room, true, Answer::Refused(Refusal::TooSoon));
     }
     match request {
         Request::Idle => stands(s, order, room, false, Answer::Done),
-        Request::Push(x) => hear_push(s, order, room, x),
-        Request::Pop => hear_pop(s, order, room),
-        Request::Replace(x) => hear_replace(s, order, room, x),
+        Request::Push(x) => rule_push(s, order, room, x),
+        Request::Pop => rule_pop(s, order, room),
+        Request::Replace(x) => rule_replace(s, order, room, x),
     }
 }

@@ -6,7 +6,7 @@ ghost use Prim.Native.Nat.{_+_, _<_};
 ghost use Rattle.tree_model.specs.Node.{isNothing};
 ghost use Rattle.clocked_model.specs.Calls.{cycleOutcome};
 ghost use Rattle.clocked.specs.Beat.{LevelIn, LevelPlanned, RoomIs, Rooted, RootPlanned, StepOf, Within, written, turnedBy};
-use crate::asked::Heard;
+use crate::asked::RootStep;
 use crate::left_as;
 use crate::records::is_nothing;
 use crate::records::land;
@@ -81,21 +81,21 @@ fn plan_level(
     s: &[u32],
     order: usize,
     base: usize,
-    width: usize,
+    nodes: usize,
     room: usize,
     under: usize,
     w: Work,
 ) -> Step
-    requires { ⌜ LevelIn order base width room under (now s) × (isNothing (w .op) ≡ false) ⌝ }
-    ensures { λ r. ⌜ LevelPlanned order base width room under w (now (s .entry)) r ⌝ }
+    requires { ⌜ LevelIn order base nodes room under (now s) × (isNothing (w .op) ≡ false) ⌝ }
+    ensures { λ r. ⌜ LevelPlanned order base nodes room under w (now (s .entry)) r ⌝ }
 {
     let op = w.op;
     let node = w.node;
-    if width <= node {
+    if nodes <= node {
         return damaged();
     }
     let first = node * order;
-    let child = base + width * order + first * order;
+    let child = base + nodes * order + first * order;
     let p = plan_of(s, base + first, child, order, room, under, op);
     if !p.ok {
         return damaged();
@@ -129,7 +129,7 @@ pub fn turn(
     order: usize,
     below: usize,
     top: usize,
-    g: Heard,
+    g: RootStep,
     state: State,
     mark: bool,
 ) -> Cycled
@@ -147,7 +147,7 @@ pub fn turn(
     let mut n = steps_of(op);
     let mut room = room_under(order, top);
     let mut base = order;
-    let mut width = order;
+    let mut nodes = order;
     let mut i = 0;
     while i < below {
         let own = next.records[i];
@@ -157,7 +157,7 @@ pub fn turn(
         let under = room_under(order, room);
         let does = own.op;
         if !is_nothing(does) {
-            let p = plan_level(s, order, base, width, room, under, own);
+            let p = plan_level(s, order, base, nodes, room, under, own);
             if !p.ok {
                 return left_as(Refusal::Damaged, state);
             }
@@ -167,8 +167,8 @@ pub fn turn(
             n += 1;
             load = rest;
         }
-        width = width * order;
-        base = base + width;
+        nodes = nodes * order;
+        base = base + nodes;
         room = under;
         i += 1;
     }

@@ -3,17 +3,17 @@ ghost use mathlib.Core.Path.{_≡_};
 ghost use mathlib.Core.Bool.{true};
 ghost use Prim.Native.Nat.{suc};
 ghost use lib.ListN.{length};
-ghost use Rattle.tree_model.specs.Calls.{shapeOk, counted};
-ghost use Rattle.clocked_model.specs.Calls.{cycleOutcome, ticked, fresh, clockedCleared, drainOutcome, drains};
+ghost use Rattle.tree_model.specs.Calls.{shapeOk, heldCount};
+ghost use Rattle.clocked_model.specs.Calls.{cycleOutcome, cycled, fresh, clockedCleared, drainOutcome, drains};
 ghost use Rattle.clocked.specs.Beat.{RoomIs, stateOf};
 
 mod asked;
 mod levels;
 mod records;
 
-use asked::hear;
 use asked::is_refused;
 use asked::leaves_mark;
+use asked::rule_root;
 use clocked_model::Cycled;
 use clocked_model::Drained;
 use clocked_model::RECORDS;
@@ -60,9 +60,9 @@ pub fn beat(
     request: Request,
 ) -> Cycled
     requires { ⌜ (shapeOk order (suc below) (length (now store)) ≡ true) × RoomIs order below room ⌝ }
-    ensures { λ r. ⌜ cycleOutcome (r .answer) (now (store .exit)) (r .state) ≡ ticked order (suc below) request state (now (store .entry)) ⌝ }
+    ensures { λ r. ⌜ cycleOutcome (r .answer) (now (store .exit)) (r .state) ≡ cycled order (suc below) request state (now (store .entry)) ⌝ }
 {
-    let g = hear(store, order, room, state.mark, request);
+    let g = rule_root(store, order, room, state.mark, request);
     let plan = g.plan;
     if !plan.ok {
         return left_as(Refusal::Damaged, state);
@@ -87,7 +87,7 @@ pub fn cycle(
     state: State,
     request: Request,
 ) -> Cycled
-    ensures { λ r. ⌜ cycleOutcome (r .answer) (now (store .exit)) (r .state) ≡ ticked order levels request state (now (store .entry)) ⌝ }
+    ensures { λ r. ⌜ cycleOutcome (r .answer) (now (store .exit)) (r .state) ≡ cycled order levels request state (now (store .entry)) ⌝ }
 {
     let shape = shape_of(order, levels);
     if !shape_fits(shape, store.len()) {
@@ -97,19 +97,19 @@ pub fn cycle(
 }
 
 pub fn push(store: &mut [u32], order: usize, levels: usize, state: State, x: Element) -> Cycled
-    ensures { λ r. ⌜ cycleOutcome (r .answer) (now (store .exit)) (r .state) ≡ ticked order levels (Request.Push x) state (now (store .entry)) ⌝ }
+    ensures { λ r. ⌜ cycleOutcome (r .answer) (now (store .exit)) (r .state) ≡ cycled order levels (Request.Push x) state (now (store .entry)) ⌝ }
 {
     cycle(store, order, levels, state, Request::Push(x))
 }
 
 pub fn pop(store: &mut [u32], order: usize, levels: usize, state: State) -> Cycled
-    ensures { λ r. ⌜ cycleOutcome (r .answer) (now (store .exit)) (r .state) ≡ ticked order levels Request.Pop state (now (store .entry)) ⌝ }
+    ensures { λ r. ⌜ cycleOutcome (r .answer) (now (store .exit)) (r .state) ≡ cycled order levels Request.Pop state (now (store .entry)) ⌝ }
 {
     cycle(store, order, levels, state, Request::Pop)
 }
 
 pub fn replace(store: &mut [u32], order: usize, levels: usize, state: State, x: Element) -> Cycled
-    ensures { λ r. ⌜ cycleOutcome (r .answer) (now (store .exit)) (r .state) ≡ ticked order levels (Request.Replace x) state (now (store .entry)) ⌝ }
+    ensures { λ r. ⌜ cycleOutcome (r .answer) (now (store .exit)) (r .state) ≡ cycled order levels (Request.Replace x) state (now (store .entry)) ⌝ }
 {
     cycle(store, order, levels, state, Request::Replace(x))
 }
@@ -144,7 +144,7 @@ pub fn clear(store: &mut [u32], order: usize, levels: usize, state: State) -> Cy
 
 // How many are held, by the root alone: no record is read.
 pub fn held(store: &[u32], order: usize, levels: usize) -> Count
-    ensures { λ r. ⌜ r ≡ counted order levels (now (store .entry)) ⌝ }
+    ensures { λ r. ⌜ r ≡ heldCount order levels (now (store .entry)) ⌝ }
 {
     tree::held(store, order, levels)
 }

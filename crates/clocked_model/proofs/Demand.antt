@@ -13,7 +13,7 @@ use borrow.Author.Tests.{leb-false, leb-true, not-false}
 use Rattle.clocked_model.proofs.Clock.{at-rest, lead-quiet, leads}
 use Rattle.clocked_model.proofs.Step.{one-by-one-is, idle-ruling, in-step, InStep, quiet-clear, quiet-ready, quiet-spaced, step-answer, step-mark, ticks}
 use Rattle.clocked_model.proofs.Turn.{plain-rest, works-after}
-use Rattle.clocked_model.specs.Calls.{CycleOutcome, fresh, marks, pending, recordCount, ticked, turned}
+use Rattle.clocked_model.specs.Calls.{CycleOutcome, fresh, marks, pending, recordCount, cycled, cycleRun}
 use Rattle.clocked_model.specs.Cycle.{quiet}
 use Rattle.clocked_model.specs.Promise.{oneByOne, oneByOneAnswers, oneByOneQueue, oneByOneWords, clockedQueue, cycleAnswers, idles, Machine, ran}
 use Rattle.clocked_model.specs.Records.{recordAt, worksOf}
@@ -99,9 +99,9 @@ module _ (m levels : ℕ) where
   abbrev pub lead : ℕ → State → Type 0
   lead j s = Lead j (pred levels) (worksOf (pred levels) (s .records) 0)
 
-  pub turned-lead : (j : ℕ) (s : State) (ws : List ℕ) → pred levels ≤ length (s .records) → lead j s → lead (suc j) (turned m levels Idle (ruling Done Nothing) s ws .state)
-  unfolding turned
-  turned-lead j s ws len h =
+  pub cycleRun-lead : (j : ℕ) (s : State) (ws : List ℕ) → pred levels ≤ length (s .records) → lead j s → lead (suc j) (cycleRun m levels Idle (ruling Done Nothing) s ws .state)
+  unfolding cycleRun
+  cycleRun-lead j s ws len h =
       subst (Lead (suc j) (pred levels)) (sym (works-after m (pred levels) _ 0 (s .records) (under m (pred levels) ws 0 1) (plain-rest m (work Nothing 0) _ _) (omega arith)))
       (leads m j (pred levels) _ (worksOf (pred levels) (s .records) 0) (under m (pred levels) ws 0 1)
       (ap (λ (v : Work). v .op) (work-none m (work Nothing 0) (levelOf m ws 0 1) (top (pred levels) (under m (pred levels) ws 0 1)) (op-work Nothing 0))) h)
@@ -128,9 +128,9 @@ module _ (m k : ℕ) where
       ap (λ (o : Outcome). o .words) (one-by-one-is m k vs kept mark Idle)
       ∙ words-none m (suc k) _ 0 1 vs (op-work _ 0 ∙ ap (λ (g : Ruling). g .op) (idle-ruling mark (room m (suc k)) (rootOf m vs)))
 
-  idle-in-step : (s : State) (ws vs : List ℕ) → InStep m k s ws vs → InStep m k (ticked m (suc k) Idle s ws .state) (ticked m (suc k) Idle s ws .words) vs
+  idle-in-step : (s : State) (ws vs : List ℕ) → InStep m k s ws vs → InStep m k (cycled m (suc k) Idle s ws .state) (cycled m (suc k) Idle s ws .words) vs
   idle-in-step s ws vs i =
-      subst (λ (v : List ℕ). InStep m k (ticked m (suc k) Idle s ws .state) (ticked m (suc k) Idle s ws .words) v) (idle-stands (s .mark) vs (i .kept)) (in-step m k s ws vs i Idle)
+      subst (λ (v : List ℕ). InStep m k (cycled m (suc k) Idle s ws .state) (cycled m (suc k) Idle s ws .words) v) (idle-stands (s .mark) vs (i .kept)) (in-step m k s ws vs i Idle)
 
   pub idles-in-step : (n : ℕ) (s : State) (ws vs : List ℕ) → InStep m k s ws vs → InStep m k (idles m (suc k) n s ws .state) (idles m (suc k) n s ws .words) vs
   unfolding leaves
@@ -138,10 +138,10 @@ module _ (m k : ℕ) where
   idles-in-step (suc n) s ws vs i = idles-in-step n _ _ vs (idle-in-step s ws vs i)
 
   -- one more level has no work after each
-  idle-lead : (j : ℕ) (s : State) (ws vs : List ℕ) → InStep m k s ws vs → lead m (suc k) j s → lead m (suc k) (suc j) (ticked m (suc k) Idle s ws .state)
+  idle-lead : (j : ℕ) (s : State) (ws vs : List ℕ) → InStep m k s ws vs → lead m (suc k) j s → lead m (suc k) (suc j) (cycled m (suc k) Idle s ws .state)
   idle-lead j s ws vs i h =
       subst (λ (o : CycleOutcome). lead m (suc k) (suc j) (o .state))
-      (sym (ticks m k s ws vs i Idle ∙ ap (λ (g : Ruling). turned m (suc k) Idle g s ws) (idle-ruling (s .mark) (room m (suc k)) (rootOf m ws)))) (turned-lead m (suc k) j s ws (i .records) h)
+      (sym (ticks m k s ws vs i Idle ∙ ap (λ (g : Ruling). cycleRun m (suc k) Idle g s ws) (idle-ruling (s .mark) (room m (suc k)) (rootOf m ws)))) (cycleRun-lead m (suc k) j s ws (i .records) h)
 
   idles-quiet : (n j : ℕ) (s : State) (ws vs : List ℕ) → InStep m k s ws vs → k ≤ j + n → Lead j k (worksOf k (s .records) 0)
       → quiet k (worksOf k (idles m (suc k) n s ws .state .records) 0) ≡ true

@@ -10,11 +10,11 @@ use lib.Dec.{leb, ltb}
 use lib.ListN.{length, replicate}
 use borrow.Author.Tests.{leb-false, leb-true, ltb-false, ltb-true}
 use Rattle.clocked_model.proofs.Clock.{lead-quiet}
-use Rattle.clocked_model.proofs.Demand.{lead, turned-lead}
-use Rattle.clocked_model.proofs.Exactly.{damage-fails, exactly-cycle, sound, ticked-bad, ticked-damaged, ticked-either, ticked-fine}
+use Rattle.clocked_model.proofs.Demand.{lead, cycleRun-lead}
+use Rattle.clocked_model.proofs.Exactly.{damage-fails, exactly-cycle, sound, cycled-bad, cycled-damaged, cycled-either, cycled-fine}
 use Rattle.clocked_model.proofs.Step.{idle-ruling}
 use Rattle.clocked_model.proofs.Turn.{after-length, cycle-length}
-use Rattle.clocked_model.specs.Calls.{CycleOutcome, cycleOutcome, drainFrom, DrainOutcome, drainOutcome, drains, isRefused, pending, ticked, turned}
+use Rattle.clocked_model.specs.Calls.{CycleOutcome, cycleOutcome, drainFrom, DrainOutcome, drainOutcome, drains, isRefused, pending, cycled, cycleRun}
 use Rattle.clocked_model.specs.Promise.{capped, clockedQueue, CycleDamage, drainLeft, drainRefusals, idles, Jams}
 use Rattle.clocked_model.specs.declared.State.{State}
 use Rattle.laws.specs.Ladder.{climb-by, climb-fine, climb-stop, Exactly, fine, left-behind, stop}
@@ -42,46 +42,46 @@ not-less {a} {b} h = go (leb b a) refl
     go false e = absurd (h (leb-false b a e))
 
 -- every cycle keeps the slice's length
-pub ticked-length : (m levels : ℕ) (r : Request) (s : State) (ws : List ℕ) → length (ticked m levels r s ws .words) ≡ length ws
-unfolding turned
-ticked-length m levels r s ws = ticked-either m levels r s ws (λ c. length (c .words) ≡ length ws) refl refl (λ e f. cycle-length m (suc (pred levels)) _ 0 1 ws)
+pub cycled-length : (m levels : ℕ) (r : Request) (s : State) (ws : List ℕ) → length (cycled m levels r s ws .words) ≡ length ws
+unfolding cycleRun
+cycled-length m levels r s ws = cycled-either m levels r s ws (λ c. length (c .words) ≡ length ws) refl refl (λ e f. cycle-length m (suc (pred levels)) _ 0 1 ws)
 
 -- ---- an idle cycle of a good shape: it runs, or it meets damage and leaves everything
 data Idling (m levels : ℕ) (s : State) (ws : List ℕ) : Type 0 where
-  runs : ticked m levels Idle s ws ≡ turned m levels Idle (ruling Done Nothing) s ws → Idling m levels s ws
-  jams : ticked m levels Idle s ws ≡ cycleOutcome (Refused Damaged) ws s → CycleDamage m levels Idle s ws → Idling m levels s ws
+  runs : cycled m levels Idle s ws ≡ cycleRun m levels Idle (ruling Done Nothing) s ws → Idling m levels s ws
+  jams : cycled m levels Idle s ws ≡ cycleOutcome (Refused Damaged) ws s → CycleDamage m levels Idle s ws → Idling m levels s ws
 
 idling : (m levels : ℕ) (s : State) (ws : List ℕ) → shapeOk m levels (length ws) ≡ true → Idling m levels s ws
 idling m levels s ws e = go (sound m levels Idle s ws) refl
   where
     go : (b : Bool) → sound m levels Idle s ws ≡ b → Idling m levels s ws
-    go true f = runs (ticked-fine m levels Idle s ws e f ∙ ap (λ (g : Ruling). turned m levels Idle g s ws) (idle-ruling (s .mark) (room m levels) (rootOf m ws)))
-    go false f = jams (ticked-damaged m levels Idle s ws e f) (damage-fails m levels Idle s ws .found f)
+    go true f = runs (cycled-fine m levels Idle s ws e f ∙ ap (λ (g : Ruling). cycleRun m levels Idle g s ws) (idle-ruling (s .mark) (room m levels) (rootOf m ws)))
+    go false f = jams (cycled-damaged m levels Idle s ws e f) (damage-fails m levels Idle s ws .found f)
 
 -- the answer of the one, and of the other
 abbrev idle-answer : ℕ → ℕ → State → List ℕ → Answer
-idle-answer m levels s ws = ticked m levels Idle s ws .answer
+idle-answer m levels s ws = cycled m levels Idle s ws .answer
 
-runs-done : (m levels : ℕ) (s : State) (ws : List ℕ) → ticked m levels Idle s ws ≡ turned m levels Idle (ruling Done Nothing) s ws → idle-answer m levels s ws ≡ Done
-unfolding turned
+runs-done : (m levels : ℕ) (s : State) (ws : List ℕ) → cycled m levels Idle s ws ≡ cycleRun m levels Idle (ruling Done Nothing) s ws → idle-answer m levels s ws ≡ Done
+unfolding cycleRun
 runs-done m levels s ws e = ap (λ (c : CycleOutcome). c .answer) e
 
-jams-damaged : (m levels : ℕ) (s : State) (ws : List ℕ) → ticked m levels Idle s ws ≡ cycleOutcome (Refused Damaged) ws s → idle-answer m levels s ws ≡ Refused Damaged
+jams-damaged : (m levels : ℕ) (s : State) (ws : List ℕ) → cycled m levels Idle s ws ≡ cycleOutcome (Refused Damaged) ws s → idle-answer m levels s ws ≡ Refused Damaged
 jams-damaged m levels s ws e = ap (λ (c : CycleOutcome). c .answer) e
 
 -- one that is not refused has run
-idle-turns : (m levels : ℕ) (s : State) (ws : List ℕ) → numberOf (idle-answer m levels s ws) ≡ 0 → ticked m levels Idle s ws ≡ turned m levels Idle (ruling Done Nothing) s ws
+idle-turns : (m levels : ℕ) (s : State) (ws : List ℕ) → numberOf (idle-answer m levels s ws) ≡ 0 → cycled m levels Idle s ws ≡ cycleRun m levels Idle (ruling Done Nothing) s ws
 idle-turns m levels s ws z = go (shapeOk m levels (length ws)) refl
   where
-    refused : (n : Refusal) → ticked m levels Idle s ws ≡ cycleOutcome (Refused n) ws s → ⊥
+    refused : (n : Refusal) → cycled m levels Idle s ws ≡ cycleOutcome (Refused n) ws s → ⊥
     refused n e = zero-told n (sym z ∙ ap (λ (c : CycleOutcome). numberOf (c .answer)) e)
 
-    by : Idling m levels s ws → ticked m levels Idle s ws ≡ turned m levels Idle (ruling Done Nothing) s ws
+    by : Idling m levels s ws → cycled m levels Idle s ws ≡ cycleRun m levels Idle (ruling Done Nothing) s ws
     by (runs e) = e
     by (jams e d) = absurd (refused Damaged e)
 
-    go : (a : Bool) → shapeOk m levels (length ws) ≡ a → ticked m levels Idle s ws ≡ turned m levels Idle (ruling Done Nothing) s ws
-    go false e = absurd (refused BadShape (ticked-bad m levels Idle s ws e))
+    go : (a : Bool) → shapeOk m levels (length ws) ≡ a → cycled m levels Idle s ws ≡ cycleRun m levels Idle (ruling Done Nothing) s ws
+    go false e = absurd (refused BadShape (cycled-bad m levels Idle s ws e))
     go true e = by (idling m levels s ws e)
 
 -- ---- how a drain with the budget b ends after so many idle cycles: done, with nothing pending or the budget spent; or jammed
@@ -128,7 +128,7 @@ module _ (m levels : ℕ) where
 
   -- one cycle is run, and the rest after it
   ends-next : (b n : ℕ) (s : State) (ws : List ℕ) (d : DrainOutcome) → pending m levels s ≡ true → idle-answer m levels s ws ≡ Done
-      → Ends m levels b (suc n) (ticked m levels Idle s ws .state) (ticked m levels Idle s ws .words) d → Ends m levels (suc b) n s ws d
+      → Ends m levels b (suc n) (cycled m levels Idle s ws .state) (cycled m levels Idle s ws .words) d → Ends m levels (suc b) n s ws d
   unfolding leaves
   ends-next b n s ws d on ok i =
       record {
@@ -151,16 +151,16 @@ module _ (m levels : ℕ) where
       runs-so zero h = ap numberOf ok
       runs-so (suc j) h = i .unrefused j (omega arith)
 
-      waits : Jams m levels b (i .more) (ticked m levels Idle s ws .state) (ticked m levels Idle s ws .words) → (j : ℕ) → j ≤ suc (i .more) → pending m levels (idles m levels j s ws .state) ≡ true
+      waits : Jams m levels b (i .more) (cycled m levels Idle s ws .state) (cycled m levels Idle s ws .words) → (j : ℕ) → j ≤ suc (i .more) → pending m levels (idles m levels j s ws .state) ≡ true
       waits x zero h = on
       waits x (suc j) h = x .waits j (omega arith)
 
-      later : End m levels b (i .more) (ticked m levels Idle s ws .state) (ticked m levels Idle s ws .words) d → End m levels (suc b) (suc (i .more)) s ws d
+      later : End m levels b (i .more) (cycled m levels Idle s ws .state) (cycled m levels Idle s ws .words) d → End m levels (suc b) (suc (i .more)) s ws d
       later (done a l) = done a (λ e. ap suc (l e))
       later (jammed a l x) = jammed a l (record { within = omega (arith, x .within); waits = waits x; damage = x .damage })
 
-  next-shape : (s : State) (ws : List ℕ) → shapeOk m levels (length ws) ≡ true → shapeOk m levels (length (ticked m levels Idle s ws .words)) ≡ true
-  next-shape s ws e = ap (shapeOk m levels) (ticked-length m levels Idle s ws) ∙ e
+  next-shape : (s : State) (ws : List ℕ) → shapeOk m levels (length ws) ≡ true → shapeOk m levels (length (cycled m levels Idle s ws .words)) ≡ true
+  next-shape s ws e = ap (shapeOk m levels) (cycled-length m levels Idle s ws) ∙ e
 
   -- one round of a drain: nothing is pending; the idle cycle meets damage; it runs
   module _ (b n : ℕ) (s : State) (ws : List ℕ) where
@@ -168,24 +168,24 @@ module _ (m levels : ℕ) where
     unfolding drainFrom
     drain-quiet e = rw e
 
-    drain-jams : pending m levels s ≡ true → ticked m levels Idle s ws ≡ cycleOutcome (Refused Damaged) ws s → drainFrom m levels (suc b) n s ws ≡ drainOutcome (Refused Damaged) n true ws s
+    drain-jams : pending m levels s ≡ true → cycled m levels Idle s ws ≡ cycleOutcome (Refused Damaged) ws s → drainFrom m levels (suc b) n s ws ≡ drainOutcome (Refused Damaged) n true ws s
     unfolding drainFrom isRefused
     drain-jams e x = rw (e, jams-damaged m levels s ws x, x)
 
     drain-runs : pending m levels s ≡ true → idle-answer m levels s ws ≡ Done
-        → drainFrom m levels (suc b) n s ws ≡ drainFrom m levels b (suc n) (ticked m levels Idle s ws .state) (ticked m levels Idle s ws .words)
+        → drainFrom m levels (suc b) n s ws ≡ drainFrom m levels b (suc n) (cycled m levels Idle s ws .state) (cycled m levels Idle s ws .words)
     unfolding drainFrom isRefused
     drain-runs e x = rw (e, x)
 
   ends : (b n : ℕ) (s : State) (ws : List ℕ) → shapeOk m levels (length ws) ≡ true → Ends m levels b n s ws (drainFrom m levels b n s ws)
   unfolding drainFrom
   ends zero n s ws e = ends-here zero n s ws Done (pending m levels s) refl (done refl (λ l. refl))
-  ends (suc b) n s ws e = go (pending m levels s) refl (idling m levels s ws e) (ends b (suc n) (ticked m levels Idle s ws .state) (ticked m levels Idle s ws .words) (next-shape s ws e))
+  ends (suc b) n s ws e = go (pending m levels s) refl (idling m levels s ws e) (ends b (suc n) (cycled m levels Idle s ws .state) (cycled m levels Idle s ws .words) (next-shape s ws e))
     where
       on : DrainOutcome
-      on = drainFrom m levels b (suc n) (ticked m levels Idle s ws .state) (ticked m levels Idle s ws .words)
+      on = drainFrom m levels b (suc n) (cycled m levels Idle s ws .state) (cycled m levels Idle s ws .words)
 
-      go : (p : Bool) → pending m levels s ≡ p → Idling m levels s ws → Ends m levels b (suc n) (ticked m levels Idle s ws .state) (ticked m levels Idle s ws .words) on
+      go : (p : Bool) → pending m levels s ≡ p → Idling m levels s ws → Ends m levels b (suc n) (cycled m levels Idle s ws .state) (cycled m levels Idle s ws .words) on
           → Ends m levels (suc b) n s ws (drainFrom m levels (suc b) n s ws)
       go false q x ih = subst (Ends m levels (suc b) n s ws) (sym (drain-quiet b n s ws q)) (ends-here (suc b) n s ws Done false (sym q) (done refl (λ l. absurd (false≢true l))))
       go true q (runs x) ih = subst (Ends m levels (suc b) n s ws) (sym (drain-runs b n s ws q (runs-done m levels s ws x))) (ends-next b n s ws on q (runs-done m levels s ws x) ih)
@@ -230,7 +230,7 @@ module _ (m levels : ℕ) where
     drain-within = by-shape b s ws (λ d. d .cycles ≤ b) (omega arith) (λ d e. omega (arith, ran-so-many b s ws d e, e .within))
 
     -- DRAIN-RAN: "reports the cycles already run": each of them ran unrefused
-    pub drain-ran : (j : ℕ) → j < drains m levels b s ws .cycles → numberOf (ticked m levels Idle (idles m levels j s ws .state) (idles m levels j s ws .words) .answer) ≡ 0
+    pub drain-ran : (j : ℕ) → j < drains m levels b s ws .cycles → numberOf (cycled m levels Idle (idles m levels j s ws .state) (idles m levels j s ws .words) .answer) ≡ 0
     drain-ran =
         by-shape b s ws (λ d. (j : ℕ) → j < d .cycles → numberOf (idle-answer m levels (idles m levels j s ws .state) (idles m levels j s ws .words)) ≡ 0)
         (λ j h. absurd (not-suc-le-zero h)) (λ d e j h. e .unrefused j (omega (arith, ran-so-many b s ws d e)))
@@ -278,7 +278,7 @@ module _ (m levels : ℕ) where
 -- ---- EXACTLY: a drain is refused for the shape, or where an idle cycle within the budget meets damage, and leaves behind what the rule says
 idles-shape : (m levels n : ℕ) (s : State) (ws : List ℕ) → Shape m levels (length ws) → Shape m levels (length (idles m levels n s ws .words))
 idles-shape m levels n s ws =
-    leaves-keep (clockedQueue m levels) (λ x. Shape m levels (length (x .words))) (λ r x. subst (Shape m levels) (sym (ticked-length m levels r (x .state) (x .words)))) (replicate n Idle) _
+    leaves-keep (clockedQueue m levels) (λ x. Shape m levels (length (x .words))) (λ r x. subst (Shape m levels) (sym (cycled-length m levels r (x .state) (x .words)))) (replicate n Idle) _
 
 module _ (m levels b : ℕ) (s : State) (ws : List ℕ) where
   abbrev d : DrainOutcome
@@ -348,9 +348,9 @@ drain-kind m levels b s ws = by-shape m levels b s ws (λ d. numberOf (d .answer
 -- ---- DRAIN-FEW: whatever the state and the budget, no more cycles are run than there are levels from 2: each leaves one more level with
 -- nothing to do
 module _ (m levels : ℕ) where
-  turned-records : (s : State) (ws : List ℕ) → length (turned m levels Idle (ruling Done Nothing) s ws .state .records) ≡ length (s .records)
-  unfolding turned
-  turned-records s ws = after-length m (pred levels) _ 0 (s .records) (under m (pred levels) ws 0 1)
+  cycleRun-records : (s : State) (ws : List ℕ) → length (cycleRun m levels Idle (ruling Done Nothing) s ws .state .records) ≡ length (s .records)
+  unfolding cycleRun
+  cycleRun-records s ws = after-length m (pred levels) _ 0 (s .records) (under m (pred levels) ws 0 1)
 
   lead-along : (j i : ℕ) (s : State) (ws : List ℕ) → pred levels ≤ length (s .records) → lead m levels i s
       → ((t : ℕ) → t < j → numberOf (idle-answer m levels (idles m levels t s ws .state) (idles m levels t s ws .words)) ≡ 0) → lead m levels (i + j) (idles m levels j s ws .state)
@@ -359,9 +359,9 @@ module _ (m levels : ℕ) where
   lead-along (suc j) i s ws len h ran =
       let turns = idle-turns m levels s ws (ran 0 (omega arith)) in
       let at : i + suc j ≡ suc i + j = omega arith in
-      rw at (lead-along j (suc i) (ticked m levels Idle s ws .state) (ticked m levels Idle s ws .words)
-      (omega (arith, ap (λ (o : CycleOutcome). length (o .state .records)) turns, turned-records s ws))
-      (subst (λ (o : CycleOutcome). lead m levels (suc i) (o .state)) (sym turns) (turned-lead m levels i s ws len h)) (λ t l. ran (suc t) (omega arith)))
+      rw at (lead-along j (suc i) (cycled m levels Idle s ws .state) (cycled m levels Idle s ws .words)
+      (omega (arith, ap (λ (o : CycleOutcome). length (o .state .records)) turns, cycleRun-records s ws))
+      (subst (λ (o : CycleOutcome). lead m levels (suc i) (o .state)) (sym turns) (cycleRun-lead m levels i s ws len h)) (λ t l. ran (suc t) (omega arith)))
 
   pub drain-few : (b : ℕ) (s : State) (ws : List ℕ) → pred levels ≤ length (s .records) → drains m levels b s ws .cycles ≤ pred levels
   drain-few b s ws len =

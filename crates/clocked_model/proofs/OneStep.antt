@@ -12,11 +12,11 @@ use lib.ListN.{getD, length, length-set, set}
 use lib.Seq.{getD-set-other, getD-set-same}
 use borrow.Author.Tests.{lt-leb}
 use Rattle.clocked_model.proofs.Demand.{ran-in-step}
-use Rattle.clocked_model.proofs.Exactly.{no-damage-sound, sound-no-damage, ticked-fine}
+use Rattle.clocked_model.proofs.Exactly.{no-damage-sound, sound-no-damage, cycled-fine}
 use Rattle.clocked_model.proofs.Promises.{shape-kept, undamaged}
 use Rattle.clocked_model.proofs.Step.{in-step, InStep, root-fine, steps-fine}
 use Rattle.clocked_model.proofs.Turn.{after-before, after-past, landed-recorded, plain-rest, recorded-work, words-cycle}
-use Rattle.clocked_model.specs.Calls.{askedOk, CycleOutcome, cycleWork, hearing, stepsOk, ticked, turned}
+use Rattle.clocked_model.specs.Calls.{askedOk, CycleOutcome, cycleWork, ruleNow, stepsOk, cycled, cycleRun}
 use Rattle.clocked_model.specs.Cycle.{cycleLevels, cycleOk, cycleWords, Works}
 use Rattle.clocked_model.specs.Promise.{clockedQueue, CycleDamage, firstSlot, flight, leaveBelow, levelNow, levelWork, Machine, OneStep, ran, Recorded}
 use Rattle.clocked_model.specs.Records.{landed, recordAt, recordsAfter, worksOf}
@@ -37,7 +37,7 @@ use Rattle.tree_model.proofs.Agreement.{place-of}
 use Rattle.tree_model.proofs.Slice.{level-wide, lies}
 use Rattle.tree_model.proofs.Words.{size-room}
 use Rattle.tree_model.specs.Calls.{Ruling}
-use Rattle.tree_model.specs.Damage.{fine, hasRoom, hasSome, nodeOk, readOk, room, slotOk, stepOk}
+use Rattle.tree_model.specs.Damage.{workOk, hasRoom, hasSome, nodeOk, readOk, room, slotOk, stepOk}
 use Rattle.tree_model.specs.Levels.{idle, Level, levelMove, Levels, stepLevel, stepWork, top, work}
 use Rattle.tree_model.specs.Node.{firstEmpty, isNothing, lowest, opMove, slotAt, vacant}
 use Rattle.tree_model.specs.Promise.{levelAt, Shape, threeWords}
@@ -74,10 +74,10 @@ module _ (m : ℕ) where
   cycle-level (suc k) p ls zero h = ap (stepLevel m (p .0) (ls .0)) (top-at k (ls .1))
   cycle-level (suc k) p ls (suc i) h = cycle-level k (p .1) (ls .1) i (omega arith)
 
-  cycle-last : (k : ℕ) (p : Works (suc k)) (ls : Levels (suc k)) → cycleOk m (suc k) p ls ≡ true → fine m 0 (workAt (suc k) p k) (levelAt (suc k) ls k) (levelAt (suc k) ls (suc k)) ≡ true
+  cycle-last : (k : ℕ) (p : Works (suc k)) (ls : Levels (suc k)) → cycleOk m (suc k) p ls ≡ true → workOk m 0 (workAt (suc k) p k) (levelAt (suc k) ls k) (levelAt (suc k) ls (suc k)) ≡ true
   unfolding cycleOk levelAt workAt top
-  cycle-last zero p ls e = and-left (fine m 0 (p .0) (ls .0) []) _ e
-  cycle-last (suc k) p ls e = cycle-last k (p .1) (ls .1) (and-right (fine m (suc k) (p .0) (ls .0) (top (suc k) (ls .1))) _ e)
+  cycle-last zero p ls e = and-left (workOk m 0 (p .0) (ls .0) []) _ e
+  cycle-last (suc k) p ls e = cycle-last k (p .1) (ls .1) (and-right (workOk m (suc k) (p .0) (ls .0) (top (suc k) (ls .1))) _ e)
 
 -- ---- the last level leaves nothing
 slots-ok : (nd : List Slot) → nodeOk 0 nd ≡ true → All (λ u. slotOk 0 u ≡ true) nd
@@ -113,8 +113,8 @@ rest-last (Swap x) nd b ok = go _ (swap-rule x nd b)
     go v (stays h) = refl
     go v (goes h l) = absurd (none-above nd (and-left (nodeOk 0 nd) (hasSome nd) ok) h)
 
-last-ends : (m : ℕ) (w : Work) (l below : Level) → fine m 0 w l below ≡ true → stepWork m w l below .op ≡ Nothing
-unfolding fine stepOk room stepWork levelMove
+last-ends : (m : ℕ) (w : Work) (l below : Level) → workOk m 0 w l below ≡ true → stepWork m w l below .op ≡ Nothing
+unfolding workOk stepOk room stepWork levelMove
 last-ends m w l below f = go (isNothing (w .op)) refl f
   where
     go : (t : Bool) → isNothing (w .op) ≡ t → (t || (ltb (w .node) (length l) && stepOk m 0 (w .op) (getD l (w .node) []) (λ j. getD below (w .node * m + j) []))) ≡ true
@@ -168,7 +168,7 @@ after-at m (suc k) q i rs ls (suc j) h fits =
 -- ---- ONE-STEP
 module _ (m k : ℕ) (r : Request) (s : State) (ws : List ℕ) (sh : Shape m (suc k) (length ws)) (len : k ≤ length (s .records)) (d : CycleDamage m (suc k) r s ws → ⊥) where
   abbrev g : Ruling
-  g = hearing m (suc k) r s ws
+  g = ruleNow m (suc k) r s ws
 
   abbrev p : Works (suc k)
   p = cycleWork m (suc k) (g .op) s
@@ -177,17 +177,17 @@ module _ (m k : ℕ) (r : Request) (s : State) (ws : List ℕ) (sh : Shape m (su
   now = levelNow m (suc k)
 
   abbrev after : List ℕ
-  after = ticked m (suc k) r s ws .words
+  after = cycled m (suc k) r s ws .words
 
   steps-ok : cycleOk m (suc k) p (levelsOf m (suc k) ws 0 1) ≡ true
   steps-ok = and-right (askedOk m (suc k) r ws) (stepsOk m (suc k) (g .op) s ws) (no-damage-sound m (suc k) r s ws d)
 
-  here : ticked m (suc k) r s ws ≡ turned m (suc k) r g s ws
-  here = ticked-fine m (suc k) r s ws (is-shape m (suc k) (length ws) sh) (no-damage-sound m (suc k) r s ws d)
+  here : cycled m (suc k) r s ws ≡ cycleRun m (suc k) r g s ws
+  here = cycled-fine m (suc k) r s ws (is-shape m (suc k) (length ws) sh) (no-damage-sound m (suc k) r s ws d)
 
-  cycled : (levelsOf m (suc k) (cycleWords m (suc k) p 0 1 ws) 0 1 ≡ cycleLevels m (suc k) p (levelsOf m (suc k) ws 0 1))
+  levels-cycled : (levelsOf m (suc k) (cycleWords m (suc k) p 0 1 ws) 0 1 ≡ cycleLevels m (suc k) p (levelsOf m (suc k) ws 0 1))
       × ((a : ℕ) → 3 * (0 + size m (suc k) 1) ≤ a → getD (cycleWords m (suc k) p 0 1 ws) a 0 ≡ getD ws a 0)
-  cycled = words-cycle m (order-pos sh) (suc k) p 0 1 ws (omega (arith, sh .slice, size-room m (suc k) 1)) steps-ok
+  levels-cycled = words-cycle m (order-pos sh) (suc k) p 0 1 ws (omega (arith, sh .slice, size-room m (suc k) 1)) steps-ok
 
   work-is : (i : ℕ) → i < suc k → workAt (suc k) p i ≡ levelWork m (suc k) r s ws i
   unfolding workAt
@@ -195,9 +195,9 @@ module _ (m k : ℕ) (r : Request) (s : State) (ws : List ℕ) (sh : Shape m (su
   work-is (suc i) h = works-at k (s .records) 0 i (omega arith) ∙ ap (recordAt (s .records)) (zero-add i)
 
   each : (i : ℕ) → i < suc k → now after i ≡ stepLevel m (levelWork m (suc k) r s ws i) (now ws i) (now ws (suc i))
-  unfolding turned
+  unfolding cycleRun
   each i h =
-      ap (λ (c : CycleOutcome). now (c .words) i) here ∙ ap (λ (ls : Levels (suc k)). levelAt (suc k) ls i) (cycled .0)
+      ap (λ (c : CycleOutcome). now (c .words) i) here ∙ ap (λ (ls : Levels (suc k)). levelAt (suc k) ls i) (levels-cycled .0)
       ∙ cycle-level m (suc k) p (levelsOf m (suc k) ws 0 1) i h ∙ ap (λ (w : Work). stepLevel m w (now ws i) (now ws (suc i))) (work-is i h)
 
   -- the one slot
@@ -233,8 +233,8 @@ module _ (m k : ℕ) (r : Request) (s : State) (ws : List ℕ) (sh : Shape m (su
   left-is zero = ap (stepWork m (work (g .op) 0) (levelOf m ws 0 1)) (top-at k (under m k ws 0 1))
   left-is (suc i) = ap (λ (a : ℕ). stepWork m (recordAt (s .records) a) (levelAt k (under m k ws 0 1) i) (levelAt k (under m k ws 0 1) (suc i))) (zero-add i)
 
-  records : (i : ℕ) → suc i < suc k → Recorded (leaveBelow m (suc k) ws i (levelWork m (suc k) r s ws i)) (getD (s .records) i idle) (getD (ticked m (suc k) r s ws .state .records) i idle)
-  unfolding turned
+  records : (i : ℕ) → suc i < suc k → Recorded (leaveBelow m (suc k) ws i (levelWork m (suc k) r s ws i)) (getD (s .records) i idle) (getD (cycled m (suc k) r s ws .state .records) i idle)
+  unfolding cycleRun
   records i h =
       subst (λ (v : Work). Recorded (leaveBelow m (suc k) ws i (levelWork m (suc k) r s ws i)) (getD (s .records) i idle) v)
       (sym (ap (λ (c : CycleOutcome). getD (c .state .records) i idle) here
@@ -242,10 +242,10 @@ module _ (m k : ℕ) (r : Request) (s : State) (ws : List ℕ) (sh : Shape m (su
       ∙ ap₂ landed (left-is i) (ap (λ (a : ℕ). getD (s .records) a idle) (zero-add i)))) (landed-recorded _ _)
 
   last : leaveBelow m (suc k) ws k (levelWork m (suc k) r s ws k) .op ≡ Nothing
-  last = last-ends m _ _ _ (subst (λ (w : Work). fine m 0 w (now ws k) (now ws (suc k)) ≡ true) (work-is k (omega arith)) (cycle-last m k p (levelsOf m (suc k) ws 0 1) steps-ok))
+  last = last-ends m _ _ _ (subst (λ (w : Work). workOk m 0 w (now ws k) (now ws (suc k)) ≡ true) (work-is k (omega arith)) (cycle-last m k p (levelsOf m (suc k) ws 0 1) steps-ok))
 
 pub one-step : (m levels : ℕ) (r : Request) (s : State) (ws : List ℕ) → Shape m levels (length ws) → pred levels ≤ length (s .records) → (CycleDamage m levels r s ws → ⊥) → OneStep m levels r s ws
-unfolding turned
+unfolding cycleRun
 one-step m zero r s ws sh len d = absurd (not-suc-le-zero (sh .some))
 one-step m (suc k) r s ws sh len d =
     record {
@@ -253,7 +253,7 @@ one-step m (suc k) r s ws sh len d =
       slot = slot-of m k r s ws sh len d;
       others = others m k r s ws sh len d;
       still = still m k r s ws sh len d;
-      past = λ a h. ap (λ (c : CycleOutcome). getD (c .words) a 0) (here m k r s ws sh len d) ∙ cycled m k r s ws sh len d .1 a (omega (arith, size-room m (suc k) 1));
+      past = λ a h. ap (λ (c : CycleOutcome). getD (c .words) a 0) (here m k r s ws sh len d) ∙ levels-cycled m k r s ws sh len d .1 a (omega (arith, size-room m (suc k) 1));
       records = records m k r s ws sh len d;
       last = last m k r s ws sh len d;
       spare = λ j h. ap (λ (c : CycleOutcome). getD (c .state .records) j idle) (here m k r s ws sh len d) ∙ after-past m k _ 0 (s .records) (under m k ws 0 1) j (omega arith);

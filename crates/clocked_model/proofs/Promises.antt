@@ -12,7 +12,7 @@ use Rattle.clocked_model.proofs.Demand.{demand-answers, demand-idles, d
 use Rattle.clocked_model.proofs.Drain.{done, drain-ends, drain-left, drain-needed, drain-spent, drain-state, End, jammed, not-less}
 use Rattle.clocked_model.proofs.Exactly.{refused-mark, sound-no-damage}
 use Rattle.clocked_model.proofs.Step.{one-by-one-is, one-by-one-kept, root-fine, same-root, step-answer, steps-fine}
-use Rattle.clocked_model.specs.Calls.{askedOk, clockedCleared, cycleOutcome, DrainOutcome, drains, fresh, heard, marks, pending, popsOrReplaces, recordCount, restarted, ticked}
+use Rattle.clocked_model.specs.Calls.{askedOk, clockedCleared, cycleOutcome, DrainOutcome, drains, fresh, ruleMarked, marks, pending, popsOrReplaces, recordCount, restarted, cycled}
 use Rattle.clocked_model.specs.Promise.{oneByOne, oneByOneQueue, oneByOneWords, callsOf, cycleAnswers, CycleDamage, idles, Pinned, ran}
 use Rattle.clocked_model.specs.declared.State.{State}
 use Rattle.laws.specs.Means.{means-off}
@@ -30,7 +30,7 @@ use Rattle.tree_model.proofs.Promises.{Kept}
 use Rattle.tree_model.proofs.Exactly.{comes-number, is-shape, shape-means}
 use Rattle.tree_model.proofs.Rules.{comes}
 use Rattle.tree_model.proofs.Slice.{clear-zeroes}
-use Rattle.tree_model.specs.Calls.{called, cleared, counted, outcome, Outcome, rootOf, Ruling, ruling}
+use Rattle.tree_model.specs.Calls.{called, cleared, heldCount, outcome, Outcome, rootOf, Ruling, ruling}
 use Rattle.tree_model.specs.Damage.{room}
 use Rattle.tree_model.specs.declared.Op.the-variants.{Nothing}
 use Rattle.tree_model.specs.Promise.{after, Shape, start, stored, treeQueue}
@@ -125,8 +125,8 @@ module _ (m : ℕ) (ws : List ℕ) (rs : List Request) where
 
   -- .. so that only 0, 3, 5 and 6 are answered
   pub numbers : (levels : ℕ) → Shape m levels (length ws) → (r : Request)
-      → let n = numberOf (ticked m levels r (ran m levels rs ws .state) (ran m levels rs ws .words) .answer) in (n ≡ 0) ⊎ (n ≡ 3) ⊎ (n ≡ 5) ⊎ (n ≡ 6)
-  unfolding heard
+      → let n = numberOf (cycled m levels r (ran m levels rs ws .state) (ran m levels rs ws .words) .answer) in (n ≡ 0) ⊎ (n ≡ 3) ⊎ (n ≡ 5) ⊎ (n ≡ 6)
+  unfolding ruleMarked
   numbers zero sh r = absurd (not-suc-le-zero (sh .some))
   numbers (suc k) sh r =
       let i = ran-in-step m ws rs k sh in
@@ -160,7 +160,7 @@ module _ (m : ℕ) (ws : List ℕ) (rs : List Request) where
 
   -- LEAST: what a cycle gives out has the lowest rank of all that the store holds once idled and, in a replace, of the newcomer
   pub least : (levels : ℕ) → Shape m levels (length ws) → (n : ℕ) → Idled levels n
-      → (r : Request) → Least (stored (room m levels) (at-rest-after levels n)) r (ticked m levels r (ran m levels rs ws .state) (ran m levels rs ws .words) .answer)
+      → (r : Request) → Least (stored (room m levels) (at-rest-after levels n)) r (cycled m levels r (ran m levels rs ws .state) (ran m levels rs ws .words) .answer)
   unfolding oneByOne
   least zero sh n e r = absurd (not-suc-le-zero (sh .some))
   least (suc k) sh n e r =
@@ -176,21 +176,21 @@ module _ (m : ℕ) (ws : List ℕ) (rs : List Request) where
 
   -- the call held answers, once idled, how many are stored
   pub held-says : (levels : ℕ) → Shape m levels (length ws) → (n : ℕ) → Idled levels n
-      → (countNumber (counted m levels (at-rest-after levels n)) ≡ 0) × (countOf (counted m levels (at-rest-after levels n)) ≡ stored (room m levels) (at-rest-after levels n) always)
+      → (countNumber (heldCount m levels (at-rest-after levels n)) ≡ 0) × (countOf (heldCount m levels (at-rest-after levels n)) ≡ stored (room m levels) (at-rest-after levels n) always)
   held-says levels sh n e = rw (idled levels sh n e) (tree.held-says m ws (calls levels) levels sh)
 
   -- .. and at any time, with work pending or not, how many went in and have not come out
   pub held-now : (levels : ℕ) → Shape m levels (length ws)
-      → (countNumber (counted m levels (ran m levels rs ws .words)) ≡ 0)
-      × (countOf (counted m levels (ran m levels rs ws .words)) + allGiven rs (cycleAnswers m levels rs ws) always ≡ allBrought rs (cycleAnswers m levels rs ws) always)
-  unfolding counted
+      → (countNumber (heldCount m levels (ran m levels rs ws .words)) ≡ 0)
+      × (countOf (heldCount m levels (ran m levels rs ws .words)) + allGiven rs (cycleAnswers m levels rs ws) always ≡ allBrought rs (cycleAnswers m levels rs ws) always)
+  unfolding heldCount
   held-now zero sh = absurd (not-suc-le-zero (sh .some))
   held-now (suc k) sh =
       let i = ran-in-step m ws rs k sh in
       let n : ℕ = pred (suc k) in
       let rest = demand-idles m ws rs (suc k) sh in
       let h = held-says (suc k) sh n rest in
-      let same : counted m (suc k) (ran m (suc k) rs ws .words) ≡ counted m (suc k) (at-rest-after (suc k) n) =
+      let same : heldCount m (suc k) (ran m (suc k) rs ws .words) ≡ heldCount m (suc k) (at-rest-after (suc k) n) =
       rw (demand-store m ws rs (suc k) sh n rest, i .same-length, same-root m k _ _ _ i) in
       (ap countNumber same ∙ h .0, ap (λ (c : ℕ). c + allGiven rs (cycleAnswers m (suc k) rs ws) always) (ap countOf same ∙ h .1) ∙ holds (suc k) sh n rest always)
 

@@ -13,10 +13,10 @@ use Rattle.laws.specs.Tests.{and-left, and-right}
 use Rattle.tree_model.proofs.Exactly.{nothing-fails}
 use Rattle.tree_model.proofs.Nothing.{is-none}
 use Rattle.tree_model.proofs.Words.{level-ext, step-before, step-length, step-past, step-words}
-use Rattle.tree_model.specs.Damage.{fine}
+use Rattle.tree_model.specs.Damage.{workOk}
 use Rattle.tree_model.specs.Levels.{idle, Level, Levels, stepLevel, stepWork, top, work}
 use Rattle.tree_model.specs.Node.{isNothing}
-use Rattle.tree_model.specs.Words.{levelOf, levelsOf, size, slotOf, stepWords, under, width}
+use Rattle.tree_model.specs.Words.{levelOf, levelsOf, size, slotOf, stepWords, under, slotWords}
 use Rattle.tree_model.specs.declared.Op.{Op}
 use Rattle.tree_model.specs.declared.Op.the-variants.{Nothing, Put, Swap, Take}
 use Rattle.tree_model.specs.declared.Work.{Work}
@@ -34,21 +34,21 @@ module _ (m : ℕ) where
   cycle-length (suc k) p b c ws = cycle-length k (p .1) (b + c * m) (c * m) _ ∙ step-length m k (p .0) b c ws
 
   -- where no step meets damage, the cycle on the words is the cycle on the levels, and every word past the capacity stands
-  pub words-cycle : 0 < m → (k : ℕ) (p : Works k) (b c : ℕ) (ws : List ℕ) → width * (b + size m k c) ≤ length ws → cycleOk m k p (levelsOf m k ws b c) ≡ true
+  pub words-cycle : 0 < m → (k : ℕ) (p : Works k) (b c : ℕ) (ws : List ℕ) → slotWords * (b + size m k c) ≤ length ws → cycleOk m k p (levelsOf m k ws b c) ≡ true
       → (levelsOf m k (cycleWords m k p b c ws) b c ≡ cycleLevels m k p (levelsOf m k ws b c))
-      × ((a : ℕ) → width * (b + size m k c) ≤ a → getD (cycleWords m k p b c ws) a 0 ≡ getD ws a 0)
+      × ((a : ℕ) → slotWords * (b + size m k c) ≤ a → getD (cycleWords m k p b c ws) a 0 ≡ getD ws a 0)
   unfolding cycleWords cycleOk levelsOf cycleLevels size
   words-cycle some zero p b c ws fits ok = (refl, λ a h. refl)
   words-cycle some (suc k) p b c ws fits ok =
       let l : Level = levelOf m ws b c in
       let u : Levels k = under m k ws b c in
       let ws₁ : List ℕ = stepWords m k (p .0) b c ws in
-      let f : fine m k (p .0) l (top k u) ≡ true = and-left (fine m k (p .0) l (top k u)) (cycleOk m k (p .1) u) ok in
-      let fits₁ : width * (b + c * m) ≤ length ws = omega arith in
+      let f : workOk m k (p .0) l (top k u) ≡ true = and-left (workOk m k (p .0) l (top k u)) (cycleOk m k (p .1) u) ok in
+      let fits₁ : slotWords * (b + c * m) ≤ length ws = omega arith in
       let s : levelsOf m (suc k) ws₁ b c ≡ (stepLevel m (p .0) l (top k u), u) = step-words m some k (p .0) b c ws fits₁ f in
       let deeper : levelsOf m k ws₁ (b + c * m) (c * m) ≡ u = ap (λ (r : Levels (suc k)). r .1) s in
       let i = words-cycle some k (p .1) (b + c * m) (c * m) ws₁ (omega (arith, step-length m k (p .0) b c ws))
-      (ap (cycleOk m k (p .1)) deeper ∙ and-right (fine m k (p .0) l (top k u)) (cycleOk m k (p .1) u) ok) in (
+      (ap (cycleOk m k (p .1)) deeper ∙ and-right (workOk m k (p .0) l (top k u)) (cycleOk m k (p .1) u) ok) in (
         ap₂ (λ (x : Level) (r : Levels k). (x, r))
             (level-ext m (cycleWords m k (p .1) (b + c * m) (c * m) ws₁) ws₁ b c (λ i lt. cycle-before k (p .1) (b + c * m) (c * m) ws₁ i lt)
             ∙ ap (λ (r : Levels (suc k)). r .0) s)

@@ -4,9 +4,9 @@ use mathlib.Core.Bool.{true}
 use mathlib.Core.Path.{_∙_, _≡_, ap, ap₂, refl, sym}
 use Rattle.clocked_model.proofs.Clock.{gap-map, same-stepLevel, same-stepWork, settle-top, settled}
 use Rattle.clocked_model.specs.Cycle.{cycleLevels, cycleOk, cycleWorks, Works}
-use Rattle.clocked_model.specs.Settle.{Clear, Gap, Ready, settle, Spaced}
+use Rattle.clocked_model.specs.Settle.{Clear, Gap, PathsOk, settle, Spaced}
 use Rattle.laws.specs.Tests.{and-left, and-right, and-true}
-use Rattle.tree_model.specs.Damage.{fine, lifts, pathOk, stepOk}
+use Rattle.tree_model.specs.Damage.{workOk, lifts, pathOk, stepOk}
 use Rattle.tree_model.specs.Levels.{apply, Level, Levels, stepLevel, stepWork, top}
 use Rattle.tree_model.specs.Node.{isNothing}
 use Rattle.tree_model.specs.declared.Op.{Op}
@@ -14,23 +14,23 @@ use Rattle.tree_model.specs.declared.Op.the-variants.{Nothing, Put, Swap, Take}
 use Rattle.tree_model.specs.declared.Work.{Work}
 
 module _ (m : ℕ) where
-  fine-same : (k : ℕ) (o : Op) (n : ℕ) (l a b : Level) → Gap o (a ≡ b) → fine m k (record { op = o; node = n }) l a ≡ fine m k (record { op = o; node = n }) l b
-  unfolding fine stepOk lifts isNothing
+  fine-same : (k : ℕ) (o : Op) (n : ℕ) (l a b : Level) → Gap o (a ≡ b) → workOk m k (record { op = o; node = n }) l a ≡ workOk m k (record { op = o; node = n }) l b
+  unfolding workOk stepOk lifts isNothing
   fine-same k Nothing n l a b g = refl
   fine-same k (Put x) n l a b g = refl
-  fine-same k Take n l a b g = ap (λ (c : Level). fine m k (record { op = Take; node = n }) l c) g
-  fine-same k (Swap x) n l a b g = ap (λ (c : Level). fine m k (record { op = Swap x; node = n }) l c) g
+  fine-same k Take n l a b g = ap (λ (c : Level). workOk m k (record { op = Take; node = n }) l c) g
+  fine-same k (Swap x) n l a b g = ap (λ (c : Level). workOk m k (record { op = Swap x; node = n }) l c) g
 
   same-fine : (k : ℕ) (w : Work) (p : Works k) (l : Level) (ls : Levels k) → Gap (w .op) (Clear k p)
-      → fine m k w l (top k ls) ≡ fine m k w l (top k (settle m k p ls))
+      → workOk m k w l (top k ls) ≡ workOk m k w l (top k (settle m k p ls))
   same-fine k w p l ls g = fine-same k (w .op) (w .node) l (top k ls) (top k (settle m k p ls)) (gap-map (w .op) (λ c. sym (settle-top m k p ls c)) g)
 
   -- a cycle from such a state finds no damage
-  pub cycle-fine : (k : ℕ) (p : Works k) (ls : Levels k) → Spaced k p → Ready m k p ls → cycleOk m k p ls ≡ true
+  pub cycle-fine : (k : ℕ) (p : Works k) (ls : Levels k) → Spaced k p → PathsOk m k p ls → cycleOk m k p ls ≡ true
   unfolding cycleOk pathOk
   cycle-fine zero p ls sp h = refl
   cycle-fine (suc k) p ls sp h =
-      and-true (fine m k (p .0) (ls .0) (top k (ls .1))) (cycleOk m k (p .1) (ls .1))
+      and-true (workOk m k (p .0) (ls .0) (top k (ls .1))) (cycleOk m k (p .1) (ls .1))
       (same-fine k (p .0) (p .1) (ls .0) (ls .1) (sp .0) ∙ and-left _ _ (h .0))
       (cycle-fine k (p .1) (ls .1) (sp .1) (h .1))
 
@@ -52,11 +52,11 @@ module _ (m : ℕ) where
   unfolding pathOk
   path-left k p ls sp h =
       ap (λ (w : Work). pathOk m k w (settle m k (p .1) (ls .1))) (same-stepWork m k (p .0) (p .1) (ls .0) (ls .1) (sp .0))
-      ∙ and-right (fine m k (p .0) (ls .0) (top k (settle m k (p .1) (ls .1)))) _ h
+      ∙ and-right (workOk m k (p .0) (ls .0) (top k (settle m k (p .1) (ls .1)))) _ h
 
   -- .. and leaves such a state, if what comes in finds its path in order
-  pub cycle-ready : (k : ℕ) (q : Work) (p : Works k) (ls : Levels k) → Spaced k p → Ready m k p ls → pathOk m k q (settle m k p ls) ≡ true
-      → Ready m k (cycleWorks m k q p ls) (cycleLevels m k p ls)
+  pub cycle-ready : (k : ℕ) (q : Work) (p : Works k) (ls : Levels k) → Spaced k p → PathsOk m k p ls → pathOk m k q (settle m k p ls) ≡ true
+      → PathsOk m k (cycleWorks m k q p ls) (cycleLevels m k p ls)
   unfolding cycleWorks cycleLevels
   cycle-ready zero q p ls sp h ok = tt
   cycle-ready (suc k) q p ls sp h ok = (

@@ -6,10 +6,10 @@ use mathlib.Core.Bool.{_&&_, _||_, Bool, cond, false, not, true}
 use mathlib.Core.List.{List}
 use mathlib.Core.Path.{_∙_, _≡_, ap, ap₂, refl, subst, sym}
 use lib.ListN.{length}
-use Rattle.clocked_model.proofs.Drain.{ticked-length}
-use Rattle.clocked_model.proofs.Exactly.{sound, ticked-damaged, ticked-either, ticked-fine}
+use Rattle.clocked_model.proofs.Drain.{cycled-length}
+use Rattle.clocked_model.proofs.Exactly.{sound, cycled-damaged, cycled-either, cycled-fine}
 use Rattle.clocked_model.proofs.Turn.{after-length, plain-rest, words-cycle, works-after}
-use Rattle.clocked_model.specs.Calls.{askedOk, asks, CycleOutcome, cycleWork, drainFrom, DrainOutcome, drainOutcome, drains, heard, hearing, isRefused, marks, pending, stepsOk, ticked, turned}
+use Rattle.clocked_model.specs.Calls.{askedOk, asks, CycleOutcome, cycleWork, drainFrom, DrainOutcome, drainOutcome, drains, ruleMarked, ruleNow, isRefused, marks, pending, stepsOk, cycled, cycleRun}
 use Rattle.clocked_model.specs.Cycle.{cycleLevels, cycleOk, cycleWords, cycleWorks, quiet, Works}
 use Rattle.clocked_model.specs.Promise.{Alike, clockedQueue, Machine, machine}
 use Rattle.clocked_model.specs.Records.{worksOf}
@@ -42,17 +42,17 @@ Same m levels c d = (c .answer ≡ d .answer) × Alike m levels (machine (c .sta
 -- a cycle that runs, by its levels and its works
 module _ (m k : ℕ) (x : Machine) (f : Fits m (suc k) x) (r : Request) where
   abbrev p : Works (suc k)
-  p = cycleWork m (suc k) (hearing m (suc k) r (x .state) (x .words) .op) (x .state)
+  p = cycleWork m (suc k) (ruleNow m (suc k) r (x .state) (x .words) .op) (x .state)
 
-  turned-levels : sound m (suc k) r (x .state) (x .words) ≡ true
+  cycleRun-levels : sound m (suc k) r (x .state) (x .words) ≡ true
       → levelsOf m (suc k) (cycleWords m (suc k) p 0 1 (x .words)) 0 1 ≡ cycleLevels m (suc k) p (levelsOf m (suc k) (x .words) 0 1)
-  turned-levels e =
+  cycleRun-levels e =
       words-cycle m (order-pos (f .shape)) (suc k) p 0 1 (x .words) (omega (arith, f .shape .slice, size-room m (suc k) 1))
-      (and-right (askedOk m (suc k) r (x .words)) (stepsOk m (suc k) (hearing m (suc k) r (x .state) (x .words) .op) (x .state) (x .words)) e) .0
+      (and-right (askedOk m (suc k) r (x .words)) (stepsOk m (suc k) (ruleNow m (suc k) r (x .state) (x .words) .op) (x .state) (x .words)) e) .0
 
-  turned-works : worksOf k (turned m (suc k) r (hearing m (suc k) r (x .state) (x .words)) (x .state) (x .words) .state .records) 0 ≡ cycleWorks m (suc k) idle p (levelsOf m (suc k) (x .words) 0 1) .1
-  unfolding turned cycleWorks levelsOf
-  turned-works = works-after m k _ 0 (x .state .records) (under m k (x .words) 0 1) (plain-rest m (work (hearing m (suc k) r (x .state) (x .words) .op) 0) _ _) (omega (arith, f .records))
+  cycleRun-works : worksOf k (cycleRun m (suc k) r (ruleNow m (suc k) r (x .state) (x .words)) (x .state) (x .words) .state .records) 0 ≡ cycleWorks m (suc k) idle p (levelsOf m (suc k) (x .words) 0 1) .1
+  unfolding cycleRun cycleWorks levelsOf
+  cycleRun-works = works-after m k _ 0 (x .state .records) (under m k (x .words) 0 1) (plain-rest m (work (ruleNow m (suc k) r (x .state) (x .words) .op) 0) _ _) (omega (arith, f .records))
 
 module _ (m k : ℕ) (x y : Machine) (fx : Fits m (suc k) x) (fy : Fits m (suc k) y) (like : Alike m (suc k) x y) where
   abbrev ls : Levels (suc k)
@@ -65,29 +65,29 @@ module _ (m k : ℕ) (x y : Machine) (fx : Fits m (suc k) x) (fy : Fits m (suc k
   root-same = same-root m (suc k) (x .words) (y .words) (fx .shape) (fy .shape) (like .words)
 
   module _ (r : Request) where
-    hearing-same : hearing m (suc k) r (x .state) (x .words) ≡ hearing m (suc k) r (y .state) (y .words)
-    hearing-same = ap₂ (λ (b : Bool) (nd : List Slot). heard b r (rule (room m (suc k)) r nd)) (like .mark) root-same
+    ruleNow-same : ruleNow m (suc k) r (x .state) (x .words) ≡ ruleNow m (suc k) r (y .state) (y .words)
+    ruleNow-same = ap₂ (λ (b : Bool) (nd : List Slot). ruleMarked b r (rule (room m (suc k)) r nd)) (like .mark) root-same
 
-    works-same : cycleWork m (suc k) (hearing m (suc k) r (x .state) (x .words) .op) (x .state) ≡ cycleWork m (suc k) (hearing m (suc k) r (y .state) (y .words) .op) (y .state)
-    works-same = ap₂ (λ (g : Ruling) (p : Works k). (work (g .op) 0, p)) hearing-same (like .works)
+    works-same : cycleWork m (suc k) (ruleNow m (suc k) r (x .state) (x .words) .op) (x .state) ≡ cycleWork m (suc k) (ruleNow m (suc k) r (y .state) (y .words) .op) (y .state)
+    works-same = ap₂ (λ (g : Ruling) (p : Works k). (work (g .op) 0, p)) ruleNow-same (like .works)
 
     sound-same : sound m (suc k) r (x .state) (x .words) ≡ sound m (suc k) r (y .state) (y .words)
     sound-same = ap₂ (λ (a b : Bool). a && b) (ap (λ (nd : List Slot). not (asks r) || nodeOk (room m k) nd) root-same) (ap₂ (cycleOk m (suc k)) works-same levels-same)
 
-    turned-alike : sound m (suc k) r (x .state) (x .words) ≡ true
-        → Same m (suc k) (turned m (suc k) r (hearing m (suc k) r (x .state) (x .words)) (x .state) (x .words)) (turned m (suc k) r (hearing m (suc k) r (y .state) (y .words)) (y .state) (y .words))
-    unfolding turned
-    turned-alike e = (
-      ap (λ (g : Ruling). g .answer) hearing-same,
+    cycleRun-alike : sound m (suc k) r (x .state) (x .words) ≡ true
+        → Same m (suc k) (cycleRun m (suc k) r (ruleNow m (suc k) r (x .state) (x .words)) (x .state) (x .words)) (cycleRun m (suc k) r (ruleNow m (suc k) r (y .state) (y .words)) (y .state) (y .words))
+    unfolding cycleRun
+    cycleRun-alike e = (
+      ap (λ (g : Ruling). g .answer) ruleNow-same,
       record {
-        words = levels-words m (suc k) _ _ (turned-levels m k x fx r e ∙ ap₂ (cycleLevels m (suc k)) works-same levels-same ∙ sym (turned-levels m k y fy r (sym sound-same ∙ e)));
-        works = turned-works m k x fx r ∙ ap₂ (λ (p : Works (suc k)) (ls : Levels (suc k)). cycleWorks m (suc k) idle p ls .1) works-same levels-same ∙ sym (turned-works m k y fy r);
-        mark = ap (λ (g : Ruling). marks r (g .answer)) hearing-same;
+        words = levels-words m (suc k) _ _ (cycleRun-levels m k x fx r e ∙ ap₂ (cycleLevels m (suc k)) works-same levels-same ∙ sym (cycleRun-levels m k y fy r (sym sound-same ∙ e)));
+        works = cycleRun-works m k x fx r ∙ ap₂ (λ (p : Works (suc k)) (ls : Levels (suc k)). cycleWorks m (suc k) idle p ls .1) works-same levels-same ∙ sym (cycleRun-works m k y fy r);
+        mark = ap (λ (g : Ruling). marks r (g .answer)) ruleNow-same;
       },
     )
 
     -- UNREAD, a cycle
-    cycle-alike : Same m (suc k) (ticked m (suc k) r (x .state) (x .words)) (ticked m (suc k) r (y .state) (y .words))
+    cycle-alike : Same m (suc k) (cycled m (suc k) r (x .state) (x .words)) (cycled m (suc k) r (y .state) (y .words))
     cycle-alike = go (sound m (suc k) r (x .state) (x .words)) refl
       where
         sx : shapeOk m (suc k) (length (x .words)) ≡ true
@@ -96,18 +96,18 @@ module _ (m k : ℕ) (x y : Machine) (fx : Fits m (suc k) x) (fy : Fits m (suc k
         sy : shapeOk m (suc k) (length (y .words)) ≡ true
         sy = is-shape m (suc k) (length (y .words)) (fy .shape)
 
-        go : (b : Bool) → sound m (suc k) r (x .state) (x .words) ≡ b → Same m (suc k) (ticked m (suc k) r (x .state) (x .words)) (ticked m (suc k) r (y .state) (y .words))
-        go false e = rw (ticked-damaged m (suc k) r (x .state) (x .words) sx e, ticked-damaged m (suc k) r (y .state) (y .words) sy (sym sound-same ∙ e)) (refl, like)
-        go true e = rw (ticked-fine m (suc k) r (x .state) (x .words) sx e, ticked-fine m (suc k) r (y .state) (y .words) sy (sym sound-same ∙ e)) (turned-alike e)
+        go : (b : Bool) → sound m (suc k) r (x .state) (x .words) ≡ b → Same m (suc k) (cycled m (suc k) r (x .state) (x .words)) (cycled m (suc k) r (y .state) (y .words))
+        go false e = rw (cycled-damaged m (suc k) r (x .state) (x .words) sx e, cycled-damaged m (suc k) r (y .state) (y .words) sy (sym sound-same ∙ e)) (refl, like)
+        go true e = rw (cycled-fine m (suc k) r (x .state) (x .words) sx e, cycled-fine m (suc k) r (y .state) (y .words) sy (sym sound-same ∙ e)) (cycleRun-alike e)
 
 -- every cycle keeps shape and records
 fits-on : (m levels : ℕ) (r : Request) (x : Machine) → Fits m levels x → Fits m levels (clockedQueue m levels r x .next)
-unfolding turned
+unfolding cycleRun
 fits-on m levels r x f =
     record {
-      shape = subst (Shape m levels) (sym (ticked-length m levels r (x .state) (x .words))) (f .shape);
-      records = ticked-either m levels r (x .state) (x .words) (λ c. pred levels ≤ length (c .state .records)) (f .records) (f .records)
-          (λ e s. omega (arith, f .records, after-length m (pred levels) (restWords m (pred levels) (work (hearing m levels r (x .state) (x .words) .op) 0) 0 1 (x .words)) 0 (x .state .records) (under m (pred levels) (x .words) 0 1)));
+      shape = subst (Shape m levels) (sym (cycled-length m levels r (x .state) (x .words))) (f .shape);
+      records = cycled-either m levels r (x .state) (x .words) (λ c. pred levels ≤ length (c .state .records)) (f .records) (f .records)
+          (λ e s. omega (arith, f .records, after-length m (pred levels) (restWords m (pred levels) (work (ruleNow m levels r (x .state) (x .words) .op) 0) 0 1 (x .words)) 0 (x .state .records) (under m (pred levels) (x .words) 0 1)));
     }
 
 pub unread : (m levels : ℕ) (x y : Machine) → Fits m levels x → Fits m levels y → Alike m levels x y → (r : Request)

@@ -11,7 +11,7 @@ use Rattle.strip.specs.declared.Answer.the-variants.{Done, Out, Refused}
 use Rattle.strip.specs.declared.Refusal.the-variants.{BadShape, Damaged, TooSoon}
 use Rattle.strip.specs.declared.Request.{Request}
 use Rattle.strip.specs.declared.Request.the-variants.{Idle, Pop, Push, Replace}
-use Rattle.tree_model.specs.Calls.{cleared, rootOk, ruling, Ruling, shapeOk, verdict}
+use Rattle.tree_model.specs.Calls.{cleared, rootOk, ruling, Ruling, shapeOk, ruleAt}
 use Rattle.tree_model.specs.Damage.{room}
 use Rattle.tree_model.specs.Levels.{idle, work}
 use Rattle.tree_model.specs.Words.{levelsOf, restWords, under, wipe}
@@ -33,8 +33,8 @@ popsOrReplaces Pop = true
 popsOrReplaces (Replace x) = true
 
 -- "too soon: clocked pop or replace with the mark on"; any other request comes to what it would at rest
-unfoldable pub heard : Bool → Request → Ruling → Ruling
-heard mark r g = cond (mark && popsOrReplaces r) (ruling (Refused TooSoon) Nothing) g
+unfoldable pub ruleMarked : Bool → Request → Ruling → Ruling
+ruleMarked mark r g = cond (mark && popsOrReplaces r) (ruling (Refused TooSoon) Nothing) g
 
 unfoldable pub isRefused : Answer → Bool
 isRefused Done = false
@@ -74,8 +74,8 @@ fresh = record { records = replicate recordCount idle; mark = false }
 
 module _ (m levels : ℕ) where
   -- ---- a cycle
-  abbrev pub hearing : Request → State → List ℕ → Ruling
-  hearing r s ws = heard (s .mark) r (verdict m levels r ws)
+  abbrev pub ruleNow : Request → State → List ℕ → Ruling
+  ruleNow r s ws = ruleMarked (s .mark) r (ruleAt m levels r ws)
 
   -- "Level 1 does the requested operation's root step; a level with pending work does that node's step"
   abbrev pub cycleWork : Op → State → Works (suc (pred levels))
@@ -90,18 +90,18 @@ module _ (m levels : ℕ) where
   stepsOk o s ws = cycleOk m (suc (pred levels)) (cycleWork o s) (levelsOf m (suc (pred levels)) ws 0 1)
 
   -- the words and the state that a cycle leaves
-  unfoldable pub turned : Request → Ruling → State → List ℕ → CycleOutcome
-  turned r g s ws =
+  unfoldable pub cycleRun : Request → Ruling → State → List ℕ → CycleOutcome
+  cycleRun r g s ws =
       cycleOutcome (g .answer) (cycleWords m (suc (pred levels)) (cycleWork (g .op) s) 0 1 ws) (record {
         records = recordsAfter m (pred levels) (restWords m (pred levels) (work (g .op) 0) 0 1 ws) 0 (s .records) (under m (pred levels) ws 0 1);
         mark = marks r (g .answer);
       })
 
   -- "Order for the tree: 1, 2, 3, then 5 or 6". After 3, 5 and 6 the "cycle runs as idle": such a ruling has no work
-  unfoldable pub ticked : Request → State → List ℕ → CycleOutcome
-  ticked r s ws =
+  unfoldable pub cycled : Request → State → List ℕ → CycleOutcome
+  cycled r s ws =
       cond (shapeOk m levels (length ws))
-      (cond (askedOk r ws && stepsOk (hearing r s ws .op) s ws) (turned r (hearing r s ws) s ws) (cycleOutcome (Refused Damaged) ws s))
+      (cond (askedOk r ws && stepsOk (ruleNow r s ws .op) s ws) (cycleRun r (ruleNow r s ws) s ws) (cycleOutcome (Refused Damaged) ws s))
       (cycleOutcome (Refused BadShape) ws s)
 
   -- ---- drain
@@ -114,7 +114,7 @@ module _ (m levels : ℕ) where
   unfoldable pub drainFrom : ℕ → ℕ → State → List ℕ → DrainOutcome
   drainFrom zero n s ws = drainOutcome Done n (pending s) ws s
   drainFrom (suc b) n s ws =
-      let o = ticked Idle s ws in
+      let o = cycled Idle s ws in
       cond (pending s)
       (cond (isRefused (o .answer)) (drainOutcome (o .answer) n true (o .words) (o .state)) (drainFrom b (suc n) (o .state) (o .words)))
       (drainOutcome Done n false ws s)

@@ -2,7 +2,7 @@
 use Prim.Native.Nat.{_*_, _+_, suc, zero, ℕ}
 use mathlib.Core.Bool.{_&&_, Bool, true}
 use mathlib.Core.List.{List}
-use Rattle.tree_model.specs.Damage.{fine}
+use Rattle.tree_model.specs.Damage.{workOk}
 use Rattle.tree_model.specs.Levels.{Levels, stepLevel, stepWork, top}
 use Rattle.tree_model.specs.Node.{isNothing}
 use Rattle.tree_model.specs.Words.{stepWords}
@@ -27,7 +27,7 @@ module _ (m : ℕ) where
   -- no level's step meets damage: "pending work reads likewise", and no "pending record names a node its level lacks"
   unfoldable pub cycleOk : (k : ℕ) → Works k → Levels k → Bool
   cycleOk zero p ls = true
-  cycleOk (suc k) p ls = fine m k (p .0) (ls .0) (top k (ls .1)) && cycleOk k (p .1) (ls .1)
+  cycleOk (suc k) p ls = workOk m k (p .0) (ls .0) (top k (ls .1)) && cycleOk k (p .1) (ls .1)
 
   -- the same on the words, from the top down: at most one slot of each level is written, and a level is written after the one above has
   -- read it

@@ -6,7 +6,7 @@ use mathlib.Core.Logic.{_⊎_}
 use mathlib.Core.Path.{_≡_}
 use lib.Dec.{leb}
 use lib.ListN.{getD, length, replicate}
-use Rattle.clocked_model.specs.Calls.{clockedCleared, cycleOutcome, CycleOutcome, cycleWork, drainOutcome, DrainOutcome, drains, fresh, hearing, marks, pending, popsOrReplaces, ticked}
+use Rattle.clocked_model.specs.Calls.{clockedCleared, cycleOutcome, CycleOutcome, cycleWork, drainOutcome, DrainOutcome, drains, fresh, ruleNow, marks, pending, popsOrReplaces, cycled}
 use Rattle.clocked_model.specs.Cycle.{Works}
 use Rattle.clocked_model.specs.Records.{recordAt, worksOf}
 use Rattle.clocked_model.specs.declared.State.{State}
@@ -21,7 +21,7 @@ use Rattle.strip.specs.declared.Refusal.{Refusal}
 use Rattle.strip.specs.declared.Refusal.the-variants.{BadRank, BadShape, Damaged, Empty, Full, TooSoon}
 use Rattle.strip.specs.declared.Request.{Request}
 use Rattle.strip.specs.declared.Request.the-variants.{Idle, Pop, Push, Replace}
-use Rattle.tree_model.specs.Calls.{called, counted, outcome, Outcome, rootOf}
+use Rattle.tree_model.specs.Calls.{called, heldCount, outcome, Outcome, rootOf}
 use Rattle.tree_model.specs.Damage.{room}
 use Rattle.tree_model.specs.Levels.{idle, Level, Levels, stepLevel, stepWork, top, work}
 use Rattle.tree_model.specs.Node.{sumCounts}
@@ -41,7 +41,7 @@ machine s ws = record { state = s; words = ws }
 module _ (m levels : ℕ) where
   abbrev pub clockedQueue : Request → Machine → Step Answer Machine
   clockedQueue r x =
-      let o = ticked m levels r (x .state) (x .words) in
+      let o = cycled m levels r (x .state) (x .words) in
       step (o .answer) (machine (o .state) (o .words))
 
   -- what a list of cycles leaves, and so many idle ones
@@ -108,7 +108,7 @@ WorksDamaged m (suc k) p ls = WorkDamaged m k (p .0) (ls .0) (top k (ls .1)) ⊎
 abbrev pub CycleDamage : ℕ → ℕ → Request → State → List ℕ → Type 0
 CycleDamage m levels r s ws =
     (Asks r × NodeDamaged (room m (pred levels)) (rootOf m ws))
-    ⊎ WorksDamaged m (suc (pred levels)) (cycleWork m levels (hearing m levels r s ws .op) s) (levelsOf m (suc (pred levels)) ws 0 1)
+    ⊎ WorksDamaged m (suc (pred levels)) (cycleWork m levels (ruleNow m levels r s ws .op) s) (levelsOf m (suc (pred levels)) ws 0 1)
 
 -- the table, in order: "Order for the tree: 1, 2, 3, then 5 or 6". 4 is the bucket queue's
 abbrev pub cycleRefusals : ℕ → ℕ → Request → State → List ℕ → Ladder Refusal
@@ -167,7 +167,7 @@ module _ (m levels : ℕ) where
 
   -- "Level 1 does the requested operation's root step; a level with pending work does that node's step": the work of level i
   abbrev pub levelWork : Request → State → List ℕ → ℕ → Work
-  levelWork r s ws zero = work (hearing m levels r s ws .op) 0
+  levelWork r s ws zero = work (ruleNow m levels r s ws .op) 0
   levelWork r s ws (suc i) = recordAt (s .records) i
 
   -- what a step at level i leaves for the next level
@@ -189,20 +189,20 @@ firstSlot m i = sumTo i (λ a. m ^ suc a)
 
 pub record OneStep (m levels : ℕ) (r : Request) (s : State) (ws : List ℕ) : Type 0 where
   -- "every level reads what stood at the cycle's start and writes only its own level": each is what its own step makes of it
-  pub each : (i : ℕ) → i < levels → levelNow m levels (ticked m levels r s ws .words) i ≡ stepLevel m (levelWork m levels r s ws i) (levelNow m levels ws i) (levelNow m levels ws (suc i))
+  pub each : (i : ℕ) → i < levels → levelNow m levels (cycled m levels r s ws .words) i ≡ stepLevel m (levelWork m levels r s ws i) (levelNow m levels ws i) (levelNow m levels ws (suc i))
   -- .. that is one slot at the most: every other one stands
   pub slot : ℕ → ℕ
-  pub others : (i q : ℕ) → i < levels → q < m ^ suc i → (q ≡ slot i → ⊥) → threeWords (ticked m levels r s ws .words) (firstSlot m i + q) ≡ threeWords ws (firstSlot m i + q)
+  pub others : (i q : ℕ) → i < levels → q < m ^ suc i → (q ≡ slot i → ⊥) → threeWords (cycled m levels r s ws .words) (firstSlot m i + q) ≡ threeWords ws (firstSlot m i + q)
   -- .. and none of a level with nothing to do
-  pub still : (i q : ℕ) → i < levels → q < m ^ suc i → levelWork m levels r s ws i .op ≡ Nothing → threeWords (ticked m levels r s ws .words) (firstSlot m i + q) ≡ threeWords ws (firstSlot m i + q)
+  pub still : (i q : ℕ) → i < levels → q < m ^ suc i → levelWork m levels r s ws i .op ≡ Nothing → threeWords (cycled m levels r s ws .words) (firstSlot m i + q) ≡ threeWords ws (firstSlot m i + q)
   -- no word past the capacity changes
-  pub past : (a : ℕ) → 3 * room m levels ≤ a → getD (ticked m levels r s ws .words) a 0 ≡ getD ws a 0
+  pub past : (a : ℕ) → 3 * room m levels ≤ a → getD (cycled m levels r s ws .words) a 0 ≡ getD ws a 0
   -- each record is what the level above leaves for it, or is done with, or stands
-  pub records : (i : ℕ) → suc i < levels → Recorded (leaveBelow m levels ws i (levelWork m levels r s ws i)) (getD (s .records) i idle) (getD (ticked m levels r s ws .state .records) i idle)
+  pub records : (i : ℕ) → suc i < levels → Recorded (leaveBelow m levels ws i (levelWork m levels r s ws i)) (getD (s .records) i idle) (getD (cycled m levels r s ws .state .records) i idle)
   -- the last level leaves nothing
   pub last : leaveBelow m levels ws (pred levels) (levelWork m levels r s ws (pred levels)) .op ≡ Nothing
   -- "records past the last level are left alone"
-  pub spare : (j : ℕ) → pred levels ≤ j → getD (ticked m levels r s ws .state .records) j idle ≡ getD (s .records) j idle
+  pub spare : (j : ℕ) → pred levels ≤ j → getD (cycled m levels r s ws .state .records) j idle ≡ getD (s .records) j idle
 
 -- an operation's work on its way down: w at level i in this cycle, what it leaves at level i + 1 in the next, whatever is asked then
 unfoldable pub flight : (m levels i : ℕ) → Work → List Request → Machine → Work
@@ -218,10 +218,10 @@ pub record Alike (m levels : ℕ) (x y : Machine) : Type 0 where
 
 -- ---- each public call's outcome is one
 pub record Pinned (m levels : ℕ) (s : State) (ws : List ℕ) : Type 0 where
-  pub cycle : (r : Request) → Pins (ticked m levels r s ws)
-  pub push : (x : Element) → Pins (ticked m levels (Push x) s ws)
-  pub pop : Pins (ticked m levels Pop s ws)
-  pub replace : (x : Element) → Pins (ticked m levels (Replace x) s ws)
+  pub cycle : (r : Request) → Pins (cycled m levels r s ws)
+  pub push : (x : Element) → Pins (cycled m levels (Push x) s ws)
+  pub pop : Pins (cycled m levels Pop s ws)
+  pub replace : (x : Element) → Pins (cycled m levels (Replace x) s ws)
   pub drain : (budget : ℕ) → Pins (drains m levels budget s ws)
   pub clear : Pins (clockedCleared m levels s ws)
-  pub held : Pins (counted m levels ws)
+  pub held : Pins (heldCount m levels ws)

@@ -19,9 +19,9 @@ module _ (m : ℕ) where
   finally k p ls = (ls .0, settle k p (ls .1))
 
   -- each level's work finds its whole path in order, once the older work below is done
-  abbrev pub Ready : (k : ℕ) → Works k → Levels k → Type 0
-  Ready zero p ls = Unit {0}
-  Ready (suc k) p ls = (pathOk m (suc k) (p .0) (finally k (p .1) ls) ≡ true) × Ready k (p .1) (ls .1)
+  abbrev pub PathsOk : (k : ℕ) → Works k → Levels k → Type 0
+  PathsOk zero p ls = Unit {0}
+  PathsOk (suc k) p ls = (pathOk m (suc k) (p .0) (finally k (p .1) ls) ≡ true) × PathsOk k (p .1) (ls .1)
 
 -- nothing is pending for the first level
 abbrev pub Clear : (k : ℕ) → Works k → Type 0

@@ -12,39 +12,39 @@ use Rattle.strip.specs.declared.Answer.the-variants.{Done, Out, Refused}
 use Rattle.strip.specs.declared.Element.{Element}
 use Rattle.strip.specs.declared.Refusal.the-variants.{Empty, Full}
 use Rattle.strip.specs.declared.Request.the-variants.{Pop, Push, Replace}
-use Rattle.tree_model.specs.Calls.{rootOf, rule, ruling, slotLimit, verdict}
+use Rattle.tree_model.specs.Calls.{rootOf, rule, ruling, slotLimit, ruleAt}
 use Rattle.tree_model.specs.Damage.{room}
 use Rattle.tree_model.specs.Node.{low, sumCounts}
 use Rattle.tree_model.specs.declared.Op.the-variants.{Nothing, Put, Swap, Take}
 
 module _ (m levels : ℕ) (ws : List ℕ) (sum : ℕ) (summed : sum ≡ sumCounts (rootOf m ws)) where
-  module _ (x : Element) (cap : ℕ) (counted : Capacity m levels cap) (within : room m levels ≤ slotLimit) where
-    pub push-full : cap ≤ sum → verdict m levels (Push x) ws ≡ ruling (Refused Full) Nothing
+  module _ (x : Element) (cap : ℕ) (heldCount : Capacity m levels cap) (within : room m levels ≤ slotLimit) where
+    pub push-full : cap ≤ sum → ruleAt m levels (Push x) ws ≡ ruling (Refused Full) Nothing
     unfolding rule
-    push-full h = rw (le-ltb (sumCounts (rootOf m ws)) (room m levels) (omega (arith, counted .within within)))
+    push-full h = rw (le-ltb (sumCounts (rootOf m ws)) (room m levels) (omega (arith, heldCount .within within)))
 
-    pub push-puts : sum < cap → verdict m levels (Push x) ws ≡ ruling Done (Put x)
+    pub push-puts : sum < cap → ruleAt m levels (Push x) ws ≡ ruling Done (Put x)
     unfolding rule
-    push-puts h = rw (lt-ltb (sumCounts (rootOf m ws)) (room m levels) (omega (arith, counted .within within)))
+    push-puts h = rw (lt-ltb (sumCounts (rootOf m ws)) (room m levels) (omega (arith, heldCount .within within)))
 
-  pub pop-empty : sum ≡ 0 → verdict m levels Pop ws ≡ ruling (Refused Empty) Nothing
+  pub pop-empty : sum ≡ 0 → ruleAt m levels Pop ws ≡ ruling (Refused Empty) Nothing
   unfolding rule
   pop-empty z = rw (eq-eqb (sumCounts (rootOf m ws)) 0 (sym summed ∙ z))
 
-  pub replace-empty : (x : Element) → sum ≡ 0 → verdict m levels (Replace x) ws ≡ ruling (Out x) Nothing
+  pub replace-empty : (x : Element) → sum ≡ 0 → ruleAt m levels (Replace x) ws ≡ ruling (Out x) Nothing
   unfolding rule
   replace-empty x z = rw (eq-eqb (sumCounts (rootOf m ws)) 0 (sym summed ∙ z))
 
   module _ (more : sum ≡ 0 → ⊥) (least : Element) (is-low : least ≡ low (rootOf m ws)) where
-    pub pop-takes : verdict m levels Pop ws ≡ ruling (Out least) Take
+    pub pop-takes : ruleAt m levels Pop ws ≡ ruling (Out least) Take
     unfolding rule
     pop-takes = rw (ne-eqb (sumCounts (rootOf m ws)) 0 (λ z. more (summed ∙ z)), ← is-low)
 
     module _ (x : Element) (t : Bool) (tested : t ≡ ltb (key x) (key least)) where
-      pub replace-back : t ≡ true → verdict m levels (Replace x) ws ≡ ruling (Out x) Nothing
+      pub replace-back : t ≡ true → ruleAt m levels (Replace x) ws ≡ ruling (Out x) Nothing
       unfolding rule
       replace-back y = rw (ne-eqb (sumCounts (rootOf m ws)) 0 (λ z. more (summed ∙ z)), ← is-low, ← tested, y)
 
-      pub replace-swaps : t ≡ false → verdict m levels (Replace x) ws ≡ ruling (Out least) (Swap x)
+      pub replace-swaps : t ≡ false → ruleAt m levels (Replace x) ws ≡ ruling (Out least) (Swap x)
       unfolding rule
       replace-swaps y = rw (ne-eqb (sumCounts (rootOf m ws)) 0 (λ z. more (summed ∙ z)), ← is-low, ← tested, y)

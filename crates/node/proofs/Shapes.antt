@@ -14,7 +14,7 @@ use Rattle.node.specs.declared.shape.Shape.{Shape}
 use Rattle.tree_model.proofs.Exactly.{is-shape, order-pos, shape-is}
 use Rattle.tree_model.specs.Calls.{orderOk, shapeOk, slotLimit}
 use Rattle.tree_model.specs.Damage.{room}
-use Rattle.tree_model.specs.Words.{width}
+use Rattle.tree_model.specs.Words.{slotWords}
 
 -- ---- no such tree
 none : (m levels : ℕ) (s : Shape) → false ≡ isTree m levels → (s .slots ≡ 0) × (s .below ≡ 0) × (s .room ≡ 0) → Shaped m levels s
@@ -28,22 +28,22 @@ none m levels s e z = record {
 
 module _ (m levels : ℕ) (ok : Bool) (order : ok ≡ orderOk m) (s : Shape) where
   pub shaped-order : not ok ≡ true → (s .slots ≡ 0) × (s .below ≡ 0) × (s .room ≡ 0) → Shaped m levels s
-  shaped-order e z = none m levels s (shape-order m levels (width * slotLimit) ok order e) z
+  shaped-order e z = none m levels s (shape-order m levels (slotWords * slotLimit) ok order e) z
 
   pub shaped-none : levels ≡ 0 → (s .slots ≡ 0) × (s .below ≡ 0) × (s .room ≡ 0) → Shaped m levels s
-  shaped-none e z = none m levels s (shape-levels m levels (width * slotLimit) ok order e) z
+  shaped-none e z = none m levels s (shape-levels m levels (slotWords * slotLimit) ok order e) z
 
-  module _ (e : not ok ≡ false) (ne : levels ≡ 0 → ⊥) (r : ℕ) (counted : Capacity m levels r) where
+  module _ (e : not ok ≡ false) (ne : levels ≡ 0 → ⊥) (r : ℕ) (heldCount : Capacity m levels r) where
     pub shaped-above : slotLimit < r → (s .slots ≡ 0) × (s .below ≡ 0) × (s .room ≡ 0) → Shaped m levels s
-    shaped-above h z = none m levels s (shape-above m levels (width * slotLimit) ok order r e ne counted h) z
+    shaped-above h z = none m levels s (shape-above m levels (slotWords * slotLimit) ok order r e ne heldCount h) z
 
     -- ---- a tree
     module _ (h : r ≤ slotLimit) where
       tree : isTree m levels ≡ true
-      tree = sym (shape-slice m levels (width * slotLimit) ok order r e ne counted h) ∙ le-leb (3 * r) (width * slotLimit) (omega arith)
+      tree = sym (shape-slice m levels (slotWords * slotLimit) ok order r e ne heldCount h) ∙ le-leb (3 * r) (slotWords * slotLimit) (omega arith)
 
       slots-are : r ≡ room m levels
-      slots-are = counted .within (shape-is m levels (width * slotLimit) tree .capacity)
+      slots-are = heldCount .within (shape-is m levels (slotWords * slotLimit) tree .capacity)
 
       pub shaped-tree : (u : ℕ) → RoomUnder m r u → s .slots ≡ r → s .below ≡ levels - 1 → s .room ≡ u → Shaped m levels s
       shaped-tree u f es eb er = record {
@@ -58,19 +58,19 @@ module _ (m levels : ℕ) (ok : Bool) (order : ok ≡ orderOk m) (s : Shape) whe
 pub held-tree : (m levels len : ℕ) → shapeOk m levels len ≡ true → isTree m levels ≡ true
 held-tree m levels len e =
     let sh = shape-is m levels len e in
-    is-shape m levels (width * slotLimit) (record { order = sh .order; some = sh .some; capacity = sh .capacity; slice = omega (arith, sh .capacity) })
+    is-shape m levels (slotWords * slotLimit) (record { order = sh .order; some = sh .some; capacity = sh .capacity; slice = omega (arith, sh .capacity) })
 
 room-some : (m levels : ℕ) → 0 < m → 1 ≤ levels → 1 ≤ room m levels
 unfolding room
 room-some m zero h l = absurd (omega arith)
 room-some m (suc k) h l = omega (arith, mul-le-mul-right (suc (room m k)) h)
 
-tree-slice : (m levels len : ℕ) → isTree m levels ≡ true → leb (width * room m levels) len ≡ shapeOk m levels len
+tree-slice : (m levels len : ℕ) → isTree m levels ≡ true → leb (slotWords * room m levels) len ≡ shapeOk m levels len
 unfolding shapeOk
 tree-slice m levels len e =
     let first : orderOk m ≡ true = and-left (orderOk m) _ e in
-    let rest = and-right (orderOk m) (leb 1 levels && (leb (room m levels) slotLimit && leb (width * room m levels) (width * slotLimit))) e in
-    let last = and-right (leb 1 levels) (leb (room m levels) slotLimit && leb (width * room m levels) (width * slotLimit)) rest in
+    let rest = and-right (orderOk m) (leb 1 levels && (leb (room m levels) slotLimit && leb (slotWords * room m levels) (slotWords * slotLimit))) e in
+    let last = and-right (leb 1 levels) (leb (room m levels) slotLimit && leb (slotWords * room m levels) (slotWords * slotLimit)) rest in
     rw (first, and-left (leb 1 levels) _ rest, and-left (leb (room m levels) slotLimit) _ last)
 
 pub fits-is : (m levels len : ℕ) (s : Shape) → Shaped m levels s → (not (eqb (s .slots) 0) && leb (3 * s .slots) len) ≡ shapeOk m levels len
@@ -82,7 +82,7 @@ fits-is m levels len s sh = go (isTree m levels) refl
 
     go : (b : Bool) → isTree m levels ≡ b → (not (eqb (s .slots) 0) && leb (3 * s .slots) len) ≡ shapeOk m levels len
     go true e =
-        let tr = shape-is m levels (width * slotLimit) e in
+        let tr = shape-is m levels (slotWords * slotLimit) e in
         let is : s .slots ≡ room m levels = sh .slots ∙ ap (λ (b : Bool). cond b (room m levels) 0) e in
         let more : s .slots ≡ 0 → ⊥ = λ z. omega (arith, room-some m levels (order-pos tr) (tr .some)) in
         rw (ne-eqb (s .slots) 0 more) (ap (λ (n : ℕ). leb (3 * n) len) is ∙ tree-slice m levels len e)

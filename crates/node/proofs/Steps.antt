@@ -21,7 +21,7 @@ use Rattle.tree_model.proofs.Words.{node-length, node-slot, some-sum}
 use Rattle.tree_model.specs.Calls.{orderOk, shapeOk, slotLimit}
 use Rattle.tree_model.specs.Damage.{hasRoom, hasSome, lifts, nodeOk, readOk, room, slotOk, stepOk}
 use Rattle.tree_model.specs.Node.{every, firstEmpty, isEmpty, keep, leastCount, low, lowest, move, opMove, pass, putBy, putMove, slotAt, sumCounts, swapBy, swapMove, takeBy, takeMove}
-use Rattle.tree_model.specs.Words.{nodeMove, nodeOf, slotOf, width}
+use Rattle.tree_model.specs.Words.{nodeMove, nodeOf, slotOf, slotWords}
 use Rattle.tree_model.specs.declared.Move.{Move}
 use Rattle.tree_model.specs.declared.Op.{Op}
 use Rattle.tree_model.specs.declared.Op.the-variants.{Nothing, Put, Swap, Take}
@@ -240,7 +240,7 @@ module _ (m levels len : ℕ) (ok : Bool) (order : ok ≡ orderOk m) where
   unfolding shapeOk
   shape-levels e = go (orderOk m)
     where
-      go : (b : Bool) → false ≡ (b && (leb 1 levels && (leb (room m levels) slotLimit && leb (width * room m levels) len)))
+      go : (b : Bool) → false ≡ (b && (leb 1 levels && (leb (room m levels) slotLimit && leb (slotWords * room m levels) len)))
       go true = rw (lt-leb 1 levels (omega arith))
       go false = refl
 

@@ -10,18 +10,18 @@ use Rattle.strip.specs.declared.Element.{Element}
 use Rattle.tree_model.specs.Calls.{slotLimit}
 use Rattle.tree_model.specs.Damage.{room, stepOk}
 use Rattle.tree_model.specs.Node.{isEmpty, low, slotAt}
-use Rattle.tree_model.specs.Words.{nodeOf, width}
+use Rattle.tree_model.specs.Words.{nodeOf, slotWords}
 use Rattle.tree_model.specs.declared.Op.the-variants.{Take}
 use Rattle.tree_model.specs.declared.Slot.{Slot}
 
 -- a node of m slots lies within the words
 pub record NodeIn (m i : ℕ) (ws : List ℕ) : Type 0 where
   pub order : 0 < m
-  pub words : width * (i + m) ≤ length ws
+  pub words : slotWords * (i + m) ≤ length ws
 
 -- the nodes below a node's places lie within the words, the first of them at slot f
 abbrev pub ChildrenIn : ℕ → ℕ → List ℕ → Type 0
-ChildrenIn m f ws = width * (f + m * m) ≤ length ws
+ChildrenIn m f ws = slotWords * (f + m * m) ≤ length ws
 
 -- the node below place j
 abbrev pub childOf : ℕ → ℕ → List ℕ → ℕ → List Slot

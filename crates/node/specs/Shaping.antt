@@ -5,11 +5,11 @@ use mathlib.Core.Path.{_≡_}
 use Rattle.node.specs.declared.shape.Shape.{Shape}
 use Rattle.tree_model.specs.Calls.{shapeOk, slotLimit}
 use Rattle.tree_model.specs.Damage.{room}
-use Rattle.tree_model.specs.Words.{width}
+use Rattle.tree_model.specs.Words.{slotWords}
 
 -- some slice would do for this order and these levels
 abbrev pub isTree : ℕ → ℕ → Bool
-isTree m levels = shapeOk m levels (width * slotLimit)
+isTree m levels = shapeOk m levels (slotWords * slotLimit)
 
 -- what is computed of it, 0 where there is no such tree
 pub record Shaped (m levels : ℕ) (s : Shape) : Type 0 where

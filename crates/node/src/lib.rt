@@ -6,7 +6,7 @@ ghost use lib.ListN.{length};
 ghost use lib.Dec.{ltb};
 ghost use Rattle.strip.specs.Answers.{key};
 ghost use Rattle.tree_model.specs.Node.{leastCount, lowest, sumCounts, keep, pass};
-ghost use Rattle.tree_model.specs.Words.{width, slotOf, write, nodeOf};
+ghost use Rattle.tree_model.specs.Words.{slotWords, slotOf, write, nodeOf};
 ghost use Rattle.tree_model.specs.Damage.{slotOk, nodeOk};
 ghost use Rattle.tree_model.specs.Calls.{slotLimit, orderOk, shapeOk};
 ghost use Rattle.node.specs.Scan.{keyOr, NodeIn, Capacity, RoomUnder};
@@ -29,7 +29,7 @@ const ORDER_LIMIT: usize = 8;
 // ---- words
 
 pub fn slot_at(s: &[u32], i: usize) -> Slot
-    requires { ⌜ width * i + 3 ≤ length (now s) ⌝ }
+    requires { ⌜ slotWords * i + 3 ≤ length (now s) ⌝ }
     ensures { λ r. ⌜ r ≡ slotOf (now (s .entry)) i ⌝ }
 {
     let at = 3 * i;
@@ -46,7 +46,7 @@ pub fn slot_at(s: &[u32], i: usize) -> Slot
 }
 
 pub fn write_slot(s: &mut [u32], i: usize, slot: Slot)
-    requires { ⌜ width * i + 3 ≤ length (now s) ⌝ }
+    requires { ⌜ slotWords * i + 3 ≤ length (now s) ⌝ }
     ensures { λ _. ⌜ now (s .exit) ≡ write (now (s .entry)) i slot ⌝ }
 {
     let at = 3 * i;

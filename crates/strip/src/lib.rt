@@ -101,7 +101,7 @@ pub fn count_number(c: Count) -> u32
 }
 
 // How many are held; a refused held answers 0.
-pub fn counted(c: Count) -> u32
+pub fn count_of(c: Count) -> u32
     ensures { λ n. ⌜ n ≡ countOf c ⌝ }
 {
     match c {

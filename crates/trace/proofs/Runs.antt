@@ -7,7 +7,7 @@ use mathlib.Core.Path.{_∙_, _≡_, ap, ap₂, refl, subst, sym}
 use lib.Dec.{eqb}
 use lib.ListN.{length, length-append}
 use borrow.Author.Tests.{le-leb, le-ltb, lt-leb, lt-ltb, not-false, not-true}
-use Rattle.clocked_model.specs.Calls.{cycleOutcome, CycleOutcome, DrainOutcome, drainOutcome, drains, fresh, restarted, ticked}
+use Rattle.clocked_model.specs.Calls.{cycleOutcome, CycleOutcome, DrainOutcome, drainOutcome, drains, fresh, restarted, cycled}
 use Rattle.clocked_model.specs.declared.State.{State}
 use Rattle.strip.specs.Answers.{countOf}
 use Rattle.strip.specs.declared.Answer.{Answer}
@@ -25,7 +25,7 @@ use Rattle.trace.specs.declared.Piece.{Piece}
 use Rattle.trace.specs.declared.Playing.{Playing}
 use Rattle.trace.specs.declared.Record.{Record}
 use Rattle.trace.specs.declared.Record.the-variants.{Bad, Good}
-use Rattle.tree_model.specs.Calls.{counted}
+use Rattle.tree_model.specs.Calls.{heldCount}
 
 -- ---- a step after a run
 pub after-stands : (u : Run) → after u stands ≡ u
@@ -85,7 +85,7 @@ module _ (f : Step) (p : Playing) (ws : List ℕ) where
 -- ---- one record
 module _ (p : Playing) (ws : List ℕ) (i : ℕ) (out : List ℕ) (room : i + longestLine ≤ length out) (q : Piece) where
   pub good-made : (r : Request) (a : Answer) (vs : List ℕ) (s : State) (n w : ℕ) (o : List ℕ)
-      → cycleOutcome a vs s ≡ ticked (p .order) (p .levels) r (p .state) ws → n ≡ nextNumber (p .number) → Laid out i (lineOf n r a) o w
+      → cycleOutcome a vs s ≡ cycled (p .order) (p .levels) r (p .state) ws → n ≡ nextNumber (p .number) → Laid out i (lineOf n r a) o w
       → (q .play ≡ carry p s n true) × (q .written ≡ w) → Makes (turn (Good r) p ws) i out q vs o
   unfolding turn
   good-made r a vs s n w o e en l c =
@@ -124,7 +124,7 @@ turn-short e p ws = go (p .live) e
     go : (b : Bool) (e : Record) → length (cond b (turn e p ws) (stands p ws) .text) ≤ longestLine
     go false e = omega arith
     go true Bad = bad-short (nextNumber (p .number))
-    go true (Good r) = line-short (nextNumber (p .number)) r (ticked (p .order) (p .levels) r (p .state) ws .answer)
+    go true (Good r) = line-short (nextNumber (p .number)) r (cycled (p .order) (p .levels) r (p .state) ws .answer)
 
 pub written-next : (e : Record) (q : Piece) (ws o : List ℕ) (r : Piece) (ws′ o′ : List ℕ)
     → Makes (whileLive (turn e) (q .play) ws) (q .written) o r ws′ o′ → r .written ≤ q .written + longestLine
@@ -236,13 +236,13 @@ module _ (q : Piece) (ws out : List ℕ) (room : q .written + longestLine ≤ le
 -- ---- the drain
 pub end-made : (p : Playing) (ws : List ℕ) (i : ℕ) (out : List ℕ) → i + longestLine ≤ length out
     → (a : Answer) (n : ℕ) (left : Bool) (vs : List ℕ) (s : State) (c : Count) (h w : ℕ) (o : List ℕ) (q : Piece)
-    → drainOutcome a n left vs s ≡ drains (p .order) (p .levels) (p .levels) (p .state) ws → c ≡ counted (p .order) (p .levels) vs → h ≡ countOf c
+    → drainOutcome a n left vs s ≡ drains (p .order) (p .levels) (p .levels) (p .state) ws → c ≡ heldCount (p .order) (p .levels) vs → h ≡ countOf c
     → Laid out i (endLine h n) o w → (q .play ≡ carry p s (p .number) false) × (q .written ≡ w) → Makes (ending p ws) i out q vs o
 unfolding ending endOf
 end-made p ws i out room a n left vs s c h w o q e ec eh l k =
     let done : run vs (carry p s (p .number) false) (endLine h n) ≡ ending p ws =
     ap (λ (h : ℕ). run vs (carry p s (p .number) false) (endLine h n)) (eh ∙ ap countOf ec)
-    ∙ ap (λ (d : DrainOutcome). run (d .words) (carry p (d .state) (p .number) false) (endLine (countOf (counted (p .order) (p .levels) (d .words))) (d .cycles))) e in
+    ∙ ap (λ (d : DrainOutcome). run (d .words) (carry p (d .state) (p .number) false) (endLine (countOf (heldCount (p .order) (p .levels) (d .words))) (d .cycles))) e in
     makes-same _ i out q vs o _ done
     (makes-laid (run vs (carry p s (p .number) false) (endLine h n)) i out q vs o (k .0) refl (k .1 ∙ l .0, l .1) (omega (arith, end-short h n)))
 

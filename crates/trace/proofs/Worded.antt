@@ -10,9 +10,9 @@ use lib.Dec.{eqb, leb, ltb}
 use lib.ListN.{drop, length, length-replicate}
 use borrow.Author.Tests.{le-leb, leb-true}
 use Rattle.clocked_model.proofs.Drain.{drain-left, drain-state}
-use Rattle.clocked_model.proofs.Exactly.{no-damage-sound, ticked-fine}
+use Rattle.clocked_model.proofs.Exactly.{no-damage-sound, cycled-fine}
 use Rattle.clocked_model.proofs.Promises.{drained-fine, drained-left, held-says, numbers, shape-kept, undamaged}
-use Rattle.clocked_model.specs.Calls.{CycleOutcome, DrainOutcome, drains, heard, pending, popsOrReplaces, restarted, ticked, turned}
+use Rattle.clocked_model.specs.Calls.{CycleOutcome, DrainOutcome, drains, ruleMarked, pending, popsOrReplaces, restarted, cycled, cycleRun}
 use Rattle.clocked_model.specs.Promise.{ran, runs}
 use Rattle.clocked_model.specs.declared.State.{State}
 use Rattle.laws.specs.Tests.{and-left, and-right, and-true}
@@ -32,37 +32,37 @@ use Rattle.trace.specs.declared.Header.the-variants.{Shape as Shaped, Wr
 use Rattle.trace.specs.declared.Record.{Record}
 use Rattle.trace.specs.declared.Record.the-variants.{Bad, Good}
 use Rattle.tree_model.proofs.Exactly.{is-shape, shape-is}
-use Rattle.tree_model.specs.Calls.{counted, orderOk, rule, ruling, shapeOk, slotLimit}
+use Rattle.tree_model.specs.Calls.{heldCount, orderOk, rule, ruling, shapeOk, slotLimit}
 use Rattle.tree_model.specs.Damage.{room}
 use Rattle.tree_model.specs.Node.{low, sumCounts}
 use Rattle.tree_model.specs.Promise.{Shape, stored}
-use Rattle.tree_model.specs.Words.{width}
+use Rattle.tree_model.specs.Words.{slotWords}
 use Rattle.tree_model.specs.declared.Op.the-variants.{Nothing, Put, Swap, Take}
 use Rattle.tree_model.specs.declared.Slot.{Slot}
 
 -- ---- what a request comes to has a word
-heard-word : (mark : Bool) (r : Request) (c : ℕ) (nd : List Slot) → wordOf r (heard mark r (rule c r nd) .answer) ≡ [] → ⊥
-unfolding heard rule popsOrReplaces wordOf doneWord refusalWord outWord
-heard-word true Idle c nd e = absurd (omega (arith, ap length e))
-heard-word false Idle c nd e = absurd (omega (arith, ap length e))
-heard-word true (Push x) c nd e = pushed (ltb (sumCounts nd) c) e
+ruleMarked-word : (mark : Bool) (r : Request) (c : ℕ) (nd : List Slot) → wordOf r (ruleMarked mark r (rule c r nd) .answer) ≡ [] → ⊥
+unfolding ruleMarked rule popsOrReplaces wordOf doneWord refusalWord outWord
+ruleMarked-word true Idle c nd e = absurd (omega (arith, ap length e))
+ruleMarked-word false Idle c nd e = absurd (omega (arith, ap length e))
+ruleMarked-word true (Push x) c nd e = pushed (ltb (sumCounts nd) c) e
   where
     pushed : (b : Bool) → wordOf (Push x) (cond b (ruling Done (Put x)) (ruling (Refused Full) Nothing) .answer) ≡ [] → ⊥
     pushed true e = absurd (omega (arith, ap length e))
     pushed false e = absurd (omega (arith, ap length e))
-heard-word false (Push x) c nd e = pushed (ltb (sumCounts nd) c) e
+ruleMarked-word false (Push x) c nd e = pushed (ltb (sumCounts nd) c) e
   where
     pushed : (b : Bool) → wordOf (Push x) (cond b (ruling Done (Put x)) (ruling (Refused Full) Nothing) .answer) ≡ [] → ⊥
     pushed true e = absurd (omega (arith, ap length e))
     pushed false e = absurd (omega (arith, ap length e))
-heard-word true Pop c nd e = absurd (omega (arith, ap length e))
-heard-word false Pop c nd e = popped (eqb (sumCounts nd) 0) e
+ruleMarked-word true Pop c nd e = absurd (omega (arith, ap length e))
+ruleMarked-word false Pop c nd e = popped (eqb (sumCounts nd) 0) e
   where
     popped : (b : Bool) → wordOf Pop (cond b (ruling (Refused Empty) Nothing) (ruling (Out (low nd)) Take) .answer) ≡ [] → ⊥
     popped true e = absurd (omega (arith, ap length e))
     popped false e = absurd (omega (arith, ap length e))
-heard-word true (Replace x) c nd e = absurd (omega (arith, ap length e))
-heard-word false (Replace x) c nd e = replaced (eqb (sumCounts nd) 0 || ltb (key x) (key (low nd))) e
+ruleMarked-word true (Replace x) c nd e = absurd (omega (arith, ap length e))
+ruleMarked-word false (Replace x) c nd e = replaced (eqb (sumCounts nd) 0 || ltb (key x) (key (low nd))) e
   where
     replaced : (b : Bool) → wordOf (Replace x) (cond b (ruling (Out x) Nothing) (ruling (Out (low nd)) (Swap x)) .answer) ≡ [] → ⊥
     replaced true e = absurd (omega (arith, ap length e))
@@ -75,11 +75,11 @@ pred-le (suc n) = omega arith
 -- ---- one request more
 module _ (m levels : ℕ) where
   run-next : (rs : List Request) (r : Request) (s : State) (ws : List ℕ)
-      → (runs m levels (rs ++ (r ∷ [])) s ws .state ≡ ticked m levels r (runs m levels rs s ws .state) (runs m levels rs s ws .words) .state)
-      × (runs m levels (rs ++ (r ∷ [])) s ws .words ≡ ticked m levels r (runs m levels rs s ws .state) (runs m levels rs s ws .words) .words)
+      → (runs m levels (rs ++ (r ∷ [])) s ws .state ≡ cycled m levels r (runs m levels rs s ws .state) (runs m levels rs s ws .words) .state)
+      × (runs m levels (rs ++ (r ∷ [])) s ws .words ≡ cycled m levels r (runs m levels rs s ws .state) (runs m levels rs s ws .words) .words)
   unfolding leaves
   run-next [] r s ws = (refl, refl)
-  run-next (x ∷ rs) r s ws = run-next rs r (ticked m levels x s ws .state) (ticked m levels x s ws .words)
+  run-next (x ∷ rs) r s ws = run-next rs r (cycled m levels x s ws .state) (cycled m levels x s ws .words)
 
 -- ---- from a cleared machine, whatever the words before, with a shape
 module _ (m levels : ℕ) (ws : List ℕ) (sh : Shape m levels (length ws)) where
@@ -90,13 +90,13 @@ module _ (m levels : ℕ) (ws : List ℕ) (sh : Shape m levels (length ws)) wher
   wordsAt rs = ran m levels rs ws .words
 
   -- NONE SILENT: after any list of cycles no cycle is refused 1, 2 or 4
-  pub none-silent : (rs : List Request) (r : Request) (n : Refusal) → Silent n → ticked m levels r (stateAt rs) (wordsAt rs) .answer ≡ Refused n → ⊥
+  pub none-silent : (rs : List Request) (r : Request) (n : Refusal) → Silent n → cycled m levels r (stateAt rs) (wordsAt rs) .answer ≡ Refused n → ⊥
   none-silent rs r n q e = go n q (sym (ap numberOf e)) (numbers m ws rs levels sh r)
     where
       other : (a k : ℕ) → k ≡ a → (k ≡ 0 → ⊥) → (k ≡ 3 → ⊥) → (k ≡ 5 → ⊥) → (k ≡ 6 → ⊥) → (a ≡ 0) ⊎ (a ≡ 3) ⊎ (a ≡ 5) ⊎ (a ≡ 6) → ⊥
       other a k h no0 no3 no5 no6 = ⊎-elim (λ d. no0 (h ∙ d)) (⊎-elim (λ d. no3 (h ∙ d)) (⊎-elim (λ d. no5 (h ∙ d)) (λ d. no6 (h ∙ d))))
 
-      go : (n : Refusal) → Silent n → refusalNumber n ≡ numberOf (ticked m levels r (stateAt rs) (wordsAt rs) .answer) → (numberOf (ticked m levels r (stateAt rs) (wordsAt rs) .answer) ≡ 0) ⊎ (numberOf (ticked m levels r (stateAt rs) (wordsAt rs) .answer) ≡ 3) ⊎ (numberOf (ticked m levels r (stateAt rs) (wordsAt rs) .answer) ≡ 5) ⊎ (numberOf (ticked m levels r (stateAt rs) (wordsAt rs) .answer) ≡ 6) → ⊥
+      go : (n : Refusal) → Silent n → refusalNumber n ≡ numberOf (cycled m levels r (stateAt rs) (wordsAt rs) .answer) → (numberOf (cycled m levels r (stateAt rs) (wordsAt rs) .answer) ≡ 0) ⊎ (numberOf (cycled m levels r (stateAt rs) (wordsAt rs) .answer) ≡ 3) ⊎ (numberOf (cycled m levels r (stateAt rs) (wordsAt rs) .answer) ≡ 5) ⊎ (numberOf (cycled m levels r (stateAt rs) (wordsAt rs) .answer) ≡ 6) → ⊥
       go BadShape q h = other _ 1 h (λ d. omega arith) (λ d. omega arith) (λ d. omega arith) (λ d. omega arith)
       go Damaged q h = other _ 2 h (λ d. omega arith) (λ d. omega arith) (λ d. omega arith) (λ d. omega arith)
       go TooSoon q h = absurd q
@@ -104,11 +104,11 @@ module _ (m levels : ℕ) (ws : List ℕ) (sh : Shape m levels (length ws)) wher
       go Full q h = absurd q
       go Empty q h = absurd q
 
-  word-some : (rs : List Request) (r : Request) → wordOf r (ticked m levels r (stateAt rs) (wordsAt rs) .answer) ≡ [] → ⊥
-  unfolding turned
+  word-some : (rs : List Request) (r : Request) → wordOf r (cycled m levels r (stateAt rs) (wordsAt rs) .answer) ≡ [] → ⊥
+  unfolding cycleRun
   word-some rs r e =
-      heard-word (stateAt rs .mark) r (room m levels) _
-      (sym (ap (λ (o : CycleOutcome). wordOf r (o .answer)) (ticked-fine m levels r (stateAt rs) (wordsAt rs)
+      ruleMarked-word (stateAt rs .mark) r (room m levels) _
+      (sym (ap (λ (o : CycleOutcome). wordOf r (o .answer)) (cycled-fine m levels r (stateAt rs) (wordsAt rs)
       (is-shape m levels (length (wordsAt rs)) (shape-kept m ws rs levels sh))
       (no-damage-sound m levels r (stateAt rs) (wordsAt rs) (undamaged m ws rs levels sh r)))) ∙ e)
 
@@ -130,10 +130,10 @@ module _ (m levels : ℕ) (ws : List ℕ) (sh : Shape m levels (length ws)) wher
   unfolding endOf
   end-says rs = ap (λ (n : ℕ). endLine n (drained rs .cycles)) held-now
     where
-      held-now : countOf (counted m levels (drained rs .words)) ≡ stored (room m levels) (drained rs .words) always
+      held-now : countOf (heldCount m levels (drained rs .words)) ≡ stored (room m levels) (drained rs .words) always
       held-now =
           let d = drain-state m levels levels (stateAt rs) (wordsAt rs) in
-          subst (λ (v : List ℕ). countOf (counted m levels v) ≡ stored (room m levels) v always) (sym (d .0))
+          subst (λ (v : List ℕ). countOf (heldCount m levels v) ≡ stored (room m levels) v always) (sym (d .0))
           (held-says m ws rs levels sh (drained rs .cycles)
           (ap (pending m levels) (sym (d .1)) ∙ sym (drain-left m levels levels (stateAt rs) (wordsAt rs) (shape-kept m ws rs levels sh)) ∙ end-done rs .1) .1)
 
@@ -145,9 +145,9 @@ trace-shape m levels e =
     let rest = and-right (orderOk m) (leb 1 levels && leb (room m levels) traceLimit) e in
     let few : room m levels ≤ traceLimit = leb-true (room m levels) traceLimit (and-right (leb 1 levels) (leb (room m levels) traceLimit) rest) in
     shape-is m levels storeWords
-    (and-true (orderOk m) (leb 1 levels && (leb (room m levels) slotLimit && leb (width * room m levels) storeWords)) ord
-    (and-true (leb 1 levels) (leb (room m levels) slotLimit && leb (width * room m levels) storeWords) (and-left (leb 1 levels) (leb (room m levels) traceLimit) rest)
-    (and-true (leb (room m levels) slotLimit) (leb (width * room m levels) storeWords) (le-leb (room m levels) slotLimit (omega arith)) (le-leb (width * room m levels) storeWords (omega arith)))))
+    (and-true (orderOk m) (leb 1 levels && (leb (room m levels) slotLimit && leb (slotWords * room m levels) storeWords)) ord
+    (and-true (leb 1 levels) (leb (room m levels) slotLimit && leb (slotWords * room m levels) storeWords) (and-left (leb 1 levels) (leb (room m levels) traceLimit) rest)
+    (and-true (leb (room m levels) slotLimit) (leb (slotWords * room m levels) storeWords) (le-leb (room m levels) slotLimit (omega arith)) (le-leb (slotWords * room m levels) storeWords (omega arith)))))
 
 -- a header of a shape is one of the program's
 pub header-shaped : (bs : List ℕ) (m levels : ℕ) → headerOf bs ≡ Shaped m levels → Shape m levels storeWords

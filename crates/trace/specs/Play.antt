@@ -5,7 +5,7 @@ use mathlib.Core.List.{[], _++_, _∷_, List}
 use mathlib.Core.Path.{_≡_}
 use lib.Dec.{leb, ltb}
 use lib.ListN.{drop, length, take}
-use Rattle.clocked_model.specs.Calls.{drains, fresh, restarted, ticked}
+use Rattle.clocked_model.specs.Calls.{drains, fresh, restarted, cycled}
 use Rattle.clocked_model.specs.declared.State.{State}
 use Rattle.text.specs.Text.{overlay}
 use Rattle.trace.specs.Format.{badLine, badTrace, headerBytes, headerOf, lineOf, longestLine, recordBytes, recordsOf}
@@ -52,7 +52,7 @@ carry p s n live = record { order = p .order; levels = p .levels; state = s; num
 unfoldable pub turn : Record → Step
 turn Bad p ws = run ws (carry p (p .state) (p .number) false) (badLine (nextNumber (p .number)))
 turn (Good r) p ws =
-    let o = ticked (p .order) (p .levels) r (p .state) ws in
+    let o = cycled (p .order) (p .levels) r (p .state) ws in
     let n = nextNumber (p .number) in
     run (o .words) (carry p (o .state) n true) (lineOf n r (o .answer))
 

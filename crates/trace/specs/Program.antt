@@ -2,7 +2,7 @@
 use Prim.Native.Nat.{_%_, _*_, _+_, _^_, ℕ}
 use mathlib.Core.List.{[], _++_, _∷_, List}
 use lib.ListN.{drop, replicate}
-use Rattle.clocked_model.specs.Calls.{drains, restarted, ticked}
+use Rattle.clocked_model.specs.Calls.{drains, restarted, cycled}
 use Rattle.clocked_model.specs.declared.State.{State}
 use Rattle.strip.specs.Answers.{countOf}
 use Rattle.trace.specs.Format.{badLine, badTrace, endLine, headerBytes, headerOf, lineOf, recordsOf, traceLimit}
@@ -10,8 +10,8 @@ use Rattle.trace.specs.declared.Header.{Header}
 use Rattle.trace.specs.declared.Header.the-variants.{Shape, Wrong}
 use Rattle.trace.specs.declared.Record.{Record}
 use Rattle.trace.specs.declared.Record.the-variants.{Bad, Good}
-use Rattle.tree_model.specs.Calls.{counted}
-use Rattle.tree_model.specs.Words.{width}
+use Rattle.tree_model.specs.Calls.{heldCount}
+use Rattle.tree_model.specs.Words.{slotWords}
 
 -- the number of the record behind n others, "counted from 1". It has 64 bits: no input has so many records that it turns over
 abbrev pub nextNumber : ℕ → ℕ
@@ -19,7 +19,7 @@ nextNumber n = (n + 1) % 2 ^ 64
 
 -- a store for any of the program's shapes
 abbrev pub storeWords : ℕ
-storeWords = width * traceLimit
+storeWords = slotWords * traceLimit
 
 unfoldable pub emptyStore : List ℕ
 emptyStore = replicate storeWords 0
@@ -29,7 +29,7 @@ module _ (m levels : ℕ) where
   unfoldable pub endOf : State → List ℕ → List ℕ
   endOf s ws =
       let d = drains m levels levels s ws in
-      endLine (countOf (counted m levels (d .words))) (d .cycles)
+      endLine (countOf (heldCount m levels (d .words))) (d .cycles)
 
   -- "It runs one cycle a record and writes a line each; then it drains"; "a bad record, after the lines of those before it, gives
   -- bad record N (counted from 1) and no more". Behind n records, with this state and these words
@@ -37,7 +37,7 @@ module _ (m levels : ℕ) where
   textFrom n s ws [] = endOf s ws
   textFrom n s ws (Bad ∷ es) = badLine (nextNumber n)
   textFrom n s ws (Good r ∷ es) =
-      let o = ticked m levels r s ws in
+      let o = cycled m levels r s ws in
       lineOf (nextNumber n) r (o .answer) ++ textFrom (nextNumber n) (o .state) (o .words) es
 
 -- "A cut or wrong header, or any other shape, gives the one line bad trace"; else the records are played on a cleared machine

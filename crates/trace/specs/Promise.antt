@@ -3,7 +3,7 @@ use Prim.Native.Nat.{ℕ}
 use mathlib.Core.List.{[], _∷_, List}
 use mathlib.Core.Path.{_≡_}
 use lib.ListN.{drop}
-use Rattle.clocked_model.specs.Calls.{restarted, ticked}
+use Rattle.clocked_model.specs.Calls.{restarted, cycled}
 use Rattle.clocked_model.specs.declared.State.{State}
 use Rattle.strip.specs.declared.Refusal.{Refusal}
 use Rattle.strip.specs.declared.Refusal.the-variants.{BadRank, BadShape, Damaged, Empty, Full, TooSoon}
@@ -28,7 +28,7 @@ abbrev pub Worded : ℕ → ℕ → State → List ℕ → List Record → Type 
 Worded m levels s ws [] = Unit {0}
 Worded m levels s ws (Bad ∷ es) = Unit {0}
 Worded m levels s ws (Good r ∷ es) =
-    (wordOf r (ticked m levels r s ws .answer) ≡ [] → ⊥) × Worded m levels (ticked m levels r s ws .state) (ticked m levels r s ws .words) es
+    (wordOf r (cycled m levels r s ws .answer) ≡ [] → ⊥) × Worded m levels (cycled m levels r s ws .state) (cycled m levels r s ws .words) es
 
 abbrev pub WordedBy : Header → List Record → Type 0
 WordedBy Wrong es = Unit {0}

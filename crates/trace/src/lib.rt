@@ -306,7 +306,7 @@ fn play_end(store: &mut [u32], play: Playing, at: usize, out: &mut [u8]) -> Piec
     let levels = play.levels;
     let state = play.state;
     let done = clocked::drain(store, order, levels, state, levels);
-    let held = strip::counted(clocked::held(store, order, levels));
+    let held = strip::count_of(clocked::held(store, order, levels));
     let written = put_end(out, at, held, done.cycles);
     let next = done.state;
     carried(play, next, play.number, false, written)

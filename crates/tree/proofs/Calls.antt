@@ -29,7 +29,7 @@ use Rattle.tree_model.proofs.Exactly.{called-bad, called-fine, called-root, cal
 use Rattle.tree_model.proofs.Nothing.{op-work}
 use Rattle.tree_model.proofs.Path.{path-none}
 use Rattle.tree_model.proofs.Words.{has-sum, node-length, size-room}
-use Rattle.tree_model.specs.Calls.{called, cleared, counted, outcome, rootOf, rootOk, ruling, Ruling, shapeOk, slotLimit, verdict, wayOk}
+use Rattle.tree_model.specs.Calls.{called, cleared, heldCount, outcome, rootOf, rootOk, ruling, Ruling, shapeOk, slotLimit, ruleAt, wayOk}
 use Rattle.tree_model.specs.Damage.{hasRoom, hasSome, nodeOk, readOk, room, stepOk}
 use Rattle.tree_model.specs.Levels.{work}
 use Rattle.tree_model.specs.Node.{isNothing, low, lowest, sumCounts}
@@ -45,8 +45,8 @@ use Rattle.tree.proofs.Once.{below-ne, on-path, tested}
 pub called-shape : (m levels : ℕ) (r : Request) (ws : List ℕ) (t : Bool) → t ≡ shapeOk m levels (length ws) → not t ≡ true → outcome (Refused BadShape) ws ≡ called m levels r ws
 called-shape m levels r ws t e p = sym (called-bad m levels r ws (sym e ∙ not-true t p))
 
-pub counted-shape : (m levels : ℕ) (ws : List ℕ) (t : Bool) → t ≡ shapeOk m levels (length ws) → not t ≡ true → Unknown BadShape ≡ counted m levels ws
-unfolding counted
+pub counted-shape : (m levels : ℕ) (ws : List ℕ) (t : Bool) → t ≡ shapeOk m levels (length ws) → not t ≡ true → Unknown BadShape ≡ heldCount m levels ws
+unfolding heldCount
 counted-shape m levels ws t e p = rw (← e, not-true t p)
 
 pub clear-shape : (m levels : ℕ) (ws : List ℕ) (t : Bool) → t ≡ shapeOk m levels (length ws) → not t ≡ true → outcome (Refused BadShape) ws ≡ cleared m levels ws
@@ -111,28 +111,28 @@ module _ {m levels cap : ℕ} {ws : List ℕ} (f : Fit m levels cap ws) where
   pub called-damaged : (r : Request) (u : Bool) → u ≡ nodeOk cap (nodeOf m ws 0) → not u ≡ true → outcome (Refused Damaged) ws ≡ called m levels r ws
   called-damaged r u e p = sym (called-root m levels r ws (f .shaped) (sym (root-as u e) ∙ not-true u p))
 
-  pub counted-root : (u : Bool) → u ≡ nodeOk cap (nodeOf m ws 0) → not u ≡ true → Unknown Damaged ≡ counted m levels ws
-  unfolding counted
+  pub counted-root : (u : Bool) → u ≡ nodeOk cap (nodeOf m ws 0) → not u ≡ true → Unknown Damaged ≡ heldCount m levels ws
+  unfolding heldCount
   counted-root u e p = rw (f .shaped, ← root-as u e, not-true u p)
 
-  pub counted-sum : (u : Bool) → u ≡ nodeOk cap (nodeOf m ws 0) → not u ≡ false → (n : ℕ) → n ≡ sumCounts (nodeOf m ws 0) → (n < 4294967296) × (Held n ≡ counted m levels ws)
-  unfolding counted
+  pub counted-sum : (u : Bool) → u ≡ nodeOk cap (nodeOf m ws 0) → not u ≡ false → (n : ℕ) → n ≡ sumCounts (nodeOf m ws 0) → (n < 4294967296) × (Held n ≡ heldCount m levels ws)
+  unfolding heldCount
   counted-sum u e p n s =
       let o : rootOk m levels ws ≡ true = sym (root-as u e) ∙ not-false u p in
       (omega (arith, root-limit m levels ws (f .shape .some) o, f .shape .capacity), rw (f .shaped, o, ← s))
 
   -- ---- a request by its ruling, at a root that is in order
-  module _ (root : rootOk m levels ws ≡ true) (r : Request) (a : Answer) (o : Op) (rules : verdict m levels r ws ≡ ruling a o) where
+  module _ (root : rootOk m levels ws ≡ true) (r : Request) (a : Answer) (o : Op) (rules : ruleAt m levels r ws ≡ ruling a o) where
     -- nothing is to be done: the answer alone
     still : o ≡ Nothing → outcome a ws ≡ called m levels r ws
     still n =
-        let z : verdict m levels r ws .op ≡ Nothing = ap (λ (g : Ruling). g .op) rules ∙ n in
-        sym (called-fine m levels r ws (f .shaped) root (path-none m levels (work (verdict m levels r ws .op) 0) (levelsOf m levels ws 0 1) (op-work (verdict m levels r ws .op) 0 ∙ z))
-        ∙ ap₂ outcome (ap (λ (g : Ruling). g .answer) rules) (words-none m levels (work (verdict m levels r ws .op) 0) 0 1 ws (op-work (verdict m levels r ws .op) 0 ∙ z)))
+        let z : ruleAt m levels r ws .op ≡ Nothing = ap (λ (g : Ruling). g .op) rules ∙ n in
+        sym (called-fine m levels r ws (f .shaped) root (path-none m levels (work (ruleAt m levels r ws .op) 0) (levelsOf m levels ws 0 1) (op-work (ruleAt m levels r ws .op) 0 ∙ z))
+        ∙ ap₂ outcome (ap (λ (g : Ruling). g .answer) rules) (words-none m levels (work (ruleAt m levels r ws .op) 0) 0 1 ws (op-work (ruleAt m levels r ws .op) 0 ∙ z)))
 
     -- the operation answers whether its path was in order, and has done all of it or nothing
     module _ (t : Bool) (q : List ℕ) (d : Carried m levels 0 o ws t q) where
-      way-is : (b : Bool) → t ≡ b → wayOk m levels (verdict m levels r ws .op) ws ≡ b
+      way-is : (b : Bool) → t ≡ b → wayOk m levels (ruleAt m levels r ws .op) ws ≡ b
       way-is b e = ap (λ (g : Ruling). wayOk m levels (g .op) ws) rules ∙ sym (d 0 1 0 root-placed .0) ∙ e
 
       words-are : (b : Bool) → t ≡ b → q ≡ cond b (applyWords m levels (work o 0) 0 1 ws) ws
@@ -208,18 +208,18 @@ module _ {m levels cap : ℕ} {ws : List ℕ} (f : Fit m levels cap ws) where
       same-words : q ≡ ws
       same-words = d 0 1 0 root-placed .1 ∙ ap (λ (t : Bool). cond t (applyWords m levels (work (Put x) 0) 0 1 ws) ws) no
 
-      counted-as : (c : Count) → c ≡ counted m levels q → c ≡ cond (rootOk m levels ws) (Held (sumCounts (rootOf m ws))) (Unknown Damaged)
-      unfolding counted
-      counted-as c e = e ∙ ap (counted m levels) same-words ∙ rw (f .shaped)
+      counted-as : (c : Count) → c ≡ heldCount m levels q → c ≡ cond (rootOk m levels ws) (Held (sumCounts (rootOf m ws))) (Unknown Damaged)
+      unfolding heldCount
+      counted-as c e = e ∙ ap (heldCount m levels) same-words ∙ rw (f .shaped)
 
-      pub push-root : (why : Refusal) → Unknown why ≡ counted m levels q → outcome (Refused why) q ≡ called m levels (Push x) ws
+      pub push-root : (why : Refusal) → Unknown why ≡ heldCount m levels q → outcome (Refused why) q ≡ called m levels (Push x) ws
       push-root why e = ap (outcome (Refused why)) same-words ∙ go (rootOk m levels ws) refl (counted-as (Unknown why) e)
         where
           go : (b : Bool) → rootOk m levels ws ≡ b → Unknown why ≡ cond b (Held (sumCounts (rootOf m ws))) (Unknown Damaged) → outcome (Refused why) ws ≡ called m levels (Push x) ws
           go true o z = let n : _≡_ {A = ℕ} 0 1 = cc in absurd (omega arith)
           go false o z = let w : why ≡ Damaged = cc in ap (λ (w : Refusal). outcome (Refused w) ws) w ∙ sym (called-root m levels (Push x) ws (f .shaped) o)
 
-      module _ (n : ℕ) (all : Held n ≡ counted m levels q) (most : ℕ) (count : Capacity m levels most) where
+      module _ (n : ℕ) (all : Held n ≡ heldCount m levels q) (most : ℕ) (count : Capacity m levels most) where
         held-is : (rootOk m levels ws ≡ true) × (n ≡ sumCounts (rootOf m ws))
         held-is = go (rootOk m levels ws) refl (counted-as (Held n) all)
           where
@@ -240,7 +240,7 @@ module _ {m levels cap j : ℕ} {ws : List ℕ} (o : Opened m levels cap j ws) (
   low-is = low-found m ws 0 j a (o .looked .place) (o .looked .inside) (read ∙ ap (slotOf ws) (sym (zero-add j)))
 
   module _ (t : Bool) (q : List ℕ) (d : Carried m levels 0 Take ws t q) where
-    takes : verdict m levels Pop ws ≡ ruling (Out (a .element)) Take
+    takes : ruleAt m levels Pop ws ≡ ruling (Out (a .element)) Take
     takes = pop-takes m levels ws _ refl (o .some) (a .element) low-is
 
     pub pop-broken : not t ≡ true → outcome (Refused Damaged) q ≡ called m levels Pop ws
@@ -254,7 +254,7 @@ module _ {m levels cap j : ℕ} {ws : List ℕ} (o : Opened m levels cap j ws) (
     replace-first e = still (o .fits) (o .fine) (Replace x) (Out x) Nothing (replace-back m levels ws _ refl (o .some) (a .element) low-is x s is-lower e) refl
 
     module _ (no : s ≡ false) (t : Bool) (q : List ℕ) (d : Carried m levels 0 (Swap x) ws t q) where
-      swaps : verdict m levels (Replace x) ws ≡ ruling (Out (a .element)) (Swap x)
+      swaps : ruleAt m levels (Replace x) ws ≡ ruling (Out (a .element)) (Swap x)
       swaps = replace-swaps m levels ws _ refl (o .some) (a .element) low-is x s is-lower no
 
       pub replace-broken : not t ≡ true → outcome (Refused Damaged) q ≡ called m levels (Replace x) ws

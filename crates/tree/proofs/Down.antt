@@ -9,7 +9,7 @@ use Rattle.node.specs.Scan.{ChildrenIn, StepIn}
 use Rattle.tree_model.proofs.Words.{size-room}
 use Rattle.tree_model.specs.Calls.{slotLimit}
 use Rattle.tree_model.specs.Damage.{room}
-use Rattle.tree_model.specs.Words.{size, width}
+use Rattle.tree_model.specs.Words.{size, slotWords}
 use Rattle.tree.specs.Down.{Lies}
 
 pub not-zero : {n : ℕ} → 1 ≤ n → n ≡ 0 → ⊥
@@ -30,7 +30,7 @@ size-room-one m k c h = omega (arith, size-room m k c, mul-le-mul-right (room m 
 -- the numbers of a level: all that its code adds and multiplies
 pub record Level (m b c n len : ℕ) : Type 0 where
   pub slots : b + c * m ≤ slotLimit
-  pub words : width * (b + c * m) ≤ len
+  pub words : slotWords * (b + c * m) ≤ len
   pub own : n * m + m ≤ c * m
   pub child : n * m * m + m * m ≤ c * m * m
   pub wide : c * m * m ≤ slotLimit * 8

@@ -21,10 +21,10 @@ use Rattle.tree_model.proofs.Path.{path-none}
 use Rattle.tree_model.proofs.Place.{fine-here, place-here, rest-here, room-deep, write-here}
 use Rattle.tree_model.proofs.Words.{apply-write}
 use Rattle.tree_model.specs.Calls.{slotLimit}
-use Rattle.tree_model.specs.Damage.{fine, hasSome, nodeOk, pathOk, room, stepOk}
+use Rattle.tree_model.specs.Damage.{workOk, hasSome, nodeOk, pathOk, room, stepOk}
 use Rattle.tree_model.specs.Levels.{top, work}
 use Rattle.tree_model.specs.Node.{isNothing, keep, leastCount, low, lowest, move, pass}
-use Rattle.tree_model.specs.Words.{applyWords, levelOf, levelsOf, nodeMove, nodeOf, restWords, slotOf, stepWords, under, width, write}
+use Rattle.tree_model.specs.Words.{applyWords, levelOf, levelsOf, nodeMove, nodeOf, restWords, slotOf, stepWords, under, slotWords, write}
 use Rattle.tree_model.specs.declared.Move.{Move}
 use Rattle.tree_model.specs.declared.Op.{Op}
 use Rattle.tree_model.specs.declared.Op.the-variants.{Nothing, Put, Swap, Take}
@@ -77,7 +77,7 @@ module _ (m k b c n at : ℕ) (ws : List ℕ) (p : Placed m (suc k) at b c n ws)
       }
 
   module _ (o : Op) where
-    fine-at : fine m k (work o n) (levelOf m ws b c) (top k (under m k ws b c)) ≡ tested m at ws o k
+    fine-at : workOk m k (work o n) (levelOf m ws b c) (top k (under m k ws b c)) ≡ tested m at ws o k
     fine-at = fine-here m k b c n ws (p .lies .node) o ∙ ap₂ (λ (i f : ℕ). stepOk m k o (nodeOf m ws i) (childOf m f ws)) here deeper
 
     path-off : tested m at ws o k ≡ false → false ≡ pathOk m (suc k) (work o n) (levelsOf m (suc k) ws b c)
@@ -183,7 +183,7 @@ pub record Numbers (m at cap len : ℕ) : Type 0 where
   pub order : 0 < m
   pub few : m ≤ 8
   pub slots : at + m ≤ slotLimit
-  pub words : width * (at + m) ≤ len
+  pub words : slotWords * (at + m) ≤ len
   pub limit : cap ≤ slotLimit
 
 module _ {m k at cap : ℕ} {ws : List ℕ} (st : Stands m k at cap ws) where

@@ -8,7 +8,7 @@ use Rattle.tree_model.specs.Calls.{slotLimit}
 use Rattle.tree_model.specs.Damage.{nodeOk, pathOk, room}
 use Rattle.tree_model.specs.Levels.{work}
 use Rattle.tree_model.specs.Node.{lowest}
-use Rattle.tree_model.specs.Words.{applyWords, levelsOf, nodeOf, size, width}
+use Rattle.tree_model.specs.Words.{applyWords, levelsOf, nodeOf, size, slotWords}
 use Rattle.tree_model.specs.declared.Op.{Op}
 
 -- k levels, the first of c nodes at slot b, lie within the words and within the limit, and node n is one of the first level's
@@ -16,7 +16,7 @@ pub record Lies (m k b c n : ℕ) (ws : List ℕ) : Type 0 where
   pub order : 0 < m
   pub few : m ≤ 8
   pub node : n < c
-  pub words : width * (b + size m k c) ≤ length ws
+  pub words : slotWords * (b + size m k c) ≤ length ws
   pub small : b + size m k c ≤ slotLimit
 
 -- .. and its first slot is slot `at`. Every level above is whole, so that the node below slot i of this level begins at slot (i + 1) * m

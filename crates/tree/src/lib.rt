@@ -3,7 +3,7 @@ ghost use mathlib.Core.Path.{_≡_};
 ghost use mathlib.Core.List.{_++_};
 ghost use Prim.Native.Nat.{_≤_};
 ghost use lib.ListN.{length, drop, replicate};
-ghost use Rattle.tree_model.specs.Calls.{outcome, called, cleared, counted};
+ghost use Rattle.tree_model.specs.Calls.{outcome, called, cleared, heldCount};
 ghost use Rattle.tree.specs.Down.{Carried, Looked, Stands};
 use node::capacity;
 use node::goes_down;
@@ -150,7 +150,7 @@ fn swap(
 
 // How many are held, by the root alone.
 pub fn held(store: &[u32], order: usize, levels: usize) -> Count
-    ensures { λ r. ⌜ r ≡ counted order levels (now (store .entry)) ⌝ }
+    ensures { λ r. ⌜ r ≡ heldCount order levels (now (store .entry)) ⌝ }
 {
     if !shape_ok(order, levels, store.len()) {
         return Count::Unknown(Refusal::BadShape);

@@ -15,7 +15,7 @@ use Rattle.tree_model.specs.Damage.{room}
 use Rattle.tree_model.specs.Levels.{Level, Levels}
 use Rattle.tree_model.specs.Node.{slotAt}
 use Rattle.tree_model.specs.Promise.{Agree}
-use Rattle.tree_model.specs.Words.{levelOf, levelsOf, nodeOf, size, slotOf, width}
+use Rattle.tree_model.specs.Words.{levelOf, levelsOf, nodeOf, size, slotOf, slotWords}
 use Rattle.tree_model.specs.declared.Slot.{Slot}
 
 -- a number below c * m by its row and its place
@@ -77,7 +77,7 @@ levels-words m k ws vs e a lt =
     rw at (slot-word ws vs (d .row) (d .place) (d .in-row) slot)
 
 pub same-words : (m k : ℕ) (ws vs : List ℕ) → length ws ≡ length vs → levelsOf m k ws 0 1 ≡ levelsOf m k vs 0 1
-    → ((a : ℕ) → width * room m k ≤ a → getD ws a 0 ≡ getD vs a 0) → ws ≡ vs
+    → ((a : ℕ) → slotWords * room m k ≤ a → getD ws a 0 ≡ getD vs a 0) → ws ≡ vs
 same-words m k ws vs len e past = ext-getD 0 ws vs len (λ a h. go a (ltb a (3 * room m k)) refl)
   where
     go : (a : ℕ) (t : Bool) → ltb a (3 * room m k) ≡ t → getD ws a 0 ≡ getD vs a 0

@@ -31,8 +31,8 @@ use Rattle.strip.specs.declared.Request.{Request}
 use Rattle.tree_model.proofs.Nothing.{op-work, work-none}
 use Rattle.tree_model.proofs.Rules.{comes}
 use Rattle.tree_model.proofs.Words.{node-length}
-use Rattle.tree_model.specs.Calls.{called, carriedOut, cleared, counted, orderOk, Outcome, outcome, rootOf, rootOk, rule, ruling, Ruling, shapeOk, verdict, wayOk}
-use Rattle.tree_model.specs.Damage.{fine, hasRoom, hasSome, isBlank, lifts, nodeOk, pathOk, readOk, room, slotOk, stepOk}
+use Rattle.tree_model.specs.Calls.{called, carriedOut, cleared, heldCount, orderOk, Outcome, outcome, rootOf, rootOk, rule, ruling, Ruling, shapeOk, ruleAt, wayOk}
+use Rattle.tree_model.specs.Damage.{workOk, hasRoom, hasSome, isBlank, lifts, nodeOk, pathOk, readOk, room, slotOk, stepOk}
 use Rattle.tree_model.specs.Levels.{Level, Levels, stepWork, top, work}
 use Rattle.tree_model.specs.Node.{every, isEmpty, isNothing, low, lowest, slotAt, sumCounts}
 use Rattle.tree_model.specs.Promise.{clearRefusals, Damage, heldRefusals, Lifts, NodeDamaged, PathDamaged, ReadDamaged, refusals, Shape, SlotDamaged, Some, StepDamaged, WorkDamaged}
@@ -105,8 +105,8 @@ module _ (m : ℕ) where
       fails-and (readOk o (room m k) nd) _ (read-fails o (room m k) nd)
       (fails-or (not (lifts o nd)) _ (lifts-fails o nd) (read-fails Take (room m (pred k)) (child (lowest nd))))
 
-  pub work-fails : (k : ℕ) (w : Work) (l next : Level) → Fails (fine m k w l next) (WorkDamaged m k w l next)
-  unfolding fine
+  pub work-fails : (k : ℕ) (w : Work) (l next : Level) → Fails (workOk m k w l next) (WorkDamaged m k w l next)
+  unfolding workOk
   work-fails k w l next =
       fails-or (isNothing (w .op)) _ (nothing-fails (w .op))
       (fails-and (ltb (w .node) (length l)) _ (record { found = λ e. ltb-false (w .node) (length l) e; shown = λ h. le-ltb (w .node) (length l) h })
@@ -116,7 +116,7 @@ module _ (m : ℕ) where
   unfolding pathOk
   path-fails zero w ls = fails-true
   path-fails (suc k) w ls =
-      fails-and (fine m k w (ls .0) (top k (ls .1))) _ (work-fails k w (ls .0) (top k (ls .1)))
+      fails-and (workOk m k w (ls .0) (top k (ls .1))) _ (work-fails k w (ls .0) (top k (ls .1)))
       (path-fails k (stepWork m w (ls .0) (top k (ls .1))) (ls .1))
 
 -- ---- the shape: the test says what 01's numbers say
@@ -185,7 +185,7 @@ room-less r nd ok h = go (ltb (sumCounts nd) (length nd * suc r)) refl
 -- ---- the call by its tests
 module _ (m levels : ℕ) (r : Request) (ws : List ℕ) where
   abbrev pub g : Ruling
-  g = verdict m levels r ws
+  g = ruleAt m levels r ws
 
   pub called-bad : shapeOk m levels (length ws) ≡ false → called m levels r ws ≡ outcome (Refused BadShape) ws
   unfolding called
@@ -283,13 +283,13 @@ module _ (m levels : ℕ) (ws : List ℕ) where
 
   -- push, pop and replace
   pub exactly : (r : Request) → Exactly said left (called m levels r ws) (refusals m levels r ws)
-  exactly r = by-shape _ _ (called-bad m levels r ws) (λ s sh. climb-stop said left refusal-told Damaged _ _ _ (go s sh (rootOk m levels ws) refl (wayOk m levels (verdict m levels r ws .op) ws) refl))
+  exactly r = by-shape _ _ (called-bad m levels r ws) (λ s sh. climb-stop said left refusal-told Damaged _ _ _ (go s sh (rootOk m levels ws) refl (wayOk m levels (ruleAt m levels r ws .op) ws) refl))
     where
-      go : shapeOk m levels (length ws) ≡ true → Shape m levels (length ws) → (a : Bool) → rootOk m levels ws ≡ a → (b : Bool) → wayOk m levels (verdict m levels r ws .op) ws ≡ b
+      go : shapeOk m levels (length ws) ≡ true → Shape m levels (length ws) → (a : Bool) → rootOk m levels ws ≡ a → (b : Bool) → wayOk m levels (ruleAt m levels r ws .op) ws ≡ b
           → ((Damage m levels r ws → ⊥) × Exactly said left (called m levels r ws) (limits r (sumCounts (rootOf m ws)) (room m levels) ladder.fine))
           ⊎ (Damage m levels r ws × (called m levels r ws ≡ left Damaged))
       go s sh false o b w = inr (inl (node-fails (room m (pred levels)) (rootOf m ws) .found o), called-root m levels r ws s o)
-      go s sh true o false w = inr (inr (path-fails m levels (work (verdict m levels r ws .op) 0) (levelsOf m levels ws 0 1) .found w), called-way m levels r ws s o w)
+      go s sh true o false w = inr (inr (path-fails m levels (work (ruleAt m levels r ws .op) 0) (levelsOf m levels ws 0 1) .found w), called-way m levels r ws s o w)
       go s sh true o true w =
           inl (
             no-damage m levels r ws o w,
@@ -338,43 +338,43 @@ comes-number c nd r g (swaps x h l) = inl refl
 pub kind : (m levels : ℕ) (r : Request) (ws : List ℕ) → numberOf (called m levels r ws .answer) ≡ 0 → Kind r (called m levels r ws .answer)
 kind m levels r ws =
     called-either m levels r ws (λ o. numberOf (o .answer) ≡ 0 → Kind r (o .answer)) (λ x e. absurd (zero-told x (sym e)))
-    (λ s o w. comes-kind (room m levels) (rootOf m ws) r (verdict m levels r ws) (comes (room m levels) r (rootOf m ws)))
+    (λ s o w. comes-kind (room m levels) (rootOf m ws) r (ruleAt m levels r ws) (comes (room m levels) r (rootOf m ws)))
 
 -- held: "the sum of the root's counts, taken once the root passes test 2"
 module _ (m levels : ℕ) (ws : List ℕ) where
-  pub counted-is : shapeOk m levels (length ws) ≡ true → rootOk m levels ws ≡ true → counted m levels ws ≡ Held (sumCounts (rootOf m ws))
-  unfolding counted
+  pub counted-is : shapeOk m levels (length ws) ≡ true → rootOk m levels ws ≡ true → heldCount m levels ws ≡ Held (sumCounts (rootOf m ws))
+  unfolding heldCount
   counted-is s o = rw (s, o)
 
-  counted-bad : shapeOk m levels (length ws) ≡ false → counted m levels ws ≡ Unknown BadShape
-  unfolding counted
+  counted-bad : shapeOk m levels (length ws) ≡ false → heldCount m levels ws ≡ Unknown BadShape
+  unfolding heldCount
   counted-bad s = rw s
 
-  counted-damaged : shapeOk m levels (length ws) ≡ true → rootOk m levels ws ≡ false → counted m levels ws ≡ Unknown Damaged
-  unfolding counted
+  counted-damaged : shapeOk m levels (length ws) ≡ true → rootOk m levels ws ≡ false → heldCount m levels ws ≡ Unknown Damaged
+  unfolding heldCount
   counted-damaged s o = rw (s, o)
 
-  pub exactly-held : Exactly countNumber Unknown (counted m levels ws) (heldRefusals m levels ws)
+  pub exactly-held : Exactly countNumber Unknown (heldCount m levels ws) (heldRefusals m levels ws)
   exactly-held = climb-by countNumber Unknown refusal-told BadShape _ _ _ (by-test (shapeOk m levels (length ws)) refl)
     where
       by-root : shapeOk m levels (length ws) ≡ true → (t : Bool) → rootOk m levels ws ≡ t
-          → ((NodeDamaged (room m (pred levels)) (rootOf m ws) → ⊥) × Exactly countNumber Unknown (counted m levels ws) ladder.fine)
-          ⊎ (NodeDamaged (room m (pred levels)) (rootOf m ws) × (counted m levels ws ≡ Unknown Damaged))
+          → ((NodeDamaged (room m (pred levels)) (rootOf m ws) → ⊥) × Exactly countNumber Unknown (heldCount m levels ws) ladder.fine)
+          ⊎ (NodeDamaged (room m (pred levels)) (rootOf m ws) × (heldCount m levels ws ≡ Unknown Damaged))
       by-root s true o =
           inl ((λ d. true≢false (sym o ∙ node-fails (room m (pred levels)) (rootOf m ws) .shown d)), climb-fine countNumber Unknown _ (λ r e. zero-told r (ap countNumber (sym (counted-is s o)) ∙ e)))
       by-root s false o = inr (node-fails (room m (pred levels)) (rootOf m ws) .found o, counted-damaged s o)
 
       by-test : (t : Bool) → shapeOk m levels (length ws) ≡ t
-          → (Shape m levels (length ws) × Exactly countNumber Unknown (counted m levels ws) (stop Damaged (NodeDamaged (room m (pred levels)) (rootOf m ws)) ladder.fine))
-          ⊎ ((Shape m levels (length ws) → ⊥) × (counted m levels ws ≡ Unknown BadShape))
+          → (Shape m levels (length ws) × Exactly countNumber Unknown (heldCount m levels ws) (stop Damaged (NodeDamaged (room m (pred levels)) (rootOf m ws)) ladder.fine))
+          ⊎ ((Shape m levels (length ws) → ⊥) × (heldCount m levels ws ≡ Unknown BadShape))
       by-test true s = inl (shape-is m levels (length ws) s, climb-stop countNumber Unknown refusal-told Damaged _ _ ladder.fine (by-root s (rootOk m levels ws) refl))
       by-test false s = inr ((λ z. true≢false (sym (is-shape m levels (length ws) z) ∙ s)), counted-bad s)
 
   -- what is so of a refused held and of one that counts is so of held
-  pub counted-either : (P : Count → Type 0) → ((x : Refusal) → P (Unknown x)) → P (Held (sumCounts (rootOf m ws))) → P (counted m levels ws)
+  pub counted-either : (P : Count → Type 0) → ((x : Refusal) → P (Unknown x)) → P (Held (sumCounts (rootOf m ws))) → P (heldCount m levels ws)
   counted-either P refused held = go (shapeOk m levels (length ws)) refl (rootOk m levels ws) refl
     where
-      go : (a : Bool) → shapeOk m levels (length ws) ≡ a → (b : Bool) → rootOk m levels ws ≡ b → P (counted m levels ws)
+      go : (a : Bool) → shapeOk m levels (length ws) ≡ a → (b : Bool) → rootOk m levels ws ≡ b → P (heldCount m levels ws)
       go false s b o = subst P (sym (counted-bad s)) (refused BadShape)
       go true s false o = subst P (sym (counted-damaged s o)) (refused Damaged)
       go true s true o = subst P (sym (counted-is s o)) held

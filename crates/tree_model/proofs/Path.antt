@@ -16,7 +16,7 @@ use Rattle.tree_model.proofs.Choice.{counts-lower, every-all}
 use Rattle.tree_model.proofs.Hang.{below-less, hang-at, Inside, inside, own-length, rest-inside, same-move, slots-hang}
 use Rattle.tree_model.proofs.Many.{held-room, length-slots, sum-counts}
 use Rattle.tree_model.proofs.Nothing.{work-none}
-use Rattle.tree_model.specs.Damage.{fine, hasRoom, hasSome, isBlank, lifts, nodeOk, pathOk, readOk, room, slotOk, stepOk}
+use Rattle.tree_model.specs.Damage.{workOk, hasRoom, hasSome, isBlank, lifts, nodeOk, pathOk, readOk, room, slotOk, stepOk}
 use Rattle.tree_model.specs.Levels.{idle, Level, levelMove, Levels, Shaped, stepWork, top, work}
 use Rattle.tree_model.specs.Node.{every, isEmpty, isNothing, lowest, slotAt, sumCounts, vacant}
 use Rattle.tree_model.specs.Tree.{at, Can, Fit, held, many, nothing, slots, something, Sound, Tree, treeOf}
@@ -66,15 +66,15 @@ read-ok m k Take t s c = and-true (nodeOk (room m k) (slots k t)) _ (node-ok m k
 read-ok m k (Swap x) t s c = and-true (nodeOk (room m k) (slots k t)) _ (node-ok m k t s) (some-ok m k t s c)
 
 -- ---- the path
-pub fine-none : (m k : ℕ) (w : Work) (l below : Level) → w .op ≡ Nothing → fine m k w l below ≡ true
-unfolding fine isNothing
-fine-none m k w l below e = ap (λ (o : Op). fine m k (record { op = o; node = w .node }) l below) e
+pub fine-none : (m k : ℕ) (w : Work) (l below : Level) → w .op ≡ Nothing → workOk m k w l below ≡ true
+unfolding workOk isNothing
+fine-none m k w l below e = ap (λ (o : Op). workOk m k (record { op = o; node = w .node }) l below) e
 
 pub path-none : (m k : ℕ) (w : Work) (ls : Levels k) → w .op ≡ Nothing → pathOk m k w ls ≡ true
 unfolding pathOk
 path-none m zero w ls e = refl
 path-none m (suc k) w ls e =
-    and-true (fine m k w (ls .0) (top k (ls .1))) _ (fine-none m k w (ls .0) (top k (ls .1)) e)
+    and-true (workOk m k w (ls .0) (top k (ls .1))) _ (fine-none m k w (ls .0) (top k (ls .1)) e)
     (path-none m k _ (ls .1) (ap (λ (v : Work). v .op) (work-none m w (ls .0) (top k (ls .1)) e)))
 
 slots-tree : (m k : ℕ) (ls : Levels (suc k)) (i : ℕ) → slots k (treeOf m (suc k) ls i) ≡ getD (ls .0) i []
@@ -139,8 +139,8 @@ module _ (m : ℕ) (some : 0 < m) where
     lift-part Take c = lifted c
     lift-part (Swap x) c = lifted c
 
-    step-fine : fine m k w (ls .0) (top k (ls .1)) ≡ true
-    unfolding fine stepOk
+    step-fine : workOk m k w (ls .0) (top k (ls .1)) ≡ true
+    unfolding workOk stepOk
     step-fine =
         or-right (isNothing (w .op)) _
         (and-true (ltb (w .node) (length (ls .0))) _ (lt-ltb (w .node) (length (ls .0)) (subst (λ (n : ℕ). w .node < n) (sym (sh .0)) h))
@@ -164,7 +164,7 @@ module _ (m : ℕ) (some : 0 < m) where
     unfolding pathOk stepWork treeOf
     path-step ih =
         let v = levelMove m (w .op) (w .node) (ls .0) (top k (ls .1)) in
-        and-true (fine m k w (ls .0) (top k (ls .1))) _ step-fine
+        and-true (workOk m k w (ls .0) (top k (ls .1))) _ step-fine
         (path-rest ih (v .rest) (v .place) move-inside
         (subst (λ (v : Move). Can m k (v .rest) (at k t (v .place) .1)) (same-move m some k w c ls sh h) (rest-can m k t so (w .op) ca)))
 

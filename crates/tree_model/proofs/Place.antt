@@ -16,7 +16,7 @@ use Rattle.tree_model.proofs.Exactly.{slot-limit}
 use Rattle.tree_model.proofs.Hang.{below-less, inside, move-ext}
 use Rattle.tree_model.proofs.Path.{all-every}
 use Rattle.tree_model.proofs.Words.{level-length, level-node, node-length, place-inside}
-use Rattle.tree_model.specs.Damage.{fine, hasRoom, hasSome, lifts, nodeOk, readOk, room, slotOk, stepOk}
+use Rattle.tree_model.specs.Damage.{workOk, hasRoom, hasSome, lifts, nodeOk, readOk, room, slotOk, stepOk}
 use Rattle.tree_model.specs.Levels.{Level, levelMove, Levels, stepWork, top, work}
 use Rattle.tree_model.specs.Node.{every, isNothing, leastCount, low, lowest, opMove, slotAt}
 use Rattle.tree_model.specs.Words.{levelOf, levelsOf, nodeMove, nodeOf, restWords, stepWords, under, write}
@@ -115,15 +115,15 @@ module _ (m k b c n : ℕ) (ws : List ℕ) (node-in : n < c) where
         ∙ test-lift m k o own-node _ _ (λ ok li. let d = lifts-deep m k o own-node ok li in child-here (d .0) (lowest own-node) (place-less (d .1)))
 
     -- a level's work is in order exactly where the node's step is
-    pub fine-here : fine m k (work o n) own-level (top k deeper) ≡ tested
-    unfolding fine work isNothing stepOk readOk lifts
+    pub fine-here : workOk m k (work o n) own-level (top k deeper) ≡ tested
+    unfolding workOk work isNothing stepOk readOk lifts
     fine-here = go o test-here
       where
         inside-level : ltb n (length own-level) ≡ true
         inside-level = lt-ltb n (length own-level) (subst (λ (a : ℕ). n < a) (sym (level-length m ws b c)) node-in)
 
         go : (o : Op) → stepOk m k o (getD own-level n []) (λ j. getD (top k deeper) (n * m + j) []) ≡ stepOk m k o own-node child
-            → fine m k (work o n) own-level (top k deeper) ≡ stepOk m k o own-node child
+            → workOk m k (work o n) own-level (top k deeper) ≡ stepOk m k o own-node child
         go Nothing e = refl
         go (Put x) e = rw inside-level e
         go Take e = rw inside-level e

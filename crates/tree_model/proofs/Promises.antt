@@ -23,14 +23,14 @@ use Rattle.tree_model.proofs.Rules.{comes}
 use Rattle.tree_model.proofs.Serve.{answered, cleared-holds, cleared-store, root-slots, root-sum}
 use Rattle.tree_model.proofs.Slice.{wiped}
 use Rattle.tree_model.proofs.Words.{apply-length, level-node, node-length, node-slot, size-room, tab-ext, words-apply}
-use Rattle.tree_model.specs.Calls.{called, counted, Outcome, outcome, rootOf, rootOk, rule, Ruling, verdict, wayOk}
+use Rattle.tree_model.specs.Calls.{called, heldCount, Outcome, outcome, rootOf, rootOk, rule, Ruling, ruleAt, wayOk}
 use Rattle.tree_model.specs.Damage.{nodeOk, room}
 use Rattle.tree_model.specs.Levels.{apply, Level, Levels, work}
 use Rattle.tree_model.specs.Node.{slotAt, sumCounts, vacant}
 use Rattle.tree_model.specs.Promise.{after, Damage, Pinned, Shape, start, stored, treeQueue, Zeroed}
 use Rattle.tree_model.specs.Serve.{bareLevels, holding, ruled, serve, Store}
 use Rattle.tree_model.specs.Tree.{hang, many, own, Sound, Tree, treeOf}
-use Rattle.tree_model.specs.Words.{applyWords, levelOf, levelsOf, nodeOf, size, slotOf, tabulate, width, wipe}
+use Rattle.tree_model.specs.Words.{applyWords, levelOf, levelsOf, nodeOf, size, slotOf, tabulate, slotWords, wipe}
 use Rattle.tree_model.specs.declared.Slot.{Slot}
 
 -- ---- the slots of a store and the elements of its trees
@@ -124,7 +124,7 @@ module _ (m k : ℕ) (ws : List ℕ) (kept : Kept m k ws) where
   some : 0 < m
   some = order-pos (kept .shape)
 
-  pub same-ruling : (r : Request) → ruled m k r ls ≡ verdict m (suc k) r ws
+  pub same-ruling : (r : Request) → ruled m k r ls ≡ ruleAt m (suc k) r ws
   unfolding ruled levelsOf
   same-ruling r = ap (rule (room m (suc k)) r) (root-node m ws)
 
@@ -134,23 +134,23 @@ module _ (m k : ℕ) (ws : List ℕ) (kept : Kept m k ws) where
       ap (nodeOk (room m k)) (sym (root-node m ws)) ∙ ap (nodeOk (room m k)) (sym (root-slots m k some ls (kept .store)))
       ∙ node-ok m k (treeOf m (suc k) ls 0) (kept .store .sound)
 
-  pub sound-way : (r : Request) → wayOk m (suc k) (verdict m (suc k) r ws .op) ws ≡ true
+  pub sound-way : (r : Request) → wayOk m (suc k) (ruleAt m (suc k) r ws .op) ws ≡ true
   sound-way r =
       subst (λ (g : Ruling). wayOk m (suc k) (g .op) ws ≡ true) (same-ruling r)
       (root-path m some (suc k) (ruled m k r ls .op) ls (kept .store .shaped) (kept .store .sound) (answered m k some ls (kept .store) r .can))
 
   -- a call on a kept store is what its ruling says
-  pub kept-called : (r : Request) → called m (suc k) r ws ≡ outcome (verdict m (suc k) r ws .answer) (applyWords m (suc k) (work (verdict m (suc k) r ws .op) 0) 0 1 ws)
+  pub kept-called : (r : Request) → called m (suc k) r ws ≡ outcome (ruleAt m (suc k) r ws .answer) (applyWords m (suc k) (work (ruleAt m (suc k) r ws .op) 0) 0 1 ws)
   kept-called r = called-fine m (suc k) r ws (is-shape m (suc k) (length ws) (kept .shape)) sound-root (sound-way r)
 
   pub kept-words : (r : Request) → levelsOf m (suc k) (called m (suc k) r ws .words) 0 1 ≡ serve m k r ls
   unfolding serve
   kept-words r =
       ap (λ (o : Outcome). levelsOf m (suc k) (o .words) 0 1) (kept-called r)
-      ∙ words-apply m some (suc k) (work (verdict m (suc k) r ws .op) 0) 0 1 ws fits (sound-way r) .0
+      ∙ words-apply m some (suc k) (work (ruleAt m (suc k) r ws .op) 0) 0 1 ws fits (sound-way r) .0
       ∙ ap (λ (g : Ruling). apply m (suc k) (work (g .op) 0) ls) (sym (same-ruling r))
     where
-      fits : width * (0 + size m (suc k) 1) ≤ length ws
+      fits : slotWords * (0 + size m (suc k) 1) ≤ length ws
       fits = omega (arith, kept .shape .slice, size-room m (suc k) 1)
 
   pub kept-answer : (r : Request) → called m (suc k) r ws .answer ≡ ruled m k r ls .answer
@@ -266,7 +266,7 @@ module _ (m : ℕ) (ws : List ℕ) (rs : List Request) where
 
   -- the call held answers how many are stored
   pub held-says : (levels : ℕ) → Shape m levels (length ws)
-      → (countNumber (counted m levels (after m levels rs ws)) ≡ 0) × (countOf (counted m levels (after m levels rs ws)) ≡ stored (room m levels) (after m levels rs ws) always)
+      → (countNumber (heldCount m levels (after m levels rs ws)) ≡ 0) × (countOf (heldCount m levels (after m levels rs ws)) ≡ stored (room m levels) (after m levels rs ws) always)
   held-says zero sh = absurd (not-suc-le-zero (sh .some))
   held-says (suc k) sh =
       let now : List ℕ = after m (suc k) rs ws in

@@ -9,7 +9,7 @@ use Rattle.laws.specs.Lists.{All}
 use Rattle.strip.specs.declared.Request.{Request}
 use Rattle.tree_model.proofs.Rules.{comes}
 use Rattle.tree_model.proofs.Words.{node-length}
-use Rattle.tree_model.specs.Calls.{rootOf, Ruling, verdict}
+use Rattle.tree_model.specs.Calls.{rootOf, Ruling, ruleAt}
 use Rattle.tree_model.specs.Damage.{room}
 use Rattle.tree_model.specs.Node.{sumCounts}
 use Rattle.tree_model.specs.Promise.{Stuck}
@@ -22,7 +22,7 @@ all-same c [] h = omega arith
 all-same c (s ∷ nd) h = omega (arith, h .0, all-same c nd (h .1))
 
 -- "if below the root a put finds every count at one plus the room below it, or a take, swap or read for the lowest an empty node"
-pub root-not-stuck : (m levels : ℕ) (r : Request) (ws : List ℕ) → 1 ≤ levels → Stuck (verdict m levels r ws .op) (room m (pred levels)) (rootOf m ws) → ⊥
+pub root-not-stuck : (m levels : ℕ) (r : Request) (ws : List ℕ) → 1 ≤ levels → Stuck (ruleAt m levels r ws .op) (room m (pred levels)) (rootOf m ws) → ⊥
 unfolding room
 root-not-stuck m zero r ws h = absurd (not-suc-le-zero h)
 root-not-stuck m (suc k) r ws h = go r _ (comes (room m (suc k)) r (rootOf m ws))

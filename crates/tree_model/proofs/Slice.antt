@@ -12,7 +12,7 @@ use Rattle.strip.specs.Answers.{countNumber, countOf}
 use Rattle.strip.specs.declared.Answer.the-variants.{Done}
 use Rattle.tree_model.proofs.Exactly.{cleared-fine, counted-either, is-shape}
 use Rattle.tree_model.proofs.Words.{level-length, level-node, node-slot, size-room}
-use Rattle.tree_model.specs.Calls.{cleared, counted, Outcome, rootOf}
+use Rattle.tree_model.specs.Calls.{cleared, heldCount, Outcome, rootOf}
 use Rattle.tree_model.specs.Damage.{room}
 use Rattle.tree_model.specs.Levels.{Level}
 use Rattle.tree_model.specs.Node.{slotAt, sumCounts}
@@ -93,6 +93,6 @@ unfolding nodeOf slotOf
 root-counts m ws =
     sum-tabulate m (λ j. slotOf ws (0 + j)) ∙ to-ext m (λ j. getD ws (3 * (0 + j) + 2) 0) (λ j. getD ws (3 * j + 2) 0) (λ j l. ap (λ (i : ℕ). getD ws (3 * i + 2) 0) (zero-add j))
 
-pub held-counts : (m levels : ℕ) (ws : List ℕ) → countNumber (counted m levels ws) ≡ 0 → countOf (counted m levels ws) ≡ sumTo m (λ j. getD ws (3 * j + 2) 0)
+pub held-counts : (m levels : ℕ) (ws : List ℕ) → countNumber (heldCount m levels ws) ≡ 0 → countOf (heldCount m levels ws) ≡ sumTo m (λ j. getD ws (3 * j + 2) 0)
 held-counts m levels ws =
     counted-either m levels ws (λ c. countNumber c ≡ 0 → countOf c ≡ sumTo m (λ j. getD ws (3 * j + 2) 0)) (λ x e. absurd (zero-told x (sym e))) (λ e. root-counts m ws)

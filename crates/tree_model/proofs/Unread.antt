@@ -11,7 +11,7 @@ use Rattle.strip.specs.declared.Request.{Request}
 use Rattle.tree_model.proofs.Exactly.{called-fine, called-root, called-way, is-shape, order-pos}
 use Rattle.tree_model.proofs.Agreement.{levels-words, words-levels, words-node}
 use Rattle.tree_model.proofs.Words.{size-room, words-apply}
-use Rattle.tree_model.specs.Calls.{called, counted, Outcome, rootOf, rootOk, rule, Ruling, shapeOk, verdict, wayOk}
+use Rattle.tree_model.specs.Calls.{called, heldCount, Outcome, rootOf, rootOk, rule, Ruling, shapeOk, ruleAt, wayOk}
 use Rattle.tree_model.specs.Damage.{nodeOk, pathOk, room}
 use Rattle.tree_model.specs.Levels.{apply, Levels, work}
 use Rattle.tree_model.specs.Promise.{Agree, Shape}
@@ -34,15 +34,15 @@ module _ (m levels : ℕ) (ws vs : List ℕ) (sh : Shape m levels (length ws)) (
   same-ok = ap (nodeOk (room m (pred levels))) same-root
 
   module _ (r : Request) where
-    same-verdict : verdict m levels r ws ≡ verdict m levels r vs
-    same-verdict = ap (rule (room m levels) r) same-root
+    same-ruleAt : ruleAt m levels r ws ≡ ruleAt m levels r vs
+    same-ruleAt = ap (rule (room m levels) r) same-root
 
-    same-way : wayOk m levels (verdict m levels r ws .op) ws ≡ wayOk m levels (verdict m levels r vs .op) vs
-    same-way = ap₂ (λ (o : Op) (ls : Levels levels). pathOk m levels (work o 0) ls) (ap (λ (g : Ruling). g .op) same-verdict) same-levels
+    same-way : wayOk m levels (ruleAt m levels r ws .op) ws ≡ wayOk m levels (ruleAt m levels r vs .op) vs
+    same-way = ap₂ (λ (o : Op) (ls : Levels levels). pathOk m levels (work o 0) ls) (ap (λ (g : Ruling). g .op) same-ruleAt) same-levels
 
     -- UNREAD
     pub unread : (called m levels r ws .answer ≡ called m levels r vs .answer) × Agree (room m levels) (called m levels r ws .words) (called m levels r vs .words)
-    unread = go (rootOk m levels ws) refl (wayOk m levels (verdict m levels r ws .op) ws) refl
+    unread = go (rootOk m levels ws) refl (wayOk m levels (ruleAt m levels r ws .op) ws) refl
       where
         s : shapeOk m levels (length ws) ≡ true
         s = is-shape m levels (length ws) sh
@@ -58,17 +58,17 @@ module _ (m levels : ℕ) (ws vs : List ℕ) (sh : Shape m levels (length ws)) (
             → levelsOf m levels (applyWords m levels (work o 0) 0 1 ws) 0 1 ≡ apply m levels (work o 0) (levelsOf m levels ws 0 1)
         after ws sh o w = words-apply m (order-pos sh) levels (work o 0) 0 1 ws (omega (arith, sh .slice, size-room m levels 1)) w .0
 
-        go : (a : Bool) → rootOk m levels ws ≡ a → (b : Bool) → wayOk m levels (verdict m levels r ws .op) ws ≡ b
+        go : (a : Bool) → rootOk m levels ws ≡ a → (b : Bool) → wayOk m levels (ruleAt m levels r ws .op) ws ≡ b
             → (called m levels r ws .answer ≡ called m levels r vs .answer) × Agree (room m levels) (called m levels r ws .words) (called m levels r vs .words)
         go false o b w = both _ _ (called-root m levels r ws s o) (called-root m levels r vs z (sym same-ok ∙ o)) (refl, same)
         go true o false w = both _ _ (called-way m levels r ws s o w) (called-way m levels r vs z (sym same-ok ∙ o) (sym same-way ∙ w)) (refl, same)
         go true o true w =
             both _ _ (called-fine m levels r ws s o w) (called-fine m levels r vs z (sym same-ok ∙ o) (sym same-way ∙ w)) (
-              ap (λ (g : Ruling). g .answer) same-verdict,
+              ap (λ (g : Ruling). g .answer) same-ruleAt,
               levels-words m levels _ _ (after ws sh _ w
-                  ∙ ap₂ (λ (o : Op) (ls : Levels levels). apply m levels (work o 0) ls) (ap (λ (g : Ruling). g .op) same-verdict) same-levels ∙ sym (after vs zh _ (sym same-way ∙ w))),
+                  ∙ ap₂ (λ (o : Op) (ls : Levels levels). apply m levels (work o 0) ls) (ap (λ (g : Ruling). g .op) same-ruleAt) same-levels ∙ sym (after vs zh _ (sym same-way ∙ w))),
             )
 
-  pub unread-held : counted m levels ws ≡ counted m levels vs
-  unfolding counted
+  pub unread-held : heldCount m levels ws ≡ heldCount m levels vs
+  unfolding heldCount
   unread-held = rw (is-shape m levels (length ws) sh, is-shape m levels (length vs) zh, same-root)

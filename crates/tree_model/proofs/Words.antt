@@ -19,12 +19,12 @@ use Rattle.tree_model.proofs.Choice.{filled, least-in, lowest-is}
 use Rattle.tree_model.proofs.Hang.{below-less, digits}
 use Rattle.tree_model.proofs.Nothing.{is-none, step-none}
 use Rattle.tree_model.proofs.Rules.{put-rule, swap-rule, take-rule}
-use Rattle.tree_model.specs.Damage.{fine, hasSome, nodeOk, pathOk, readOk, room, stepOk}
+use Rattle.tree_model.specs.Damage.{workOk, hasSome, nodeOk, pathOk, readOk, room, stepOk}
 use Rattle.tree_model.specs.Levels.{apply, Level, levelMove, Levels, stepLevel, stepWork, top}
 use Rattle.tree_model.specs.Node.{every, isEmpty, isNothing, opMove, slotAt, sumCounts, vacant}
 use Rattle.tree_model.specs.Rules.{clears, ends, exchanges, goes, passes, Puts, receives, stays, Swaps, Takes}
 use Rattle.tree_model.specs.Tree.{at}
-use Rattle.tree_model.specs.Words.{applyWords, levelOf, levelsOf, nodeOf, restWords, size, slotOf, stepWords, tabulate, under, width, write}
+use Rattle.tree_model.specs.Words.{applyWords, levelOf, levelsOf, nodeOf, restWords, size, slotOf, stepWords, tabulate, under, slotWords, write}
 use Rattle.tree_model.specs.declared.Move.{Move}
 use Rattle.tree_model.specs.declared.Op.{Op}
 use Rattle.tree_model.specs.declared.Op.the-variants.{Nothing, Put, Swap, Take}
@@ -72,7 +72,7 @@ slot-path : {r r′ t t′ c c′ : ℕ} → r ≡ r′ → t ≡ t′ → c ≡
     → _≡_ {A = Slot} (record { element = element r t; count = c }) (record { element = element r′ t′; count = c′ })
 slot-path p q o = λ i. record { element = record { rank = record { 0 = p i }; tag = record { 0 = q i } }; count = o i }
 
-pub write-same : (ws : List ℕ) (i : ℕ) (s : Slot) → width * i + 2 < length ws → slotOf (write ws i s) i ≡ s
+pub write-same : (ws : List ℕ) (i : ℕ) (s : Slot) → slotWords * i + 2 < length ws → slotOf (write ws i s) i ≡ s
 unfolding write slotOf
 write-same ws i s h =
     let a : List ℕ = set ws (3 * i) (s .element .rank .0) in
@@ -112,7 +112,7 @@ write-comm ws i j s t h =
     ∙ set₃-past (set (set ws (3 * j) r) (3 * j + 1) g) (3 * i) (3 * i + 1) (3 * i + 2) _ _ _ (3 * j + 2) n (omega arith) (omega arith) (omega arith)
 
 -- a write changes its own slot's words alone: past that slot every word stands
-write-past : (ws : List ℕ) (i p : ℕ) (s : Slot) → width * suc i ≤ p → getD (write ws i s) p 0 ≡ getD ws p 0
+write-past : (ws : List ℕ) (i p : ℕ) (s : Slot) → slotWords * suc i ≤ p → getD (write ws i s) p 0 ≡ getD ws p 0
 unfolding write
 write-past ws i p s h = set₃-other ws (3 * i) (3 * i + 1) (3 * i + 2) _ _ _ p (λ q. omega arith) (λ q. omega arith) (λ q. omega arith)
 
@@ -140,7 +140,7 @@ module _ (m : ℕ) where
   level-node ws b c n h = getD-tab c (λ n. nodeOf m ws (b + n * m)) n [] h
 
   -- a slot of this node is written
-  node-write : (ws : List ℕ) (i j : ℕ) (s : Slot) → width * (i + j) + 2 < length ws → nodeOf m (write ws (i + j) s) i ≡ set (nodeOf m ws i) j s
+  node-write : (ws : List ℕ) (i j : ℕ) (s : Slot) → slotWords * (i + j) + 2 < length ws → nodeOf m (write ws (i + j) s) i ≡ set (nodeOf m ws i) j s
   unfolding nodeOf
   node-write ws i j s h = tab-set m _ _ j s (λ l. write-same ws (i + j) s h) (λ a l ne. write-other ws (i + j) (i + a) s (λ e. ne (omega arith)))
 
@@ -150,7 +150,7 @@ module _ (m : ℕ) where
   node-other ws i p s h = tab-ext m _ _ (λ j l. write-other ws p (i + j) s (h j l))
 
   -- a slot of this level is written
-  level-write : (ws : List ℕ) (b c n j : ℕ) (s : Slot) → n < c → j < m → width * (b + n * m + j) + 2 < length ws
+  level-write : (ws : List ℕ) (b c n j : ℕ) (s : Slot) → n < c → j < m → slotWords * (b + n * m + j) + 2 < length ws
       → levelOf m (write ws (b + n * m + j) s) b c ≡ set (levelOf m ws b c) n (set (getD (levelOf m ws b c) n []) j s)
   unfolding levelOf
   level-write ws b c n j s hn hj h =
@@ -220,8 +220,8 @@ module _ (m : ℕ) where
   step-before k w b c ws i h = cond-path (λ (r : List ℕ). slotOf r i) (isNothing (w .op)) ws _ (slotOf ws i) refl (write-other ws _ i _ (λ e. omega arith))
 
   -- a level's work that passes its tests
-  module _ (some : 0 < m) (k : ℕ) (w : Work) (b c : ℕ) (ws : List ℕ) (fits : width * (b + c * m) ≤ length ws)
-      (ok : fine m k w (levelOf m ws b c) (top k (under m k ws b c)) ≡ true) where
+  module _ (some : 0 < m) (k : ℕ) (w : Work) (b c : ℕ) (ws : List ℕ) (fits : slotWords * (b + c * m) ≤ length ws)
+      (ok : workOk m k w (levelOf m ws b c) (top k (under m k ws b c)) ≡ true) where
     abbrev l : Level
     l = levelOf m ws b c
 
@@ -233,7 +233,7 @@ module _ (m : ℕ) where
 
     module _ (e : isNothing (w .op) ≡ false) where
       fine-here : (ltb (w .node) (length l) && stepOk m k (w .op) (getD l (w .node) []) (λ j. getD (top k u) (w .node * m + j) [])) ≡ true
-      unfolding fine
+      unfolding workOk
       fine-here = rw e at ok
 
       node-in : w .node < c
@@ -267,7 +267,7 @@ module _ (m : ℕ) where
             (levels-before m k ws (b + c * m) (c * m) (b + w .node * m + v .place) (v .slot) (slot-in e))
 
     -- no word past the level changes
-    pub step-past : (p : ℕ) → width * (b + c * m) ≤ p → getD (stepWords m k w b c ws) p 0 ≡ getD ws p 0
+    pub step-past : (p : ℕ) → slotWords * (b + c * m) ≤ p → getD (stepWords m k w b c ws) p 0 ≡ getD ws p 0
     unfolding stepWords
     step-past p h = go (isNothing (w .op)) refl
       where
@@ -317,9 +317,9 @@ module _ (m : ℕ) where
 
   -- THE LAW that ties words and levels: where the path is in order, the operation on the words is the operation on the levels, and every
   -- word past the capacity stands
-  pub words-apply : 0 < m → (k : ℕ) (w : Work) (b c : ℕ) (ws : List ℕ) → width * (b + size m k c) ≤ length ws → pathOk m k w (levelsOf m k ws b c) ≡ true
+  pub words-apply : 0 < m → (k : ℕ) (w : Work) (b c : ℕ) (ws : List ℕ) → slotWords * (b + size m k c) ≤ length ws → pathOk m k w (levelsOf m k ws b c) ≡ true
       → (levelsOf m k (applyWords m k w b c ws) b c ≡ apply m k w (levelsOf m k ws b c))
-      × ((p : ℕ) → width * (b + size m k c) ≤ p → getD (applyWords m k w b c ws) p 0 ≡ getD ws p 0)
+      × ((p : ℕ) → slotWords * (b + size m k c) ≤ p → getD (applyWords m k w b c ws) p 0 ≡ getD ws p 0)
   unfolding applyWords pathOk levelsOf apply size
   words-apply some zero w b c ws fits ok = (refl, λ p h. refl)
   words-apply some (suc k) w b c ws fits ok =
@@ -327,12 +327,12 @@ module _ (m : ℕ) where
       let u : Levels k = under m k ws b c in
       let w′ : Work = stepWork m w l (top k u) in
       let ws₁ : List ℕ = stepWords m k w b c ws in
-      let f : fine m k w l (top k u) ≡ true = and-left (fine m k w l (top k u)) (pathOk m k w′ u) ok in
-      let fits₁ : width * (b + c * m) ≤ length ws = omega arith in
+      let f : workOk m k w l (top k u) ≡ true = and-left (workOk m k w l (top k u)) (pathOk m k w′ u) ok in
+      let fits₁ : slotWords * (b + c * m) ≤ length ws = omega arith in
       let s : levelsOf m (suc k) ws₁ b c ≡ (stepLevel m w l (top k u), u) = step-words some k w b c ws fits₁ f in
       let deeper : levelsOf m k ws₁ (b + c * m) (c * m) ≡ u = ap (λ (r : Levels (suc k)). r .1) s in
       let i = words-apply some k w′ (b + c * m) (c * m) ws₁ (omega (arith, step-length k w b c ws))
-      (ap (pathOk m k w′) deeper ∙ and-right (fine m k w l (top k u)) (pathOk m k w′ u) ok) in (
+      (ap (pathOk m k w′) deeper ∙ and-right (workOk m k w l (top k u)) (pathOk m k w′ u) ok) in (
         ap₂ (λ (x : Level) (r : Levels k). (x, r))
             (level-ext m (applyWords m k w′ (b + c * m) (c * m) ws₁) ws₁ b c (λ i lt. apply-before k w′ (b + c * m) (c * m) ws₁ i lt)
             ∙ ap (λ (r : Levels (suc k)). r .0) s)

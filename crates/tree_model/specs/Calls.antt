@@ -19,7 +19,7 @@ use Rattle.tree_model.specs.declared.Op.{Op}
 use Rattle.tree_model.specs.declared.Op.the-variants.{Nothing, Put, Take, Swap}
 use Rattle.tree_model.specs.Node.{sumCounts, low}
 use Rattle.tree_model.specs.Levels.{Levels, work}
-use Rattle.tree_model.specs.Words.{width, nodeOf, levelsOf, applyWords, wipe}
+use Rattle.tree_model.specs.Words.{slotWords, nodeOf, levelsOf, applyWords, wipe}
 use Rattle.tree_model.specs.Damage.{room, nodeOk, pathOk}
 
 -- ---- the shape
@@ -33,7 +33,7 @@ orderOk m = eqb m 2 || (eqb m 4 || eqb m 8)
 
 -- "Levels L at least 1", the capacity within the limit, and a slice that holds it: "A shorter slice is refused"
 unfoldable pub shapeOk : ℕ → ℕ → ℕ → Bool
-shapeOk m levels len = orderOk m && (leb 1 levels && (leb (room m levels) slotLimit && leb (width * room m levels) len))
+shapeOk m levels len = orderOk m && (leb 1 levels && (leb (room m levels) slotLimit && leb (slotWords * room m levels) len))
 
 -- ---- what a request comes to at a root that is in order: its answer, and the work at node 0
 pub record Ruling : Type 0 where
@@ -69,8 +69,8 @@ module _ (m levels : ℕ) where
   abbrev pub rootOk : List ℕ → Bool
   rootOk ws = nodeOk (room m (pred levels)) (rootOf m ws)
 
-  abbrev pub verdict : Request → List ℕ → Ruling
-  verdict r ws = rule (room m levels) r (rootOf m ws)
+  abbrev pub ruleAt : Request → List ℕ → Ruling
+  ruleAt r ws = rule (room m levels) r (rootOf m ws)
 
   -- the whole path of a request's work is in order
   abbrev pub wayOk : Op → List ℕ → Bool
@@ -84,7 +84,7 @@ module _ (m levels : ℕ) where
   unfoldable pub called : Request → List ℕ → Outcome
   called r ws =
       cond (shapeOk m levels (length ws))
-      (cond (rootOk ws) (carriedOut (verdict r ws) ws) (outcome (Refused Damaged) ws))
+      (cond (rootOk ws) (carriedOut (ruleAt r ws) ws) (outcome (Refused Damaged) ws))
       (outcome (Refused BadShape) ws)
 
   -- "Clear writes zeros"
@@ -92,5 +92,5 @@ module _ (m levels : ℕ) where
   cleared ws = cond (shapeOk m levels (length ws)) (outcome Done (wipe (room m levels) ws)) (outcome (Refused BadShape) ws)
 
   -- "Held for a tree is the sum of the root's counts, taken once the root passes test 2; the call held reads the root alone"
-  unfoldable pub counted : List ℕ → Count
-  counted ws = cond (shapeOk m levels (length ws)) (cond (rootOk ws) (Held (sumCounts (rootOf m ws))) (Unknown Damaged)) (Unknown BadShape)
+  unfoldable pub heldCount : List ℕ → Count
+  heldCount ws = cond (shapeOk m levels (length ws)) (cond (rootOk ws) (Held (sumCounts (rootOf m ws))) (Unknown Damaged)) (Unknown BadShape)

@@ -56,11 +56,11 @@ module _ (m : ℕ) where
   stepOk k o nd child = readOk o (room m k) nd && (not (lifts o nd) || readOk Take (room m (pred k)) (child (lowest nd)))
 
   -- a level's work: nothing, or work at a node that the level has and whose step is in order
-  unfoldable pub fine : ℕ → Work → Level → Level → Bool
-  fine k w l below =
+  unfoldable pub workOk : ℕ → Work → Level → Level → Bool
+  workOk k w l below =
       isNothing (w .op) || (ltb (w .node) (length l) && stepOk k (w .op) (getD l (w .node) []) (λ j. getD below (w .node * m + j) []))
 
   -- "One-at-a-time calls test the whole path before writing"
   unfoldable pub pathOk : (k : ℕ) → Work → Levels k → Bool
   pathOk zero w ls = true
-  pathOk (suc k) w ls = fine k w (ls .0) (top k (ls .1)) && pathOk k (stepWork m w (ls .0) (top k (ls .1))) (ls .1)
+  pathOk (suc k) w ls = workOk k w (ls .0) (top k (ls .1)) && pathOk k (stepWork m w (ls .0) (top k (ls .1))) (ls .1)

@@ -18,7 +18,7 @@ use Rattle.strip.specs.declared.Refusal.{Refusal}
 use Rattle.strip.specs.declared.Refusal.the-variants.{BadShape, Damaged}
 use Rattle.strip.specs.declared.Request.{Request}
 use Rattle.strip.specs.declared.Request.the-variants.{Pop, Push, Replace}
-use Rattle.tree_model.specs.Calls.{called, cleared, counted, rootOf, verdict}
+use Rattle.tree_model.specs.Calls.{called, cleared, heldCount, rootOf, ruleAt}
 use Rattle.tree_model.specs.Damage.{room}
 use Rattle.tree_model.specs.Levels.{Level, Levels, stepWork, top, work}
 use Rattle.tree_model.specs.Node.{lowest, slotAt, sumCounts}
@@ -89,7 +89,7 @@ module _ (m : ℕ) where
   -- cause 2 of a call: the root, or the path of what the request comes to, "but none below if a later test refuses it"
   abbrev pub Damage : ℕ → Request → List ℕ → Type 0
   Damage levels r ws =
-      NodeDamaged (room m (pred levels)) (rootOf m ws) ⊎ PathDamaged levels (work (verdict m levels r ws .op) 0) (levelsOf m levels ws 0 1)
+      NodeDamaged (room m (pred levels)) (rootOf m ws) ⊎ PathDamaged levels (work (ruleAt m levels r ws .op) 0) (levelsOf m levels ws 0 1)
 
 -- the table, in order: "Order for the tree: 1, 2, 3, then 5 or 6". 3 is the clocked tree's, and 4 the bucket queue's
 abbrev pub refusals : ℕ → ℕ → Request → List ℕ → Ladder Refusal
@@ -148,4 +148,4 @@ pub record Pinned (m levels : ℕ) (ws : List ℕ) : Type 0 where
   pub push : (x : Element) → Pins (called m levels (Push x) ws)
   pub pop : Pins (called m levels Pop ws)
   pub replace : (x : Element) → Pins (called m levels (Replace x) ws)
-  pub held : Pins (counted m levels ws)
+  pub held : Pins (heldCount m levels ws)

@@ -14,19 +14,19 @@ use Rattle.tree_model.specs.Levels.{Level, Levels, top, levelMove, stepW
 
 -- ---- a slot's words
 -- how many words a slot has
-abbrev pub width : ℕ
-width = 3
+abbrev pub slotWords : ℕ
+slotWords = 3
 
 -- slot i of the store
 unfoldable pub slotOf : List ℕ → ℕ → Slot
-slotOf ws i = record { element = element (getD ws (width * i) 0) (getD ws (width * i + 1) 0); count = getD ws (width * i + 2) 0 }
+slotOf ws i = record { element = element (getD ws (slotWords * i) 0) (getD ws (slotWords * i + 1) 0); count = getD ws (slotWords * i + 2) 0 }
 
 unfoldable pub write : List ℕ → ℕ → Slot → List ℕ
-write ws i s = set (set (set ws (width * i) (s .element .rank .0)) (width * i + 1) (s .element .tag .0)) (width * i + 2) (s .count)
+write ws i s = set (set (set ws (slotWords * i) (s .element .rank .0)) (slotWords * i + 1) (s .element .tag .0)) (slotWords * i + 2) (s .count)
 
 -- "Clear writes zeros": the words of the first n slots
 unfoldable pub wipe : ℕ → List ℕ → List ℕ
-wipe n ws = replicate (n * width) 0 ++ drop (n * width) ws
+wipe n ws = replicate (n * slotWords) 0 ++ drop (n * slotWords) ws
 
 -- ---- nodes and levels
 unfoldable pub tabulate : {A : Type 0} → ℕ → (ℕ → A) → List A

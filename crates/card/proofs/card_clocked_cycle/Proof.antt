@@ -1,7 +1,7 @@
 -- `card::card_clocked_cycle` meets its contract. Assumes nothing.
 use native.Mathlib.Omega.{arith}
 use lib.ListN.{length}
-use Rattle.card.proofs.Clocked.{back-at, below-is, below-lent, below-shape, cycle-done, cycle-fits, cycle-refused, cycle-short, fit-at, levels-are, state-at, taken-lent, ticked-at}
+use Rattle.card.proofs.Clocked.{back-at, below-is, below-lent, below-shape, cycle-done, cycle-fits, cycle-refused, cycle-short, fit-at, levels-are, state-at, taken-lent, cycled-at}
 use borrow.Author.Needs.{needs}
 use Rattle.card.proofs.card_clocked_cycle.Statement.{statement}
 use Rattle.card.proofs.card_clocked_cycle.Tie as tie
@@ -53,7 +53,7 @@ has-run-requires : tie.Need-has-run-requires
 has-run-requires c κs = search needs
 
 hand-back-requires : tie.Need-hand-back-requires
-hand-back-requires c κs = let a = c .before .before .before .before .before .before .before .before .before .before .before .before .before .before .before .before .before .before .before .before .before .before .args in let taken = c .before .before .before .before .before .before .before .before .before .before .before .before .before .is-taken .ensures (a .order) (a .levels) (c .before .before .before .before .before .before .before .before .before .before .before .before .before .before .before .before .shape-of .ensures) in (below-lent (a .order) (a .levels) (length (a .store .now)) (a .records .now) (a .mark .now) (a .request) (c .before .before .before .before .before .before .before .before .before .before .before .before .before .before .before .before .shape-of .result) (c .before .before .before .before .before .before .before .before .before .before .before .before .before .before .before .before .shape-of .ensures) _ taken (c .before .before .before .before .before .before .before .before .before .before .before .before .if2 .left), fit-at (a .levels) _ (a .records .now) (a .mark .now) (below-is (a .order) (a .levels) (length (a .store .now)) (a .records .now) (a .mark .now) (a .request) (c .before .before .before .before .before .before .before .before .before .before .before .before .before .before .before .before .shape-of .result) (c .before .before .before .before .before .before .before .before .before .before .before .before .before .before .before .before .shape-of .ensures) _ taken (c .before .before .before .before .before .before .before .before .before .before .before .before .if2 .left)) (c .before .before .before .before .before .before .beat .result .state) (cycle-fits (a .order) (a .levels) (a .store .now) (a .records .now) (a .mark .now) _ _ _ _ _ (λ i. omega (arith, c .before .before .before .before .before .before .before .before .before .before .before .before .before .before .before .before .before .before .before .before .slice-known2 .given i)) (taken-lent (a .order) (a .levels) (length (a .store .now)) (a .records .now) (a .mark .now) (a .request) _ taken (c .before .before .before .before .before .before .before .before .before .before .before .before .if2 .left)) (state-at (a .levels) _ (a .records .now) (a .mark .now) (below-is (a .order) (a .levels) (length (a .store .now)) (a .records .now) (a .mark .now) (a .request) (c .before .before .before .before .before .before .before .before .before .before .before .before .before .before .before .before .shape-of .result) (c .before .before .before .before .before .before .before .before .before .before .before .before .before .before .before .before .shape-of .ensures) _ taken (c .before .before .before .before .before .before .before .before .before .before .before .before .if2 .left)) _ (c .before .before .before .before .before .before .before .before .before .read-state .ensures)) (ticked-at (a .order) (a .levels) _ _ _ _ _ (levels-are (a .order) (a .levels) (length (a .store .now)) (a .records .now) (a .mark .now) (a .request) (c .before .before .before .before .before .before .before .before .before .before .before .before .before .before .before .before .shape-of .result) (c .before .before .before .before .before .before .before .before .before .before .before .before .before .before .before .before .shape-of .ensures) _ taken (c .before .before .before .before .before .before .before .before .before .before .before .before .if2 .left)) (c .before .before .before .before .before .before .beat .ensures))))
+hand-back-requires c κs = let a = c .before .before .before .before .before .before .before .before .before .before .before .before .before .before .before .before .before .before .before .before .before .before .args in let taken = c .before .before .before .before .before .before .before .before .before .before .before .before .before .is-taken .ensures (a .order) (a .levels) (c .before .before .before .before .before .before .before .before .before .before .before .before .before .before .before .before .shape-of .ensures) in (below-lent (a .order) (a .levels) (length (a .store .now)) (a .records .now) (a .mark .now) (a .request) (c .before .before .before .before .before .before .before .before .before .before .before .before .before .before .before .before .shape-of .result) (c .before .before .before .before .before .before .before .before .before .before .before .before .before .before .before .before .shape-of .ensures) _ taken (c .before .before .before .before .before .before .before .before .before .before .before .before .if2 .left), fit-at (a .levels) _ (a .records .now) (a .mark .now) (below-is (a .order) (a .levels) (length (a .store .now)) (a .records .now) (a .mark .now) (a .request) (c .before .before .before .before .before .before .before .before .before .before .before .before .before .before .before .before .shape-of .result) (c .before .before .before .before .before .before .before .before .before .before .before .before .before .before .before .before .shape-of .ensures) _ taken (c .before .before .before .before .before .before .before .before .before .before .before .before .if2 .left)) (c .before .before .before .before .before .before .beat .result .state) (cycle-fits (a .order) (a .levels) (a .store .now) (a .records .now) (a .mark .now) _ _ _ _ _ (λ i. omega (arith, c .before .before .before .before .before .before .before .before .before .before .before .before .before .before .before .before .before .before .before .before .slice-known2 .given i)) (taken-lent (a .order) (a .levels) (length (a .store .now)) (a .records .now) (a .mark .now) (a .request) _ taken (c .before .before .before .before .before .before .before .before .before .before .before .before .if2 .left)) (state-at (a .levels) _ (a .records .now) (a .mark .now) (below-is (a .order) (a .levels) (length (a .store .now)) (a .records .now) (a .mark .now) (a .request) (c .before .before .before .before .before .before .before .before .before .before .before .before .before .before .before .before .shape-of .result) (c .before .before .before .before .before .before .before .before .before .before .before .before .before .before .before .before .shape-of .ensures) _ taken (c .before .before .before .before .before .before .before .before .before .before .before .before .if2 .left)) _ (c .before .before .before .before .before .before .before .before .before .read-state .ensures)) (cycled-at (a .order) (a .levels) _ _ _ _ _ (levels-are (a .order) (a .levels) (length (a .store .now)) (a .records .now) (a .mark .now) (a .request) (c .before .before .before .before .before .before .before .before .before .before .before .before .before .before .before .before .shape-of .result) (c .before .before .before .before .before .before .before .before .before .before .before .before .before .before .before .before .shape-of .ensures) _ taken (c .before .before .before .before .before .before .before .before .before .before .before .before .if2 .left)) (c .before .before .before .before .before .before .beat .ensures))))
 
 tell-requires-2 : tie.Need-tell-requires-2
 tell-requires-2 c κs = omega (arith, c .before .before .before .before .before .before .before .before .before .before .before .before .before .before .before .before .before .before .before .before .before .before .before .if1 .left)
@@ -71,7 +71,7 @@ same-length-7 : tie.Need-same-length-7
 same-length-7 c = search needs
 
 returns-3 : tie.Need-returns-3
-returns-3 c = let a = c .before .before .before .before .before .before .before .before .before .before .before .before .before .before .before .before .before .before .before .before .before .before .before .before .before .before .before .before .before .before .before .args in let taken = c .before .before .before .before .before .before .before .before .before .before .before .before .before .before .before .before .before .before .before .before .before .before .is-taken .ensures (a .order) (a .levels) (c .before .before .before .before .before .before .before .before .before .before .before .before .before .before .before .before .before .before .before .before .before .before .before .before .before .shape-of .ensures) in cycle-done _ _ _ _ _ _ _ _ _ (c .before .before .before .before .before .before .before .before .before .before .before .before .before .before .before .before .before .before .before .before .before .before .before .before .before .before .if1 .left) _ taken (c .before .before .before .before .before .before .before .before .before .before .before .before .before .before .before .before .before .before .before .before .before .if2 .left) _ _ _ _ _ _ _ _ _ _ (c .before .before .before .before .before .before .before .before .before .before .before .before .before .before .before .before .before .request-of .ensures) (state-at (a .levels) _ (a .records .now) (a .mark .now) (below-is (a .order) (a .levels) (length (a .store .now)) (a .records .now) (a .mark .now) (a .request) (c .before .before .before .before .before .before .before .before .before .before .before .before .before .before .before .before .before .before .before .before .before .before .before .before .before .shape-of .result) (c .before .before .before .before .before .before .before .before .before .before .before .before .before .before .before .before .before .before .before .before .before .before .before .before .before .shape-of .ensures) _ taken (c .before .before .before .before .before .before .before .before .before .before .before .before .before .before .before .before .before .before .before .before .before .if2 .left)) _ (c .before .before .before .before .before .before .before .before .before .before .before .before .before .before .before .before .before .before .read-state .ensures)) (ticked-at (a .order) (a .levels) _ _ _ _ _ (levels-are (a .order) (a .levels) (length (a .store .now)) (a .records .now) (a .mark .now) (a .request) (c .before .before .before .before .before .before .before .before .before .before .before .before .before .before .before .before .before .before .before .before .before .before .before .before .before .shape-of .result) (c .before .before .before .before .before .before .before .before .before .before .before .before .before .before .before .before .before .before .before .before .before .before .before .before .before .shape-of .ensures) _ taken (c .before .before .before .before .before .before .before .before .before .before .before .before .before .before .before .before .before .before .before .before .before .if2 .left)) (c .before .before .before .before .before .before .before .before .before .before .before .before .before .before .before .beat .ensures)) (c .before .before .before .before .before .before .before .before .before .before .before .has-run .ensures) (back-at (a .levels) _ (a .records .now) (a .mark .now) (below-is (a .order) (a .levels) (length (a .store .now)) (a .records .now) (a .mark .now) (a .request) (c .before .before .before .before .before .before .before .before .before .before .before .before .before .before .before .before .before .before .before .before .before .before .before .before .before .shape-of .result) (c .before .before .before .before .before .before .before .before .before .before .before .before .before .before .before .before .before .before .before .before .before .before .before .before .before .shape-of .ensures) _ taken (c .before .before .before .before .before .before .before .before .before .before .before .before .before .before .before .before .before .before .before .before .before .if2 .left)) (c .before .before .before .before .before .before .before .before .before .before .before .has-run .result) (c .before .before .before .before .before .before .before .before .before .before .before .before .before .before .before .beat .result .state) _ _ (c .before .before .before .before .before .before .before .before .hand-back .ensures)) (c .before .before .tell2 .ensures)
+returns-3 c = let a = c .before .before .before .before .before .before .before .before .before .before .before .before .before .before .before .before .before .before .before .before .before .before .before .before .before .before .before .before .before .before .before .args in let taken = c .before .before .before .before .before .before .before .before .before .before .before .before .before .before .before .before .before .before .before .before .before .before .is-taken .ensures (a .order) (a .levels) (c .before .before .before .before .before .before .before .before .before .before .before .before .before .before .before .before .before .before .before .before .before .before .before .before .before .shape-of .ensures) in cycle-done _ _ _ _ _ _ _ _ _ (c .before .before .before .before .before .before .before .before .before .before .before .before .before .before .before .before .before .before .before .before .before .before .before .before .before .before .if1 .left) _ taken (c .before .before .before .before .before .before .before .before .before .before .before .before .before .before .before .before .before .before .before .before .before .if2 .left) _ _ _ _ _ _ _ _ _ _ (c .before .before .before .before .before .before .before .before .before .before .before .before .before .before .before .before .before .request-of .ensures) (state-at (a .levels) _ (a .records .now) (a .mark .now) (below-is (a .order) (a .levels) (length (a .store .now)) (a .records .now) (a .mark .now) (a .request) (c .before .before .before .before .before .before .before .before .before .before .before .before .before .before .before .before .before .before .before .before .before .before .before .before .before .shape-of .result) (c .before .before .before .before .before .before .before .before .before .before .before .before .before .before .before .before .before .before .before .before .before .before .before .before .before .shape-of .ensures) _ taken (c .before .before .before .before .before .before .before .before .before .before .before .before .before .before .before .before .before .before .before .before .before .if2 .left)) _ (c .before .before .before .before .before .before .before .before .before .before .before .before .before .before .before .before .before .before .read-state .ensures)) (cycled-at (a .order) (a .levels) _ _ _ _ _ (levels-are (a .order) (a .levels) (length (a .store .now)) (a .records .now) (a .mark .now) (a .request) (c .before .before .before .before .before .before .before .before .before .before .before .before .before .before .before .before .before .before .before .before .before .before .before .before .before .shape-of .result) (c .before .before .before .before .before .before .before .before .before .before .before .before .before .before .before .before .before .before .before .before .before .before .before .before .before .shape-of .ensures) _ taken (c .before .before .before .before .before .before .before .before .before .before .before .before .before .before .before .before .before .before .before .before .before .if2 .left)) (c .before .before .before .before .before .before .before .before .before .before .before .before .before .before .before .beat .ensures)) (c .before .before .before .before .before .before .before .before .before .before .before .has-run .ensures) (back-at (a .levels) _ (a .records .now) (a .mark .now) (below-is (a .order) (a .levels) (length (a .store .now)) (a .records .now) (a .mark .now) (a .request) (c .before .before .before .before .before .before .before .before .before .before .before .before .before .before .before .before .before .before .before .before .before .before .before .before .before .shape-of .result) (c .before .before .before .before .before .before .before .before .before .before .before .before .before .before .before .before .before .before .before .before .before .before .before .before .before .shape-of .ensures) _ taken (c .before .before .before .before .before .before .before .before .before .before .before .before .before .before .before .before .before .before .before .before .before .if2 .left)) (c .before .before .before .before .before .before .before .before .before .before .before .has-run .result) (c .before .before .before .before .before .before .before .before .before .before .before .before .before .before .before .beat .result .state) _ _ (c .before .before .before .before .before .before .before .before .hand-back .ensures)) (c .before .before .tell2 .ensures)
 
 pub card-clocked-cycle-spec : {M : Type 1} → statement M
 card-clocked-cycle-spec =

@@ -5,7 +5,7 @@ use Rattle.card.proofs.tell_count.Tie as tie
 use Rattle.card.proofs.tell_count.Reads as reads
 use Rattle.card.proofs.tell_count.Lts as lts
 use Rattle.strip.proofs.count_number.Reads as count-number-reads
-use Rattle.strip.proofs.counted.Reads as counted-reads
+use Rattle.strip.proofs.count_of.Reads as count-of-reads
 
 counted-requires : tie.Need-counted-requires
 counted-requires c κs = search needs
@@ -20,7 +20,7 @@ same-length : tie.Need-same-length
 same-length c = search needs
 
 returns : tie.Need-returns
-returns c = (c .count-number .ensures, rw (c .before .counted .ensures))
+returns c = (c .count-number .ensures, rw (c .before .count-of .ensures))
 
 pub tell-count-spec : {M : Type 1} → statement M
 tell-count-spec =

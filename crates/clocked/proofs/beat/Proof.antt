@@ -1,12 +1,12 @@
 -- `clocked::beat` meets its contract. Assumes nothing.
 use native.Mathlib.Omega.{arith}
-use Rattle.clocked.proofs.Public.{beat-damaged, beat-turned, root-in, root-planned, rooted, turned-still}
+use Rattle.clocked.proofs.Public.{beat-damaged, beat-cycleRun, root-in, root-planned, rooted, cycleRun-still}
 use borrow.Author.Needs.{needs}
 use Rattle.clocked.proofs.beat.Statement.{statement}
 use Rattle.clocked.proofs.beat.Tie as tie
 use Rattle.clocked.proofs.beat.Reads as reads
 use Rattle.clocked.proofs.beat.Lts as lts
-use Rattle.clocked.proofs.asked.hear.Reads as hear-reads
+use Rattle.clocked.proofs.asked.rule_root.Reads as rule_root-reads
 use Rattle.clocked.proofs.asked.leaves_mark.Reads as leaves-mark-reads
 use Rattle.clocked.proofs.left_as.Reads as left-as-reads
 use Rattle.clocked.proofs.levels.turn.Reads as turn-reads
@@ -14,8 +14,8 @@ use Rattle.clocked.proofs.records.is_nothing.Reads as is-nothing-reads
 use Rattle.clocked.proofs.records.is_quiet.Reads as is-quiet-reads
 use Rattle.clocked.proofs.rested.Reads as rested-reads
 
-hear-requires : tie.Need-hear-requires
-hear-requires c κs = root-in _ _ _ (c .before .before .pre .0) _ (c .before .before .pre .1)
+rule-root-requires : tie.Need-rule-root-requires
+rule-root-requires c κs = root-in _ _ _ (c .before .before .pre .0) _ (c .before .before .pre .1)
 
 left-as-requires : tie.Need-left-as-requires
 left-as-requires c κs = search needs
@@ -24,7 +24,7 @@ same-length : tie.Need-same-length
 same-length c = search needs
 
 returns : tie.Need-returns
-returns c = beat-damaged _ _ _ _ _ _ (c .before .before .before .before .before .before .before .pre .0) (c .before .before .before .before .before .before .before .pre .1) _ (c .before .before .before .before .hear .ensures) _ _ (c .before .if1 .taken) (c .left-as .ensures)
+returns c = beat-damaged _ _ _ _ _ _ (c .before .before .before .before .before .before .before .pre .0) (c .before .before .before .before .before .before .before .pre .1) _ (c .before .before .before .before .rule-root .ensures) _ _ (c .before .if1 .taken) (c .left-as .ensures)
 
 leaves-mark-requires : tie.Need-leaves-mark-requires
 leaves-mark-requires c κs = search needs
@@ -42,22 +42,22 @@ same-length-2 : tie.Need-same-length-2
 same-length-2 c = search needs
 
 returns-2 : tie.Need-returns-2
-returns-2 c = beat-turned _ _ _ _ _ _ (c .before .before .before .before .before .before .before .before .before .before .before .before .before .pre .0) (c .before .before .before .before .before .before .before .before .before .before .before .before .before .pre .1) _ (c .before .before .before .before .before .before .before .before .before .before .hear .ensures) (c .before .before .before .before .before .before .before .if1 .left) _ _ (c .before .before .before .before .before .before .leaves-mark .ensures) (turned-still _ _ _ _ _ _ _ _ _ _ _ (c .before .before .before .before .before .is-nothing .ensures) (c .before .before .before .before .if2 .taken) (c .before .before .is-quiet .ensures) (c .before .if3 .taken) (c .rested .ensures))
+returns-2 c = beat-cycleRun _ _ _ _ _ _ (c .before .before .before .before .before .before .before .before .before .before .before .before .before .pre .0) (c .before .before .before .before .before .before .before .before .before .before .before .before .before .pre .1) _ (c .before .before .before .before .before .before .before .before .before .before .rule-root .ensures) (c .before .before .before .before .before .before .before .if1 .left) _ _ (c .before .before .before .before .before .before .leaves-mark .ensures) (cycleRun-still _ _ _ _ _ _ _ _ _ _ _ (c .before .before .before .before .before .is-nothing .ensures) (c .before .before .before .before .if2 .taken) (c .before .before .is-quiet .ensures) (c .before .if3 .taken) (c .rested .ensures))
 
 turn-requires : tie.Need-turn-requires
-turn-requires c κs = (rooted _ _ _ (c .before .before .before .before .before .before .before .before .before .before .pre .0), c .before .before .before .before .before .before .before .before .before .before .pre .1, root-planned _ _ _ _ (c .before .before .before .before .before .before .before .before .before .before .args .state) _ (c .before .before .before .before .before .before .before .before .before .before .pre .0) (c .before .before .before .before .before .before .before .before .before .before .pre .1) _ (c .before .before .before .before .before .before .before .hear .ensures) (c .before .before .before .before .if1 .left))
+turn-requires c κs = (rooted _ _ _ (c .before .before .before .before .before .before .before .before .before .before .pre .0), c .before .before .before .before .before .before .before .before .before .before .pre .1, root-planned _ _ _ _ (c .before .before .before .before .before .before .before .before .before .before .args .state) _ (c .before .before .before .before .before .before .before .before .before .before .pre .0) (c .before .before .before .before .before .before .before .before .before .before .pre .1) _ (c .before .before .before .before .before .before .before .rule-root .ensures) (c .before .before .before .before .if1 .left))
 
 same-length-3 : tie.Need-same-length-3
 same-length-3 c = search needs
 
 returns-3 : tie.Need-returns-3
-returns-3 c = beat-turned _ _ _ _ _ _ (c .before .before .before .before .before .before .before .before .before .before .before .before .before .pre .0) (c .before .before .before .before .before .before .before .before .before .before .before .before .before .pre .1) _ (c .before .before .before .before .before .before .before .before .before .before .hear .ensures) (c .before .before .before .before .before .before .before .if1 .left) _ _ (c .before .before .before .before .before .before .leaves-mark .ensures) (c .before .before .turn .ensures)
+returns-3 c = beat-cycleRun _ _ _ _ _ _ (c .before .before .before .before .before .before .before .before .before .before .before .before .before .pre .0) (c .before .before .before .before .before .before .before .before .before .before .before .before .before .pre .1) _ (c .before .before .before .before .before .before .before .before .before .before .rule-root .ensures) (c .before .before .before .before .before .before .before .if1 .left) _ _ (c .before .before .before .before .before .before .leaves-mark .ensures) (c .before .before .turn .ensures)
 
 pub beat-spec : {M : Type 1} → statement M
 beat-spec =
     tie.close
     (tie.spec
-    hear-requires
+    rule-root-requires
     left-as-requires
     same-length
     returns

@@ -7,7 +7,7 @@ use Rattle.trace.proofs.play_end.Reads as reads
 use Rattle.trace.proofs.play_end.Lts as lts
 use Rattle.clocked.proofs.drain.Reads as drain-reads
 use Rattle.clocked.proofs.held.Reads as held-reads
-use Rattle.strip.proofs.counted.Reads as counted-reads
+use Rattle.strip.proofs.count_of.Reads as count-of-reads
 use Rattle.trace.proofs.carried.Reads as carried-reads
 use Rattle.trace.proofs.put_end.Reads as put-end-reads
 
@@ -33,7 +33,7 @@ same-length-2 : tie.Need-same-length-2
 same-length-2 c = search needs
 
 returns : tie.Need-returns
-returns c = end-made _ _ _ _ (c .before .before .before .before .before .before .before .before .before .before .before .before .before .before .before .before .pre) _ _ _ _ _ _ _ _ _ _ (c .before .before .before .before .before .before .before .before .before .before .before .drain .ensures) (c .before .before .before .before .before .before .before .held .ensures) (c .before .before .before .before .before .before .counted .ensures) (c .before .before .before .before .put-end .ensures) (c .carried .ensures)
+returns c = end-made _ _ _ _ (c .before .before .before .before .before .before .before .before .before .before .before .before .before .before .before .before .pre) _ _ _ _ _ _ _ _ _ _ (c .before .before .before .before .before .before .before .before .before .before .before .drain .ensures) (c .before .before .before .before .before .before .before .held .ensures) (c .before .before .before .before .before .before .count-of .ensures) (c .before .before .before .before .put-end .ensures) (c .carried .ensures)
 
 pub play-end-spec : {M : Type 1} → statement M
 play-end-spec =

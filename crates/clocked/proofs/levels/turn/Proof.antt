@@ -4,7 +4,7 @@ use native.Mathlib.Omega.{arith}
 use mathlib.Core.Logic.{⊎-elim}
 use mathlib.Core.Path.{_∙_, ap, refl, sym}
 use borrow.Author.Tests.{not-false, not-true}
-use Rattle.clocked.proofs.Rounds.{end-records, end-tests, end-words, Going, going-end, going-here, level-in, next-small, root-place, turn-damaged, turn-idle, turn-root, turn-step, turned-off, turned-on, turning-as}
+use Rattle.clocked.proofs.Rounds.{end-records, end-tests, end-words, Going, going-end, going-here, level-in, next-small, root-place, turn-damaged, turn-idle, turn-root, turn-step, cycleRun-off, cycleRun-on, turning-as}
 use borrow.Author.Needs.{needs}
 use Rattle.clocked.proofs.levels.turn.Statement.{statement}
 use Rattle.clocked.proofs.levels.turn.Tie as tie
@@ -21,10 +21,10 @@ use Rattle.clocked.proofs.records.no_work.Reads as no-work-reads
 use Rattle.node.proofs.room_under.Reads as room-under-reads
 
 abbrev Inv-loop : tie.InvT-loop
-Inv-loop s order below top g state mark load₀ next₀ writes₀ n₀ room₀ base₀ width₀ i₀ load next writes n room base width i = (i ≤ below) × Going order below s (g .op) state base width i n room writes load (next .records)
+Inv-loop s order below top g state mark load₀ next₀ writes₀ n₀ room₀ base₀ width₀ i₀ load next writes n room base slotWords i = (i ≤ below) × Going order below s (g .op) state base slotWords i n room writes load (next .records)
 
 abbrev μ-loop : tie.MeasureT-loop
-μ-loop s order below top g state mark load₀ next₀ writes₀ n₀ room₀ base₀ width₀ i₀ load next writes n room base width i = below - i
+μ-loop s order below top g state mark load₀ next₀ writes₀ n₀ room₀ base₀ width₀ i₀ load next writes n room base slotWords i = below - i
 
 step-of-requires : tie.Need-step-of-requires Inv-loop μ-loop
 step-of-requires c κs = omega (arith, root-place (c .before .before .before .args .order) (c .before .before .before .args .below) (c .before .before .before .args .s .now) (c .before .before .before .pre .0) (c .before .before .before .args .g) (c .before .before .before .pre .2), c .before .before .before .pre .0 .lies .few)
@@ -72,7 +72,7 @@ same-length : tie.Need-same-length Inv-loop μ-loop
 same-length c = search needs
 
 returns : tie.Need-returns Inv-loop μ-loop
-returns c = turned-off _ _ _ (c .before .before .before .before .before .before .before .before .before .before .before .before .before .before .before .before .before .before .before .before .before .pre .0) (c .before .before .before .before .before .before .before .before .before .before .before .before .before .before .before .before .before .before .before .before .before .args .g) (c .before .before .before .before .before .before .before .before .before .before .before .before .before .before .before .before .before .before .before .before .before .pre .2) _ _ _ _ _ (turn-damaged _ _ _ _ _ _ _ _ _ _ _ _ _ _ (going-here _ _ _ _ _ _ _ _ _ _ _ _ _ _ (c .before .before .before .before .before .before .before .before .before .before .before .before .loop .inv .1) (omega arith)) _ (c .before .before .before .before .before .before .before .room-under2 .ensures) _ (c .before .before .before .plan-level .ensures) (c .before .if2 .taken)) (c .left-as .ensures)
+returns c = cycleRun-off _ _ _ (c .before .before .before .before .before .before .before .before .before .before .before .before .before .before .before .before .before .before .before .before .before .pre .0) (c .before .before .before .before .before .before .before .before .before .before .before .before .before .before .before .before .before .before .before .before .before .args .g) (c .before .before .before .before .before .before .before .before .before .before .before .before .before .before .before .before .before .before .before .before .before .pre .2) _ _ _ _ _ (turn-damaged _ _ _ _ _ _ _ _ _ _ _ _ _ _ (going-here _ _ _ _ _ _ _ _ _ _ _ _ _ _ (c .before .before .before .before .before .before .before .before .before .before .before .before .loop .inv .1) (omega arith)) _ (c .before .before .before .before .before .before .before .room-under2 .ensures) _ (c .before .before .before .plan-level .ensures) (c .before .if2 .taken)) (c .left-as .ensures)
 
 mul-writes : tie.Need-mul-writes Inv-loop μ-loop
 mul-writes c = omega (arith, c .before .before .before .before .before .before .before .before .before .before .before .before .before .loop .inv .1 .few, c .before .before .before .before .before .before .before .before .before .before .before .before .before .before .before .before .before .before .before .before .before .before .pre .0 .records)
@@ -83,8 +83,8 @@ array-set-from-writes c = omega (arith, c .before .before .before .before .befor
 add-n : tie.Need-add-n Inv-loop μ-loop
 add-n c = omega (arith, c .before .before .before .before .before .before .before .before .before .before .before .before .before .loop .inv .1 .few, c .before .before .before .before .before .before .before .before .before .before .before .before .before .before .before .before .before .before .before .before .before .before .pre .0 .records)
 
-mul-width : tie.Need-mul-width Inv-loop μ-loop
-mul-width c = omega (arith, next-small _ _ _ _ _ _ _ _ _ _ _ _ _ _ (going-here _ _ _ _ _ _ _ _ _ _ _ _ _ _ (c .before .before .before .before .before .before .before .loop .inv .1) (omega arith)))
+mul-nodes : tie.Need-mul-nodes Inv-loop μ-loop
+mul-nodes c = omega (arith, next-small _ _ _ _ _ _ _ _ _ _ _ _ _ _ (going-here _ _ _ _ _ _ _ _ _ _ _ _ _ _ (c .before .before .before .before .before .before .before .loop .inv .1) (omega arith)))
 
 add-base : tie.Need-add-base Inv-loop μ-loop
 add-base c = omega (arith, next-small _ _ _ _ _ _ _ _ _ _ _ _ _ _ (going-here _ _ _ _ _ _ _ _ _ _ _ _ _ _ (c .before .before .before .before .before .before .before .loop .inv .1) (omega arith)))
@@ -105,7 +105,7 @@ same-length-2 : tie.Need-same-length-2 Inv-loop μ-loop
 same-length-2 c = c .before .before .write-all .kept .0
 
 returns-2 : tie.Need-returns-2 Inv-loop μ-loop
-returns-2 c = let end = going-end _ _ _ _ _ _ _ _ _ _ _ _ _ _ (c .before .before .before .before .before .loop .inv .1) (omega arith) in turned-on _ _ _ (c .before .before .before .before .before .before .before .before .before .before .before .before .before .before .pre .0) (c .before .before .before .before .before .before .before .before .before .before .before .before .before .before .args .g) (c .before .before .before .before .before .before .before .before .before .before .before .before .before .before .pre .2) _ _ _ _ _ (end-tests _ _ _ _ _ _ _ _ _ _ _ _ _ end) (end-records _ _ _ _ _ _ _ _ _ _ _ _ _ end) (c .before .before .write-all .ensures ∙ end-words _ _ _ _ _ _ _ _ _ _ _ _ _ end)
+returns-2 c = let end = going-end _ _ _ _ _ _ _ _ _ _ _ _ _ _ (c .before .before .before .before .before .loop .inv .1) (omega arith) in cycleRun-on _ _ _ (c .before .before .before .before .before .before .before .before .before .before .before .before .before .before .pre .0) (c .before .before .before .before .before .before .before .before .before .before .before .before .before .before .args .g) (c .before .before .before .before .before .before .before .before .before .before .before .before .before .before .pre .2) _ _ _ _ _ (end-tests _ _ _ _ _ _ _ _ _ _ _ _ _ end) (end-records _ _ _ _ _ _ _ _ _ _ _ _ _ end) (c .before .before .write-all .ensures ∙ end-words _ _ _ _ _ _ _ _ _ _ _ _ _ end)
 
 pub turn-spec : {M : Type 1} → statement M
 turn-spec =
@@ -132,7 +132,7 @@ turn-spec =
     mul-writes
     array-set-from-writes
     add-n
-    mul-width
+    mul-nodes
     add-base
     add-i
     loop-less

@@ -2,10 +2,10 @@
 use mathlib.Core.Path.{refl}
 use Rattle.clocked.proofs.Root.{replace-stands, replace-step, replace-still, root-below}
 use borrow.Author.Needs.{needs}
-use Rattle.clocked.proofs.asked.hear_replace.Statement.{statement}
-use Rattle.clocked.proofs.asked.hear_replace.Tie as tie
-use Rattle.clocked.proofs.asked.hear_replace.Reads as reads
-use Rattle.clocked.proofs.asked.hear_replace.Lts as lts
+use Rattle.clocked.proofs.asked.rule_replace.Statement.{statement}
+use Rattle.clocked.proofs.asked.rule_replace.Tie as tie
+use Rattle.clocked.proofs.asked.rule_replace.Reads as reads
+use Rattle.clocked.proofs.asked.rule_replace.Lts as lts
 use Rattle.clocked.proofs.asked.stands.Reads as stands-reads
 use Rattle.clocked.proofs.asked.still.Reads as still-reads
 use Rattle.node.proofs.lower.Reads as lower-reads
@@ -40,8 +40,8 @@ plan-swap-requires c κs = root-below _ _ _ _ (c .before .before .before .before
 returns-3 : tie.Need-returns-3
 returns-3 c = replace-step _ _ _ _ (c .before .before .before .before .before .before .before .before .choose-low .ensures .0) (c .before .before .before .before .before .before .if1 .left) _ _ (c .before .before .before .before .before .before .before .before .choose-low .ensures .1) _ _ (c .before .before .before .lower .ensures) _ _ (c .before .before .if2 .left) (c .before .room-under .ensures) refl refl (c .plan-swap .ensures .0) (c .plan-swap .ensures .1)
 
-pub hear-replace-spec : {M : Type 1} → statement M
-hear-replace-spec =
+pub rule-replace-spec : {M : Type 1} → statement M
+rule-replace-spec =
     tie.close
     (tie.spec
     choose-low-requires

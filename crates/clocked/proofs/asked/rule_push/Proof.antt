@@ -3,10 +3,10 @@ use borrow.Author.Tests.{not-false}
 use mathlib.Core.Path.{refl}
 use Rattle.clocked.proofs.Root.{push-step, push-still}
 use borrow.Author.Needs.{needs}
-use Rattle.clocked.proofs.asked.hear_push.Statement.{statement}
-use Rattle.clocked.proofs.asked.hear_push.Tie as tie
-use Rattle.clocked.proofs.asked.hear_push.Reads as reads
-use Rattle.clocked.proofs.asked.hear_push.Lts as lts
+use Rattle.clocked.proofs.asked.rule_push.Statement.{statement}
+use Rattle.clocked.proofs.asked.rule_push.Tie as tie
+use Rattle.clocked.proofs.asked.rule_push.Reads as reads
+use Rattle.clocked.proofs.asked.rule_push.Lts as lts
 use Rattle.clocked.proofs.asked.stands.Reads as stands-reads
 use Rattle.node.proofs.plan.choose_least.Reads as choose-least-reads
 use Rattle.node.proofs.plan.plan_put.Reads as plan-put-reads
@@ -26,6 +26,6 @@ plan-put-requires c κs = c .before .before .before .choose-least .ensures .1 .1
 returns-2 : tie.Need-returns-2
 returns-2 c = push-step _ _ _ _ _ (c .before .before .before .before .choose-least .ensures .0) _ _ _ (c .before .before .if1 .left) (c .before .before .before .before .choose-least .ensures .1 .0) refl refl (c .plan-put .ensures .0) (c .plan-put .ensures .1)
 
-pub hear-push-spec : {M : Type 1} → statement M
-hear-push-spec =
+pub rule-push-spec : {M : Type 1} → statement M
+rule-push-spec =
     tie.close (tie.spec choose-least-requires stands-requires returns plan-put-requires returns-2)

@@ -3,13 +3,13 @@ use mathlib.Core.Path.{refl}
 use Rattle.clocked_model.specs.Calls.{asks}
 use Rattle.clocked.proofs.Root.{hears-as, hears-idle, hears-soon}
 use borrow.Author.Needs.{needs}
-use Rattle.clocked.proofs.asked.hear.Statement.{statement}
-use Rattle.clocked.proofs.asked.hear.Tie as tie
-use Rattle.clocked.proofs.asked.hear.Reads as reads
-use Rattle.clocked.proofs.asked.hear.Lts as lts
-use Rattle.clocked.proofs.asked.hear_pop.Reads as hear-pop-reads
-use Rattle.clocked.proofs.asked.hear_push.Reads as hear-push-reads
-use Rattle.clocked.proofs.asked.hear_replace.Reads as hear-replace-reads
+use Rattle.clocked.proofs.asked.rule_root.Statement.{statement}
+use Rattle.clocked.proofs.asked.rule_root.Tie as tie
+use Rattle.clocked.proofs.asked.rule_root.Reads as reads
+use Rattle.clocked.proofs.asked.rule_root.Lts as lts
+use Rattle.clocked.proofs.asked.rule_pop.Reads as rule-pop-reads
+use Rattle.clocked.proofs.asked.rule_push.Reads as rule-push-reads
+use Rattle.clocked.proofs.asked.rule_replace.Reads as rule-replace-reads
 use Rattle.clocked.proofs.asked.pops_or_replaces.Reads as pops-or-replaces-reads
 use Rattle.clocked.proofs.asked.stands.Reads as stands-reads
 
@@ -31,38 +31,38 @@ stands-requires-2 c κs = search needs
 enum-known-request : tie.Need-enum-known-request
 enum-known-request c = search needs
 
-hear-push-requires : tie.Need-hear-push-requires
-hear-push-requires c κs = search needs
+rule-push-requires : tie.Need-rule-push-requires
+rule-push-requires c κs = search needs
 
 enum-told-2 : tie.Need-enum-told-2
 enum-told-2 c = search needs
 
-hear-pop-requires : tie.Need-hear-pop-requires
-hear-pop-requires c κs = search needs
+rule-pop-requires : tie.Need-rule-pop-requires
+rule-pop-requires c κs = search needs
 
 enum-known-request-2 : tie.Need-enum-known-request-2
 enum-known-request-2 c = search needs
 
-hear-replace-requires : tie.Need-hear-replace-requires
-hear-replace-requires c κs = search needs
+rule-replace-requires : tie.Need-rule-replace-requires
+rule-replace-requires c κs = search needs
 
 returns-2 : tie.Need-returns-2
 returns-2 c = hears-idle _ _ _ _ _ _ (c .before .before .before .before .pops-or-replaces .ensures) (c .before .before .before .if1 .left) _ (c .before .enum-told .given .1) (c .stands2 .ensures)
 
 returns-3 : tie.Need-returns-3
 unfolding asks
-returns-3 c = hears-as _ _ _ _ _ _ (c .before .before .before .before .before .pops-or-replaces .ensures) (c .before .before .before .before .if1 .left) _ _ (c .before .before .request .given .1) refl (c .hear-push .ensures)
+returns-3 c = hears-as _ _ _ _ _ _ (c .before .before .before .before .before .pops-or-replaces .ensures) (c .before .before .before .before .if1 .left) _ _ (c .before .before .request .given .1) refl (c .rule-push .ensures)
 
 returns-4 : tie.Need-returns-4
 unfolding asks
-returns-4 c = hears-as _ _ _ _ _ _ (c .before .before .before .before .pops-or-replaces .ensures) (c .before .before .before .if1 .left) _ _ (c .before .enum-told2 .given .1) refl (c .hear-pop .ensures)
+returns-4 c = hears-as _ _ _ _ _ _ (c .before .before .before .before .pops-or-replaces .ensures) (c .before .before .before .if1 .left) _ _ (c .before .enum-told2 .given .1) refl (c .rule-pop .ensures)
 
 returns-5 : tie.Need-returns-5
 unfolding asks
-returns-5 c = hears-as _ _ _ _ _ _ (c .before .before .before .before .before .pops-or-replaces .ensures) (c .before .before .before .before .if1 .left) _ _ (c .before .before .request2 .given .1) refl (c .hear-replace .ensures)
+returns-5 c = hears-as _ _ _ _ _ _ (c .before .before .before .before .before .pops-or-replaces .ensures) (c .before .before .before .before .if1 .left) _ _ (c .before .before .request2 .given .1) refl (c .rule-replace .ensures)
 
-pub hear-spec : {M : Type 1} → statement M
-hear-spec =
+pub rule-root-spec : {M : Type 1} → statement M
+rule-root-spec =
     tie.close
     (tie.spec
     pops-or-replaces-requires
@@ -71,11 +71,11 @@ hear-spec =
     enum-told
     stands-requires-2
     enum-known-request
-    hear-push-requires
+    rule-push-requires
     enum-told-2
-    hear-pop-requires
+    rule-pop-requires
     enum-known-request-2
-    hear-replace-requires
+    rule-replace-requires
     returns-2
     returns-3
     returns-4

@@ -2,10 +2,10 @@
 use mathlib.Core.Path.{refl}
 use Rattle.clocked.proofs.Root.{pop-step, pop-still, root-below}
 use borrow.Author.Needs.{needs}
-use Rattle.clocked.proofs.asked.hear_pop.Statement.{statement}
-use Rattle.clocked.proofs.asked.hear_pop.Tie as tie
-use Rattle.clocked.proofs.asked.hear_pop.Reads as reads
-use Rattle.clocked.proofs.asked.hear_pop.Lts as lts
+use Rattle.clocked.proofs.asked.rule_pop.Statement.{statement}
+use Rattle.clocked.proofs.asked.rule_pop.Tie as tie
+use Rattle.clocked.proofs.asked.rule_pop.Reads as reads
+use Rattle.clocked.proofs.asked.rule_pop.Lts as lts
 use Rattle.clocked.proofs.asked.stands.Reads as stands-reads
 use Rattle.node.proofs.plan.choose_low.Reads as choose-low-reads
 use Rattle.node.proofs.plan.plan_take.Reads as plan-take-reads
@@ -29,8 +29,8 @@ plan-take-requires c κs = root-below _ _ _ _ (c .before .before .before .before
 returns-2 : tie.Need-returns-2
 returns-2 c = pop-step _ _ _ _ (c .before .before .before .before .before .before .choose-low .ensures .0) (c .before .before .before .before .if1 .left) _ _ (c .before .before .before .before .before .before .choose-low .ensures .1) _ _ (c .before .before .room-under .ensures) refl refl (c .before .plan-take .ensures .0) (c .before .plan-take .ensures .1)
 
-pub hear-pop-spec : {M : Type 1} → statement M
-hear-pop-spec =
+pub rule-pop-spec : {M : Type 1} → statement M
+rule-pop-spec =
     tie.close
     (tie.spec
     choose-low-requires
