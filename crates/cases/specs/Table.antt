@@ -4,6 +4,7 @@ use mathlib.Core.List.{[], _++_, _∷_, List, map}
 use mathlib.Core.Path.{_≡_}
 use lib.ListN.{length, replicate}
 use Rattle.bucket_model.specs.Case8.{case8}
+use Rattle.bucket_model.specs.CaseWords.{filled, leftBy, popCase, popCaseBits, popCaseWords, replaceCase, replaceCaseBits, replaceCaseWords}
 use Rattle.bucket_model.specs.Layout.{queue}
 use Rattle.bucket_model.specs.Plain.{bucketAnswers}
 use Rattle.clocked_model.specs.Cases.{caseSix, caseSixSays}
@@ -30,6 +31,7 @@ pub data Row : Type 0 where
   held : (order levels : ℕ) (words : List ℕ) (said : ℕ × ℕ) → Row
   clocked : (words said : List (List ℕ)) → Row
   bucket : (nodes : ℕ) (requests : List Request) (said : List (ℕ × ℕ × ℕ)) → Row
+  bucketWords : (nodes : ℕ) (requests : List Request) (bits words : List (ℕ × ℕ)) → Row
 
 abbrev pub garbage : ℕ → List ℕ
 garbage n = replicate n 9
@@ -41,6 +43,7 @@ Right (tree m l rs said left h) =
 Right (held m l ws said) = toldHeld (heldCount m l ws) ≡ said
 Right (clocked words said) = words ≡ said
 Right (bucket n rs said) = map told (bucketAnswers (queue n) rs) ≡ said
+Right (bucketWords n rs bits words) = (filled 0 (leftBy n rs .bits) ≡ bits) × (filled 0 (leftBy n rs .words) ≡ words)
 
 -- "Tree cases have order 2, levels 2, capacity 6. Store A is cleared, then push 5/50, 3/30, 8/80, 1/10"
 abbrev pub A : List Request
@@ -71,6 +74,9 @@ table =
     ∷ row (replicate 7 (Push (element 1 1))) (done 6 ++ ((5, 0, 0) ∷ [])) (1 ∷ 1 ∷ 3 ∷ 1 ∷ 1 ∷ 3 ∷ 1 ∷ 1 ∷ 1 ∷ 1 ∷ 1 ∷ 1 ∷ 1 ∷ 1 ∷ 1 ∷ 1 ∷ 1 ∷ 1 ∷ []) 6
     -- 8. bucket, N = 3: push 7/1, 7/2, 4095/3; push 0/4 refused 5; 4096/4 refused 4; pops 7/1, 7/2, 4095/3, then 6
     ∷ bucket 3 case8 ((0, 0, 0) ∷ (0, 0, 0) ∷ (0, 0, 0) ∷ (5, 0, 0) ∷ (4, 0, 0) ∷ (0, 7, 1) ∷ (0, 7, 2) ∷ (0, 4095, 3) ∷ (6, 0, 0) ∷ [])
+    -- the bucket's words that are not 0, with their places, after push 7/1, 7/2, 7/3 and a pop; and after replace 70/5
+    ∷ bucketWords 4 popCase popCaseBits popCaseWords
+    ∷ bucketWords 4 replaceCase replaceCaseBits replaceCaseWords
     -- held refused: 1, an order of 3; 2, a slot with count 0 and a rank
     ∷ held 3 1 (replicate 9 0) (1, 0)
     ∷ held 2 1 (9 ∷ 0 ∷ 0 ∷ 0 ∷ 0 ∷ 0 ∷ []) (2, 0)
