@@ -16,7 +16,7 @@ use Rattle.clocked_model.proofs.Exactly.{no-damage-sound, sound-no-dama
 use Rattle.clocked_model.proofs.Promises.{shape-kept, undamaged}
 use Rattle.clocked_model.proofs.Step.{in-step, InStep, root-fine, steps-fine}
 use Rattle.clocked_model.proofs.Turn.{after-before, after-past, landed-recorded, plain-rest, recorded-work, words-cycle}
-use Rattle.clocked_model.specs.Calls.{askedOk, CycleOutcome, cycleWork, ruleNow, stepsOk, levels-cycled, cycleRun}
+use Rattle.clocked_model.specs.Calls.{askedOk, CycleOutcome, cycleWork, ruleNow, stepsOk, cycled, cycleRun}
 use Rattle.clocked_model.specs.Cycle.{cycleLevels, cycleOk, cycleWords, Works}
 use Rattle.clocked_model.specs.Promise.{clockedQueue, CycleDamage, firstSlot, flight, leaveBelow, levelNow, levelWork, Machine, OneStep, ran, Recorded}
 use Rattle.clocked_model.specs.Records.{landed, recordAt, recordsAfter, worksOf}
@@ -177,12 +177,12 @@ module _ (m k : ℕ) (r : Request) (s : State) (ws : List ℕ) (sh : Shape m (su
   now = levelNow m (suc k)
 
   abbrev after : List ℕ
-  after = levels-cycled m (suc k) r s ws .words
+  after = cycled m (suc k) r s ws .words
 
   steps-ok : cycleOk m (suc k) p (levelsOf m (suc k) ws 0 1) ≡ true
   steps-ok = and-right (askedOk m (suc k) r ws) (stepsOk m (suc k) (g .op) s ws) (no-damage-sound m (suc k) r s ws d)
 
-  here : levels-cycled m (suc k) r s ws ≡ cycleRun m (suc k) r g s ws
+  here : cycled m (suc k) r s ws ≡ cycleRun m (suc k) r g s ws
   here = cycled-fine m (suc k) r s ws (is-shape m (suc k) (length ws) sh) (no-damage-sound m (suc k) r s ws d)
 
   levels-cycled : (levelsOf m (suc k) (cycleWords m (suc k) p 0 1 ws) 0 1 ≡ cycleLevels m (suc k) p (levelsOf m (suc k) ws 0 1))
@@ -233,7 +233,7 @@ module _ (m k : ℕ) (r : Request) (s : State) (ws : List ℕ) (sh : Shape m (su
   left-is zero = ap (stepWork m (work (g .op) 0) (levelOf m ws 0 1)) (top-at k (under m k ws 0 1))
   left-is (suc i) = ap (λ (a : ℕ). stepWork m (recordAt (s .records) a) (levelAt k (under m k ws 0 1) i) (levelAt k (under m k ws 0 1) (suc i))) (zero-add i)
 
-  records : (i : ℕ) → suc i < suc k → Recorded (leaveBelow m (suc k) ws i (levelWork m (suc k) r s ws i)) (getD (s .records) i idle) (getD (levels-cycled m (suc k) r s ws .state .records) i idle)
+  records : (i : ℕ) → suc i < suc k → Recorded (leaveBelow m (suc k) ws i (levelWork m (suc k) r s ws i)) (getD (s .records) i idle) (getD (cycled m (suc k) r s ws .state .records) i idle)
   unfolding cycleRun
   records i h =
       subst (λ (v : Work). Recorded (leaveBelow m (suc k) ws i (levelWork m (suc k) r s ws i)) (getD (s .records) i idle) v)
