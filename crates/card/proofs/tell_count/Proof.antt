@@ -7,8 +7,8 @@ use Rattle.card.proofs.tell_count.Lts as lts
 use Rattle.strip.proofs.count_number.Reads as count-number-reads
 use Rattle.strip.proofs.count_of.Reads as count-of-reads
 
-counted-requires : tie.Need-counted-requires
-counted-requires c κs = search needs
+count-of-requires : tie.Need-count-of-requires
+count-of-requires c κs = search needs
 
 slice-write-out : tie.Need-slice-write-out
 slice-write-out c = search needs
@@ -24,4 +24,4 @@ returns c = (c .count-number .ensures, rw (c .before .count-of .ensures))
 
 pub tell-count-spec : {M : Type 1} → statement M
 tell-count-spec =
-    tie.close (tie.spec counted-requires slice-write-out count-number-requires same-length returns)
+    tie.close (tie.spec count-of-requires slice-write-out count-number-requires same-length returns)

@@ -17,8 +17,8 @@ drain-requires c κs = search needs
 held-requires : tie.Need-held-requires
 held-requires c κs = search needs
 
-counted-requires : tie.Need-counted-requires
-counted-requires c κs = search needs
+count-of-requires : tie.Need-count-of-requires
+count-of-requires c κs = search needs
 
 put-end-requires : tie.Need-put-end-requires
 put-end-requires c κs = search needs
@@ -41,7 +41,7 @@ play-end-spec =
     (tie.spec
     drain-requires
     held-requires
-    counted-requires
+    count-of-requires
     put-end-requires
     carried-requires
     same-length
