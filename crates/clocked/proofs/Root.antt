@@ -12,10 +12,10 @@ use Rattle.clocked.specs.Beat.{RulesRoot, RoomIs, RootIn, Ruled, Settles
 use Rattle.clocked.specs.declared.asked.RootStep.{RootStep}
 use Rattle.laws.specs.Lists.{All}
 use Rattle.laws.specs.Tests.{and-left, and-right, and-unit, sub-one}
-use Rattle.node.proofs.Planning.{below-in, chosen-low, put-planned, swap-planned, take-planned}
+use Rattle.node_plan.proofs.Planning.{below-in, chosen-low, put-planned, swap-planned, take-planned}
 use Rattle.node.proofs.Rulings.{pop-empty, pop-takes, replace-back, replace-empty, replace-swaps}
 use Rattle.node.proofs.Steps.{move-nothing, room-up, step-nothing}
-use Rattle.node.specs.Planning.{Chosen, liftsOk, Planned, PlanIn, putFrom, swapFrom, takeFrom}
+use Rattle.node_plan.specs.Planning.{Chosen, liftsOk, Planned, PlanIn, putFrom, swapFrom, takeFrom}
 use Rattle.node.specs.Scan.{Capacity, childOf, NodeIn, RoomUnder}
 use Rattle.strip.specs.Answers.{blank, key}
 use Rattle.strip.specs.declared.Answer.{Answer}

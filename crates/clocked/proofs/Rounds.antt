@@ -22,7 +22,7 @@ use Rattle.clocked.specs.declared.levels.Step.{Step}
 use Rattle.clocked.specs.declared.levels.Write.{Write}
 use Rattle.laws.specs.Tests.{and-left, and-right, sub-one}
 use Rattle.node.proofs.Steps.{move-nothing, room-up}
-use Rattle.node.specs.Planning.{Planned, PlanIn}
+use Rattle.node_plan.specs.Planning.{Planned, PlanIn}
 use Rattle.node.specs.Scan.{childOf, RoomUnder}
 use Rattle.strip.specs.Answers.{blank}
 use Rattle.strip.specs.declared.Answer.{Answer}

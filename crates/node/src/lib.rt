@@ -11,7 +11,6 @@ ghost use Rattle.tree_model.specs.Damage.{slotOk, nodeOk};
 ghost use Rattle.tree_model.specs.Calls.{slotLimit, orderOk, shapeOk};
 ghost use Rattle.node.specs.Scan.{keyOr, NodeIn, Capacity, RoomUnder};
 
-pub mod plan;
 pub mod shape;
 
 use strip::Element;

@@ -7,8 +7,8 @@ use Rattle.clocked.proofs.asked.rule_pop.Tie as tie
 use Rattle.clocked.proofs.asked.rule_pop.Reads as reads
 use Rattle.clocked.proofs.asked.rule_pop.Lts as lts
 use Rattle.clocked.proofs.asked.stands.Reads as stands-reads
-use Rattle.node.proofs.plan.choose_low.Reads as choose-low-reads
-use Rattle.node.proofs.plan.plan_take.Reads as plan-take-reads
+use Rattle.node_plan.proofs.choose_low.Reads as choose-low-reads
+use Rattle.node_plan.proofs.plan_take.Reads as plan-take-reads
 use Rattle.node.proofs.room_under.Reads as room-under-reads
 
 choose-low-requires : tie.Need-choose-low-requires

@@ -8,8 +8,8 @@ use Rattle.clocked.proofs.asked.rule_push.Tie as tie
 use Rattle.clocked.proofs.asked.rule_push.Reads as reads
 use Rattle.clocked.proofs.asked.rule_push.Lts as lts
 use Rattle.clocked.proofs.asked.stands.Reads as stands-reads
-use Rattle.node.proofs.plan.choose_least.Reads as choose-least-reads
-use Rattle.node.proofs.plan.plan_put.Reads as plan-put-reads
+use Rattle.node_plan.proofs.choose_least.Reads as choose-least-reads
+use Rattle.node_plan.proofs.plan_put.Reads as plan-put-reads
 
 choose-least-requires : tie.Need-choose-least-requires
 choose-least-requires c κs = search needs

@@ -9,8 +9,8 @@ use Rattle.clocked.proofs.asked.rule_replace.Lts as lts
 use Rattle.clocked.proofs.asked.stands.Reads as stands-reads
 use Rattle.clocked.proofs.asked.still.Reads as still-reads
 use Rattle.node.proofs.lower.Reads as lower-reads
-use Rattle.node.proofs.plan.choose_low.Reads as choose-low-reads
-use Rattle.node.proofs.plan.plan_swap.Reads as plan-swap-reads
+use Rattle.node_plan.proofs.choose_low.Reads as choose-low-reads
+use Rattle.node_plan.proofs.plan_swap.Reads as plan-swap-reads
 use Rattle.node.proofs.room_under.Reads as room-under-reads
 
 choose-low-requires : tie.Need-choose-low-requires

@@ -8,7 +8,7 @@ use Rattle.clocked.proofs.levels.plan_level.Reads as reads
 use Rattle.clocked.proofs.levels.plan_level.Lts as lts
 use Rattle.clocked.proofs.levels.damaged.Reads as damaged-reads
 use Rattle.clocked.proofs.levels.step_of.Reads as step-of-reads
-use Rattle.node.proofs.plan.plan_of.Reads as plan-of-reads
+use Rattle.node_plan.proofs.plan_of.Reads as plan-of-reads
 
 damaged-requires : tie.Need-damaged-requires
 damaged-requires c κs = search needs

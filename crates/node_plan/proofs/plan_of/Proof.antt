@@ -1,14 +1,14 @@
--- `node::plan::plan_of` meets its contract. Assumes nothing.
-use Rattle.node.proofs.Planning.{planned-as, planned-none}
+-- `node_plan::plan_of` meets its contract. Assumes nothing.
+use Rattle.node_plan.proofs.Planning.{planned-as, planned-none}
 use borrow.Author.Needs.{needs}
-use Rattle.node.proofs.plan.plan_of.Statement.{statement}
-use Rattle.node.proofs.plan.plan_of.Tie as tie
-use Rattle.node.proofs.plan.plan_of.Reads as reads
-use Rattle.node.proofs.plan.plan_of.Lts as lts
-use Rattle.node.proofs.plan.no_plan.Reads as no-plan-reads
-use Rattle.node.proofs.plan.put_at.Reads as put-at-reads
-use Rattle.node.proofs.plan.swap_at.Reads as swap-at-reads
-use Rattle.node.proofs.plan.take_at.Reads as take-at-reads
+use Rattle.node_plan.proofs.plan_of.Statement.{statement}
+use Rattle.node_plan.proofs.plan_of.Tie as tie
+use Rattle.node_plan.proofs.plan_of.Reads as reads
+use Rattle.node_plan.proofs.plan_of.Lts as lts
+use Rattle.node_plan.proofs.no_plan.Reads as no-plan-reads
+use Rattle.node_plan.proofs.put_at.Reads as put-at-reads
+use Rattle.node_plan.proofs.swap_at.Reads as swap-at-reads
+use Rattle.node_plan.proofs.take_at.Reads as take-at-reads
 
 enum-told : tie.Need-enum-told
 enum-told c = search needs

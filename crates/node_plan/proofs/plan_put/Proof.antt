@@ -1,13 +1,13 @@
--- `node::plan::plan_put` meets its contract. Assumes nothing.
-use Rattle.node.proofs.Planning.{put-empty, put-over}
+-- `node_plan::plan_put` meets its contract. Assumes nothing.
+use Rattle.node_plan.proofs.Planning.{put-empty, put-over}
 use borrow.Author.Needs.{needs}
-use Rattle.node.proofs.plan.plan_put.Statement.{statement}
-use Rattle.node.proofs.plan.plan_put.Tie as tie
-use Rattle.node.proofs.plan.plan_put.Reads as reads
-use Rattle.node.proofs.plan.plan_put.Lts as lts
+use Rattle.node_plan.proofs.plan_put.Statement.{statement}
+use Rattle.node_plan.proofs.plan_put.Tie as tie
+use Rattle.node_plan.proofs.plan_put.Reads as reads
+use Rattle.node_plan.proofs.plan_put.Lts as lts
 use Rattle.node.proofs.goes_down.Reads as goes-down-reads
-use Rattle.node.proofs.plan.planned.Reads as planned-reads
+use Rattle.node_plan.proofs.planned.Reads as planned-reads
 use Rattle.node.proofs.stays.Reads as stays-reads
 
 planned-requires : tie.Need-planned-requires
 planned-requires c κs = search needs

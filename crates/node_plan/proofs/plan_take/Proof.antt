@@ -1,17 +1,17 @@
--- `node::plan::plan_take` meets its contract. Assumes nothing.
+-- `node_plan::plan_take` meets its contract. Assumes nothing.
 use native.Mathlib.Omega.{arith}
 use borrow.Author.Tests.{not-false}
 use mathlib.Core.Bool.{true≢false}
 use mathlib.Core.Path.{_∙_, sym}
-use Rattle.node.proofs.Planning.{chosen-low, lift-last, lift-off, lift-on, take-last, take-lifted}
+use Rattle.node_plan.proofs.Planning.{chosen-low, lift-last, lift-off, lift-on, take-last, take-lifted}
 use borrow.Author.Needs.{needs}
-use Rattle.node.proofs.plan.plan_take.Statement.{statement}
-use Rattle.node.proofs.plan.plan_take.Tie as tie
-use Rattle.node.proofs.plan.plan_take.Reads as reads
-use Rattle.node.proofs.plan.plan_take.Lts as lts
-use Rattle.node.proofs.plan.choose_low.Reads as choose-low-reads
-use Rattle.node.proofs.plan.no_plan.Reads as no-plan-reads
-use Rattle.node.proofs.plan.planned.Reads as planned-reads
+use Rattle.node_plan.proofs.plan_take.Statement.{statement}
+use Rattle.node_plan.proofs.plan_take.Tie as tie
+use Rattle.node_plan.proofs.plan_take.Reads as reads
+use Rattle.node_plan.proofs.plan_take.Lts as lts
+use Rattle.node_plan.proofs.choose_low.Reads as choose-low-reads
+use Rattle.node_plan.proofs.no_plan.Reads as no-plan-reads
+use Rattle.node_plan.proofs.planned.Reads as planned-reads
 use Rattle.strip.proofs.no_element.Reads as no-element-reads
 
 no-element-requires : tie.Need-no-element-requires

@@ -1,18 +1,18 @@
--- `node::plan::plan_swap` meets its contract. Assumes nothing.
+-- `node_plan::plan_swap` meets its contract. Assumes nothing.
 use native.Mathlib.Omega.{arith}
 use borrow.Author.Tests.{not-false}
 use mathlib.Core.Bool.{true≢false}
 use mathlib.Core.Path.{_∙_, sym}
-use Rattle.node.proofs.Planning.{chosen-low, lift-last, lift-off, lift-on, swap-kept, swap-last, swap-lifted}
+use Rattle.node_plan.proofs.Planning.{chosen-low, lift-last, lift-off, lift-on, swap-kept, swap-last, swap-lifted}
 use borrow.Author.Needs.{needs}
-use Rattle.node.proofs.plan.plan_swap.Statement.{statement}
-use Rattle.node.proofs.plan.plan_swap.Tie as tie
-use Rattle.node.proofs.plan.plan_swap.Reads as reads
-use Rattle.node.proofs.plan.plan_swap.Lts as lts
+use Rattle.node_plan.proofs.plan_swap.Statement.{statement}
+use Rattle.node_plan.proofs.plan_swap.Tie as tie
+use Rattle.node_plan.proofs.plan_swap.Reads as reads
+use Rattle.node_plan.proofs.plan_swap.Lts as lts
 use Rattle.node.proofs.lower.Reads as lower-reads
-use Rattle.node.proofs.plan.choose_low.Reads as choose-low-reads
-use Rattle.node.proofs.plan.no_plan.Reads as no-plan-reads
-use Rattle.node.proofs.plan.planned.Reads as planned-reads
+use Rattle.node_plan.proofs.choose_low.Reads as choose-low-reads
+use Rattle.node_plan.proofs.no_plan.Reads as no-plan-reads
+use Rattle.node_plan.proofs.planned.Reads as planned-reads
 
 planned-requires : tie.Need-planned-requires
 planned-requires c κs = search needs

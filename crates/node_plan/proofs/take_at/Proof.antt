@@ -1,13 +1,13 @@
--- `node::plan::take_at` meets its contract. Assumes nothing.
-use Rattle.node.proofs.Planning.{below-in, take-planned, take-planned-off}
+-- `node_plan::take_at` meets its contract. Assumes nothing.
+use Rattle.node_plan.proofs.Planning.{below-in, take-planned, take-planned-off}
 use borrow.Author.Needs.{needs}
-use Rattle.node.proofs.plan.take_at.Statement.{statement}
-use Rattle.node.proofs.plan.take_at.Tie as tie
-use Rattle.node.proofs.plan.take_at.Reads as reads
-use Rattle.node.proofs.plan.take_at.Lts as lts
-use Rattle.node.proofs.plan.choose_low.Reads as choose-low-reads
-use Rattle.node.proofs.plan.no_plan.Reads as no-plan-reads
-use Rattle.node.proofs.plan.plan_take.Reads as plan-take-reads
+use Rattle.node_plan.proofs.take_at.Statement.{statement}
+use Rattle.node_plan.proofs.take_at.Tie as tie
+use Rattle.node_plan.proofs.take_at.Reads as reads
+use Rattle.node_plan.proofs.take_at.Lts as lts
+use Rattle.node_plan.proofs.choose_low.Reads as choose-low-reads
+use Rattle.node_plan.proofs.no_plan.Reads as no-plan-reads
+use Rattle.node_plan.proofs.plan_take.Reads as plan-take-reads
 
 choose-low-requires : tie.Need-choose-low-requires
 choose-low-requires c κs = search needs

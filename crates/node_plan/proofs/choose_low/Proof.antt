@@ -1,13 +1,13 @@
--- `node::plan::choose_low` meets its contract. Assumes nothing.
-use Rattle.node.proofs.Planning.{low-chosen, low-none, low-order}
+-- `node_plan::choose_low` meets its contract. Assumes nothing.
+use Rattle.node_plan.proofs.Planning.{low-chosen, low-none, low-order}
 use mathlib.Core.Bool.{false≢true}
 use borrow.Author.Needs.{needs}
-use Rattle.node.proofs.plan.choose_low.Statement.{statement}
-use Rattle.node.proofs.plan.choose_low.Tie as tie
-use Rattle.node.proofs.plan.choose_low.Reads as reads
-use Rattle.node.proofs.plan.choose_low.Lts as lts
+use Rattle.node_plan.proofs.choose_low.Statement.{statement}
+use Rattle.node_plan.proofs.choose_low.Tie as tie
+use Rattle.node_plan.proofs.choose_low.Reads as reads
+use Rattle.node_plan.proofs.choose_low.Lts as lts
 use Rattle.node.proofs.look_low.Reads as look-low-reads
 use Rattle.node.proofs.slot_at.Reads as slot-at-reads
 use Rattle.strip.proofs.no_element.Reads as no-element-reads
 
 look-low-requires : tie.Need-look-low-requires

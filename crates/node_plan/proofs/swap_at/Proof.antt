@@ -1,13 +1,13 @@
--- `node::plan::swap_at` meets its contract. Assumes nothing.
-use Rattle.node.proofs.Planning.{below-in, swap-planned, swap-planned-off}
+-- `node_plan::swap_at` meets its contract. Assumes nothing.
+use Rattle.node_plan.proofs.Planning.{below-in, swap-planned, swap-planned-off}
 use borrow.Author.Needs.{needs}
-use Rattle.node.proofs.plan.swap_at.Statement.{statement}
-use Rattle.node.proofs.plan.swap_at.Tie as tie
-use Rattle.node.proofs.plan.swap_at.Reads as reads
-use Rattle.node.proofs.plan.swap_at.Lts as lts
-use Rattle.node.proofs.plan.choose_low.Reads as choose-low-reads
-use Rattle.node.proofs.plan.no_plan.Reads as no-plan-reads
-use Rattle.node.proofs.plan.plan_swap.Reads as plan-swap-reads
+use Rattle.node_plan.proofs.swap_at.Statement.{statement}
+use Rattle.node_plan.proofs.swap_at.Tie as tie
+use Rattle.node_plan.proofs.swap_at.Reads as reads
+use Rattle.node_plan.proofs.swap_at.Lts as lts
+use Rattle.node_plan.proofs.choose_low.Reads as choose-low-reads
+use Rattle.node_plan.proofs.no_plan.Reads as no-plan-reads
+use Rattle.node_plan.proofs.plan_swap.Reads as plan-swap-reads
 
 choose-low-requires : tie.Need-choose-low-requires
 choose-low-requires c κs = search needs

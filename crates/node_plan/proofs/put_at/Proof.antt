@@ -1,14 +1,14 @@
--- `node::plan::put_at` meets its contract. Assumes nothing.
-use Rattle.node.proofs.Planning.{put-planned, put-planned-off}
+-- `node_plan::put_at` meets its contract. Assumes nothing.
+use Rattle.node_plan.proofs.Planning.{put-planned, put-planned-off}
 use borrow.Author.Tests.{not-false}
 use borrow.Author.Needs.{needs}
-use Rattle.node.proofs.plan.put_at.Statement.{statement}
-use Rattle.node.proofs.plan.put_at.Tie as tie
-use Rattle.node.proofs.plan.put_at.Reads as reads
-use Rattle.node.proofs.plan.put_at.Lts as lts
-use Rattle.node.proofs.plan.choose_least.Reads as choose-least-reads
-use Rattle.node.proofs.plan.no_plan.Reads as no-plan-reads
-use Rattle.node.proofs.plan.plan_put.Reads as plan-put-reads
+use Rattle.node_plan.proofs.put_at.Statement.{statement}
+use Rattle.node_plan.proofs.put_at.Tie as tie
+use Rattle.node_plan.proofs.put_at.Reads as reads
+use Rattle.node_plan.proofs.put_at.Lts as lts
+use Rattle.node_plan.proofs.choose_least.Reads as choose-least-reads
+use Rattle.node_plan.proofs.no_plan.Reads as no-plan-reads
+use Rattle.node_plan.proofs.plan_put.Reads as plan-put-reads
 
 choose-least-requires : tie.Need-choose-least-requires
 choose-least-requires c κs = search needs

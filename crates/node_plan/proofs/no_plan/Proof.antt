@@ -1,14 +1,14 @@
--- `node::plan::no_plan` meets its contract. Assumes nothing.
+-- `node_plan::no_plan` meets its contract. Assumes nothing.
 use mathlib.Core.Path.{refl}
 use mathlib.Core.Path.{ap}
 use Rattle.tree_model.specs.Node.{move}
 use Rattle.tree_model.specs.declared.Op.the-variants.{Nothing}
 use Rattle.strip.specs.declared.Element.{Element}
 use borrow.Author.Needs.{needs}
-use Rattle.node.proofs.plan.no_plan.Statement.{statement}
-use Rattle.node.proofs.plan.no_plan.Tie as tie
-use Rattle.node.proofs.plan.no_plan.Reads as reads
-use Rattle.node.proofs.plan.no_plan.Lts as lts
+use Rattle.node_plan.proofs.no_plan.Statement.{statement}
+use Rattle.node_plan.proofs.no_plan.Tie as tie
+use Rattle.node_plan.proofs.no_plan.Reads as reads
+use Rattle.node_plan.proofs.no_plan.Lts as lts
 use Rattle.strip.proofs.no_element.Reads as no-element-reads
 
 no-element-requires : tie.Need-no-element-requires

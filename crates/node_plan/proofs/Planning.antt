@@ -10,9 +10,9 @@ use lib.Dec.{eqb, leb, ltb}
 use lib.ListN.{length}
 use borrow.Author.Tests.{eq-eqb, eqb-true, le-leb, le-ltb, leb-false, leb-true, lt-leb, lt-ltb, ne-eqb, not-false, not-true}
 use Rattle.laws.specs.Tests.{and-left, and-right, and-unit, sub-one}
 use Rattle.node.proofs.Steps.{lift-ends, lift-reads, move-nothing, move-put, move-swap, move-take, put-first, put-full, put-test, some-test, step-nothing, step-swap, step-take, swap-ends, swap-lifts, swap-stays, take-ends, take-lifts}
-use Rattle.node.specs.Planning.{Chosen, liftsOk, Planned, PlanIn, putFrom, swapFrom, takeFrom}
+use Rattle.node_plan.specs.Planning.{Chosen, liftsOk, Planned, PlanIn, putFrom, swapFrom, takeFrom}
 use Rattle.node.specs.Scan.{childOf, ChildrenIn, liftOk, lowBelow, NodeIn}
 use Rattle.strip.specs.Answers.{blank, key}
 use Rattle.strip.specs.declared.Element.{Element}
 use Rattle.tree_model.proofs.Choice.{all-slotAt, every-all}

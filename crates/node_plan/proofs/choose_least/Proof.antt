@@ -1,12 +1,12 @@
--- `node::plan::choose_least` meets its contract. Assumes nothing.
-use Rattle.node.proofs.Planning.{least-chosen, least-order, least-small}
+-- `node_plan::choose_least` meets its contract. Assumes nothing.
+use Rattle.node_plan.proofs.Planning.{least-chosen, least-order, least-small}
 use borrow.Author.Needs.{needs}
-use Rattle.node.proofs.plan.choose_least.Statement.{statement}
-use Rattle.node.proofs.plan.choose_least.Tie as tie
-use Rattle.node.proofs.plan.choose_least.Reads as reads
-use Rattle.node.proofs.plan.choose_least.Lts as lts
+use Rattle.node_plan.proofs.choose_least.Statement.{statement}
+use Rattle.node_plan.proofs.choose_least.Tie as tie
+use Rattle.node_plan.proofs.choose_least.Reads as reads
+use Rattle.node_plan.proofs.choose_least.Lts as lts
 use Rattle.node.proofs.look_least.Reads as look-least-reads
 use Rattle.node.proofs.slot_at.Reads as slot-at-reads
 
 look-least-requires : tie.Need-look-least-requires
 look-least-requires c κs = search needs
