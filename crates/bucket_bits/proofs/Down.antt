@@ -103,7 +103,7 @@ down-step b o D d i t open? z q f =
 
 -- the end of the way
 pub down-none : (b : List ℕ) (o D d i : ℕ) (open? : Bool) → Down b o D open? d i → open? ≡ false → Leads b o D false 0
-down-none b o D d i open? z e = record { way = sym (z .shut e); to = λ p. absurd (false≢true p); within = λ p. absurd (false≢true p); set = λ p. absurd (false≢true p) }
+down-none b o D d i open? z e = record { way = sym (z .shut e); to = λ p. absurd (false≢true p); within = λ p. absurd (false≢true p); set = λ p. absurd (false≢true p); none = λ p. refl }
 
 pub down-end : (b : List ℕ) (o D tower d i : ℕ) (open? : Bool) → tower ≡ wordsOf D → Down b o D open? d i → open? ≡ true → (open? && ltb d D) ≡ false → (tower ≤ i) × (i - tower < 64 ^ D) × Leads b o D true (i - tower)
 down-end b o D tower d i open? tall z e q = rw tall (go (subst (λ (d : ℕ). At b o d i) full (z .here e)))
@@ -120,5 +120,5 @@ down-end b o D tower d i open? tall z e q = rw tall (go (subst (λ (d : ℕ). At
         let is : i - wordsOf D ≡ a .j = omega (arith, a .is) in (
           omega (arith, a .is),
           omega (arith, a .within),
-          record { way = sym (a .opened); to = λ p. is ∙ a .finds; within = λ p. omega (arith, a .within); set = λ p. rw is (a .set) },
+          record { way = sym (a .opened); to = λ p. is ∙ a .finds; within = λ p. omega (arith, a .within); set = λ p. rw is (a .set); none = λ p. absurd (true≢false p) },
         )

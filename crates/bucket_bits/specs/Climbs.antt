@@ -34,6 +34,7 @@ pub record Leads (b : List ℕ) (o d : ℕ) (open? : Bool) (rank : ℕ) : Type 0
   pub to : open? ≡ true → rank ≡ find b (storeysFrom o d)
   pub within : open? ≡ true → rank < 64 ^ d
   pub set : open? ≡ true → Turnable false b (storeysFrom o d) rank
+  pub none : open? ≡ false → rank ≡ 0
 
 -- the bits that a pop leaves: those of its rank cleared, if it clears them
 abbrev pub bitsLeft : List ℕ → ℕ → ℕ → Bool → ℕ → List ℕ

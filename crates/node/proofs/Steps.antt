@@ -11,7 +11,7 @@ use lib.ListN.{length}
 use borrow.Author.Tests.{eqb-true, le-leb, le-ltb, leb-false, leb-true, lt-leb, lt-ltb, not-false, not-true}
 use Rattle.laws.specs.Lists.{All}
 use Rattle.laws.specs.Tests.{and-unit, sub-one}
-use Rattle.node.specs.Scan.{Capacity, childOf, liftOk, lowBelow}
+use Rattle.node.specs.Scan.{Capacity, childOf, liftOk, lowBelow, slotsCounted}
 use Rattle.strip.specs.Answers.{blank, key}
 use Rattle.strip.specs.declared.Element.{Element}
 use Rattle.tree_model.proofs.Choice.{all-slotAt, every-all, least-empty, least-full, least-in, lowest-is, lowest-none, void}
@@ -47,6 +47,25 @@ capacity-end m levels i r e p =
 
 pub capacity-above : (m levels i r : ℕ) → 0 < m → i ≤ levels → slotLimit < r → r ≡ room m i → Capacity m levels r
 capacity-above m levels i r h l a p = record { within = λ w. absurd (omega (arith, room-up m i levels h l)); above = λ w. a }
+
+-- the count goes on while it is within the limit, and stands once it is above
+pub counted-next : (m i r : ℕ) → r ≡ slotsCounted m i → r ≤ slotLimit → m * (r + 1) ≡ slotsCounted m (i + 1)
+unfolding slotsCounted
+counted-next m i r e h =
+    rw (add-one i) (rw (le-leb (slotsCounted m i) slotLimit (omega arith)) (ap (λ (n : ℕ). m * n) (omega arith)))
+
+counted-stands : (m i d : ℕ) → slotLimit < slotsCounted m i → slotsCounted m (d + i) ≡ slotsCounted m i
+unfolding slotsCounted
+counted-stands m i zero h = ap (slotsCounted m) (zero-add i)
+counted-stands m i (suc d) h =
+    let same : slotsCounted m (d + i) ≡ slotsCounted m i = counted-stands m i d h in
+    let off : leb (slotsCounted m (d + i)) slotLimit ≡ false = lt-leb (slotsCounted m (d + i)) slotLimit (omega arith) in
+    rw suc-add (rw off same)
+
+pub counted-above : (m levels i r : ℕ) → i ≤ levels → slotLimit < r → r ≡ slotsCounted m i → r ≡ slotsCounted m levels
+counted-above m levels i r l a p =
+    let e : levels - i + i ≡ levels = omega arith in
+    p ∙ sym (counted-stands m i (levels - i) (omega arith)) ∙ ap (slotsCounted m) e
 
 -- a slot's count by its words
 module _ (m : ℕ) (ws : List ℕ) (i : ℕ) (j : ℕ) (a : Slot) (inside : j < m) (read : a ≡ slotOf ws (i + j)) where

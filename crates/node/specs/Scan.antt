@@ -1,5 +1,5 @@
 -- What a node's functions ask of the words. Assumes nothing: these are definitions.
-use Prim.Native.Nat.{_*_, _+_, _<_, _≤_, pred, ℕ}
+use Prim.Native.Nat.{_*_, _+_, _<_, _≤_, pred, suc, zero, ℕ}
 use mathlib.Core.Bool.{_&&_, _||_, Bool, cond, not}
 use mathlib.Core.List.{List}
 use mathlib.Core.Path.{_≡_}
@@ -40,6 +40,11 @@ pub record StepIn (m i f k : ℕ) (ws : List ℕ) : Type 0 where
 -- the tests of a take or a swap
 unfoldable pub liftOk : ℕ → ℕ → List Slot → (ℕ → List Slot) → Bool
 liftOk m k nd child = stepOk m k Take nd child
+
+-- the count of slots, level by level, stops once it is above the limit
+unfoldable pub slotsCounted : ℕ → ℕ → ℕ
+slotsCounted m zero = 0
+slotsCounted m (suc k) = cond (leb (slotsCounted m k) slotLimit) (m * suc (slotsCounted m k)) (slotsCounted m k)
 
 -- what the capacity's count says
 pub record Capacity (m levels r : ℕ) : Type 0 where

@@ -9,7 +9,7 @@ ghost use Rattle.tree_model.specs.Node.{leastCount, lowest, sumCounts, keep, pa
 ghost use Rattle.tree_model.specs.Words.{slotWords, slotOf, write, nodeOf};
 ghost use Rattle.tree_model.specs.Damage.{slotOk, nodeOk};
 ghost use Rattle.tree_model.specs.Calls.{slotLimit, orderOk, shapeOk};
-ghost use Rattle.node.specs.Scan.{keyOr, NodeIn, Capacity, RoomUnder};
+ghost use Rattle.node.specs.Scan.{keyOr, NodeIn, Capacity, RoomUnder, slotsCounted};
 
 pub mod shape;
 
@@ -203,7 +203,8 @@ pub fn sum_counts(s: &[u32], at: usize, order: usize) -> usize
 // How many elements so many levels under one slot hold, where that is within the limit; else a number above the limit.
 pub fn capacity(order: usize, levels: usize) -> usize
     requires { ⌜ (0 < order) × (order ≤ 8) ⌝ }
-    ensures { λ r. ⌜ Capacity order levels r ⌝ }
+    ensures counts { λ r. ⌜ Capacity order levels r ⌝ }
+    ensures stops { λ r. ⌜ r ≡ slotsCounted order levels ⌝ }
 {
     let mut slots: usize = 0;
     let mut i = 0;

@@ -22,13 +22,13 @@ capacity-requires : tie.Need-capacity-requires
 capacity-requires c κs = tree-order _ _ _ (c .before .shape-ok .ensures) (c .if1 .left)
 
 mul-result : tie.Need-mul-result
-mul-result c = search (needs, tree-most _ _ _ (c .before .before .shape-ok .ensures) (c .before .if1 .left) _ (c .capacity .ensures))
+mul-result c = search (needs, tree-most _ _ _ (c .before .before .shape-ok .ensures) (c .before .if1 .left) _ (c .capacity .ensures .0))
 
 cast-result : tie.Need-cast-result
-cast-result c = search (needs, tree-most _ _ _ (c .before .before .shape-ok .ensures) (c .before .if1 .left) _ (c .capacity .ensures))
+cast-result c = search (needs, tree-most _ _ _ (c .before .before .shape-ok .ensures) (c .before .if1 .left) _ (c .capacity .ensures .0))
 
 returns-2 : tie.Need-returns-2
-returns-2 c = tree-some _ _ _ (c .before .before .shape-ok .ensures) (c .before .if1 .left) _ (c .capacity .ensures)
+returns-2 c = tree-some _ _ _ (c .before .before .shape-ok .ensures) (c .before .if1 .left) _ (c .capacity .ensures .0)
 
 pub card-tree-words-spec : {M : Type 1} → statement M
 card-tree-words-spec =

@@ -17,13 +17,13 @@ capacity-requires : tie.Need-capacity-requires
 capacity-requires c κs = shape-range _ 0 0 _ (c .before .before .order-ok .ensures) (c .before .if1 .left)
 
 returns-3 : tie.Need-returns-3
-returns-3 c = shape-above _ _ _ _ (c .before .before .before .before .order-ok .ensures) _ (c .before .before .before .if1 .left) (c .before .before .if2 .left) (c .before .capacity .ensures) (c .if3 .taken)
+returns-3 c = shape-above _ _ _ _ (c .before .before .before .before .order-ok .ensures) _ (c .before .before .before .if1 .left) (c .before .before .if2 .left) (c .before .capacity .ensures .0) (c .if3 .taken)
 
 mul-result : tie.Need-mul-result
 mul-result c = search needs
 
 returns-4 : tie.Need-returns-4
-returns-4 c = shape-slice _ _ _ _ (c .before .before .before .before .order-ok .ensures) _ (c .before .before .before .if1 .left) (c .before .before .if2 .left) (c .before .capacity .ensures) (c .if3 .left)
+returns-4 c = shape-slice _ _ _ _ (c .before .before .before .before .order-ok .ensures) _ (c .before .before .before .if1 .left) (c .before .before .if2 .left) (c .before .capacity .ensures .0) (c .if3 .left)
 
 pub shape-ok-spec : {M : Type 1} → statement M
 shape-ok-spec =

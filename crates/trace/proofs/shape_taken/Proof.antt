@@ -21,7 +21,7 @@ capacity-requires : tie.Need-capacity-requires
 capacity-requires c κs = order-range _ (sym (c .before .order-ok .ensures) ∙ not-false _ (c .if1 .left))
 
 returns-2 : tie.Need-returns-2
-returns-2 c = shape-on _ _ _ _ (c .before .before .order-ok .ensures) (c .before .if1 .left) (c .capacity .ensures)
+returns-2 c = shape-on _ _ _ _ (c .before .before .order-ok .ensures) (c .before .if1 .left) (c .capacity .ensures .0)
 
 pub shape-taken-spec : {M : Type 1} → statement M
 shape-taken-spec = tie.close (tie.spec order-ok-requires returns capacity-requires returns-2)

@@ -25,14 +25,14 @@ mul-zero-words c =
     let at-if1 = c .before .before in
     let at-shape = at-if1 .before in
     let start = at-shape .before .before in
-    omega (arith, clear-fits (start .args .order) (start .args .levels) (start .args .store .now) _ (at-shape .shape-ok .ensures) (at-if1 .if1 .left) (c .capacity .result) (c .capacity .ensures))
+    omega (arith, clear-fits (start .args .order) (start .args .levels) (start .args .store .now) _ (at-shape .shape-ok .ensures) (at-if1 .if1 .left) (c .capacity .result) (c .capacity .ensures .0))
 
 zero-words-requires : tie.Need-zero-words-requires
 zero-words-requires c κs =
     let at-if1 = c .before .before in
     let at-shape = at-if1 .before in
     let start = at-shape .before .before in
-    clear-fits (start .args .order) (start .args .levels) (start .args .store .now) _ (at-shape .shape-ok .ensures) (at-if1 .if1 .left) _ (c .capacity .ensures) .0
+    clear-fits (start .args .order) (start .args .levels) (start .args .store .now) _ (at-shape .shape-ok .ensures) (at-if1 .if1 .left) _ (c .capacity .ensures .0) .0
 
 same-length : tie.Need-same-length
 same-length c = search needs
@@ -43,7 +43,7 @@ returns-2 c =
     let at-cap = at-zero-words .before in
     let at-if1 = at-cap .before .before in
     let at-shape = at-if1 .before in
-    clear-done _ _ _ _ (at-shape .shape-ok .ensures) (at-if1 .if1 .left) _ (at-cap .capacity .ensures) _ (at-zero-words .zero-words .ensures)
+    clear-done _ _ _ _ (at-shape .shape-ok .ensures) (at-if1 .if1 .left) _ (at-cap .capacity .ensures .0) _ (at-zero-words .zero-words .ensures)
 
 pub clear-spec : {M : Type 1} → statement M
 clear-spec = tie.close (tie.spec shape-ok-requires returns capacity-requires mul-zero-words zero-words-requires same-length returns-2)

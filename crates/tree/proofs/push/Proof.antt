@@ -11,7 +11,7 @@ abbrev start : tie.After-capacity → tie.Start
 start c = c .before .before .before .before
 
 fitting : (c : tie.After-capacity) → Fit (start c .args .order) (start c .args .levels) (c .capacity .result) (start c .args .store .now)
-fitting c = fit _ _ _ _ (c .before .before .shape-ok .ensures) (c .before .if1 .left) _ (c .capacity .ensures)
+fitting c = fit _ _ _ _ (c .before .before .shape-ok .ensures) (c .before .if1 .left) _ (c .capacity .ensures .0)
 
 shape-ok-requires : tie.Need-shape-ok-requires
 shape-ok-requires c κs = search needs
@@ -59,7 +59,7 @@ returns-3 c =
     let at-told = at-count .before .before in
     let at-if2 = at-told .before .before in
     let at-done = at-if2 .before .before .before in
-    push-below (fitting (c .before .before .before .before .before .before .before .before .before .before .before .before)) (start (c .before .before .before .before .before .before .before .before .before .before .before .before) .args .x) _ _ (at-done .put .ensures) (at-if2 .if2 .left) _ (sym (at-count .all2 .given .1) ∙ at-told .held .ensures) _ (at-most .capacity2 .ensures) (c .if3 .taken)
+    push-below (fitting (c .before .before .before .before .before .before .before .before .before .before .before .before)) (start (c .before .before .before .before .before .before .before .before .before .before .before .before) .args .x) _ _ (at-done .put .ensures) (at-if2 .if2 .left) _ (sym (at-count .all2 .given .1) ∙ at-told .held .ensures) _ (at-most .capacity2 .ensures .0) (c .if3 .taken)
 
 same-length-3 : tie.Need-same-length-3
 same-length-3 c = search needs
@@ -82,7 +82,7 @@ returns-5 c =
     let at-told = at-count .before .before in
     let at-if2 = at-told .before .before in
     let at-done = at-if2 .before .before .before in
-    push-over (fitting (c .before .before .before .before .before .before .before .before .before .before .before .before)) (start (c .before .before .before .before .before .before .before .before .before .before .before .before) .args .x) _ _ (at-done .put .ensures) (at-if2 .if2 .left) _ (sym (at-count .all2 .given .1) ∙ at-told .held .ensures) _ (at-most .capacity2 .ensures) (c .if3 .left)
+    push-over (fitting (c .before .before .before .before .before .before .before .before .before .before .before .before)) (start (c .before .before .before .before .before .before .before .before .before .before .before .before) .args .x) _ _ (at-done .put .ensures) (at-if2 .if2 .left) _ (sym (at-count .all2 .given .1) ∙ at-told .held .ensures) _ (at-most .capacity2 .ensures .0) (c .if3 .left)
 
 pub push-spec : {M : Type 1} → statement M
 push-spec = tie.close (tie.spec shape-ok-requires returns sub-capacity capacity-requires put-requires same-length returns-2 held-requires enum-known-all enum-known-all-2 cast-if3 capacity-requires-2 same-length-2 returns-3 same-length-3 returns-4 same-length-4 returns-5)

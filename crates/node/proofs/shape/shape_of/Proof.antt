@@ -35,7 +35,7 @@ no-shape-requires-3 : tie.Need-no-shape-requires-3
 no-shape-requires-3 c κs = search needs
 
 returns-3 : tie.Need-returns-3
-returns-3 c = shaped-above _ _ _ (c .before .before .before .before .before .order-ok .ensures) _ (c .before .before .before .before .if1 .left) (c .before .before .before .if2 .left) _ (c .before .before .capacity .ensures) (c .before .if3 .taken) (c .no-shape3 .ensures)
+returns-3 c = shaped-above _ _ _ (c .before .before .before .before .before .order-ok .ensures) _ (c .before .before .before .before .if1 .left) (c .before .before .before .if2 .left) _ (c .before .before .capacity .ensures .0) (c .before .if3 .taken) (c .no-shape3 .ensures)
 
 room-under-requires : tie.Need-room-under-requires
 room-under-requires c κs = shape-range _ (c .before .before .before .before .before .args .levels) 0 _ (c .before .before .before .before .order-ok .ensures) (c .before .before .before .if1 .left) .0
@@ -44,7 +44,7 @@ sub-t7 : tie.Need-sub-t7
 sub-t7 c = search needs
 
 returns-4 : tie.Need-returns-4
-returns-4 c = shaped-tree _ _ _ (c .before .before .before .before .before .order-ok .ensures) _ (c .before .before .before .before .if1 .left) (c .before .before .before .if2 .left) _ (c .before .before .capacity .ensures) (c .before .if3 .left) _ (c .room-under .ensures) refl refl refl
+returns-4 c = shaped-tree _ _ _ (c .before .before .before .before .before .order-ok .ensures) _ (c .before .before .before .before .if1 .left) (c .before .before .before .if2 .left) _ (c .before .before .capacity .ensures .0) (c .before .if3 .left) _ (c .room-under .ensures) refl refl refl
 
 pub shape-of-spec : {M : Type 1} → statement M
 shape-of-spec =
