@@ -14,11 +14,13 @@ use Rattle.card_records.proofs.Records.{lent, readable-roomy}
 use Rattle.card_records.specs.Records.{Fit, Lent, wordLimit, markWritten, readable, roomy, stateRead, worksWritten}
 use Rattle.clocked_model.proofs.Demand.{few-levels}
 use Rattle.clocked_model.proofs.Drain.{drain-within}
-use Rattle.clocked_model.specs.Calls.{cycleOutcome, CycleOutcome, drainOutcome, DrainOutcome, drains, recordCount, restarted, cycled}
+use Rattle.clocked_model.proofs.Promises as model
+use Rattle.clocked_model.specs.Calls.{cycleOutcome, CycleOutcome, drainOutcome, DrainOutcome, drains, fresh, recordCount, cycled}
 use Rattle.clocked_model.specs.Records.{worksOf}
 use Rattle.clocked_model.specs.declared.State.{State}
+use Rattle.clocked_steps.proofs.Shaped.{clear-levels, cycle-levels, drain-levels}
 use Rattle.laws.specs.Tests.{and-left, and-right, sub-one}
-use Rattle.node.proofs.Shapes.{shaped-below, shaped-levels}
+use Rattle.node.proofs.Shapes.{shaped-below}
 use Rattle.node.specs.Shaping.{Shaped}
 use Rattle.node.specs.declared.shape.Shape.{Shape}
 use Rattle.strip.specs.Answers.{blank, element, numberOf}
@@ -29,7 +31,7 @@ use Rattle.strip.specs.declared.Request.{Request}
 use Rattle.strip.specs.declared.Request.the-variants.{Idle, Pop, Push, Replace}
 use Rattle.tree_model.proofs.Exactly.{shape-is}
 use Rattle.tree_model.specs.Calls.{shapeOk}
-use Rattle.tree_model.specs.Damage.{room}
+use Rattle.tree_model.specs.Words.{wipe}
 
 -- ---- the tests
 pub request-idle : (n rank tag : ℕ) → (n ≡ 1 → ⊥) → (n ≡ 2 → ⊥) → (n ≡ 3 → ⊥) → Idle ≡ requestOf n rank tag
@@ -71,86 +73,131 @@ shape-few m levels n e =
     let sh = shape-is m levels n e in
     (sh .some, omega (arith, few-levels m levels n sh, sub-one levels))
 
-pub shape-some : (m levels n : ℕ) (t : Bool) → t ≡ shapeOk m levels n → not t ≡ false → 1 ≤ levels
-shape-some m levels n t p f = shape-few m levels n (sym p ∙ not-false t f) .0
-
-module _ (m levels n : ℕ) (rs mark : List ℕ) (request : ℕ) (b : Bool) (tested : b ≡ taken m levels n rs mark request) (e : not b ≡ false) where
-  is-taken : taken m levels n rs mark request ≡ true
-  is-taken = sym tested ∙ not-false b e
-
-  pub taken-lent : Lent (levels - 1) rs mark
-  taken-lent =
-      lent (levels - 1) rs mark (shape-few m levels n (taken-shape m levels n rs mark request is-taken) .1)
-      (readable-roomy (levels - 1) rs mark (taken-readable m levels n rs mark request is-taken))
-
--- .. by the shape that the code has computed, whose number of levels below the root is that of the records
-module _ (m levels n : ℕ) (rs mark : List ℕ) (request : ℕ) (f : Shape) (sh : Shaped m levels f) (b : Bool) (tested : b ≡ taken m levels n rs mark request) (e : not b ≡ false) where
-  fits : shapeOk m levels n ≡ true
-  fits = taken-shape m levels n rs mark request (sym tested ∙ not-false b e)
-
-  pub below-is : f .below ≡ levels - 1
-  below-is = shaped-below m levels n f sh fits
-
-  pub levels-are : levels ≡ suc (f .below)
-  levels-are = shaped-levels m levels n f sh fits
-
-  pub below-lent : Lent (f .below) rs mark
-  below-lent = subst (λ (k : ℕ). Lent k rs mark) (sym below-is) (taken-lent m levels n rs mark request b tested e)
-
-  pub below-shape : (shapeOk m (suc (f .below)) n ≡ true) × (f .room ≡ room m (f .below))
-  below-shape = (ap (λ (l : ℕ). shapeOk m l n) (sym levels-are) ∙ fits, sh .fits)
-
 pub readable-at : (m levels n : ℕ) (rs mark : List ℕ) (f : Shape) → Shaped m levels f → (t : Bool) → t ≡ shapeOk m levels n → not t ≡ false
     → (b : Bool) → b ≡ readable (f .below) rs mark → b ≡ readable (levels - 1) rs mark
 readable-at m levels n rs mark f sh t p e b r = r ∙ ap (λ (k : ℕ). readable k rs mark) (shaped-below m levels n f sh (sym p ∙ not-false t e))
 
--- ---- what is handed back
+-- ---- what is known once the tests are passed, by the shape that the code has computed: its number of levels below the root is that of
+-- the records
+pub record Taken (m levels : ℕ) (ws rs mark : List ℕ) (f : Shape) : Type 0 where
+  pub shaped : Shaped m levels f
+  pub fits : shapeOk m levels (length ws) ≡ true
+  pub below : f .below ≡ levels - 1
+  pub lent : Lent (f .below) rs mark
+
+-- what is handed back
 abbrev pub Back : ℕ → List ℕ → List ℕ → Bool → State → List ℕ → List ℕ → Type 0
 Back k rs mark r s rs₁ mark₁ = (rs₁ ≡ cond r (worksWritten k (s .records) rs) rs) × (mark₁ ≡ cond r (markWritten s mark) mark)
 
-module _ (levels k : ℕ) (rs mark : List ℕ) (e : k ≡ levels - 1) where
-  pub state-at : (s : State) → s ≡ stateRead k rs mark → s ≡ stateIn levels rs mark
-  state-at s p = p ∙ ap (λ (k : ℕ). stateRead k rs mark) e
+module _ (m levels : ℕ) (ws rs mark : List ℕ) (f : Shape) (shaped : Shaped m levels f) (fits : shapeOk m levels (length ws) ≡ true) where
+  abbrev below : f .below ≡ levels - 1
+  below = shaped-below m levels (length ws) f shaped fits
 
-  pub back-at : (r : Bool) (s : State) (rs₁ mark₁ : List ℕ) → Back k rs mark r s rs₁ mark₁ → Back (levels - 1) rs mark r s rs₁ mark₁
-  back-at r s rs₁ mark₁ p = subst (λ (k : ℕ). Back k rs mark r s rs₁ mark₁) e p
+  roomy-taken : roomy (f .below) rs mark ≡ true → Taken m levels ws rs mark f
+  roomy-taken e = record {
+    shaped = shaped;
+    fits = fits;
+    below = below;
+    lent = lent (f .below) rs mark (subst (λ (k : ℕ). k ≤ recordCount) (sym below) (shape-few m levels (length ws) fits .1)) e;
+  }
 
-  pub fit-at : (s : State) → Fit (levels - 1) (worksOf (levels - 1) (s .records) 0) → Fit k (worksOf k (s .records) 0)
-  fit-at s p = subst (λ (k : ℕ). Fit k (worksOf k (s .records) 0)) (sym e) p
+  -- a clear
+  module _ (b : Bool) (tested : b ≡ roomy (f .below) rs mark) where
+    roomy-is : b ≡ roomy (levels - 1) rs mark
+    roomy-is = tested ∙ ap (λ (k : ℕ). roomy k rs mark) below
 
-pub cycled-at : (m levels k : ℕ) (q : Request) (s : State) (ws : List ℕ) (o : CycleOutcome) → levels ≡ suc k → o ≡ cycled m (suc k) q s ws → o ≡ cycled m levels q s ws
-cycled-at m levels k q s ws o e p = p ∙ ap (λ (n : ℕ). cycled m n q s ws) (sym e)
-
-module _ (m levels : ℕ) (ws rs mark : List ℕ) where
-  -- ---- clear
-  module _ (t : Bool) (p : t ≡ shapeOk m levels (length ws)) where
-    pub clear-shape : not t ≡ true → clockedAfter 1 ws rs mark ≡ clockedClear m levels ws rs mark
+    pub clear-bare : not b ≡ true → clockedAfter 1 ws rs mark ≡ clockedClear m levels ws rs mark
     unfolding clockedClear
-    clear-shape f = rw (sym p ∙ not-true t f)
+    clear-bare e = rw (fits, sym roomy-is ∙ not-true b e)
 
-    module _ (f : not t ≡ false) where
-      shape : shapeOk m levels (length ws) ≡ true
-      shape = sym p ∙ not-false t f
+    pub clear-taken : not b ≡ false → Taken m levels ws rs mark f
+    clear-taken e = roomy-taken (sym tested ∙ not-false b e)
 
-      module _ (b : Bool) (tested : b ≡ roomy (levels - 1) rs mark) where
-        pub clear-bare : not b ≡ true → clockedAfter 1 ws rs mark ≡ clockedClear m levels ws rs mark
-        unfolding clockedClear
-        clear-bare e = rw (shape, sym tested ∙ not-true b e)
+    pub clear-done : not b ≡ false → (after : List ℕ) (s : State) (rs₁ mark₁ : List ℕ) → (after ≡ wipe (f .slots) ws) × (s ≡ fresh) → Back (f .below) rs mark true s rs₁ mark₁
+        → clockedAfter 0 after rs₁ mark₁ ≡ clockedClear m levels ws rs mark
+    unfolding clockedClear
+    clear-done e after s rs₁ mark₁ o back =
+        let machine = clear-levels m levels ws f shaped fits fresh s after o ∙ model.clear-taken m levels fresh ws (shape-is m levels (length ws) fits) in
+        let handed = subst (λ (k : ℕ). Back k rs mark true s rs₁ mark₁) below back in
+        rw (fits, sym roomy-is ∙ not-false b e)
+        ((λ i. record { number = 0; store = after; records = handed .0 i; mark = handed .1 i }) ∙ ap (clearOf levels rs mark) machine)
 
-        module _ (e : not b ≡ false) where
-          pub roomy-lent : Lent (levels - 1) rs mark
-          roomy-lent = lent (levels - 1) rs mark (shape-few m levels (length ws) shape .1) (sym tested ∙ not-false b e)
+-- a cycle and a drain
+module _ (m levels : ℕ) (ws rs mark : List ℕ) (request : ℕ) (f : Shape) (shaped : Shaped m levels f) (e : taken m levels (length ws) rs mark request ≡ true) where
+  pub is-taken : Taken m levels ws rs mark f
+  is-taken =
+      let fits = taken-shape m levels (length ws) rs mark request e in
+      roomy-taken m levels ws rs mark f shaped fits
+      (ap (λ (k : ℕ). roomy k rs mark) (shaped-below m levels (length ws) f shaped fits) ∙ readable-roomy (levels - 1) rs mark (taken-readable m levels (length ws) rs mark request e))
 
-          pub clear-done : (a : Answer) (after : List ℕ) (s : State) (n : ℕ) (r : Bool) (rs₁ mark₁ : List ℕ) → cycleOutcome a after s ≡ restarted m levels ws
-              → r ≡ ran (numberOf a) → Back (levels - 1) rs mark r s rs₁ mark₁ → n ≡ numberOf a → clockedAfter n after rs₁ mark₁ ≡ clockedClear m levels ws rs mark
-          unfolding clockedClear
-          clear-done a after s n r rs₁ mark₁ o q back k =
-              rw (shape, sym tested ∙ not-false b e)
-              ((λ i. record { number = k i; store = after; records = back .0 i; mark = back .1 i })
-              ∙ ap (λ (r : Bool). clockedAfter (numberOf a) after (recordsBack levels rs mark r s) (markBack levels rs mark r s)) q
-              ∙ ap (clearOf levels rs mark) o)
+module _ (m levels : ℕ) (ws rs mark : List ℕ) (f : Shape) (t : Taken m levels ws rs mark f) where
+  state-is : (s : State) → s ≡ stateRead (f .below) rs mark → s ≡ stateIn levels rs mark
+  state-is s p = p ∙ ap (λ (k : ℕ). stateRead k rs mark) (t .below)
 
-  -- ---- where the boundary says no
+  back-is : (r : Bool) (s : State) (rs₁ mark₁ : List ℕ) → Back (f .below) rs mark r s rs₁ mark₁ → Back (levels - 1) rs mark r s rs₁ mark₁
+  back-is r s rs₁ mark₁ p = subst (λ (k : ℕ). Back k rs mark r s rs₁ mark₁) (t .below) p
+
+  -- the nodes that are handed back fit their words
+  below-pred : f .below ≡ pred levels
+  below-pred = t .below ∙ sub-one levels
+
+  few : pred levels ≤ recordCount
+  few = subst (λ (k : ℕ). k ≤ recordCount) below-pred (t .lent .few)
+
+  fit-below : (s : State) → Fits levels s → Fit (f .below) (worksOf (f .below) (s .records) 0)
+  fit-below s p = subst (λ (k : ℕ). Fit k (worksOf k (s .records) 0)) (sym below-pred) (p .nodes)
+
+  pub fresh-fits : (s : State) → s ≡ fresh → Fit (f .below) (worksOf (f .below) (s .records) 0)
+  fresh-fits s e = fit-below s (subst (Fits levels) (sym e) (fresh-fit levels few))
+
+  module _ (words : (i : ℕ) → getD rs i 0 < wordLimit) (state : State) (e : state ≡ stateRead (f .below) rs mark) where
+    state-fits : Fits levels state
+    state-fits = subst (Fits levels) (sym e) (read-fits levels (f .below) rs mark words few)
+
+    pub cycle-fits : (asked : Request) (a : Answer) (after : List ℕ) (s : State) → cycleOutcome a after s ≡ cycled m (suc (f .below)) asked state ws → Fit (f .below) (worksOf (f .below) (s .records) 0)
+    cycle-fits asked a after s o =
+        fit-below s
+        (subst (λ (o : CycleOutcome). Fits levels (o .state)) (sym (cycle-levels m levels ws f (t .shaped) (t .fits) asked state _ o)) (cycled-fits m levels asked state ws state-fits))
+
+    pub drain-fits : (budget : ℕ) (a : Answer) (n : ℕ) (left : Bool) (after : List ℕ) (s : State) → drainOutcome a n left after s ≡ drains m (suc (f .below)) budget state ws
+        → Fit (f .below) (worksOf (f .below) (s .records) 0)
+    drain-fits budget a n left after s o =
+        fit-below s
+        (subst (λ (o : DrainOutcome). Fits levels (o .state)) (sym (drain-levels m levels ws f (t .shaped) (t .fits) budget state _ o)) (drained-fits m levels budget state ws state-fits))
+
+  -- the calls' outcomes
+  module _ (out : List ℕ) (room : 2 ≤ length out) where
+    pub cycle-done : (request rank tag : ℕ) → taken m levels (length ws) rs mark request ≡ true → (asked : Request) (state : State) (a : Answer) (after : List ℕ) (s : State) (n : ℕ) (r : Bool) (rs₁ mark₁ out₁ : List ℕ)
+        → asked ≡ requestOf request rank tag → state ≡ stateRead (f .below) rs mark → cycleOutcome a after s ≡ cycled m (suc (f .below)) asked state ws
+        → r ≡ ran (numberOf a) → Back (f .below) rs mark r s rs₁ mark₁ → (n ≡ numberOf a) × (out₁ ≡ answerOut a out)
+        → clockedAfterOut n after rs₁ mark₁ out₁ ≡ clockedCycle m levels ws rs mark request rank tag out
+    unfolding clockedCycle
+    cycle-done request rank tag passed asked state a after s n r rs₁ mark₁ out₁ h k o q back told =
+        let handed = back-is r s rs₁ mark₁ back in
+        rw (le-leb 2 (length out) room, passed)
+        ((λ i. record { number = told .0 i; store = after; records = handed .0 i; mark = handed .1 i; out = told .1 i })
+        ∙ ap (λ (r : Bool). clockedAfterOut (numberOf a) after (recordsBack levels rs mark r s) (markBack levels rs mark r s) (answerOut a out)) q
+        ∙ ap (λ (o : CycleOutcome). cycleOf levels rs mark o out)
+        (cycle-levels m levels ws f (t .shaped) (t .fits) asked state _ o ∙ ap₂ (λ (q : Request) (s : State). cycled m levels q s ws) h (state-is state k)))
+
+    pub drain-done : (budget : ℕ) → taken m levels (length ws) rs mark 0 ≡ true → (state : State) (a : Answer) (cycles : ℕ) (left : Bool) (after : List ℕ) (s : State) (n : ℕ) (rs₁ mark₁ out₁ : List ℕ)
+        → state ≡ stateRead (f .below) rs mark → drainOutcome a cycles left after s ≡ drains m (suc (f .below)) budget state ws
+        → Back (f .below) rs mark (ltb 0 cycles) s rs₁ mark₁ → (n ≡ numberOf a) × (out₁ ≡ drainOut cycles left out)
+        → clockedAfterOut n after rs₁ mark₁ out₁ ≡ clockedDrain m levels ws rs mark budget out
+    unfolding clockedDrain
+    drain-done budget passed state a cycles left after s n rs₁ mark₁ out₁ k o back told =
+        let handed = back-is (ltb 0 cycles) s rs₁ mark₁ back in
+        rw (le-leb 2 (length out) room, passed)
+        ((λ i. record { number = told .0 i; store = after; records = handed .0 i; mark = handed .1 i; out = told .1 i })
+        ∙ ap (λ (o : DrainOutcome). drainOf levels rs mark o out)
+        (drain-levels m levels ws f (t .shaped) (t .fits) budget state _ o ∙ ap (λ (s : State). drains m levels budget s ws) (state-is state k)))
+
+-- ---- where the boundary says no
+module _ (m levels : ℕ) (ws rs mark : List ℕ) where
+  pub clear-shape : (t : Bool) → t ≡ shapeOk m levels (length ws) → not t ≡ true → clockedAfter 1 ws rs mark ≡ clockedClear m levels ws rs mark
+  unfolding clockedClear
+  clear-shape t p f = rw (sym p ∙ not-true t f)
+
   no-short : (out : List ℕ) → length out < 2 → clockedAfterOut 1 ws rs mark out ≡ saysNo m levels ws rs mark out
   unfolding refusedOut
   no-short out h = rw (lt-leb 2 (length out) h)
@@ -159,52 +206,27 @@ module _ (m levels : ℕ) (ws rs mark : List ℕ) where
   unfolding refusedOut
   no-zeros out h n out₁ e z = rw (le-leb 2 (length out) h) (λ i. record { number = e i; store = ws; records = rs; mark = mark; out = z i })
 
-  -- ---- a cycle
   module _ (out : List ℕ) (request rank tag : ℕ) where
     pub cycle-short : length out < 2 → clockedAfterOut 1 ws rs mark out ≡ clockedCycle m levels ws rs mark request rank tag out
     unfolding clockedCycle
     cycle-short h = rw (lt-leb 2 (length out) h) (no-short out h)
 
-    module _ (room : 2 ≤ length out) (b : Bool) (tested : b ≡ taken m levels (length ws) rs mark request) where
-      pub cycle-refused : not b ≡ true → (n : ℕ) (out₁ : List ℕ) → (n ≡ numberOf (Refused BadShape)) × (out₁ ≡ answerOut (Refused BadShape) out)
-          → clockedAfterOut n ws rs mark out₁ ≡ clockedCycle m levels ws rs mark request rank tag out
-      unfolding clockedCycle blank
-      cycle-refused e n out₁ told = rw (le-leb 2 (length out) room, sym tested ∙ not-true b e) (no-zeros out room n out₁ (told .0) (told .1))
+    pub cycle-refused : 2 ≤ length out → (b : Bool) → b ≡ taken m levels (length ws) rs mark request → not b ≡ true → (n : ℕ) (out₁ : List ℕ)
+        → (n ≡ numberOf (Refused BadShape)) × (out₁ ≡ answerOut (Refused BadShape) out)
+        → clockedAfterOut n ws rs mark out₁ ≡ clockedCycle m levels ws rs mark request rank tag out
+    unfolding clockedCycle blank
+    cycle-refused room b tested e n out₁ told = rw (le-leb 2 (length out) room, sym tested ∙ not-true b e) (no-zeros out room n out₁ (told .0) (told .1))
 
-      module _ (e : not b ≡ false) where
-        pub cycle-done : (asked : Request) (state : State) (a : Answer) (after : List ℕ) (s : State) (n : ℕ) (r : Bool) (rs₁ mark₁ out₁ : List ℕ)
-            → asked ≡ requestOf request rank tag → state ≡ stateIn levels rs mark → cycleOutcome a after s ≡ cycled m levels asked state ws
-            → r ≡ ran (numberOf a) → Back (levels - 1) rs mark r s rs₁ mark₁ → (n ≡ numberOf a) × (out₁ ≡ answerOut a out)
-            → clockedAfterOut n after rs₁ mark₁ out₁ ≡ clockedCycle m levels ws rs mark request rank tag out
-        unfolding clockedCycle
-        cycle-done asked state a after s n r rs₁ mark₁ out₁ h k o q back told =
-            rw (le-leb 2 (length out) room, sym tested ∙ not-false b e)
-            ((λ i. record { number = told .0 i; store = after; records = back .0 i; mark = back .1 i; out = told .1 i })
-            ∙ ap (λ (r : Bool). clockedAfterOut (numberOf a) after (recordsBack levels rs mark r s) (markBack levels rs mark r s) (answerOut a out)) q
-            ∙ ap (λ (o : CycleOutcome). cycleOf levels rs mark o out) (o ∙ ap₂ (λ (q : Request) (s : State). cycled m levels q s ws) h k))
-
-  -- ---- a drain
   module _ (out : List ℕ) (budget : ℕ) where
     pub drain-short : length out < 2 → clockedAfterOut 1 ws rs mark out ≡ clockedDrain m levels ws rs mark budget out
     unfolding clockedDrain
     drain-short h = rw (lt-leb 2 (length out) h) (no-short out h)
 
-    module _ (room : 2 ≤ length out) (b : Bool) (tested : b ≡ taken m levels (length ws) rs mark 0) where
-      pub drain-refused : not b ≡ true → (n : ℕ) (out₁ : List ℕ) → (n ≡ numberOf (Refused BadShape)) × (out₁ ≡ drainOut 0 false out)
-          → clockedAfterOut n ws rs mark out₁ ≡ clockedDrain m levels ws rs mark budget out
-      unfolding clockedDrain
-      drain-refused e n out₁ told = rw (le-leb 2 (length out) room, sym tested ∙ not-true b e) (no-zeros out room n out₁ (told .0) (told .1))
-
-      module _ (e : not b ≡ false) where
-        pub drain-done : (state : State) (a : Answer) (cycles : ℕ) (left : Bool) (after : List ℕ) (s : State) (n : ℕ) (rs₁ mark₁ out₁ : List ℕ)
-            → state ≡ stateIn levels rs mark → drainOutcome a cycles left after s ≡ drains m levels budget state ws
-            → Back (levels - 1) rs mark (ltb 0 cycles) s rs₁ mark₁ → (n ≡ numberOf a) × (out₁ ≡ drainOut cycles left out)
-            → clockedAfterOut n after rs₁ mark₁ out₁ ≡ clockedDrain m levels ws rs mark budget out
-        unfolding clockedDrain
-        drain-done state a cycles left after s n rs₁ mark₁ out₁ k o back told =
-            rw (le-leb 2 (length out) room, sym tested ∙ not-false b e)
-            ((λ i. record { number = told .0 i; store = after; records = back .0 i; mark = back .1 i; out = told .1 i })
-            ∙ ap (λ (o : DrainOutcome). drainOf levels rs mark o out) (o ∙ ap (λ (s : State). drains m levels budget s ws) k))
+    pub drain-refused : 2 ≤ length out → (b : Bool) → b ≡ taken m levels (length ws) rs mark 0 → not b ≡ true → (n : ℕ) (out₁ : List ℕ)
+        → (n ≡ numberOf (Refused BadShape)) × (out₁ ≡ drainOut 0 false out)
+        → clockedAfterOut n ws rs mark out₁ ≡ clockedDrain m levels ws rs mark budget out
+    unfolding clockedDrain
+    drain-refused room b tested e n out₁ told = rw (le-leb 2 (length out) room, sym tested ∙ not-true b e) (no-zeros out room n out₁ (told .0) (told .1))
 
 -- no more cycles than the budget
 pub drain-few : (m levels : ℕ) (ws : List ℕ) (budget : ℕ) (state : State) (a : Answer) (cycles : ℕ) (left : Bool) (after : List ℕ) (s : State)
@@ -212,32 +234,3 @@ pub drain-few : (m levels : ℕ) (ws : List ℕ) (budget : ℕ) (state : State) 
 drain-few m levels ws budget state a cycles left after s o =
     let e : cycles ≡ drains m levels budget state ws .cycles = ap (λ (o : DrainOutcome). o .cycles) o in
     omega (arith, drain-within m levels budget state ws)
-
--- ---- the nodes that are handed back fit their words
-fit-levels : (levels : ℕ) (s : State) → Fits levels s → Fit (levels - 1) (worksOf (levels - 1) (s .records) 0)
-fit-levels levels s f = subst (λ (k : ℕ). Fit k (worksOf k (s .records) 0)) (sym (sub-one levels)) (f .nodes)
-
-few-pred : (levels : ℕ) (rs mark : List ℕ) → Lent (levels - 1) rs mark → pred levels ≤ recordCount
-few-pred levels rs mark l = subst (λ (k : ℕ). k ≤ recordCount) (sub-one levels) (l .few)
-
-pub cycle-fits : (m levels : ℕ) (ws rs mark : List ℕ) (asked : Request) (state : State) (a : Answer) (after : List ℕ) (s : State)
-    → ((i : ℕ) → getD rs i 0 < wordLimit) → Lent (levels - 1) rs mark → state ≡ stateIn levels rs mark → cycleOutcome a after s ≡ cycled m levels asked state ws
-    → Fit (levels - 1) (worksOf (levels - 1) (s .records) 0)
-cycle-fits m levels ws rs mark asked state a after s words l e o =
-    fit-levels levels s
-    (subst (λ (o : CycleOutcome). Fits levels (o .state)) (sym o)
-    (cycled-fits m levels asked state ws (subst (Fits levels) (sym e) (read-fits levels (levels - 1) rs mark words (few-pred levels rs mark l)))))
-
-pub drain-fits : (m levels : ℕ) (ws rs mark : List ℕ) (budget : ℕ) (state : State) (a : Answer) (n : ℕ) (left : Bool) (after : List ℕ) (s : State)
-    → ((i : ℕ) → getD rs i 0 < wordLimit) → Lent (levels - 1) rs mark → state ≡ stateIn levels rs mark → drainOutcome a n left after s ≡ drains m levels budget state ws
-    → Fit (levels - 1) (worksOf (levels - 1) (s .records) 0)
-drain-fits m levels ws rs mark budget state a n left after s words l e o =
-    fit-levels levels s
-    (subst (λ (o : DrainOutcome). Fits levels (o .state)) (sym o)
-    (drained-fits m levels budget state ws (subst (Fits levels) (sym e) (read-fits levels (levels - 1) rs mark words (few-pred levels rs mark l)))))
-
-pub fresh-fits : (m levels : ℕ) (ws rs mark : List ℕ) (a : Answer) (after : List ℕ) (s : State)
-    → Lent (levels - 1) rs mark → cycleOutcome a after s ≡ restarted m levels ws → Fit (levels - 1) (worksOf (levels - 1) (s .records) 0)
-fresh-fits m levels ws rs mark a after s l o =
-    fit-levels levels s
-    (subst (λ (o : CycleOutcome). Fits levels (o .state)) (sym o) (fresh-fit levels (few-pred levels rs mark l)))

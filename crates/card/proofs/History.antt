@@ -21,7 +21,7 @@ use Rattle.card_records.specs.Records.{markWritten, readable, roomy, worksWritt
 use Rattle.clocked_model.proofs.Drain.{drain-state, cycled-length}
 use Rattle.clocked_model.proofs.Exactly.{stands}
 use Rattle.clocked_model.proofs.Promises.{shape-kept}
-use Rattle.clocked_model.specs.Calls.{cycleOutcome, CycleOutcome, DrainOutcome, drains, fresh, recordCount, restarted, cycled}
+use Rattle.clocked_model.specs.Calls.{cycleOutcome, CycleOutcome, DrainOutcome, drains, fresh, recordCount, clearedMachine, cycled}
 use Rattle.clocked_model.specs.Promise.{cycleLeft, runs}
 use Rattle.clocked_model.specs.declared.State.{State}
 use Rattle.laws.specs.Tests.{and-true, sub-one}
@@ -216,7 +216,7 @@ module _ (m levels : ℕ) (out : List ℕ) (room : 2 ≤ length out) where
       )
 
 -- ---- from a clear
-kept-shape : (m levels : ℕ) (ws : List ℕ) → shapeOk m levels (length ws) ≡ true → shapeOk m levels (length (restarted m levels ws .words)) ≡ true
+kept-shape : (m levels : ℕ) (ws : List ℕ) → shapeOk m levels (length ws) ≡ true → shapeOk m levels (length (clearedMachine m levels ws .words)) ≡ true
 unfolding leaves
 kept-shape m levels ws shape = is-shape m levels _ (shape-kept m ws [] levels (shape-is m levels (length ws) shape))
 
@@ -224,18 +224,18 @@ module _ (m levels : ℕ) (ws rs mark : List ℕ) (shape : shapeOk m levels (len
   abbrev b : ClockedAfter
   b = clockedClear m levels ws rs mark
 
-  clear-as : b ≡ clockedAfter 0 (restarted m levels ws .words) (worksWritten (levels - 1) (fresh .records) rs) (markWritten fresh mark)
+  clear-as : b ≡ clockedAfter 0 (clearedMachine m levels ws .words) (worksWritten (levels - 1) (fresh .records) rs) (markWritten fresh mark)
   unfolding clockedClear cleared
   clear-as =
-      ap (λ (t : Bool). cond t (clearOf levels rs mark (restarted m levels ws)) (clockedAfter badShape ws rs mark)) (and-true (shapeOk m levels (length ws)) (roomy (levels - 1) rs mark) shape e)
-      ∙ ap (λ (t : Bool). clearOf levels rs mark (cycleOutcome (cond t (outcome Done (wipe (room m levels) ws)) (outcome (Refused BadShape) ws) .answer) (restarted m levels ws .words) fresh)) shape
+      ap (λ (t : Bool). cond t (clearOf levels rs mark (clearedMachine m levels ws)) (clockedAfter badShape ws rs mark)) (and-true (shapeOk m levels (length ws)) (roomy (levels - 1) rs mark) shape e)
+      ∙ ap (λ (t : Bool). clearOf levels rs mark (cycleOutcome (cond t (outcome Done (wipe (room m levels) ws)) (outcome (Refused BadShape) ws) .answer) (clearedMachine m levels ws .words) fresh)) shape
 
   fresh-few : length (fresh .records) ≡ recordCount
   unfolding fresh
   fresh-few = length-replicate recordCount idle
 
   -- CLEARED: a clear through the boundary, with a shape and room, is not refused, and leaves a cleared machine
-  pub clear-holds : (b .number ≡ 0) × (b .store ≡ restarted m levels ws .words) × Holds levels (b .records) (b .mark) fresh
+  pub clear-holds : (b .number ≡ 0) × (b .store ≡ clearedMachine m levels ws .words) × Holds levels (b .records) (b .mark) fresh
   clear-holds = (
     ap (λ (r : ClockedAfter). r .number) clear-as,
     ap (λ (r : ClockedAfter). r .store) clear-as,
@@ -244,10 +244,10 @@ module _ (m levels : ℕ) (ws rs mark : List ℕ) (shape : shapeOk m levels (len
 
   -- .. and from there a list of calls answers and leaves what the model does from its own clear
   pub history-cleared : (out : List ℕ) → 2 ≤ length out → (cs : List Call)
-      → (saidC m levels out cs (b .store) (b .records) (b .mark) ≡ saidM m levels out cs (restarted m levels ws .state) (restarted m levels ws .words))
-      × (leftC m levels out cs (b .store) (b .records) (b .mark) .store ≡ leftM m levels out cs (restarted m levels ws .state) (restarted m levels ws .words) .words)
+      → (saidC m levels out cs (b .store) (b .records) (b .mark) ≡ saidM m levels out cs (clearedMachine m levels ws .state) (clearedMachine m levels ws .words))
+      × (leftC m levels out cs (b .store) (b .records) (b .mark) .store ≡ leftM m levels out cs (clearedMachine m levels ws .state) (clearedMachine m levels ws .words) .words)
       × Holds levels (leftC m levels out cs (b .store) (b .records) (b .mark) .records) (leftC m levels out cs (b .store) (b .records) (b .mark) .mark)
-      (leftM m levels out cs (restarted m levels ws .state) (restarted m levels ws .words) .state)
+      (leftM m levels out cs (clearedMachine m levels ws .state) (clearedMachine m levels ws .words) .state)
   history-cleared out room cs =
       subst (λ (v : List ℕ). (saidC m levels out cs (b .store) (b .records) (b .mark) ≡ saidM m levels out cs fresh v)
       × (leftC m levels out cs (b .store) (b .records) (b .mark) .store ≡ leftM m levels out cs fresh v .words)

@@ -7,7 +7,7 @@ use lib.Dec.{eqb, leb, ltb}
 use lib.ListN.{length, set}
 use Rattle.card.specs.Out.{answerOut, badShape, CountAfter, countAnswered, refusedOut}
 use Rattle.card_records.specs.Records.{markWritten, readable, roomy, stateRead, worksWritten}
-use Rattle.clocked_model.specs.Calls.{CycleOutcome, DrainOutcome, drains, restarted, cycled}
+use Rattle.clocked_model.specs.Calls.{CycleOutcome, DrainOutcome, drains, clearedMachine, cycled}
 use Rattle.clocked_model.specs.declared.State.{State}
 use Rattle.strip.specs.Answers.{element, numberOf}
 use Rattle.strip.specs.declared.Request.{Request}
@@ -81,7 +81,7 @@ module _ (levels : ℕ) (rs mark : List ℕ) where
 module _ (m levels : ℕ) (ws rs mark : List ℕ) where
   unfoldable pub clockedClear : ClockedAfter
   clockedClear =
-      cond (shapeOk m levels (length ws) && roomy (levels - 1) rs mark) (clearOf levels rs mark (restarted m levels ws)) (clockedAfter badShape ws rs mark)
+      cond (shapeOk m levels (length ws) && roomy (levels - 1) rs mark) (clearOf levels rs mark (clearedMachine m levels ws)) (clockedAfter badShape ws rs mark)
 
   -- where the boundary says no, all stands but `out`, which gets zeros if it is long enough
   abbrev pub saysNo : List ℕ → ClockedAfterOut

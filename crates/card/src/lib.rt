@@ -16,7 +16,9 @@ use card_records::hand_back;
 use card_records::is_readable;
 use card_records::is_roomy;
 use card_records::read_state;
-use clocked::fresh_state;
+use clocked_steps::clear_shaped;
+use clocked_steps::cycle_shaped;
+use clocked_steps::drain_shaped;
 use node::SLOT_LIMIT;
 use node::capacity;
 use node::shape::Shape;
@@ -268,21 +270,16 @@ pub extern "C" fn card_clocked_clear(
 ) -> u32
     ensures { λ r. ⌜ clockedAfter r (now (store .exit)) (now (records .exit)) (now (mark .exit)) ≡ clockedClear order levels (now (store .entry)) (now (records .entry)) (now (mark .entry)) ⌝ }
 {
-    let none = fresh_state();
-    let m = order as usize;
-    let l = levels as usize;
-    if !shape_ok(m, l, store.len()) {
+    let shape = shape_of(order as usize, levels as usize);
+    if !shape_fits(shape, store.len()) {
         return 1;
     }
-    if !is_roomy(records, mark, l - 1) {
+    if !is_roomy(records, mark, shape.below) {
         return 1;
     }
-    let done = clocked::clear(store, m, l, none);
-    let answer = done.answer;
-    let next = done.state;
-    let back = has_run(answer);
-    hand_back(records, mark, l - 1, next, back);
-    number(answer)
+    let next = clear_shaped(store, shape.slots);
+    hand_back(records, mark, shape.below, next, true);
+    0
 }
 
 #[no_mangle]
@@ -309,7 +306,7 @@ pub extern "C" fn card_clocked_cycle(
     }
     let state = read_state(records, mark, shape.below);
     let asked = request_of(request, rank, tag);
-    let done = clocked::beat(store, m, shape.below, shape.room, state, asked);
+    let done = cycle_shaped(store, m, shape.below, shape.room, state, asked);
     let answer = done.answer;
     let next = done.state;
     let back = has_run(answer);
@@ -330,16 +327,15 @@ pub extern "C" fn card_clocked_drain(
     ensures { λ r. ⌜ clockedAfterOut r (now (store .exit)) (now (records .exit)) (now (mark .exit)) (now (out .exit)) ≡ clockedDrain order levels (now (store .entry)) (now (records .entry)) (now (mark .entry)) budget (now (out .entry)) ⌝ }
 {
     let m = order as usize;
-    let l = levels as usize;
     if out.len() < OUT {
         return 1;
     }
-    let shape = shape_of(m, l);
+    let shape = shape_of(m, levels as usize);
     if !is_taken(shape, store.len(), records, mark, 0) {
         return tell_drain(out, 0, false, Answer::Refused(Refusal::BadShape));
     }
     let state = read_state(records, mark, shape.below);
-    let done = clocked::drain(store, m, l, state, budget as usize);
+    let done = drain_shaped(store, m, shape.below, shape.room, state, budget as usize);
     let answer = done.answer;
     let next = done.state;
     let cycles = done.cycles;

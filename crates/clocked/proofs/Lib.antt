@@ -1,5 +1,1 @@
-pub mod Works
-pub mod Root
-pub mod Rounds
 pub mod Public
-pub mod Drains

@@ -12,7 +12,7 @@ use Rattle.clocked_model.proofs.Demand.{demand-answers, demand-idles, d
 use Rattle.clocked_model.proofs.Drain.{done, drain-ends, drain-left, drain-needed, drain-spent, drain-state, End, jammed, not-less}
 use Rattle.clocked_model.proofs.Exactly.{refused-mark, sound-no-damage}
 use Rattle.clocked_model.proofs.Step.{one-by-one-is, one-by-one-kept, root-fine, same-root, step-answer, steps-fine}
-use Rattle.clocked_model.specs.Calls.{askedOk, clockedCleared, cycleOutcome, DrainOutcome, drains, fresh, ruleMarked, marks, pending, popsOrReplaces, recordCount, restarted, cycled}
+use Rattle.clocked_model.specs.Calls.{askedOk, clockedCleared, cycleOutcome, DrainOutcome, drains, fresh, ruleMarked, marks, pending, popsOrReplaces, recordCount, clearedMachine, cycled}
 use Rattle.clocked_model.specs.Promise.{oneByOne, oneByOneQueue, oneByOneWords, callsOf, cycleAnswers, CycleDamage, idles, Pinned, ran}
 use Rattle.clocked_model.specs.declared.State.{State}
 use Rattle.laws.specs.Means.{means-off}
@@ -82,7 +82,7 @@ module _ (m k : ℕ) where
 
 -- ---- CLEAR: "A cleared machine has none pending and the mark off"; its words are those of the tree's clear
 pub clear-fresh : (m levels : ℕ) (ws : List ℕ) → Shape m levels (length ws)
-    → (restarted m levels ws ≡ cycleOutcome Done (start m levels ws) fresh) × (pending m levels fresh ≡ false) × (fresh .mark ≡ false)
+    → (clearedMachine m levels ws ≡ cycleOutcome Done (start m levels ws) fresh) × (pending m levels fresh ≡ false) × (fresh .mark ≡ false)
 unfolding fresh
 clear-fresh m levels ws sh = (
   ap (λ (a : Answer). cycleOutcome a (start m levels ws) fresh) (clear-zeroes m levels ws sh .0),
@@ -91,7 +91,7 @@ clear-fresh m levels ws sh = (
 )
 
 -- .. with a shape it is that whatever state is handed over; refused it leaves everything, the state too
-pub clear-taken : (m levels : ℕ) (s : State) (ws : List ℕ) → Shape m levels (length ws) → clockedCleared m levels s ws ≡ restarted m levels ws
+pub clear-taken : (m levels : ℕ) (s : State) (ws : List ℕ) → Shape m levels (length ws) → clockedCleared m levels s ws ≡ clearedMachine m levels ws
 unfolding clockedCleared cleared
 clear-taken m levels s ws sh = rw (is-shape m levels (length ws) sh)
 

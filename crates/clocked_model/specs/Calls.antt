@@ -125,8 +125,8 @@ module _ (m levels : ℕ) where
 
   -- ---- clear and held; the call held is that of the tree, `counted`
   -- a machine that was never used, cleared: zeros, nothing pending and the mark off
-  abbrev pub restarted : List ℕ → CycleOutcome
-  restarted ws = cycleOutcome (cleared m levels ws .answer) (cleared m levels ws .words) fresh
+  abbrev pub clearedMachine : List ℕ → CycleOutcome
+  clearedMachine ws = cycleOutcome (cleared m levels ws .answer) (cleared m levels ws .words) fresh
 
   -- "Clear writes zeros"; refused it leaves everything, the state that it is handed too
   unfoldable pub clockedCleared : State → List ℕ → CycleOutcome

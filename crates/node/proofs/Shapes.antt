@@ -97,3 +97,6 @@ module _ (m levels len : ℕ) (s : Shape) (sh : Shaped m levels s) (e : shapeOk 
 
   pub shaped-levels : levels ≡ suc (s .below)
   shaped-levels = omega (arith, shaped-below, shape-is m levels len e .some)
+
+  pub shaped-slots : s .slots ≡ room m levels
+  shaped-slots = sh .slots ∙ ap (λ (b : Bool). cond b (room m levels) 0) (held-tree m levels len e)

@@ -1,8 +1,9 @@
 // The step of an operation at one node, over the lent words. A node is named by the number of its first slot.
 ghost use mathlib.Core.Path.{_≡_};
 ghost use mathlib.Core.Bool.{_&&_};
+ghost use mathlib.Core.List.{_++_};
 ghost use Prim.Native.Nat.{_+_, _*_, _<_, _≤_};
-ghost use lib.ListN.{length};
+ghost use lib.ListN.{length, drop, replicate};
 ghost use lib.Dec.{ltb};
 ghost use Rattle.strip.specs.Answers.{key};
 ghost use Rattle.tree_model.specs.Node.{leastCount, lowest, sumCounts, keep, pass};
@@ -55,6 +56,18 @@ pub fn write_slot(s: &mut [u32], i: usize, slot: Slot)
     s[at] = rank.0;
     s[at + 1] = tag.0;
     s[at + 2] = slot.count;
+}
+
+// Writes zeros to the first n words.
+pub fn zero_words(s: &mut [u32], n: usize)
+    requires { ⌜ n ≤ length (now s) ⌝ }
+    ensures { λ _. ⌜ now (s .exit) ≡ replicate n 0 ++ drop n (now (s .entry)) ⌝ }
+{
+    let mut i = 0;
+    while i < n {
+        s[i] = 0;
+        i += 1;
+    }
 }
 
 // ---- elements

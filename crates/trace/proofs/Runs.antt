@@ -7,7 +7,7 @@ use mathlib.Core.Path.{_∙_, _≡_, ap, ap₂, refl, subst, sym}
 use lib.Dec.{eqb}
 use lib.ListN.{length, length-append}
 use borrow.Author.Tests.{le-leb, le-ltb, lt-leb, lt-ltb, not-false, not-true}
-use Rattle.clocked_model.specs.Calls.{cycleOutcome, CycleOutcome, DrainOutcome, drainOutcome, drains, fresh, restarted, cycled}
+use Rattle.clocked_model.specs.Calls.{cycleOutcome, CycleOutcome, DrainOutcome, drainOutcome, drains, fresh, clearedMachine, cycled}
 use Rattle.clocked_model.specs.declared.State.{State}
 use Rattle.strip.specs.Answers.{countOf}
 use Rattle.strip.specs.declared.Answer.{Answer}
@@ -247,7 +247,7 @@ end-made p ws i out room a n left vs s c h w o q e ec eh l k =
     (makes-laid (run vs (carry p s (p .number) false) (endLine h n)) i out q vs o (k .0) refl (k .1 ∙ l .0, l .1) (omega (arith, end-short h n)))
 
 -- ---- the two calls
-pub opened-made : (m levels : ℕ) (ws : List ℕ) (a : Answer) (vs : List ℕ) (s : State) → cycleOutcome a vs s ≡ restarted m levels ws
+pub opened-made : (m levels : ℕ) (ws : List ℕ) (a : Answer) (vs : List ℕ) (s : State) → cycleOutcome a vs s ≡ clearedMachine m levels ws
     → (_≡_ {A = Playing} (record { order = m; levels = levels; state = s; number = 0; live = true }) (opening (Shape m levels) ws .play)) × (vs ≡ opening (Shape m levels) ws .words)
 unfolding opening
 opened-made m levels ws a vs s e = (

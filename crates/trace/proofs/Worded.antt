@@ -12,7 +12,7 @@ use borrow.Author.Tests.{le-leb, leb-true}
 use Rattle.clocked_model.proofs.Drain.{drain-left, drain-state}
 use Rattle.clocked_model.proofs.Exactly.{no-damage-sound, cycled-fine}
 use Rattle.clocked_model.proofs.Promises.{drained-fine, drained-left, held-says, numbers, shape-kept, undamaged}
-use Rattle.clocked_model.specs.Calls.{CycleOutcome, DrainOutcome, drains, ruleMarked, pending, popsOrReplaces, restarted, cycled, cycleRun}
+use Rattle.clocked_model.specs.Calls.{CycleOutcome, DrainOutcome, drains, ruleMarked, pending, popsOrReplaces, clearedMachine, cycled, cycleRun}
 use Rattle.clocked_model.specs.Promise.{ran, runs}
 use Rattle.clocked_model.specs.declared.State.{State}
 use Rattle.laws.specs.Tests.{and-left, and-right, and-true}
@@ -116,7 +116,7 @@ module _ (m levels : ℕ) (ws : List ℕ) (sh : Shape m levels (length ws)) wher
   worded-from [] rs = tt
   worded-from (Bad ∷ es) rs = tt
   worded-from (Good r ∷ es) rs =
-      let n = run-next m levels rs r (restarted m levels ws .state) (restarted m levels ws .words) in
+      let n = run-next m levels rs r (clearedMachine m levels ws .state) (clearedMachine m levels ws .words) in
       (word-some rs r, subst (λ (x : State × List ℕ). Worded m levels (x .0) (x .1) es) (ap₂ (λ (s : State) (w : List ℕ). (s, w)) (n .0) (n .1)) (worded-from es (rs ++ (r ∷ []))))
 
   -- THE LAST LINE: after any list of cycles the drain is not refused and leaves no work, and the line says how many are stored
@@ -166,7 +166,7 @@ store-length : length emptyStore ≡ storeWords
 unfolding emptyStore
 store-length = length-replicate {A = ℕ} storeWords 0
 
-at-first : (m levels : ℕ) (ws : List ℕ) → Shape m levels (length ws) → (es : List Record) → Worded m levels (restarted m levels ws .state) (restarted m levels ws .words) es
+at-first : (m levels : ℕ) (ws : List ℕ) → Shape m levels (length ws) → (es : List Record) → Worded m levels (clearedMachine m levels ws .state) (clearedMachine m levels ws .words) es
 unfolding leaves
 at-first m levels ws sh es = worded-from m levels ws sh es []
 

@@ -5,7 +5,7 @@ use mathlib.Core.List.{[], _++_, _∷_, List}
 use mathlib.Core.Path.{_≡_}
 use lib.Dec.{leb, ltb}
 use lib.ListN.{drop, length, take}
-use Rattle.clocked_model.specs.Calls.{drains, fresh, restarted, cycled}
+use Rattle.clocked_model.specs.Calls.{drains, fresh, clearedMachine, cycled}
 use Rattle.clocked_model.specs.declared.State.{State}
 use Rattle.text.specs.Text.{overlay}
 use Rattle.trace.specs.Format.{badLine, badTrace, headerBytes, headerOf, lineOf, longestLine, recordBytes, recordsOf}
@@ -79,7 +79,7 @@ shut = record { order = 0; levels = 0; state = fresh; number = 0; live = false }
 unfoldable pub opening : Header → List ℕ → Run
 opening Wrong ws = run ws shut badTrace
 opening (Shape m levels) ws =
-    let c = restarted m levels ws in
+    let c = clearedMachine m levels ws in
     run (c .words) (record { order = m; levels = levels; state = c .state; number = 0; live = true }) []
 
 -- the buffer has room for any line; without it nothing is begun

@@ -2,7 +2,7 @@
 use Prim.Native.Nat.{_%_, _*_, _+_, _^_, ℕ}
 use mathlib.Core.List.{[], _++_, _∷_, List}
 use lib.ListN.{drop, replicate}
-use Rattle.clocked_model.specs.Calls.{drains, restarted, cycled}
+use Rattle.clocked_model.specs.Calls.{drains, clearedMachine, cycled}
 use Rattle.clocked_model.specs.declared.State.{State}
 use Rattle.strip.specs.Answers.{countOf}
 use Rattle.trace.specs.Format.{badLine, badTrace, endLine, headerBytes, headerOf, lineOf, recordsOf, traceLimit}
@@ -44,7 +44,7 @@ module _ (m levels : ℕ) where
 unfoldable pub textOf : Header → List Record → List ℕ
 textOf Wrong es = badTrace
 textOf (Shape m levels) es =
-    let c = restarted m levels emptyStore in
+    let c = clearedMachine m levels emptyStore in
     textFrom m levels 0 (c .state) (c .words) es
 
 -- THE PROGRAM

@@ -3,7 +3,7 @@ use Prim.Native.Nat.{ℕ}
 use mathlib.Core.List.{[], _∷_, List}
 use mathlib.Core.Path.{_≡_}
 use lib.ListN.{drop}
-use Rattle.clocked_model.specs.Calls.{restarted, cycled}
+use Rattle.clocked_model.specs.Calls.{clearedMachine, cycled}
 use Rattle.clocked_model.specs.declared.State.{State}
 use Rattle.strip.specs.declared.Refusal.{Refusal}
 use Rattle.strip.specs.declared.Refusal.the-variants.{BadRank, BadShape, Damaged, Empty, Full, TooSoon}
@@ -33,7 +33,7 @@ Worded m levels s ws (Good r ∷ es) =
 abbrev pub WordedBy : Header → List Record → Type 0
 WordedBy Wrong es = Unit {0}
 WordedBy (Shape m levels) es =
-    Worded m levels (restarted m levels emptyStore .state) (restarted m levels emptyStore .words) es
+    Worded m levels (clearedMachine m levels emptyStore .state) (clearedMachine m levels emptyStore .words) es
 
 -- .. of a whole trace
 abbrev pub TraceWorded : List ℕ → Type 0

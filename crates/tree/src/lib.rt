@@ -1,8 +1,5 @@
 // The multi-way tree, one operation at a time, over lent words. A node is named by its first slot.
 ghost use mathlib.Core.Path.{_≡_};
-ghost use mathlib.Core.List.{_++_};
-ghost use Prim.Native.Nat.{_≤_};
-ghost use lib.ListN.{length, drop, replicate};
 ghost use Rattle.tree_model.specs.Calls.{outcome, called, cleared, heldCount};
 ghost use Rattle.tree.specs.Down.{Carried, Looked, Stands};
 use node::capacity;
@@ -15,6 +12,7 @@ use node::slot_at;
 use node::stays;
 use node::sum_counts;
 use node::write_slot;
+use node::zero_words;
 use strip::Answer;
 use strip::Count;
 use strip::Element;
@@ -234,18 +232,6 @@ pub fn replace(store: &mut [u32], order: usize, levels: usize, x: Element) -> An
         return Answer::Refused(Refusal::Damaged);
     }
     Answer::Out(low)
-}
-
-// Writes zeros to the first n words.
-fn zero_words(s: &mut [u32], n: usize)
-    requires { ⌜ n ≤ length (now s) ⌝ }
-    ensures { λ _. ⌜ now (s .exit) ≡ replicate n 0 ++ drop n (now (s .entry)) ⌝ }
-{
-    let mut i = 0;
-    while i < n {
-        s[i] = 0;
-        i += 1;
-    }
 }
 
 pub fn clear(store: &mut [u32], order: usize, levels: usize) -> Answer

@@ -1,31 +1,34 @@
 -- `card::card_clocked_clear` meets its contract. Assumes nothing.
+use mathlib.Core.Bool.{true}
+use mathlib.Core.Path.{_∙_, _≡_, sym}
 use lib.ListN.{length}
 use borrow.Author.Needs.{needs}
-use Rattle.card.proofs.Clocked.{fresh-fits, clear-bare, clear-done, clear-shape, roomy-lent, shape-some}
+use borrow.Author.Tests.{not-false}
+use Rattle.card.proofs.Clocked.{clear-bare, clear-done, clear-shape, clear-taken, fresh-fits}
 use Rattle.card.proofs.card_clocked_clear.Statement.{statement}
 use Rattle.card.proofs.card_clocked_clear.Tie as tie
-use Rattle.card.proofs.card_clocked_clear.Reads as reads
-use Rattle.card.proofs.card_clocked_clear.Lts as lts
-use Rattle.card.proofs.has_run.Reads as has-run-reads
-use Rattle.card_records.proofs.hand_back.Reads as hand-back-reads
-use Rattle.card_records.proofs.is_roomy.Reads as is-roomy-reads
-use Rattle.clocked.proofs.Public.{clear-restarts}
-use Rattle.clocked.proofs.clear.Reads as clear-reads
-use Rattle.clocked.proofs.fresh_state.Reads as fresh-state-reads
-use Rattle.node.proofs.shape_ok.Reads as shape-ok-reads
-use Rattle.strip.proofs.number.Reads as number-reads
+use Rattle.clocked_steps.proofs.Shaped.{slots-within}
+use Rattle.tree_model.specs.Calls.{shapeOk}
 
-fresh-state-requires : tie.Need-fresh-state-requires
-fresh-state-requires c κs = search needs
+-- where the shape has been tested
+abbrev Start : tie.Else1 → tie.Start
+Start c = c .before .before .before .before .before .before
 
-shape-ok-requires : tie.Need-shape-ok-requires
-shape-ok-requires c κs = search needs
+fits : (c : tie.Else1) → shapeOk (Start c .args .order) (Start c .args .levels) (length (Start c .args .store .now)) ≡ true
+fits c =
+    let at-fits = c .before in
+    sym (at-fits .shape-fits .ensures _ _ (at-fits .before .shape-of .ensures)) ∙ not-false (at-fits .shape-fits .result) (c .if1 .left)
+
+shape-of-requires : tie.Need-shape-of-requires
+shape-of-requires c κs = search needs
+
+shape-fits-requires : tie.Need-shape-fits-requires
+shape-fits-requires c κs = c .shape-of .ensures .most
 
 returns : tie.Need-returns
-returns c = clear-shape _ _ _ _ _ _ (c .before .shape-ok .ensures) (c .if1 .taken)
-
-sub-is-roomy : tie.Need-sub-is-roomy
-sub-is-roomy c = let a = c .before .before .before .before .before .before .before .before .args in shape-some (a .order) (a .levels) (length (a .store .now)) _ (c .before .before .before .shape-ok .ensures) (c .before .before .if1 .left)
+returns c =
+    let at-fits = c .before in
+    clear-shape _ _ _ _ _ _ (at-fits .shape-fits .ensures _ _ (at-fits .before .shape-of .ensures)) (c .if1 .taken)
 
 is-roomy-requires : tie.Need-is-roomy-requires
 is-roomy-requires c κs = search needs
@@ -37,22 +40,29 @@ same-length-2 : tie.Need-same-length-2
 same-length-2 c = search needs
 
 returns-2 : tie.Need-returns-2
-returns-2 c = clear-bare _ _ _ _ _ _ (c .before .before .before .before .before .shape-ok .ensures) (c .before .before .before .before .if1 .left) _ (c .before .is-roomy .ensures) (c .if2 .taken)
+returns-2 c =
+    let at-roomy = c .before in
+    let at-if1 = at-roomy .before .before .before in
+    let at-shape = at-if1 .before .before in
+    clear-bare _ _ _ _ _ _ (at-shape .shape-of .ensures) (fits at-if1) _ (at-roomy .is-roomy .ensures) (c .if2 .taken)
 
-clear-requires : tie.Need-clear-requires
-clear-requires c κs = search needs
-
-has-run-requires : tie.Need-has-run-requires
-has-run-requires c κs = search needs
-
-sub-hand-back : tie.Need-sub-hand-back
-sub-hand-back c = let a = c .before .before .before .before .before .before .before .before .before .before .before .before .before .before .before .before .before .before .args in shape-some (a .order) (a .levels) (length (a .store .now)) _ (c .before .before .before .before .before .before .before .before .before .before .before .before .before .shape-ok .ensures) (c .before .before .before .before .before .before .before .before .before .before .before .before .if1 .left)
+clear-shaped-requires : tie.Need-clear-shaped-requires
+clear-shaped-requires c κs =
+    let at-if1 = c .before .before .before .before .before in
+    let at-shape = at-if1 .before .before in
+    let a = Start at-if1 .args in
+    slots-within (a .order) (a .levels) (a .store .now) (at-shape .shape-of .result) (at-shape .shape-of .ensures) (fits at-if1)
 
 hand-back-requires : tie.Need-hand-back-requires
-hand-back-requires c κs = let a = c .before .before .before .before .before .before .before .before .before .before .before .before .before .before .before .before .before .before .args in let l = roomy-lent (a .order) (a .levels) (a .store .now) (a .records .now) (a .mark .now) _ (c .before .before .before .before .before .before .before .before .before .before .before .before .before .shape-ok .ensures) (c .before .before .before .before .before .before .before .before .before .before .before .before .if1 .left) _ (c .before .before .before .before .before .before .before .before .before .is-roomy .ensures) (c .before .before .before .before .before .before .before .before .if2 .left) in (l, fresh-fits (a .order) (a .levels) (a .store .now) (a .records .now) (a .mark .now) _ _ _ l (clear-restarts _ _ _ _ _ (c .before .before .before .before .before .before .before .before .before .before .before .before .before .before .fresh-state .ensures) (c .before .before .before .before .before .before .clear .ensures)))
-
-number-requires : tie.Need-number-requires
-number-requires c κs = search needs
+hand-back-requires c κs =
+    let at-clear = c .before .before .before .before in
+    let at-if2 = at-clear .before .before in
+    let at-roomy = at-if2 .before in
+    let at-if1 = at-roomy .before .before .before in
+    let at-shape = at-if1 .before .before in
+    let a = Start at-if1 .args in
+    let t = clear-taken (a .order) (a .levels) (a .store .now) (a .records .now) (a .mark .now) (at-shape .shape-of .result) (at-shape .shape-of .ensures) (fits at-if1) _ (at-roomy .is-roomy .ensures) (at-if2 .if2 .left) in
+    (t .lent, fresh-fits _ _ _ _ _ _ t _ (at-clear .clear-shaped .ensures .1))
 
 same-length-3 : tie.Need-same-length-3
 same-length-3 c = search needs
@@ -64,25 +74,28 @@ same-length-5 : tie.Need-same-length-5
 same-length-5 c = search needs
 
 returns-3 : tie.Need-returns-3
-returns-3 c = clear-done _ _ _ _ _ _ (c .before .before .before .before .before .before .before .before .before .before .before .before .before .before .before .before .before .before .before .shape-ok .ensures) (c .before .before .before .before .before .before .before .before .before .before .before .before .before .before .before .before .before .before .if1 .left) _ (c .before .before .before .before .before .before .before .before .before .before .before .before .before .before .before .is-roomy .ensures) (c .before .before .before .before .before .before .before .before .before .before .before .before .before .before .if2 .left) _ _ _ _ _ _ _ (clear-restarts _ _ _ _ _ (c .before .before .before .before .before .before .before .before .before .before .before .before .before .before .before .before .before .before .before .before .fresh-state .ensures) (c .before .before .before .before .before .before .before .before .before .before .before .before .clear .ensures)) (c .before .before .before .before .before .before .before .before .has-run .ensures) (c .before .before .before .before .before .hand-back .ensures) (c .number .ensures)
+returns-3 c =
+    let at-back = c .before .before .before .before in
+    let at-clear = at-back .before .before .before .before .before in
+    let at-if2 = at-clear .before .before in
+    let at-roomy = at-if2 .before in
+    let at-if1 = at-roomy .before .before .before in
+    let at-shape = at-if1 .before .before in
+    clear-done _ _ _ _ _ _ (at-shape .shape-of .ensures) (fits at-if1) _ (at-roomy .is-roomy .ensures) (at-if2 .if2 .left) _ _ _ _ (at-clear .clear-shaped .ensures) (at-back .hand-back .ensures)
 
 pub card-clocked-clear-spec : {M : Type 1} → statement M
 card-clocked-clear-spec =
     tie.close
     (tie.spec
-    fresh-state-requires
-    shape-ok-requires
+    shape-of-requires
+    shape-fits-requires
     returns
-    sub-is-roomy
     is-roomy-requires
     same-length
     same-length-2
     returns-2
-    clear-requires
-    has-run-requires
-    sub-hand-back
+    clear-shaped-requires
     hand-back-requires
-    number-requires
     same-length-3
     same-length-4
     same-length-5

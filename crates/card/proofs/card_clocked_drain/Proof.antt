@@ -1,19 +1,30 @@
 -- `card::card_clocked_drain` meets its contract. Assumes nothing.
 use native.Mathlib.Omega.{arith}
+use mathlib.Core.Bool.{true}
+use mathlib.Core.Path.{_∙_, _≡_, sym}
 use lib.ListN.{length}
-use lib.Dec.{ltb}
-use Rattle.card.proofs.Clocked.{back-at, below-is, below-lent, drain-done, drain-few, drain-fits, drain-refused, drain-short, fit-at, state-at, taken-lent}
 use borrow.Author.Needs.{needs}
+use borrow.Author.Tests.{not-false}
+use Rattle.card.proofs.Clocked.{drain-done, drain-few, drain-fits, drain-refused, drain-short, is-taken, Taken}
 use Rattle.card.proofs.card_clocked_drain.Statement.{statement}
 use Rattle.card.proofs.card_clocked_drain.Tie as tie
-use Rattle.card.proofs.card_clocked_drain.Reads as reads
-use Rattle.card.proofs.card_clocked_drain.Lts as lts
-use Rattle.card.proofs.is_taken.Reads as is-taken-reads
-use Rattle.card.proofs.tell_drain.Reads as tell-drain-reads
-use Rattle.card_records.proofs.hand_back.Reads as hand-back-reads
-use Rattle.card_records.proofs.read_state.Reads as read-state-reads
-use Rattle.clocked.proofs.drain.Reads as drain-reads
-use Rattle.node.proofs.shape.shape_of.Reads as shape-of-reads
+use Rattle.card.specs.Clocked.{taken}
+use Rattle.clocked_steps.proofs.Shaped.{shape-below}
+
+-- where the call is taken
+abbrev Start : tie.Else2 → tie.Start
+Start c = c .before .before .before .before .before .before .before .before .before .before
+
+abbrev Shape-of : tie.Else2 → tie.After-shape-of
+Shape-of c = c .before .before .before .before
+
+tests : (c : tie.Else2) → taken (Start c .args .order) (Start c .args .levels) (length (Start c .args .store .now)) (Start c .args .records .now) (Start c .args .mark .now) 0 ≡ true
+tests c =
+    let at-taken = c .before in
+    sym (at-taken .is-taken .ensures _ _ (Shape-of c .shape-of .ensures)) ∙ not-false (at-taken .is-taken .result) (c .if2 .left)
+
+known : (c : tie.Else2) → Taken (Start c .args .order) (Start c .args .levels) (Start c .args .store .now) (Start c .args .records .now) (Start c .args .mark .now) (Shape-of c .shape-of .result)
+known c = is-taken _ _ _ _ _ 0 _ (Shape-of c .shape-of .ensures) (tests c)
 
 returns : tie.Need-returns
 returns c = drain-short _ _ _ _ _ _ _ (c .if1 .taken)
@@ -37,19 +48,35 @@ same-length-3 : tie.Need-same-length-3
 same-length-3 c = search needs
 
 returns-2 : tie.Need-returns-2
-returns-2 c = let a = c .before .before .before .before .before .before .before .before .before .before .before .before .before .before .args in let taken = c .before .before .before .before .before .is-taken .ensures (a .order) (a .levels) (c .before .before .before .before .before .before .before .before .shape-of .ensures) in drain-refused _ _ _ _ _ _ _ (c .before .before .before .before .before .before .before .before .before .if1 .left) _ taken (c .before .before .before .before .if2 .taken) _ _ (c .before .before .tell-drain .ensures)
+returns-2 c =
+    let at-tell = c .before .before in
+    let at-if2 = at-tell .before .before in
+    let at-taken = at-if2 .before in
+    let at-shape = at-taken .before .before .before in
+    let at-if1 = at-shape .before in
+    drain-refused _ _ _ _ _ _ _ (at-if1 .if1 .left) _ (at-taken .is-taken .ensures _ _ (at-shape .shape-of .ensures)) (at-if2 .if2 .taken) _ _ (at-tell .tell-drain .ensures)
 
 read-state-requires : tie.Need-read-state-requires
-read-state-requires c κs = let a = c .before .before .before .before .before .before .before .before .before .before .before .before .args in let taken = c .before .before .before .is-taken .ensures (a .order) (a .levels) (c .before .before .before .before .before .before .shape-of .ensures) in below-lent (a .order) (a .levels) (length (a .store .now)) (a .records .now) (a .mark .now) 0 (c .before .before .before .before .before .before .shape-of .result) (c .before .before .before .before .before .before .shape-of .ensures) _ taken (c .before .before .if2 .left)
+read-state-requires c κs = known (c .before .before) .lent
 
-drain-requires : tie.Need-drain-requires
-drain-requires c κs = search needs
+drain-shaped-requires : tie.Need-drain-shaped-requires
+drain-shaped-requires c κs =
+    let at-if2 = c .before .before .before .before in
+    shape-below _ _ (Start at-if2 .args .store .now) _ (known at-if2 .shaped) (known at-if2 .fits)
 
 hand-back-requires : tie.Need-hand-back-requires
-hand-back-requires c κs = let a = c .before .before .before .before .before .before .before .before .before .before .before .before .before .before .before .before .before .before .before .before .args in let taken = c .before .before .before .before .before .before .before .before .before .before .before .is-taken .ensures (a .order) (a .levels) (c .before .before .before .before .before .before .before .before .before .before .before .before .before .before .shape-of .ensures) in (below-lent (a .order) (a .levels) (length (a .store .now)) (a .records .now) (a .mark .now) 0 (c .before .before .before .before .before .before .before .before .before .before .before .before .before .before .shape-of .result) (c .before .before .before .before .before .before .before .before .before .before .before .before .before .before .shape-of .ensures) _ taken (c .before .before .before .before .before .before .before .before .before .before .if2 .left), fit-at (a .levels) _ (a .records .now) (a .mark .now) (below-is (a .order) (a .levels) (length (a .store .now)) (a .records .now) (a .mark .now) 0 (c .before .before .before .before .before .before .before .before .before .before .before .before .before .before .shape-of .result) (c .before .before .before .before .before .before .before .before .before .before .before .before .before .before .shape-of .ensures) _ taken (c .before .before .before .before .before .before .before .before .before .before .if2 .left)) (c .before .before .before .before .before .drain .result .state) (drain-fits (a .order) (a .levels) (a .store .now) (a .records .now) (a .mark .now) (a .budget) _ _ _ _ _ _ (λ i. omega (arith, c .before .before .before .before .before .before .before .before .before .before .before .before .before .before .before .before .before .before .slice-known2 .given i)) (taken-lent (a .order) (a .levels) (length (a .store .now)) (a .records .now) (a .mark .now) 0 _ taken (c .before .before .before .before .before .before .before .before .before .before .if2 .left)) (state-at (a .levels) _ (a .records .now) (a .mark .now) (below-is (a .order) (a .levels) (length (a .store .now)) (a .records .now) (a .mark .now) 0 (c .before .before .before .before .before .before .before .before .before .before .before .before .before .before .shape-of .result) (c .before .before .before .before .before .before .before .before .before .before .before .before .before .before .shape-of .ensures) _ taken (c .before .before .before .before .before .before .before .before .before .before .if2 .left)) _ (c .before .before .before .before .before .before .before .read-state .ensures)) (c .before .before .before .before .before .drain .ensures)))
+hand-back-requires c κs =
+    let at-drain = c .before .before .before .before .before in
+    let at-read = at-drain .before .before in
+    let at-if2 = at-read .before .before .before in
+    (known at-if2 .lent, drain-fits _ _ _ _ _ _ (known at-if2) (λ i. omega (arith, at-if2 .before .before .before .before .before .before .before .before .slice-known2 .given i)) _ (at-read .read-state .ensures) _ _ _ _ _ _ (at-drain .drain-shaped .ensures))
 
+-- no more cycles than the budget, which is a word
 cast-tell-drain : tie.Need-cast-tell-drain
-cast-tell-drain c = let a = c .before .before .before .before .before .before .before .before .before .before .before .before .before .before .before .before .before .before .before .before .before .before .before .before .before .before .args in omega (arith, c .before .before .before .before .before .before .before .before .before .before .before .before .before .before .before .before .before .before .before .before .before .before .before .before .before .before .fits .budget, drain-few (a .order) (a .levels) (a .store .now) (a .budget) _ _ _ _ _ _ (c .before .before .before .before .before .before .before .before .before .before .before .drain .ensures))
+cast-tell-drain c =
+    let at-drain = c .before .before .before .before .before .before .before .before .before .before .before in
+    let start = at-drain .before .before .before .before .before .before .before .before .before .before .before .before .before .before .before in
+    omega (arith, start .fits .budget, drain-few _ _ _ (start .args .budget) _ _ (at-drain .drain-shaped .result .cycles) _ _ _ (at-drain .drain-shaped .ensures))
 
 tell-drain-requires-2 : tie.Need-tell-drain-requires-2
 tell-drain-requires-2 c κs = search needs
@@ -67,7 +94,14 @@ same-length-7 : tie.Need-same-length-7
 same-length-7 c = search needs
 
 returns-3 : tie.Need-returns-3
-returns-3 c = let a = c .before .before .before .before .before .before .before .before .before .before .before .before .before .before .before .before .before .before .before .before .before .before .before .before .before .before .before .before .before .args in let taken = c .before .before .before .before .before .before .before .before .before .before .before .before .before .before .before .before .before .before .before .before .is-taken .ensures (a .order) (a .levels) (c .before .before .before .before .before .before .before .before .before .before .before .before .before .before .before .before .before .before .before .before .before .before .before .shape-of .ensures) in drain-done _ _ _ _ _ _ _ (c .before .before .before .before .before .before .before .before .before .before .before .before .before .before .before .before .before .before .before .before .before .before .before .before .if1 .left) _ taken (c .before .before .before .before .before .before .before .before .before .before .before .before .before .before .before .before .before .before .before .if2 .left) _ _ _ _ _ _ _ _ _ _ (state-at (a .levels) _ (a .records .now) (a .mark .now) (below-is (a .order) (a .levels) (length (a .store .now)) (a .records .now) (a .mark .now) 0 (c .before .before .before .before .before .before .before .before .before .before .before .before .before .before .before .before .before .before .before .before .before .before .before .shape-of .result) (c .before .before .before .before .before .before .before .before .before .before .before .before .before .before .before .before .before .before .before .before .before .before .before .shape-of .ensures) _ taken (c .before .before .before .before .before .before .before .before .before .before .before .before .before .before .before .before .before .before .before .if2 .left)) _ (c .before .before .before .before .before .before .before .before .before .before .before .before .before .before .before .before .read-state .ensures)) (c .before .before .before .before .before .before .before .before .before .before .before .before .before .before .drain .ensures) (back-at (a .levels) _ (a .records .now) (a .mark .now) (below-is (a .order) (a .levels) (length (a .store .now)) (a .records .now) (a .mark .now) 0 (c .before .before .before .before .before .before .before .before .before .before .before .before .before .before .before .before .before .before .before .before .before .before .before .shape-of .result) (c .before .before .before .before .before .before .before .before .before .before .before .before .before .before .before .before .before .before .before .before .before .before .before .shape-of .ensures) _ taken (c .before .before .before .before .before .before .before .before .before .before .before .before .before .before .before .before .before .before .before .if2 .left)) (ltb 0 (c .before .before .before .before .before .before .before .before .before .before .before .before .before .before .drain .result .cycles)) (c .before .before .before .before .before .before .before .before .before .before .before .before .before .before .drain .result .state) _ _ (c .before .before .before .before .before .before .before .before .hand-back .ensures)) (c .before .before .tell-drain2 .ensures)
+returns-3 c =
+    let at-tell = c .before .before in
+    let at-back = at-tell .before .before .before .before .before .before in
+    let at-drain = at-back .before .before .before .before .before .before in
+    let at-read = at-drain .before .before in
+    let at-if2 = at-read .before .before .before in
+    let at-if1 = at-if2 .before .before .before .before .before in
+    drain-done _ _ _ _ _ _ (known at-if2) _ (at-if1 .if1 .left) _ (tests at-if2) _ _ _ _ _ _ _ _ _ _ (at-read .read-state .ensures) (at-drain .drain-shaped .ensures) (at-back .hand-back .ensures) (at-tell .tell-drain2 .ensures)
 
 pub card-clocked-drain-spec : {M : Type 1} → statement M
 card-clocked-drain-spec =
@@ -82,7 +116,7 @@ card-clocked-drain-spec =
     same-length-3
     returns-2
     read-state-requires
-    drain-requires
+    drain-shaped-requires
     hand-back-requires
     cast-tell-drain
     tell-drain-requires-2

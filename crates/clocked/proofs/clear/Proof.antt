@@ -1,34 +1,47 @@
--- `clocked::clear` meets its contract.
+-- `clocked::clear` meets its contract. Assumes nothing.
 use borrow.Author.Needs.{needs}
-use Rattle.clocked.proofs.Public.{clear-done, clear-refused}
+use Rattle.clocked.proofs.Public.{clear-shape, shape-yes}
+use Rattle.clocked_steps.proofs.Shaped.{clear-levels, slots-within}
 use Rattle.clocked.proofs.clear.Statement.{statement}
 use Rattle.clocked.proofs.clear.Tie as tie
-use Rattle.clocked.proofs.clear.Reads as reads
-use Rattle.clocked.proofs.clear.Lts as lts
-use Rattle.clocked.proofs.asked.is_refused.Reads as is-refused-reads
-use Rattle.clocked.proofs.fresh_state.Reads as fresh-state-reads
-use Rattle.tree.proofs.clear.Reads as clear-reads
 
-clear-requires : tie.Need-clear-requires
-clear-requires c κs = search needs
+shape-of-requires : tie.Need-shape-of-requires
+shape-of-requires c κs = search needs
 
-is-refused-requires : tie.Need-is-refused-requires
-is-refused-requires c κs = search needs
+shape-fits-requires : tie.Need-shape-fits-requires
+shape-fits-requires c κs = c .shape-of .ensures .most
+
+left-as-requires : tie.Need-left-as-requires
+left-as-requires c κs = search needs
+
+returns : tie.Need-returns
+returns c =
+    let at-if1 = c .before in
+    let at-fits = at-if1 .before in
+    clear-shape _ _ _ _ (at-fits .shape-fits .ensures _ _ (at-fits .before .shape-of .ensures)) _ (at-if1 .if1 .taken) _ _ (c .left-as .ensures)
+
+clear-shaped-requires : tie.Need-clear-shaped-requires
+clear-shaped-requires c κs =
+    let at-if1 = c .before in
+    let at-fits = at-if1 .before in
+    let at-shape = at-fits .before in
+    let a = at-shape .before .before .args in
+    slots-within (a .order) (a .levels) (a .store .now) (at-shape .shape-of .result) (at-shape .shape-of .ensures)
+    (shape-yes (a .order) (a .levels) (a .store .now) (at-fits .shape-fits .result) (at-fits .shape-fits .ensures _ _ (at-shape .shape-of .ensures)) (at-if1 .if1 .left))
 
 same-length : tie.Need-same-length
 same-length c = search needs
 
-returns : tie.Need-returns
-returns c = clear-refused _ _ _ _ _ _ (c .before .before .before .before .clear .ensures) _ (c .before .is-refused .ensures) (c .if1 .taken)
-
-fresh-state-requires : tie.Need-fresh-state-requires
-fresh-state-requires c κs = search needs
-
-same-length-2 : tie.Need-same-length-2
-same-length-2 c = search needs
-
 returns-2 : tie.Need-returns-2
-returns-2 c = clear-done _ _ _ _ _ _ (c .before .before .before .before .before .clear .ensures) _ (c .before .before .is-refused .ensures) _ (c .before .if1 .left) (c .fresh-state .ensures)
+returns-2 c =
+    let at-clear = c .before .before in
+    let at-if1 = at-clear .before .before in
+    let at-fits = at-if1 .before in
+    let at-shape = at-fits .before in
+    let a = at-shape .before .before .args in
+    clear-levels (a .order) (a .levels) (a .store .now) (at-shape .shape-of .result) (at-shape .shape-of .ensures)
+    (shape-yes (a .order) (a .levels) (a .store .now) (at-fits .shape-fits .result) (at-fits .shape-fits .ensures _ _ (at-shape .shape-of .ensures)) (at-if1 .if1 .left))
+    _ _ _ (at-clear .clear-shaped .ensures)
 
 pub clear-spec : {M : Type 1} → statement M
-clear-spec = tie.close (tie.spec clear-requires is-refused-requires same-length returns fresh-state-requires same-length-2 returns-2)
+clear-spec = tie.close (tie.spec shape-of-requires shape-fits-requires left-as-requires returns clear-shaped-requires same-length returns-2)
