@@ -95,8 +95,8 @@ uint32_t card_tree_push(uint32_t *store, size_t store_len, uint32_t order, uint3
 uint32_t card_tree_pop(uint32_t *store, size_t store_len, uint32_t order, uint32_t levels,
                        uint32_t *out, size_t out_len);
 
-/* Takes a new element in and gives the lowest of all, the new one included, a held one before the
-   new one on equal rank. Works on an empty and on a full tree. */
+/* A pop, and then a push of the new element: gives the element of lowest rank in out[0] and out[1],
+   even if the new rank is lower. Works on a full tree. Refused 6 where nothing is held. */
 uint32_t card_tree_replace(uint32_t *store, size_t store_len, uint32_t order, uint32_t levels,
                            uint32_t rank, uint32_t tag, uint32_t *out, size_t out_len);
 
@@ -124,8 +124,9 @@ uint32_t card_bucket_push(uint64_t *bits, size_t bits_len, uint32_t *words, size
 uint32_t card_bucket_pop(uint64_t *bits, size_t bits_len, uint32_t *words, size_t words_len,
                          uint32_t nodes, uint32_t *out, size_t out_len);
 
-/* Takes a new element in and gives the lowest of all, the new one included, a held one before the
-   new one on equal rank. Works on an empty and on a full queue. Refused 4 above rank 4095. */
+/* A pop, and then a push of the new element: gives the first element of the lowest rank in out[0]
+   and out[1], even if the new rank is lower. Works on a full queue. Refused 4 above rank 4095, 6
+   where nothing is held. */
 uint32_t card_bucket_replace(uint64_t *bits, size_t bits_len, uint32_t *words, size_t words_len,
                              uint32_t nodes, uint32_t rank, uint32_t tag, uint32_t *out,
                              size_t out_len);

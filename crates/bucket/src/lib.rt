@@ -60,7 +60,7 @@ pub fn push(bits: &mut [u64], words: &mut [u32], n: u32, e: Element) -> Answer
     push_laid(bits, words, queue_of(n), e)
 }
 
-// A newcomer in, and the lowest of all out: the newcomer itself where nothing is held or its rank is below every held one.
+// A pop, and then a push of the newcomer: the first element of the lowest rank, even if the newcomer's rank is lower.
 pub fn replace(bits: &mut [u64], words: &mut [u32], n: u32, e: Element) -> Answer
     ensures { λ r. ⌜ outcome r (now (bits .exit)) (now (words .exit)) ≡ replaced (queue n) (now (bits .entry)) (now (words .entry)) e ⌝ }
 {
@@ -180,21 +180,18 @@ fn replace_laid(bits: &mut [u64], words: &mut [u32], k: Lay, e: Element) -> Answ
         return Answer::Refused(Refusal::Damaged);
     }
     if held_count(words, k) == 0 {
-        return Answer::Out(e);
+        return Answer::Refused(Refusal::Empty);
     }
     let low = find_lowest(bits, words, k);
     if !low.good {
         return Answer::Refused(Refusal::Damaged);
     }
-    if rank.0 < low.rank {
-        return Answer::Out(e);
-    }
     let room = room_after(bits, words, k, low, rank.0);
     if !room.good {
         return Answer::Refused(Refusal::Damaged);
     }
-    let out = element_of(words, k, low.rank, low.head);
+    let first = element_of(words, k, low.rank, low.head);
     take(bits, words, k, low);
     join(bits, words, k, e, room);
-    Answer::Out(out)
+    Answer::Out(first)
 }

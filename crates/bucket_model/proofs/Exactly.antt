@@ -1,12 +1,12 @@
 -- Every call is refused exactly when the table says so, and then leaves everything behind.
-use mathlib.Core.Path.{_≡_, sym, subst}
+use mathlib.Core.Path.{_≡_}
 use mathlib.Core.Bool.{Bool, cond, not}
 use mathlib.Core.List.{List}
-use Prim.Native.Nat.{ℕ, _≤_, _<_}
-use lib.Dec.{leb, ltb, eqb}
+use Prim.Native.Nat.{ℕ, _<_}
+use lib.Dec.{ltb, eqb}
 use Rattle.laws.specs.Ladder as ladder
-use Rattle.laws.specs.Ladder.{Ladder, fine, rung, provided}
-use Rattle.laws.specs.Means.{Means, means-ltb, means-leb, means-eqb, means-not}
+use Rattle.laws.specs.Ladder.{Ladder, fine, rung}
+use Rattle.laws.specs.Means.{Means, means-ltb, means-eqb, means-not}
 use Rattle.promise.specs.Refused.{refusal-told, zero-told}
 use Rattle.strip.specs.Answers.{numberOf, countNumber}
 use Rattle.strip.specs.declared.Element.{Element}
@@ -18,16 +18,13 @@ use Rattle.bucket_model.specs.Layout.{Lay, word}
 use Rattle.bucket_model.specs.Storeys.{lowestRank}
 use Rattle.bucket_model.specs.Calls.{Outcome, outcome, refused, isShaped, isWhole, cleared, heldCount, popFound, popped, pushFound, pushed, replaceJoined, replaceFound, replaced, lowestOf, roomOf, roomAfter}
 use Rattle.bucket_model.specs.Causes.{Shaped, Whole, PopFit, PushFit, Some, clearLadder, heldLadder, popLadder, pushLadder, bitsAfter, wordsAfter, replaceLadder, Exactly, ExactlyCount}
-use Rattle.bucket_model.proofs.Facts.{shape-means, whole-means, pop-means, low-rank, push-means, room-means}
+use Rattle.bucket_model.proofs.Facts.{shape-means, whole-means, pop-means, push-means, room-means}
 
 -- ---- one rung of a call that leaves b and w behind
 
 module _ (b w : List ℕ) where
   step : (t : Bool) (P : Type 0) (x : Refusal) (o : Outcome) (l : Ladder Refusal) → Means t P → (P → Exactly o b w l) → Exactly (cond t o (refused x b w)) b w (rung x P l)
   step = ladder.climb (λ (o : Outcome). numberOf (o .answer)) (λ (r : Refusal). refused r b w) refusal-told
-
-  aside : (t : Bool) (P : Type 0) (o : Outcome) (x : Element) (l : Ladder Refusal) → Means t P → (P → Exactly o b w l) → Exactly (cond t o (outcome (Out x) b w)) b w (provided P l)
-  aside t P o x l m = ladder.climb-provided (λ (o : Outcome). numberOf (o .answer)) (λ (r : Refusal). refused r b w) t P o (outcome (Out x) b w) l m zero-told
 
   done : (b′ w′ : List ℕ) → Exactly (outcome Done b′ w′) b w fine
   done b′ w′ = ladder.climb-fine (λ (o : Outcome). numberOf (o .answer)) (λ (r : Refusal). refused r b w) (outcome Done b′ w′) zero-told
@@ -80,17 +77,12 @@ module _ (k : Lay) (b w : List ℕ) where
     abbrev w1 : List ℕ
     w1 = wordsAfter k b w
 
-    -- whether the newcomer is answered back goes by the rank found
-    back-means : PopFit k b w (lowestRank k b) → Means (leb (lowestOf k b w .rank) r) (lowestRank k b ≤ r)
-    back-means f = subst (λ (i : ℕ). Means (leb i r) (lowestRank k b ≤ r)) (sym (low-rank k b w (pop-means k b w .holds f))) (means-leb (lowestRank k b) r)
-
     pub exactly-replace : Exactly (replaced k b w e) b w (replaceLadder k b w (e .rank .0))
     unfolding replaced replaceFound replaceJoined
     exactly-replace =
         step b w (isShaped k b w) (Shaped k b w) BadShape _ _ (shape-means k b w)
         (λ _. step b w (ltb r (k .ranks)) (r < k .ranks) BadRank _ _ (means-ltb r (k .ranks))
         (λ _. step b w (isWhole k b w) (Whole k b w) Damaged _ _ (whole-means k b w)
-        (λ _. aside b w (not (eqb (word w (k .held)) 0)) (Some k b w) _ e _ some-means
+        (λ _. step b w (not (eqb (word w (k .held)) 0)) (Some k b w) Empty _ _ some-means
         (λ _. step b w (lowestOf k b w .good) (PopFit k b w (lowestRank k b)) Damaged _ _ (pop-means k b w)
-        (λ f. aside b w (leb (lowestOf k b w .rank) r) (lowestRank k b ≤ r) _ e _ (back-means f)
-        (λ _. step b w (roomAfter k b1 w1 r .good) (Whole k b1 w1 × PushFit k b1 w1 r) Damaged _ fine (room-means k b1 w1 r) (λ _. out b w _ _ _)))))))
+        (λ _. step b w (roomAfter k b1 w1 r .good) (Whole k b1 w1 × PushFit k b1 w1 r) Damaged _ fine (room-means k b1 w1 r) (λ _. out b w _ _ _))))))

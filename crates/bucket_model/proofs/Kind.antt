@@ -3,7 +3,7 @@ use mathlib.Core.Path.{_≡_, refl, sym}
 use mathlib.Core.Bool.{Bool, cond, not}
 use mathlib.Core.List.{List}
 use Prim.Native.Nat.{ℕ}
-use lib.Dec.{leb, ltb, eqb}
+use lib.Dec.{ltb, eqb}
 use Rattle.laws.specs.Tests.{cond-both}
 use Rattle.promise.specs.Queue.{pins}
 use Rattle.promise.specs.Refused.{zero-told}
@@ -26,10 +26,6 @@ Fits q o = numberOf (o .answer) ≡ 0 → Kind q (o .answer)
 tested : (q : Request) (b w : List ℕ) (t : Bool) (o : Outcome) (x : Refusal) → Fits q o → Fits q (cond t o (refused x b w))
 tested q b w t o x f = cond-both (Fits q) t o (refused x b w) (λ e. f) (λ e n. absurd (zero-told x (sym n)))
 
--- a test, and another answer where it does not hold
-parted : (q : Request) (t : Bool) (o p : Outcome) → Fits q o → Fits q p → Fits q (cond t o p)
-parted q t o p f g = cond-both (Fits q) t o p (λ e. f) (λ e. g)
-
 module _ (k : Lay) (b w : List ℕ) where
   kind-pop : Fits Pop (popped k b w)
   unfolding popped popFound
@@ -50,10 +46,9 @@ module _ (k : Lay) (b w : List ℕ) where
       tested (Replace e) b w (isShaped k b w) _ _
       (tested (Replace e) b w (ltb (e .rank .0) (k .ranks)) _ _
       (tested (Replace e) b w (isWhole k b w) _ _
-      (parted (Replace e) (not (eqb (word w (k .held)) 0)) _ _
+      (tested (Replace e) b w (not (eqb (word w (k .held)) 0)) _ _
       (tested (Replace e) b w (lowestOf k b w .good) _ _
-      (parted (Replace e) (leb (lowestOf k b w .rank) (e .rank .0)) _ _
-      (tested (Replace e) b w (roomAfter k (takenBits k b (lowestOf k b w)) (takenWords k w (lowestOf k b w)) (e .rank .0) .good) _ _ (λ e. tt)) (λ e. tt))) (λ e. tt))))
+      (tested (Replace e) b w (roomAfter k (takenBits k b (lowestOf k b w)) (takenWords k w (lowestOf k b w)) (e .rank .0) .good) _ _ (λ e. tt))))))
 
   -- PINNED: every public call, for all inputs
   pub pinned : Pinned k b w

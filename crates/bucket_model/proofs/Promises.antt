@@ -2,13 +2,11 @@
 use mathlib.Core.Path.{_≡_, sym, ap, subst, _∙_}
 use mathlib.Core.Bool.{Bool, true, false, cond}
 use mathlib.Core.List.{List, [], _∷_, _++_}
-use Prim.Native.Nat.{ℕ, _+_, _≤_, _<_}
-use native.Mathlib.Decide.{decLt}
+use Prim.Native.Nat.{ℕ, _+_, _<_}
 use native.Mathlib.Omega.{arith}
-use borrow.Author.Tests.{lt-ltb, le-ltb}
 use lib.Dec.{ltb}
 use lib.ListN.{length}
-use Rattle.laws.specs.Lists.{All, all-map}
+use Rattle.laws.specs.Lists.{All}
 use Rattle.strip.specs.declared.Element.{Element}
 use Rattle.strip.specs.declared.Refusal.the-variants.{BadRank, Full, Empty}
 use Rattle.strip.specs.declared.Answer.the-variants.{Done, Out, Refused}
@@ -42,7 +40,7 @@ sane-either false x y p q = q
 
 sane-replace : (e : Element) (l : List Element) → Sane (plainReplace e l)
 sane-replace e [] = λ p. omega arith
-sane-replace e (x ∷ l) = sane-either (ltb (e .rank .0) (x .rank .0)) (step (answered (Out e)) (x ∷ l)) (step (answered (Out x)) (insert e l)) (λ p. omega arith) (λ p. omega arith)
+sane-replace e (x ∷ l) = λ p. omega arith
 
 plain-sane : (k : Lay) (c : Call) (l : List Element) → Sane (plain k c l)
 unfolding plain
@@ -106,9 +104,6 @@ module _ (k : Lay) (laid : Laid k) where
     subst (λ (s : Store). Holds k laid (s .bits) (s .words) (plainAfter k (r .calls) [])) (sym (r .is)) (after-holds k laid (r .calls) (start k (r .bits) (r .words)) [] (start-holds (r .bits) (r .words) (r .shaped))),
   )
 
-  out-is : (x y : Element) → answered (Out x) ≡ answered (Out y) → x ≡ y
-  out-is x y e = cc
-
   -- a pop that gives x was of a store that holds x first
   module _ (s : Store) (x : Element) (l : List Element) (h : Holds k laid (s .bits) (s .words) l) (a : asked k Pop s .answer ≡ Out x) where
     pop-some : word (s .words) (k .held) ≡ 0 → ⊥
@@ -142,31 +137,6 @@ module _ (k : Lay) (laid : Laid k) where
                 first = stored-is k laid (s .bits) (s .words) l h ∙ q ∙ ap (λ (m : List Element). x ∷ m) (sym m);
                 lowest = rw (stored-is k laid (s .bits) (s .words) l h, q) (omega arith, (subst Sorted q o) .0);
               }
-
-  -- what a replace gives has the lowest rank of all, its own newcomer counted
-  plain-least : (e x : Element) (l : List Element) → Sorted l → plain k (ask (Replace e)) l .said ≡ answered (Out x) → All (λ y. x .rank .0 ≤ y .rank .0) (e ∷ l)
-  unfolding plain
-  plain-least e x l o q = elim (decLt (e .rank .0) (k .ranks)) [ yes r ↦ ranked-in l o (rw (lt-ltb (e .rank .0) (k .ranks) r) at q) | no r ↦ absurd (bad (rw (le-ltb (e .rank .0) (k .ranks) (omega arith)) at q)) ]
-    where
-      bad : answered (Refused BadRank) ≡ answered (Out x) → ⊥
-      bad p = let z : _≡_ {A = ℕ} 0 1 = cc in omega arith
-
-      ranked-in : (l : List Element) → Sorted l → plainReplace e l .said ≡ answered (Out x) → All (λ y. x .rank .0 ≤ y .rank .0) (e ∷ l)
-      ranked-in [] o p = let v = out-is e x p in rw (← v) (omega arith, tt)
-      ranked-in (y ∷ l) o p = elim (decLt (e .rank .0) (y .rank .0)) [ yes r ↦ back r (rw (lt-ltb (e .rank .0) (y .rank .0) r) at p) | no r ↦ out (omega arith) (rw (le-ltb (e .rank .0) (y .rank .0) (omega arith)) at p) ]
-        where
-          back : e .rank .0 < y .rank .0 → answered (Out e) ≡ answered (Out x) → All (λ z. x .rank .0 ≤ z .rank .0) (e ∷ y ∷ l)
-          back r p = let v = out-is e x p in rw (← v) (omega arith, (omega arith, all-map _ _ (λ z a. omega arith) l (o .0)))
-
-          out : y .rank .0 ≤ e .rank .0 → answered (Out y) ≡ answered (Out x) → All (λ z. x .rank .0 ≤ z .rank .0) (e ∷ y ∷ l)
-          out r p = let v = out-is y x p in rw (← v) (r, (omega arith, o .0))
-
-  pub least-replace : (s : Store) (e x : Element) → Reached k s → asked k (Replace e) s .answer ≡ Out x → All (λ y. x .rank .0 ≤ y .rank .0) (e ∷ stored k (s .words))
-  unfolding called
-  least-replace s e x r a =
-      let y = reached-holds s r in
-      rw (stored-is k laid (s .bits) (s .words) (y .0) (y .2))
-      (plain-least e x (y .0) (y .1) (sym (calls k laid s (y .0) (y .2) (ask (Replace e)) .alike) ∙ ap answered a))
 
   -- ---- "The freed node .. becomes first in the free chain, so freed room is used at once"
 

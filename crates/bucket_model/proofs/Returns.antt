@@ -3,7 +3,7 @@ use mathlib.Core.Path.{_≡_}
 use mathlib.Core.Bool.{true, false}
 use mathlib.Core.List.{List}
 use Prim.Native.Nat.{ℕ, _≤_, _<_}
-use borrow.Author.Tests.{eq-eqb, ne-eqb, lt-ltb, le-ltb, lt-leb, le-leb}
+use borrow.Author.Tests.{eq-eqb, ne-eqb, lt-ltb, le-ltb}
 use Rattle.strip.specs.declared.Element.{Element}
 use Rattle.strip.specs.declared.Refusal.the-variants.{BadShape, Damaged, BadRank, Full, Empty}
 use Rattle.strip.specs.declared.Answer.the-variants.{Done, Out}
@@ -111,7 +111,7 @@ module _ (k : Lay) (b w : List ℕ) where
         replace-torn j = simp (s, lt-ltb _ _ l, j)
 
         module _ (j : isWhole k b w ≡ true) where
-          pub replace-none : word w (k .held) ≡ 0 → outcome (Out x) b w ≡ replaced k b w x
+          pub replace-none : word w (k .held) ≡ 0 → refused Empty b w ≡ replaced k b w x
           unfolding replaced
           replace-none z = simp (s, lt-ltb _ _ l, j, eq-eqb _ _ z)
 
@@ -120,17 +120,12 @@ module _ (k : Lay) (b w : List ℕ) where
             unfolding replaced replaceFound
             replace-unfit g = simp (s, lt-ltb _ _ l, j, ne-eqb _ _ z, ← e, g)
 
-            module _ (g : low .good ≡ true) where
-              pub replace-back : x .rank .0 < low .rank → outcome (Out x) b w ≡ replaced k b w x
-              unfolding replaced replaceFound
-              replace-back h = simp (s, lt-ltb _ _ l, j, ne-eqb _ _ z, ← e, g, lt-leb _ _ h)
+            module _ (g : low .good ≡ true) (to : Room) (f : to ≡ roomAfter k (takenBits k b low) (takenWords k w low) (x .rank .0)) where
+              pub replace-shut : to .good ≡ false → refused Damaged b w ≡ replaced k b w x
+              unfolding replaced replaceFound replaceJoined
+              replace-shut u = simp (s, lt-ltb _ _ l, j, ne-eqb _ _ z, ← e, g, ← f, u)
 
-              module _ (h : low .rank ≤ x .rank .0) (to : Room) (f : to ≡ roomAfter k (takenBits k b low) (takenWords k w low) (x .rank .0)) where
-                pub replace-shut : to .good ≡ false → refused Damaged b w ≡ replaced k b w x
-                unfolding replaced replaceFound replaceJoined
-                replace-shut u = simp (s, lt-ltb _ _ l, j, ne-eqb _ _ z, ← e, g, le-leb _ _ h, ← f, u)
-
-                pub replace-out : (y : Element) (b1 w1 b′ w′ : List ℕ) → to .good ≡ true → y ≡ given k w low → b1 ≡ takenBits k b low → w1 ≡ takenWords k w low
-                    → b′ ≡ joinedBits k b1 x to → w′ ≡ joinedWords k w1 x to → outcome (Out y) b′ w′ ≡ replaced k b w x
-                unfolding replaced replaceFound replaceJoined
-                replace-out y b1 w1 b′ w′ v u p1 q1 p q = simp (s, lt-ltb _ _ l, j, ne-eqb _ _ z, ← e, g, le-leb _ _ h, ← f, v, u, p, q, p1, q1)
+              pub replace-out : (y : Element) (b1 w1 b′ w′ : List ℕ) → to .good ≡ true → y ≡ given k w low → b1 ≡ takenBits k b low → w1 ≡ takenWords k w low
+                  → b′ ≡ joinedBits k b1 x to → w′ ≡ joinedWords k w1 x to → outcome (Out y) b′ w′ ≡ replaced k b w x
+              unfolding replaced replaceFound replaceJoined
+              replace-out y b1 w1 b′ w′ v u p1 q1 p q = simp (s, lt-ltb _ _ l, j, ne-eqb _ _ z, ← e, g, ← f, v, u, p, q, p1, q1)

@@ -17,7 +17,7 @@ use Rattle.bucket_model.specs.Layout.{Lay, Laid, word, headAt, nextIn, L
 use Rattle.bucket_model.specs.Calls.{Outcome, outcome, refused, isShaped, isWhole, lowestOf, Room, roomOf, roomAfter, takenBits, takenWords, joinedBits, joinedWords, pushed, popped, replaced}
 use Rattle.bucket_model.specs.Plain.{Call, ask, held, Said, answered, counted, Step, step, Store, store, asked, called, says, after, insert, roomy, plain, plainPop, plainReplace, plainSays, plainAfter, walk, lane, stored}
 use Rattle.bucket_model.proofs.Returns as told
-use Rattle.bucket_model.proofs.Facts.{shape-means, whole-means, pop-means, low-rank, push-means, room-means}
+use Rattle.bucket_model.proofs.Facts.{shape-means, whole-means, pop-means, push-means, room-means}
 use Rattle.bucket_model.proofs.Chain.{Node, Seg, Mine}
 use Rattle.bucket_model.proofs.Order.{order-else}
 use Rattle.bucket_model.proofs.Queue.{loads, Holds, whole, chainOf, lane-le}
@@ -135,9 +135,6 @@ module _ (k : Lay) (laid : Laid k) where
       good : lowestOf k b w .good ≡ true
       good = pop-means k b w .holds (p .fit)
 
-      rank-is : lowestOf k b w .rank ≡ x .rank .0
-      rank-is = low-rank k b w good ∙ sym (p .lowest)
-
       pub pop-is : popped k b w ≡ outcome (Out x) (takenBits k b (lowestOf k b w)) (takenWords k w (lowestOf k b w))
       pop-is = sym (told.pop-out k b w shape-ok whole-ok some (lowestOf k b w) refl _ _ _ good refl refl refl) ∙ ap (λ (y : Element). outcome (Out y) B W) (p .gives)
 
@@ -147,10 +144,10 @@ module _ (k : Lay) (laid : Laid k) where
         unfolding roomAfter
         room-same = let t = whole-means k B W .holds (whole k laid B W l′ (p .after)) in simp t
 
-        swap-is : x .rank .0 ≤ e .rank .0 → Pushed k laid B W l′ (p .after) e r< → replaced k b w e ≡ outcome (Out x) (joinedBits k B e (roomOf k B W (e .rank .0))) (joinedWords k W e (roomOf k B W (e .rank .0)))
-        swap-is le u =
+        swap-is : Pushed k laid B W l′ (p .after) e r< → replaced k b w e ≡ outcome (Out x) (joinedBits k B e (roomOf k B W (e .rank .0))) (joinedWords k W e (roomOf k B W (e .rank .0)))
+        swap-is u =
             let to = roomAfter k B W (e .rank .0) in
-            sym (told.replace-out k b w e shape-ok r< whole-ok some (lowestOf k b w) refl good (omega (arith, rank-is)) to refl _ _ _ _ _ (room-means k B W (e .rank .0) .holds (whole k laid B W l′ (p .after), u .fit)) refl refl refl refl refl)
+            sym (told.replace-out k b w e shape-ok r< whole-ok some (lowestOf k b w) refl good to refl _ _ _ _ _ (room-means k B W (e .rank .0) .holds (whole k laid B W l′ (p .after), u .fit)) refl refl refl refl refl)
             ∙ ap (λ (y : Element). outcome (Out y) (joinedBits k B e to) (joinedWords k W e to)) (p .gives)
             ∙ ap (λ (v : Room). outcome (Out x) (joinedBits k B e v) (joinedWords k W e v)) room-same
 
@@ -159,18 +156,9 @@ module _ (k : Lay) (laid : Laid k) where
         room-again f = let n : length l ≡ suc (length l′) = ap length (p .list) in omega (arith, p .after .held, h .room)
 
         swap-agrees : Agree (ran (replaced k b w e)) (plainReplace e (x ∷ l′))
-        swap-agrees = elim (decLt (e .rank .0) (x .rank .0)) [ yes lt ↦ back lt | no lt ↦ swap (omega arith) (pushes k laid B W l′ (p .after) e r< room-again) ]
-          where
-            back : e .rank .0 < x .rank .0 → Agree (ran (replaced k b w e)) (plainReplace e (x ∷ l′))
-            back lt =
-                rw (lt-ltb (e .rank .0) (x .rank .0) lt)
-                (by (replaced k b w e) (outcome (Out e) b w) (step (answered (Out e)) (x ∷ l′)) (sym (told.replace-back k b w e shape-ok r< whole-ok some (lowestOf k b w) refl good (omega (arith, rank-is))))
-                (record { alike = refl; holds = subst (Holds k laid b w) (p .list) h }))
-
-            swap : x .rank .0 ≤ e .rank .0 → Pushed k laid B W l′ (p .after) e r< → Agree (ran (replaced k b w e)) (plainReplace e (x ∷ l′))
-            swap le u =
-                rw (le-ltb (e .rank .0) (x .rank .0) le)
-                (by (replaced k b w e) _ (step (answered (Out x)) (insert e l′)) (swap-is le u) (record { alike = refl; holds = u .after }))
+        swap-agrees =
+            let u = pushes k laid B W l′ (p .after) e r< room-again in
+            by (replaced k b w e) _ (step (answered (Out x)) (insert e l′)) (swap-is u) (record { alike = refl; holds = u .after })
 
     call-pop : Agree (ran (popped k b w)) (plainPop l)
     call-pop = elim (ℕ-discrete (word w (k .held)) 0) [
@@ -184,7 +172,7 @@ module _ (k : Lay) (laid : Laid k) where
 
     replace-agrees : (e : Element) → e .rank .0 < k .ranks → Agree (ran (replaced k b w e)) (plainReplace e l)
     replace-agrees e r< = elim (ℕ-discrete (word w (k .held)) 0) [
-      | yes z ↦ rw (empty-list z) (by (replaced k b w e) (outcome (Out e) b w) (step (answered (Out e)) []) (sym (told.replace-none k b w e shape-ok r< whole-ok z)) (record { alike = refl; holds = subst (Holds k laid b w) (empty-list z) h }))
+      | yes z ↦ rw (empty-list z) (by (replaced k b w e) (refused Empty b w) (step (answered (Refused Empty)) []) (sym (told.replace-none k b w e shape-ok r< whole-ok z)) (record { alike = refl; holds = subst (Holds k laid b w) (empty-list z) h }))
       | no z ↦ some z (pops k laid b w l h z)
     ]
       where

@@ -30,7 +30,8 @@ use Rattle.bucket_model.proofs.Kind.{kind}
 use Rattle.bucket_model.proofs.Sorted.{times-insert}
 use Rattle.bucket_model.proofs.Queue.{Holds}
 use Rattle.bucket_model.proofs.Runs.{stored-is, calls, Agree}
-use Rattle.bucket_model.proofs.Promises.{start-holds, reached-holds, least, least-replace}
+use Rattle.bucket_model.proofs.Promises.{start-holds, reached-holds, least}
+use Rattle.bucket_model.proofs.Replace.{replace-answers}
 
 abbrev answerOf : Said → Answer
 answerOf (answered a) = a
@@ -60,9 +61,7 @@ sum-pop (x ∷ l) f = omega (arith, hit-is (f x))
 sum-replace : (e : Element) (l : List Element) (f : Element → Bool) → Sums l f (Replace e) (plainReplace e l)
 unfolding times
 sum-replace e [] f = refl
-sum-replace e (x ∷ l) f =
-    cond-both (Sums (x ∷ l) f (Replace e)) (ltb (e .rank .0) (x .rank .0)) (step (answered (Out e)) (x ∷ l)) (step (answered (Out x)) (insert e l))
-    (λ _. refl) (λ _. omega (arith, times-insert f e l, hit-is (f e), hit-is (f x)))
+sum-replace e (x ∷ l) f = omega (arith, times-insert f e l, hit-is (f e), hit-is (f x))
 
 sums : (k : Lay) (q : Request) (l : List Element) (f : Element → Bool) → Sums l f q (plain k (ask q) l)
 unfolding plain
@@ -118,10 +117,10 @@ module _ (k : Lay) (laid : Laid k) where
       go (Out x) p o = none-lower (x .rank .0) (stored k (s .words)) (least k laid s x h p .lowest)
   served-least s h (Replace e) = λ n. go (asked k (Replace e) s .answer) refl (kind k (Replace e) s n)
     where
-      go : (a : Answer) → asked k (Replace e) s .answer ≡ a → IsOut a → (storedBy k s (lower (rankOf a)) ≡ 0) × (rankOf a ≤ e .rank .0)
+      go : (a : Answer) → asked k (Replace e) s .answer ≡ a → IsOut a → storedBy k s (lower (rankOf a)) ≡ 0
       go Done p o = absurd o
       go (Refused r) p o = absurd o
-      go (Out x) p o = let y = least-replace k laid s e x h p in (none-lower (x .rank .0) (stored k (s .words)) (y .1), y .0)
+      go (Out x) p o = none-lower (x .rank .0) (stored k (s .words)) (least k laid s x h (replace-answers k s e x p) .lowest)
 
   -- held says how many are held: number 0, and so many
   counted-same : (c d : Count) → counted c ≡ counted d → c ≡ d

@@ -11,7 +11,7 @@ use lib.ListN.{length}
 use Rattle.laws.specs.Lists.{All, all-map}
 use Rattle.strip.specs.declared.Element.{Element}
 use Rattle.strip.specs.declared.Refusal.the-variants.{BadRank, Full}
-use Rattle.strip.specs.declared.Answer.the-variants.{Done, Out, Refused}
+use Rattle.strip.specs.declared.Answer.the-variants.{Done, Refused}
 use Rattle.strip.specs.declared.Request.the-variants.{Idle, Push, Pop, Replace}
 use Rattle.bucket_model.specs.Layout.{Lay}
 use Rattle.bucket_model.specs.Plain.{Call, ask, held, Said, answered, Step, step, insert, roomy, plainPop, plainReplace, plain, plainSays, plainAfter, came, went, brought, gone, ofRank, times, Sorted}
@@ -143,32 +143,18 @@ kept-pop (x ∷ l) s =
       holds = λ g. omega arith;
     }
 
--- what comes straight back: nothing of its rank is held
-kept-back : (e : Element) (l : List Element) → Sorted l → All (λ y. e .rank .0 < y .rank .0) l → Kept (ask (Replace e)) l (step (answered (Out e)) l)
-unfolding times
-kept-back e l s h = record { sorted = s; fifo = λ r. commute r; holds = λ g. omega arith }
-  where
-    commute : (r : ℕ) → ofRank r l ++ ofRank r (e ∷ []) ≡ ofRank r (e ∷ []) ++ ofRank r l
-    commute r = sym (front-rank r e l h) ∙ rank-append r (e ∷ []) l
-
 kept-replace : (e : Element) (l : List Element) → Sorted l → Kept (ask (Replace e)) l (plainReplace e l)
 unfolding times
-kept-replace e [] s = kept-back e [] s tt
-kept-replace e (x ∷ l) s = elim (decLt (e .rank .0) (x .rank .0)) [
-  | yes h ↦ rw (lt-ltb (e .rank .0) (x .rank .0) h) (kept-back e (x ∷ l) s (h, all-map _ _ (λ y a. omega arith) l (s .0)))
-  | no h ↦ rw (le-ltb (e .rank .0) (x .rank .0) (omega arith)) swap
-]
-  where
-    swap : Kept (ask (Replace e)) (x ∷ l) (step (answered (Out x)) (insert e l))
-    swap =
-        record {
-          sorted = insert-sorted e l (s .1);
-          fifo = λ r.
-              ap (λ (m : List Element). m ++ ofRank r (e ∷ [])) (rank-append r (x ∷ []) l)
-              ∙ append-assoc (ofRank r (x ∷ [])) (ofRank r l) (ofRank r (e ∷ []))
-              ∙ ap (λ (m : List Element). ofRank r (x ∷ []) ++ m) (sym (insert-rank r e l (s .1)));
-          holds = λ g. omega (arith, times-insert g e l);
-        }
+kept-replace e [] s = kept-no (ask (Replace e)) [] (plainReplace e []) s refl refl refl
+kept-replace e (x ∷ l) s =
+    record {
+      sorted = insert-sorted e l (s .1);
+      fifo = λ r.
+          ap (λ (m : List Element). m ++ ofRank r (e ∷ [])) (rank-append r (x ∷ []) l)
+          ∙ append-assoc (ofRank r (x ∷ [])) (ofRank r l) (ofRank r (e ∷ []))
+          ∙ ap (λ (m : List Element). ofRank r (x ∷ []) ++ m) (sym (insert-rank r e l (s .1)));
+      holds = λ g. omega (arith, times-insert g e l);
+    }
 
 pub plain-kept : (k : Lay) (c : Call) (l : List Element) → Sorted l → Kept c l (plain k c l)
 unfolding plain

@@ -7,7 +7,7 @@ use native.Mathlib.Decide.{ℕ-discrete, decLt}
 use native.Mathlib.Nat.{pow-suc}
 use native.Mathlib.Omega.{arith}
 use borrow.Author.Tests.{eq-eqb, ne-eqb, lt-ltb, le-ltb, ltb-true}
-use lib.Dec.{leb, ltb, eqb}
+use lib.Dec.{ltb, eqb}
 use lib.ListN.{length, set, length-set}
 use Rattle.strip.specs.declared.Element.{Element}
 use Rattle.strip.specs.declared.Answer.{Answer}
@@ -273,7 +273,7 @@ module _ (k : Lay) (laid : Laid k) where
       replace-found-same =
           rw (← low-same b c w v g h s z fits)
           (alike-cond (lowestOf k b w .good) (lowestOf k b w .good) _ _ _ _ refl
-          (λ u. alike-cond (leb (lowestOf k b w .rank) (e .rank .0)) (leb (lowestOf k b w .rank) (e .rank .0)) _ _ _ _ refl (λ t. replace-joined-same u) (standing b c w v g h _)) (standing b c w v g h _))
+          replace-joined-same (standing b c w v g h _))
 
     unread-replace : (e : Element) → Alike k (replaced k b w e) (replaced k c v e)
     unfolding replaced

@@ -6,7 +6,7 @@ use Prim.Native.Nat.{ℕ, zero, suc, _+_, _^_, _≤_, _<_}
 use native.Mathlib.Nat.{pow-suc, not-suc-le-zero, le-of-suc-le-suc}
 use native.Mathlib.Omega.{arith}
 use borrow.Author.Tests.{ltb-true}
-use lib.Dec.{leb, eqb, ltb}
+use lib.Dec.{eqb, ltb}
 use lib.ListN.{length}
 use Rattle.laws.specs.Tests.{cond-path}
 use Rattle.bitmap.specs.Bits as word64
@@ -155,7 +155,7 @@ module _ (k : Lay) (laid : Laid k) where
 
         replace-found-rest : Untouched k b w (replaceFound k b w e low)
         unfolding replaceFound
-        replace-found-rest = guard k b w (low .good) _ _ (λ g. guard k b w (leb (low .rank) (e .rank .0)) _ _ (λ h. replace-joined-rest g))
+        replace-found-rest = guard k b w (low .good) _ _ replace-joined-rest
 
       pub rest-replace : (e : Element) → Untouched k b w (replaced k b w e)
       unfolding replaced

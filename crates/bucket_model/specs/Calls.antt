@@ -2,7 +2,7 @@
 use mathlib.Core.Bool.{Bool, true, false, cond, not, _&&_}
 use mathlib.Core.List.{List, [], _∷_, _++_}
 use Prim.Native.Nat.{ℕ, zero, suc, _+_, _-_, _/_, _%_}
-use lib.Dec.{leb, ltb, eqb}
+use lib.Dec.{ltb, eqb}
 use lib.ListN.{length}
 use Rattle.strip.specs.declared.Element.{Element}
 use Rattle.strip.specs.declared.Refusal.{Refusal}
@@ -116,14 +116,13 @@ unfoldable pub popFound : Lay → List ℕ → List ℕ → Lowest → Outcome
 popFound k b w low =
     cond (low .good) (outcome (Out (given k w low)) (takenBits k b low) (takenWords k w low)) (refused Damaged b w)
 
+-- what gives the lowest asks for a whole queue, 2, and then for something held, 6
+abbrev pub giving : Lay → List ℕ → List ℕ → Outcome → Outcome
+giving k b w o = cond (isWhole k b w) (cond (not (eqb (word w (k .held)) 0)) o (refused Empty b w)) (refused Damaged b w)
+
 -- "For the bucket queue: 1, 4, 2, then 5 or 6"
 unfoldable pub popped : Lay → List ℕ → List ℕ → Outcome
-popped k b w =
-    cond (isShaped k b w)
-    (cond (isWhole k b w)
-    (cond (not (eqb (word w (k .held)) 0)) (popFound k b w (lowestOf k b w)) (refused Empty b w))
-    (refused Damaged b w))
-    (refused BadShape b w)
+popped k b w = cond (isShaped k b w) (giving k b w (popFound k b w (lowestOf k b w))) (refused BadShape b w)
 
 -- ---- push
 
@@ -180,7 +179,7 @@ pushed k b w e =
     (refused BadRank b w))
     (refused BadShape b w)
 
--- ---- replace: "the same answer, and otherwise a pop followed by a push"
+-- ---- replace: "a replace is a pop and then a push"
 
 -- "all the push's on the store as after the pop": the bucket, with the tests of the whole queue once more
 unfoldable pub roomAfter : Lay → List ℕ → List ℕ → ℕ → Room
@@ -191,29 +190,21 @@ roomAfter k b w r =
       next = roomOf k b w r .next;
     }
 
--- ".. and writes only if all hold"
+-- the pop's answer, and what the push leaves of the store as after the pop: ".. and writes only if all hold"
 unfoldable pub replaceJoined : Lay → List ℕ → List ℕ → Element → Lowest → Room → Outcome
 replaceJoined k b w e low to =
     cond (to .good)
     (outcome (Out (given k w low)) (joinedBits k (takenBits k b low) e to) (joinedWords k (takenWords k w low) e to))
     (refused Damaged b w)
 
--- "with a rank strictly below every held one, the new element is answered and the store stands"
+-- "otherwise the lowest held element is answered, even if the new rank is lower": the pop's tests first
 unfoldable pub replaceFound : Lay → List ℕ → List ℕ → Element → Lowest → Outcome
 replaceFound k b w e low =
-    cond (low .good)
-    (cond (leb (low .rank) (e .rank .0))
-    (replaceJoined k b w e low (roomAfter k (takenBits k b low) (takenWords k w low) (e .rank .0)))
-    (outcome (Out e) b w))
-    (refused Damaged b w)
+    cond (low .good) (replaceJoined k b w e low (roomAfter k (takenBits k b low) (takenWords k w low) (e .rank .0))) (refused Damaged b w)
 
--- "on an empty queue .. the new element is answered and the store stands"
+-- "an empty queue refuses replace with 6"; "The order of checks puts replace's 6 with pop's"
 unfoldable pub replaced : Lay → List ℕ → List ℕ → Element → Outcome
 replaced k b w e =
     cond (isShaped k b w)
-    (cond (ltb (e .rank .0) (k .ranks))
-    (cond (isWhole k b w)
-    (cond (not (eqb (word w (k .held)) 0)) (replaceFound k b w e (lowestOf k b w)) (outcome (Out e) b w))
-    (refused Damaged b w))
-    (refused BadRank b w))
+    (cond (ltb (e .rank .0) (k .ranks)) (giving k b w (replaceFound k b w e (lowestOf k b w))) (refused BadRank b w))
     (refused BadShape b w)

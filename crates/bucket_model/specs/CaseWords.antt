@@ -23,9 +23,9 @@ leftBy n rs = after (queue n) (map ask rs) (start (queue n) (replicate 66 9) (re
 abbrev pub popCase : List Request
 popCase = Push (element 7 1) ∷ Push (element 7 2) ∷ Push (element 7 3) ∷ Pop ∷ []
 
--- .. and replace 70/5 gives 7/2
+-- .. then replace 70/5 gives 7/2, and replace 3/6 gives 7/3, though 3 is lower
 abbrev pub replaceCase : List Request
-replaceCase = popCase ++ (Replace (element 70 5) ∷ [])
+replaceCase = popCase ++ (Replace (element 70 5) ∷ Replace (element 3 6) ∷ [])
 
 -- after the pop: head of 7 is link 2, its tail link 3; node 0 is free, with tag 0, its next link 4; node 1 has tag 2, its next link 3; node 2 has tag 3; the free link is 1, held 2
 abbrev pub popCaseBits : List (ℕ × ℕ)
@@ -34,9 +34,9 @@ popCaseBits = (0, 1) ∷ (1, 128) ∷ (65, 9) ∷ []
 abbrev pub popCaseWords : List (ℕ × ℕ)
 popCaseWords = (7, 2) ∷ (4103, 3) ∷ (8193, 4) ∷ (8194, 2) ∷ (8195, 3) ∷ (8196, 3) ∷ (8200, 1) ∷ (8201, 2) ∷ (8202, 9) ∷ []
 
--- after the replace: head of 7 is link 3, head and tail of 70 are link 2, the node that the replace has freed; the free link is still 1
+-- after the replaces: head and tail of 70 are link 2, those of 3 link 3, each the node that the replace has freed; 7 has neither, and no bit; the free link is still 1
 abbrev pub replaceCaseBits : List (ℕ × ℕ)
-replaceCaseBits = (0, 3) ∷ (1, 128) ∷ (2, 64) ∷ (65, 9) ∷ []
+replaceCaseBits = (0, 3) ∷ (1, 8) ∷ (2, 64) ∷ (65, 9) ∷ []
 
 abbrev pub replaceCaseWords : List (ℕ × ℕ)
-replaceCaseWords = (7, 3) ∷ (70, 2) ∷ (4103, 3) ∷ (4166, 2) ∷ (8193, 4) ∷ (8194, 5) ∷ (8196, 3) ∷ (8200, 1) ∷ (8201, 2) ∷ (8202, 9) ∷ []
+replaceCaseWords = (3, 3) ∷ (70, 2) ∷ (4099, 3) ∷ (4166, 2) ∷ (8193, 4) ∷ (8194, 5) ∷ (8196, 6) ∷ (8200, 1) ∷ (8201, 2) ∷ (8202, 9) ∷ []

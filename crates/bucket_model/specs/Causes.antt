@@ -4,7 +4,7 @@ use mathlib.Core.List.{List, [], _∷_}
 use Prim.Native.Nat.{ℕ, _+_, _/_, _%_, _≤_, _<_}
 use lib.ListN.{length}
 use Rattle.laws.specs.Ladder as ladder
-use Rattle.laws.specs.Ladder.{Ladder, fine, rung, provided}
+use Rattle.laws.specs.Ladder.{Ladder, fine, rung}
 use Rattle.laws.specs.Means.{Iff}
 use Rattle.bitmap.specs.Bits.{bitAt}
 use Rattle.strip.specs.Answers.{numberOf, countNumber}
@@ -82,13 +82,12 @@ module _ (k : Lay) (b w : List ℕ) where
   abbrev pub heldLadder : Ladder Refusal
   heldLadder = rung BadShape (Shaped k b w) (rung Damaged (Whole k b w) fine)
 
-  -- "a pop with held above 0, also tests its bucket"
+  -- what a pop and a replace ask alike: 2 of the whole queue, 6, and "a pop with held above 0, also tests its bucket"
+  abbrev pub giveLadder : Ladder Refusal → Ladder Refusal
+  giveLadder l = rung Damaged (Whole k b w) (rung Empty Some (rung Damaged (PopFit k b w (lowestRank k b)) l))
+
   abbrev pub popLadder : Ladder Refusal
-  popLadder =
-      rung BadShape (Shaped k b w)
-      (rung Damaged (Whole k b w)
-      (rung Empty Some
-      (rung Damaged (PopFit k b w (lowestRank k b)) fine)))
+  popLadder = rung BadShape (Shaped k b w) (giveLadder fine)
 
   -- "A push with held below N"
   abbrev pub pushLadder : ℕ → Ladder Refusal
@@ -106,16 +105,13 @@ module _ (k : Lay) (b w : List ℕ) where
   abbrev pub wordsAfter : List ℕ
   wordsAfter = takenWords k w (lowestOf k b w)
 
-  -- "Replace with something held makes the pop's tests first; where the newcomer isn't answered back it then makes all the push's on the store as after the pop"
+  -- "The order of checks puts replace's 6 with pop's"; behind the pop's tests "it then makes all the push's on the store as after the pop"
   abbrev pub replaceLadder : ℕ → Ladder Refusal
   replaceLadder r =
       rung BadShape (Shaped k b w)
       (rung BadRank (r < k .ranks)
-      (rung Damaged (Whole k b w)
-      (provided Some
-      (rung Damaged (PopFit k b w (lowestRank k b))
-      (provided (lowestRank k b ≤ r)
-      (rung Damaged (Whole k bitsAfter wordsAfter × PushFit k bitsAfter wordsAfter r) fine))))))
+      (giveLadder
+      (rung Damaged (Whole k bitsAfter wordsAfter × PushFit k bitsAfter wordsAfter r) fine)))
 
 -- the columns "Exactly when" and "Left behind": a refusal's number is that of the first rung that does not hold, and where a rung does not hold there is its refusal, and everything is left behind
 abbrev pub Exactly : Outcome → List ℕ → List ℕ → Ladder Refusal → Type 0

@@ -89,11 +89,10 @@ abbrev pub plainPop : List Element → Step (List Element)
 plainPop [] = step (answered (Refused Empty)) []
 plainPop (x ∷ l) = step (answered (Out x)) l
 
--- "gives back the lowest of all, the new one included, a held one before the new one on equal rank"
+-- "a replace is a pop and then a push": the first is answered, "even if the new rank is lower", and then the newcomer goes in
 abbrev pub plainReplace : Element → List Element → Step (List Element)
-plainReplace e [] = step (answered (Out e)) []
-plainReplace e (x ∷ l) =
-    cond (ltb (e .rank .0) (x .rank .0)) (step (answered (Out e)) (x ∷ l)) (step (answered (Out x)) (insert e l))
+plainReplace e [] = step (answered (Refused Empty)) []
+plainReplace e (x ∷ l) = step (answered (Out x)) (insert e l)
 
 -- only ranks that there are
 abbrev pub ranked : ℕ → Element → List Element → Step (List Element) → Step (List Element)

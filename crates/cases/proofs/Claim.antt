@@ -4,7 +4,7 @@ use mathlib.Core.Path.{ap, refl}
 use Rattle.bucket_model.proofs.Case8.{case8-holds}
 use Rattle.bucket_model.proofs.CaseWords.{pop-case-bits, pop-case-words, replace-case-bits, replace-case-words}
 use Rattle.cases.specs.Table.{Right, table, told}
-use Rattle.clocked_model.proofs.Cases.{case-6}
+use Rattle.clocked_model.proofs.Cases.{case-6, case-empty}
 use Rattle.laws.specs.Lists.{All}
 use Rattle.promise.specs.Queue.{answers, leaves}
 use Rattle.strip.specs.Answers.{blank, key}
@@ -18,5 +18,5 @@ pub cases : All Right table
 unfolding table blank key vacant isEmpty slotAt seek every firstEmpty leastCount lowest low sumCounts keep pass putBy putMove takeBy takeMove swapBy swapMove opMove isNothing top work levelMove stepWork slotOf write wipe tabulate nodeOf size levelOf levelsOf stepWords applyWords room isBlank slotOk nodeOk hasRoom hasSome readOk lifts stepOk workOk pathOk orderOk shapeOk rule carriedOut called cleared heldCount leaves answers
 cases = (
   (refl, refl, refl),
-  ((refl, refl, refl), ((refl, refl, refl), ((refl, refl, refl), ((refl, refl, refl), (case-6, ((refl, refl, refl), (ap (map told) case8-holds, ((pop-case-bits, pop-case-words), ((replace-case-bits, replace-case-words), (refl, (refl, tt))))))))))),
+  ((refl, refl, refl), ((refl, refl, refl), ((refl, refl, refl), ((refl, refl, refl), (case-6, ((refl, refl, refl), ((refl, refl, refl), (ap (map told) case-empty, (ap (map told) case8-holds, ((pop-case-bits, pop-case-words), ((replace-case-bits, replace-case-words), (refl, (refl, tt))))))))))))),
 )

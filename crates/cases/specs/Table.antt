@@ -7,7 +7,7 @@ use Rattle.bucket_model.specs.Case8.{case8}
 use Rattle.bucket_model.specs.CaseWords.{filled, leftBy, popCase, popCaseBits, popCaseWords, replaceCase, replaceCaseBits, replaceCaseWords}
 use Rattle.bucket_model.specs.Layout.{queue}
 use Rattle.bucket_model.specs.Plain.{bucketAnswers}
-use Rattle.clocked_model.specs.Cases.{caseSix, caseSixSays}
+use Rattle.clocked_model.specs.Cases.{caseEmpty, caseEmptySays, caseSix, caseSixSays}
 use Rattle.promise.specs.Queue.{answers}
 use Rattle.strip.specs.Answers.{countNumber, countOf, element, numberOf, rankOf, tagOf}
 use Rattle.strip.specs.declared.Answer.{Answer}
@@ -30,6 +30,7 @@ pub data Row : Type 0 where
   tree : (order levels : ℕ) (requests : List Request) (said : List (ℕ × ℕ × ℕ)) (left : List ℕ) (held : ℕ × ℕ) → Row
   held : (order levels : ℕ) (words : List ℕ) (said : ℕ × ℕ) → Row
   clocked : (words said : List (List ℕ)) → Row
+  cycles : (answers said : List (ℕ × ℕ × ℕ)) → Row
   bucket : (nodes : ℕ) (requests : List Request) (said : List (ℕ × ℕ × ℕ)) → Row
   bucketWords : (nodes : ℕ) (requests : List Request) (bits words : List (ℕ × ℕ)) → Row
 
@@ -42,6 +43,7 @@ Right (tree m l rs said left h) =
     (map told (answers (treeQueue m l) rs (start m l (garbage (length left)))) ≡ said) × (after m l rs (garbage (length left)) ≡ left) × (toldHeld (heldCount m l left) ≡ h)
 Right (held m l ws said) = toldHeld (heldCount m l ws) ≡ said
 Right (clocked words said) = words ≡ said
+Right (cycles answers said) = answers ≡ said
 Right (bucket n rs said) = map told (bucketAnswers (queue n) rs) ≡ said
 Right (bucketWords n rs bits words) = (filled 0 (leftBy n rs .bits) ≡ bits) × (filled 0 (leftBy n rs .words) ≡ words)
 
@@ -62,8 +64,8 @@ table =
     row A (done 4) (5 ∷ 50 ∷ 2 ∷ 1 ∷ 10 ∷ 2 ∷ 8 ∷ 80 ∷ 1 ∷ 0 ∷ 0 ∷ 0 ∷ 3 ∷ 30 ∷ 1 ∷ 0 ∷ 0 ∷ 0 ∷ []) 4
     -- 2. A popped: 1, 3, 5, 8, then refusal 6
     ∷ row (A ++ replicate 5 Pop) (done 4 ++ ((0, 1, 10) ∷ (0, 3, 30) ∷ (0, 5, 50) ∷ (0, 8, 80) ∷ (6, 0, 0) ∷ [])) (replicate 18 0) 0
-    -- 3. A, replace 0/7: answers 0/7, A stands
-    ∷ row (A ++ (Replace (element 0 7) ∷ [])) (done 4 ++ ((0, 0, 7) ∷ [])) (5 ∷ 50 ∷ 2 ∷ 1 ∷ 10 ∷ 2 ∷ 8 ∷ 80 ∷ 1 ∷ 0 ∷ 0 ∷ 0 ∷ 3 ∷ 30 ∷ 1 ∷ 0 ∷ 0 ∷ 0 ∷ []) 4
+    -- 3. A, replace 0/7: answers 1/10, slot 1 becomes (0,7,2)
+    ∷ row (A ++ (Replace (element 0 7) ∷ [])) (done 4 ++ ((0, 1, 10) ∷ [])) (5 ∷ 50 ∷ 2 ∷ 0 ∷ 7 ∷ 2 ∷ 8 ∷ 80 ∷ 1 ∷ 0 ∷ 0 ∷ 0 ∷ 3 ∷ 30 ∷ 1 ∷ 0 ∷ 0 ∷ 0 ∷ []) 4
     -- 4. A, replace 1/7: answers 1/10, root slot 1 is (1,7,2)
     ∷ row (A ++ (Replace (element 1 7) ∷ [])) (done 4 ++ ((0, 1, 10) ∷ [])) (5 ∷ 50 ∷ 2 ∷ 1 ∷ 7 ∷ 2 ∷ 8 ∷ 80 ∷ 1 ∷ 0 ∷ 0 ∷ 0 ∷ 3 ∷ 30 ∷ 1 ∷ 0 ∷ 0 ∷ 0 ∷ []) 4
     -- 5. A, replace 4/7: answers 1/10, slot 1 (3,30,2), node 1 begins (4,7,1)
@@ -72,9 +74,13 @@ table =
     ∷ clocked caseSix caseSixSays
     -- 7. cleared, six pushes accepted, the seventh refused 5
     ∷ row (replicate 7 (Push (element 1 1))) (done 6 ++ ((5, 0, 0) ∷ [])) (1 ∷ 1 ∷ 3 ∷ 1 ∷ 1 ∷ 3 ∷ 1 ∷ 1 ∷ 1 ∷ 1 ∷ 1 ∷ 1 ∷ 1 ∷ 1 ∷ 1 ∷ 1 ∷ 1 ∷ 1 ∷ []) 6
+    -- "an empty queue refuses replace with 6", and the store stands
+    ∷ row (Replace (element 5 50) ∷ []) ((6, 0, 0) ∷ []) (replicate 18 0) 0
+    -- .. by cycles: as idle, so that a pop just after it is not too soon; and a lower newcomer is taken in
+    ∷ cycles (map told caseEmpty) (map told caseEmptySays)
     -- 8. bucket, N = 3: push 7/1, 7/2, 4095/3; push 0/4 refused 5; 4096/4 refused 4; pops 7/1, 7/2, 4095/3, then 6
     ∷ bucket 3 case8 ((0, 0, 0) ∷ (0, 0, 0) ∷ (0, 0, 0) ∷ (5, 0, 0) ∷ (4, 0, 0) ∷ (0, 7, 1) ∷ (0, 7, 2) ∷ (0, 4095, 3) ∷ (6, 0, 0) ∷ [])
-    -- the bucket's words that are not 0, with their places, after push 7/1, 7/2, 7/3 and a pop; and after replace 70/5
+    -- the bucket's words that are not 0, with their places, after push 7/1, 7/2, 7/3 and a pop; and after replace 70/5 and replace 3/6
     ∷ bucketWords 4 popCase popCaseBits popCaseWords
     ∷ bucketWords 4 replaceCase replaceCaseBits replaceCaseWords
     -- held refused: 1, an order of 3; 2, a slot with count 0 and a rank

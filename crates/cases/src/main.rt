@@ -67,6 +67,12 @@ fn popped(store: &mut [u32]) {
     pop(store);
 }
 
+fn replaced_empty(store: &mut [u32]) {
+    shaped(store, 2, 2);
+    say_answer(b"replace ", tree::replace(store, 2, 2, element(5, 50)));
+    say_words(store);
+}
+
 fn replaced(store: &mut [u32], rank: u32) {
     fill(store);
     say_answer(b"replace ", tree::replace(store, 2, 2, element(rank, 7)));
@@ -198,6 +204,26 @@ fn case_ten(store: &mut [u32]) {
     tick(store, s6, Request::Pop);
 }
 
+fn newcomer(rank: u32, tag: u32) -> Request {
+    Request::Replace(Element {
+        rank: Rank(rank),
+        tag: Tag(tag),
+    })
+}
+
+// A replace with nothing held is refused and runs as an idle cycle; a lower newcomer is taken in.
+fn empty_machine(store: &mut [u32]) {
+    io::write_all(1, b"a replace on an empty machine\n");
+    let s0 = restart(store);
+    let s1 = tick(store, s0, newcomer(5, 50));
+    let s2 = tick(store, s1, Request::Pop);
+    let s3 = tick(store, s2, asked(1, 10));
+    let s4 = tick(store, s3, newcomer(0, 7));
+    let s5 = tick(store, s4, newcomer(0, 7));
+    let s6 = tick(store, s5, Request::Idle);
+    tick(store, s6, Request::Pop);
+}
+
 // Push 1, 9, 2: the 2 is still on its way and node 0 is empty, so that a pop just after is too soon.
 fn on_its_way(store: &mut [u32]) {
     io::write_all(1, b"a pop just after a push\n");
@@ -222,10 +248,12 @@ fn main() {
     replaced(&mut store, 0);
     replaced(&mut store, 1);
     replaced(&mut store, 4);
+    replaced_empty(&mut store);
     io::write_all(1, b"case 7\n");
     filled(&mut store);
     case_six(&mut store);
     case_ten(&mut store);
+    empty_machine(&mut store);
     on_its_way(&mut store);
     shapes();
     buckets();

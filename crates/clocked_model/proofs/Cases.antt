@@ -1,7 +1,7 @@
--- 01's worked case 6, and case 10, computed from the definitions.
+-- 01's worked cases 6 and 10, and an empty machine, computed from the definitions.
 use mathlib.Core.Path.{_≡_, refl}
 use Rattle.clocked_model.specs.Calls.{asks, drainFrom, drains, fresh, ruleMarked, isRefused, marks, popsOrReplaces, cycled, cycleRun}
-use Rattle.clocked_model.specs.Cases.{caseSix, caseSixSays, caseTen, caseTenSays, clockedA}
+use Rattle.clocked_model.specs.Cases.{caseEmpty, caseEmptySays, caseSix, caseSixSays, caseTen, caseTenSays, clockedA}
 use Rattle.clocked_model.specs.Cycle.{cycleOk, cycleWords, quiet}
 use Rattle.clocked_model.specs.Records.{landed, recordAt, recordsAfter, worksOf}
 use Rattle.promise.specs.Queue.{answers, leaves}
@@ -19,3 +19,7 @@ case-6 = refl
 pub case-10 : caseTen ≡ caseTenSays
 unfolding caseTen answers cycled cycleRun fresh ruleMarked asks popsOrReplaces isRefused marks cycleWords cycleOk recordAt worksOf landed recordsAfter blank key vacant isEmpty seek every firstEmpty leastCount lowest slotAt low keep pass putBy putMove takeBy takeMove swapBy swapMove opMove isNothing sumCounts work top levelMove stepWork room isBlank slotOk nodeOk hasRoom hasSome readOk lifts stepOk workOk slotOf write wipe tabulate nodeOf levelOf levelsOf stepWords orderOk shapeOk rule cleared
 case-10 = refl
+
+pub case-empty : caseEmpty ≡ caseEmptySays
+unfolding caseEmpty answers cycled cycleRun fresh ruleMarked asks popsOrReplaces isRefused marks cycleWords cycleOk recordAt worksOf landed recordsAfter blank key vacant isEmpty seek every firstEmpty leastCount lowest slotAt low keep pass putBy putMove takeBy takeMove swapBy swapMove opMove isNothing sumCounts work top levelMove stepWork room isBlank slotOk nodeOk hasRoom hasSome readOk lifts stepOk workOk slotOf write wipe tabulate nodeOf levelOf levelsOf stepWords orderOk shapeOk rule cleared
+case-empty = refl

@@ -9,3 +9,4 @@ pub mod Promises
 pub mod Cases
 pub mod OneStep
 pub mod Unread
+pub mod Replace

@@ -158,7 +158,7 @@ module _ (m : ℕ) (ws : List ℕ) (rs : List Request) where
       → stored (room m levels) (at-rest-after levels n) (same e) + allGiven rs (cycleAnswers m levels rs ws) (same e) ≡ allBrought rs (cycleAnswers m levels rs ws) (same e)
   pairs levels sh n q e = holds levels sh n q (same e)
 
-  -- LEAST: what a cycle gives out has the lowest rank of all that the store holds once idled and, in a replace, of the newcomer
+  -- LEAST: what a cycle gives out, of a pop or a replace, has the lowest rank of all that the store held before it, once idled
   pub least : (levels : ℕ) → Shape m levels (length ws) → (n : ℕ) → Idled levels n
       → (r : Request) → Least (stored (room m levels) (at-rest-after levels n)) r (cycled m levels r (ran m levels rs ws .state) (ran m levels rs ws .words) .answer)
   unfolding oneByOne

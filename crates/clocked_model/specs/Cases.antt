@@ -1,4 +1,4 @@
--- 01's worked case 6, as a list of words after each cycle.
+-- 01's worked case 6, as a list of words after each cycle; case 10, and an empty machine, by their answers.
 use Prim.Native.Nat.{ℕ}
 use mathlib.Core.List.{[], _∷_, List}
 use lib.ListN.{replicate}
@@ -8,8 +8,8 @@ use Rattle.promise.specs.Queue.{leaves}
 use Rattle.strip.specs.Answers.{element}
 use Rattle.strip.specs.declared.Answer.{Answer}
 use Rattle.strip.specs.declared.Answer.the-variants.{Done, Out, Refused}
-use Rattle.strip.specs.declared.Refusal.the-variants.{TooSoon}
-use Rattle.strip.specs.declared.Request.the-variants.{Idle, Pop, Push}
+use Rattle.strip.specs.declared.Refusal.the-variants.{Empty, TooSoon}
+use Rattle.strip.specs.declared.Request.the-variants.{Idle, Pop, Push, Replace}
 
 -- order 2, levels 2: "Store A is cleared, then push 5/50, 3/30, 8/80, 1/10", by cycles
 unfoldable pub clockedA : Machine
@@ -34,3 +34,11 @@ caseTen = cycleAnswers 2 2 (Push (element 5 50) ∷ Idle ∷ Pop ∷ Push (eleme
 
 abbrev pub caseTenSays : List Answer
 caseTenSays = Done ∷ Done ∷ Out (element 5 50) ∷ Done ∷ Done ∷ Refused TooSoon ∷ Out (element 1 10) ∷ []
+
+-- "an empty queue refuses replace with 6 (clocked: as idle)": a pop just after it is not too soon. And "the lowest held element is answered, even if the
+-- new rank is lower": 0/7 is taken in, and a later pop gives it
+unfoldable pub caseEmpty : List Answer
+caseEmpty = cycleAnswers 2 2 (Replace (element 5 50) ∷ Pop ∷ Push (element 1 10) ∷ Replace (element 0 7) ∷ Replace (element 0 7) ∷ Idle ∷ Pop ∷ []) (replicate 18 0)
+
+abbrev pub caseEmptySays : List Answer
+caseEmptySays = Refused Empty ∷ Refused Empty ∷ Done ∷ Refused TooSoon ∷ Out (element 1 10) ∷ Done ∷ Out (element 0 7) ∷ []

@@ -14,8 +14,10 @@ use Rattle.laws.specs.Ladder.{fine, Ladder, rung, stop}
 use Rattle.laws.specs.Sums.{sumTo}
 use Rattle.promise.specs.Queue.{answers, leaves, Pins, step, Step}
 use Rattle.promise.specs.Refused.{limits}
+use Rattle.promise.specs.Served.{hit}
+use Rattle.strip.specs.Answers.{numberOf}
 use Rattle.strip.specs.declared.Answer.{Answer}
-use Rattle.strip.specs.declared.Answer.the-variants.{Refused}
+use Rattle.strip.specs.declared.Answer.the-variants.{Done, Out, Refused}
 use Rattle.strip.specs.declared.Element.{Element}
 use Rattle.strip.specs.declared.Refusal.{Refusal}
 use Rattle.strip.specs.declared.Refusal.the-variants.{BadRank, BadShape, Damaged, Empty, Full, TooSoon}
@@ -25,7 +27,7 @@ use Rattle.tree_model.specs.Calls.{called, heldCount, outcome, Outcome, rootOf}
 use Rattle.tree_model.specs.Damage.{room}
 use Rattle.tree_model.specs.Levels.{idle, Level, Levels, stepLevel, stepWork, top, work}
 use Rattle.tree_model.specs.Node.{sumCounts}
-use Rattle.tree_model.specs.Promise.{Agree, levelAt, NodeDamaged, Shape, Some, start, threeWords, WorkDamaged}
+use Rattle.tree_model.specs.Promise.{Agree, levelAt, NodeDamaged, Shape, Some, start, stored, threeWords, WorkDamaged}
 use Rattle.tree_model.specs.Words.{levelsOf}
 use Rattle.tree_model.specs.declared.Op.the-variants.{Nothing}
 use Rattle.tree_model.specs.declared.Work.{Work}
@@ -215,6 +217,31 @@ pub record Alike (m levels : ℕ) (x y : Machine) : Type 0 where
   pub words : Agree (room m levels) (x .words) (y .words)
   pub works : worksOf (pred levels) (x .state .records) 0 ≡ worksOf (pred levels) (y .state .records) 0
   pub mark : x .state .mark ≡ y .state .mark
+
+-- ---- REPLACE: "a replace is a pop and then a push" (02 [4]), of the machine x. The words may lie elsewhere, but what is answered and what is held
+-- is the same
+module _ (m levels : ℕ) where
+  -- n idle cycles leave nothing pending, and then so many elements that pass the test are stored
+  abbrev pub Rests : ℕ → Machine → Type 0
+  Rests n x = pending m levels (idles m levels n (x .state) (x .words) .state) ≡ false
+
+  abbrev pub storedThen : ℕ → Machine → (Element → Bool) → ℕ
+  storedThen n x f = stored (room m levels) (idles m levels n (x .state) (x .words) .words) f
+
+  pub record PopThenPush (e : Element) (x : Machine) : Type 0 where
+    -- the cycle is answered as a pop's is there, refusals too ..
+    pub answer : clockedQueue m levels (Replace e) x .said ≡ clockedQueue m levels Pop x .said
+    -- .. and refused it leaves what the refused pop leaves
+    pub refused : (numberOf (clockedQueue m levels (Replace e) x .said) ≡ 0 → ⊥) → clockedQueue m levels (Replace e) x ≡ clockedQueue m levels Pop x
+    -- not refused, a push in the cycle after the pop is taken ..
+    pub taken : numberOf (clockedQueue m levels (Replace e) x .said) ≡ 0 → clockedQueue m levels (Push e) (clockedQueue m levels Pop x .next) .said ≡ Done
+    -- .. and, idled, of every kind of element as many are stored as after those two cycles; levels - 1 idle cycles are enough
+    pub idled : Rests (pred levels) x × Rests (pred levels) (clockedQueue m levels (Replace e) x .next) × Rests (pred levels) (leaves (clockedQueue m levels) (Pop ∷ Push e ∷ []) x)
+    pub stores : numberOf (clockedQueue m levels (Replace e) x .said) ≡ 0 → (i j : ℕ) → Rests i (clockedQueue m levels (Replace e) x .next) → Rests j (leaves (clockedQueue m levels) (Pop ∷ Push e ∷ []) x)
+        → (f : Element → Bool) → storedThen i (clockedQueue m levels (Replace e) x .next) f ≡ storedThen j (leaves (clockedQueue m levels) (Pop ∷ Push e ∷ []) x) f
+    -- that is what would have been stored without it, less what is answered, and the newcomer
+    pub swapped : (o : Element) → clockedQueue m levels (Replace e) x .said ≡ Out o → (i j : ℕ) → Rests i (clockedQueue m levels (Replace e) x .next) → Rests j x
+        → (f : Element → Bool) → storedThen i (clockedQueue m levels (Replace e) x .next) f + hit (f o) ≡ storedThen j x f + hit (f e)
 
 -- ---- each public call's outcome is one
 pub record Pinned (m levels : ℕ) (s : State) (ws : List ℕ) : Type 0 where

@@ -4,7 +4,7 @@ use native.Mathlib.Omega.{arith}
 use mathlib.Core.Bool.{_&&_, _||_, Bool, false, not, true, true≢false}
 use mathlib.Core.List.{[], _∷_, List}
 use mathlib.Core.Path.{_∙_, _≡_, ap, ap₂, refl, subst, sym}
-use lib.Dec.{eqb, ltb}
+use lib.Dec.{eqb}
 use lib.ListN.{length}
 use borrow.Author.Tests.{eqb-true, le-ltb, lt-ltb, not-false, not-true}
 use Rattle.clocked_model.specs.Calls.{askedOk, asks, ruleMarked, popsOrReplaces}
@@ -13,11 +13,11 @@ use Rattle.clocked_steps.specs.declared.asked.RootStep.{RootStep}
 use Rattle.laws.specs.Lists.{All}
 use Rattle.laws.specs.Tests.{and-left, and-right, and-unit, sub-one}
 use Rattle.node_plan.proofs.Planning.{below-in, chosen-low, put-planned, swap-planned, take-planned}
-use Rattle.node.proofs.Rulings.{pop-empty, pop-takes, replace-back, replace-empty, replace-swaps}
+use Rattle.node.proofs.Rulings.{pop-empty, pop-takes, replace-empty, replace-swaps}
 use Rattle.node.proofs.Steps.{move-nothing, room-up, step-nothing}
 use Rattle.node_plan.specs.Planning.{Chosen, liftsOk, Planned, PlanIn, putFrom, swapFrom, takeFrom}
 use Rattle.node.specs.Scan.{Capacity, childOf, NodeIn, RoomUnder}
-use Rattle.strip.specs.Answers.{blank, key}
+use Rattle.strip.specs.Answers.{blank}
 use Rattle.strip.specs.declared.Answer.{Answer}
 use Rattle.strip.specs.declared.Answer.the-variants.{Done, Out, Refused}
 use Rattle.strip.specs.declared.Element.{Element}
@@ -149,9 +149,9 @@ module _ (m r : ℕ) (ws : List ℕ) where
         settled-still h (Refused Empty) b is k (ruleAt m (suc k) Pop ws) (rootOk m (suc k) ws) (whole ∙ root-as k er)
         (λ y. pop-empty m (suc k) ws (sumCounts root) refl (none-here k er e y))
 
-    pub replace-still : (x : Element) (h : RootStep) (b : Bool) → not t ≡ true → b ≡ nodeOk r root → Still m b (Out x) h → Ruled m r (Replace x) ws h
+    pub replace-still : (x : Element) (h : RootStep) (b : Bool) → not t ≡ true → b ≡ nodeOk r root → Still m b (Refused Empty) h → Ruled m r (Replace x) ws h
     replace-still x h b e whole is k er =
-        settled-still h (Out x) b is k (ruleAt m (suc k) (Replace x) ws) (rootOk m (suc k) ws) (whole ∙ root-as k er)
+        settled-still h (Refused Empty) b is k (ruleAt m (suc k) (Replace x) ws) (rootOk m (suc k) ws) (whole ∙ root-as k er)
         (λ y. replace-empty m (suc k) ws (sumCounts root) refl x (none-here k er e y))
 
     module _ (e : not t ≡ false) (j : ℕ) (a : Slot) (chosen : t ≡ true → Chosen m 0 ws (lowest root) j a) where
@@ -180,18 +180,12 @@ module _ (m r : ℕ) (ws : List ℕ) where
           (settled-step h k u (ruling (Out (a .element)) Take) (rootOk m (suc k) ws) (sym (root-as k er) ∙ ok) ea eo er (f k er)
           (take-planned m 0 m r u ws t tested e j a chosen (h .plan .ok) (h .plan .step) eb ev))
 
-      module _ (x : Element) (s : Bool) (is-lower : s ≡ ltb (key x) (key (a .element))) where
-        pub replace-stands : (h : RootStep) → s ≡ true → Still m true (Out x) h → Ruled m r (Replace x) ws h
-        replace-stands h y is k er =
-            settled-still h (Out x) true is k (ruleAt m (suc k) (Replace x) ws) (rootOk m (suc k) ws) (sym ok ∙ root-as k er)
-            (λ z. replace-back m (suc k) ws (sumCounts root) refl some (a .element) least x s is-lower y)
-
-        pub replace-step : (h : RootStep) (u : ℕ) → s ≡ false → RoomUnder m r u → h .answer ≡ Out (a .element) → h .op ≡ Swap x
-            → h .plan .ok ≡ liftsOk u a (nodeOf m ws (m + j * m)) → (h .plan .ok ≡ true → h .plan .step ≡ swapFrom j a (nodeOf m ws (m + j * m)) x) → Ruled m r (Replace x) ws h
-        replace-step h u y f ea eo eb ev k er =
-            subst (λ (g : Ruling). Settles m k (rootOk m (suc k) ws) g ws h) (sym (replace-swaps m (suc k) ws (sumCounts root) refl some (a .element) least x s is-lower y))
-            (settled-step h k u (ruling (Out (a .element)) (Swap x)) (rootOk m (suc k) ws) (sym (root-as k er) ∙ ok) ea eo er (f k er)
-            (swap-planned m 0 m r u ws t tested e j a chosen x (h .plan .ok) (h .plan .step) eb ev))
+      pub replace-step : (x : Element) (h : RootStep) (u : ℕ) → RoomUnder m r u → h .answer ≡ Out (a .element) → h .op ≡ Swap x → h .plan .ok ≡ liftsOk u a (nodeOf m ws (m + j * m))
+          → (h .plan .ok ≡ true → h .plan .step ≡ swapFrom j a (nodeOf m ws (m + j * m)) x) → Ruled m r (Replace x) ws h
+      replace-step x h u f ea eo eb ev k er =
+          subst (λ (g : Ruling). Settles m k (rootOk m (suc k) ws) g ws h) (sym (replace-swaps m (suc k) ws (sumCounts root) refl some (a .element) least x))
+          (settled-step h k u (ruling (Out (a .element)) (Swap x)) (rootOk m (suc k) ws) (sym (root-as k er) ∙ ok) ea eo er (f k er)
+          (swap-planned m 0 m r u ws t tested e j a chosen x (h .plan .ok) (h .plan .step) eb ev))
 
   -- ---- with the mark
   module _ (mark : Bool) (q : Request) (t : Bool) (read : t ≡ popsOrReplaces q) where

@@ -5,7 +5,6 @@ ghost use Rattle.tree_model.specs.Damage.{nodeOk};
 ghost use Rattle.tree_model.specs.Words.{nodeOf};
 ghost use Rattle.clocked_model.specs.Calls.{asks, popsOrReplaces, isRefused, marks};
 ghost use Rattle.clocked_steps.specs.Steps.{RootIn, Still, Ruled, RulesRoot};
-use node::lower;
 use node::node_ok;
 use node::room_under;
 use node_plan::Plan;
@@ -116,7 +115,7 @@ fn rule_pop(s: &[u32], order: usize, room: usize) -> RootStep
 {
     let c = choose_low(s, 0, order, room);
     if !c.ok {
-        return stands(s, order, room, true, Answer::Refused(Refusal::Empty));
+        return stands(s, order, room, true, Answer::Refused(Refusal::Empty)); // nothing to take
     }
     let slot = c.slot;
     let under = room_under(order, room);
@@ -129,23 +128,21 @@ fn rule_pop(s: &[u32], order: usize, room: usize) -> RootStep
     }
 }
 
+// Refused like a pop; else the lowest is answered even where x's rank is lower, and x is swapped in.
 fn rule_replace(s: &[u32], order: usize, room: usize, x: Element) -> RootStep
     requires { ⌜ RootIn order room (now s) ⌝ }
     ensures { λ r. ⌜ Ruled order room (Request.Replace x) (now (s .entry)) r ⌝ }
 {
     let c = choose_low(s, 0, order, room);
     if !c.ok {
-        return stands(s, order, room, true, Answer::Out(x));
+        return stands(s, order, room, true, Answer::Refused(Refusal::Empty)); // nothing to swap with
     }
     let slot = c.slot;
-    let least = slot.element;
-    if lower(x, least) {
-        return still(order, true, Answer::Out(x));
-    }
     let under = room_under(order, room);
     let plan = plan_swap(s, order, order, under, c.place, slot, x);
+    let low = slot.element;
     RootStep {
-        answer: Answer::Out(least),
+        answer: Answer::Out(low),
         op: Op::Swap(x),
         plan,
     }

@@ -4,19 +4,17 @@ use mathlib.Core.Logic.{_⊎_, inl, inr, ⊎-elim}
 use mathlib.Core.Path.{_∙_, _≡_, refl, sym, ap}
 use Rattle.laws.specs.Means.{Means}
 
--- `rung r P l` asks P, and where it does not hold the refusal is r; `stop r P l` refuses r where P holds; `provided P l` asks l only where P holds
+-- `rung r P l` asks P, and where it does not hold the refusal is r; `stop r P l` refuses r where P holds
 pub data Ladder (R : Type 0) : Type 1 where
   fine : Ladder R
   rung : R → Type 0 → Ladder R → Ladder R
   stop : R → Type 0 → Ladder R → Ladder R
-  provided : Type 0 → Ladder R → Ladder R
 
 -- r is the refusal of the first rung that fails: every earlier one is excluded
 abbrev pub First : {R : Type 0} → Ladder R → R → Type 0
 First fine r = ⊥
 First (rung x P l) r = ((P → ⊥) × (r ≡ x)) ⊎ (P × First l r)
 First (stop x P l) r = (P × (r ≡ x)) ⊎ ((P → ⊥) × First l r)
-First (provided P l) r = P × First l r
 
 module _ {R O A : Type 0} (says : O → A) (no : R → O) where
   -- the columns "Exactly when" and "Left behind" of a call's outcome o: where it says a refusal that is the first rung's that does not hold, and where a rung does not hold the outcome is that of its refusal
@@ -34,11 +32,6 @@ module _ {R O A : Type 0} (says : O → A) (no : R → O) where
 
   pub climb-fine : (o : O) → Granted o → Exactly o fine
   climb-fine o g = record { only = g; always = λ r f. absurd f }
-
-  -- asked only where P holds; elsewhere nothing is refused. What comes below a rung may count on it
-  pub climb-provided : (t : Bool) (P : Type 0) (o g : O) (l : Ladder R) → Means t P → Granted g → (P → Exactly o l) → Exactly (cond t o g) (provided P l)
-  climb-provided true P o g l m n z = let p = m .says refl in record { only = λ r e. (p, z p .only r e); always = λ r f. z p .always r (f .1) }
-  climb-provided false P o g l m n z = record { only = λ r e. absurd (n r e); always = λ r f. absurd (false≢true (m .holds (f .0))) }
 
   -- by whether the fact holds, whatever computes the outcome
   pub climb-by : ((x y : R) → says (no x) ≡ says (no y) → x ≡ y) → (x : R) (P : Type 0) (o : O) (l : Ladder R) → (P × Exactly o l) ⊎ ((P → ⊥) × (o ≡ no x)) → Exactly o (rung x P l)

@@ -1,13 +1,10 @@
 -- What is read of the root makes the ruling on a request. Assumes nothing.
 use Prim.Native.Nat.{_<_, _≤_, ℕ}
 use native.Mathlib.Omega.{arith}
-use mathlib.Core.Bool.{Bool, false, true}
 use mathlib.Core.List.{List}
 use mathlib.Core.Path.{_∙_, _≡_, sym}
-use lib.Dec.{ltb}
 use borrow.Author.Tests.{eq-eqb, le-ltb, lt-ltb, ne-eqb}
 use Rattle.node.specs.Scan.{Capacity}
-use Rattle.strip.specs.Answers.{key}
 use Rattle.strip.specs.declared.Answer.the-variants.{Done, Out, Refused}
 use Rattle.strip.specs.declared.Element.{Element}
 use Rattle.strip.specs.declared.Refusal.the-variants.{Empty, Full}
@@ -31,7 +28,7 @@ module _ (m levels : ℕ) (ws : List ℕ) (sum : ℕ) (summed : sum ≡ sumCount
   unfolding rule
   pop-empty z = rw (eq-eqb (sumCounts (rootOf m ws)) 0 (sym summed ∙ z))
 
-  pub replace-empty : (x : Element) → sum ≡ 0 → ruleAt m levels (Replace x) ws ≡ ruling (Out x) Nothing
+  pub replace-empty : (x : Element) → sum ≡ 0 → ruleAt m levels (Replace x) ws ≡ ruling (Refused Empty) Nothing
   unfolding rule
   replace-empty x z = rw (eq-eqb (sumCounts (rootOf m ws)) 0 (sym summed ∙ z))
 
@@ -40,11 +37,6 @@ module _ (m levels : ℕ) (ws : List ℕ) (sum : ℕ) (summed : sum ≡ sumCount
     unfolding rule
     pop-takes = rw (ne-eqb (sumCounts (rootOf m ws)) 0 (λ z. more (summed ∙ z)), ← is-low)
 
-    module _ (x : Element) (t : Bool) (tested : t ≡ ltb (key x) (key least)) where
-      pub replace-back : t ≡ true → ruleAt m levels (Replace x) ws ≡ ruling (Out x) Nothing
-      unfolding rule
-      replace-back y = rw (ne-eqb (sumCounts (rootOf m ws)) 0 (λ z. more (summed ∙ z)), ← is-low, ← tested, y)
-
-      pub replace-swaps : t ≡ false → ruleAt m levels (Replace x) ws ≡ ruling (Out least) (Swap x)
-      unfolding rule
-      replace-swaps y = rw (ne-eqb (sumCounts (rootOf m ws)) 0 (λ z. more (summed ∙ z)), ← is-low, ← tested, y)
+    pub replace-swaps : (x : Element) → ruleAt m levels (Replace x) ws ≡ ruling (Out least) (Swap x)
+    unfolding rule
+    replace-swaps x = rw (ne-eqb (sumCounts (rootOf m ws)) 0 (λ z. more (summed ∙ z)), ← is-low)

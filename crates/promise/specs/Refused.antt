@@ -36,12 +36,13 @@ zero-told BadRank e = omega arith
 zero-told Full e = omega arith
 zero-told Empty e = omega arith
 
--- 5 and 6, of a queue that holds n and has room for c: "full: push, held = capacity or N"; "empty: pop, held = 0". What is asked after is l
+-- 5 and 6, of a queue that holds n and has room for c: "full: push, held = capacity or N"; "empty: pop, held = 0", and "an empty queue refuses
+-- replace with 6". What is asked after is l
 abbrev pub limits : Request → ℕ → ℕ → Ladder Refusal → Ladder Refusal
 limits Idle n c l = l
 limits (Push x) n c l = stop Full (n ≡ c) l
 limits Pop n c l = stop Empty (n ≡ 0) l
-limits (Replace x) n c l = l
+limits (Replace x) n c l = stop Empty (n ≡ 0) l
 
 abbrev pub IsPush : Request → Type 0
 IsPush Idle = ⊥

@@ -1,5 +1,5 @@
 -- What a request brings in and gives out, in 01's numbers; what a queue then holds; which kind of answer it is, and that it has the lowest rank.
-use Prim.Native.Nat.{_+_, _≤_, suc, zero, ℕ}
+use Prim.Native.Nat.{_+_, suc, zero, ℕ}
 use native.Mathlib.Omega.{arith}
 use mathlib.Core.Bool.{_&&_, Bool, false, true}
 use mathlib.Core.List.{[], _∷_, List}
@@ -86,15 +86,15 @@ Kind (Push x) a = a ≡ Done
 Kind Pop a = IsOut a
 Kind (Replace x) a = IsOut a
 
--- LEAST: "what comes out has the lowest rank held", in a replace the newcomer counted
+-- LEAST: "what comes out has the lowest rank held", in a replace too: the newcomer is not yet in
 abbrev pub Least : ((Element → Bool) → ℕ) → Request → Answer → Type 0
 Least held Idle a = Unit {0}
 Least held (Push x) a = Unit {0}
 Least held Pop a = numberOf a ≡ 0 → held (lower (rankOf a)) ≡ 0
-Least held (Replace x) a = numberOf a ≡ 0 → (held (lower (rankOf a)) ≡ 0) × (rankOf a ≤ x .rank .0)
+Least held (Replace x) a = numberOf a ≡ 0 → held (lower (rankOf a)) ≡ 0
 
 pub least-same : (g h : (Element → Bool) → ℕ) → ((f : Element → Bool) → g f ≡ h f) → (r : Request) (a : Answer) → Least g r a → Least h r a
 least-same g h p Idle a l = tt
 least-same g h p (Push x) a l = tt
 least-same g h p Pop a l = λ e. sym (p (lower (rankOf a))) ∙ l e
-least-same g h p (Replace x) a l = λ e. (sym (p (lower (rankOf a))) ∙ l e .0, l e .1)
+least-same g h p (Replace x) a l = λ e. sym (p (lower (rankOf a))) ∙ l e

@@ -2,7 +2,7 @@
 -- Assumes nothing.
 use Prim.Native.Nat.{_*_, _≤_, pred, suc, zero, ℕ}
 use native.Mathlib.Omega.{arith}
-use mathlib.Core.Bool.{_&&_, _||_, Bool, cond, false, true}
+use mathlib.Core.Bool.{_&&_, Bool, cond, false, true}
 use mathlib.Core.List.{[], _++_, _∷_, List}
 use mathlib.Core.Logic.{_⊎_, ⊎-elim}
 use mathlib.Core.Path.{_∙_, _≡_, ap, ap₂, refl, subst, sym}
@@ -18,7 +18,7 @@ use Rattle.clocked_model.specs.declared.State.{State}
 use Rattle.laws.specs.Tests.{and-left, and-right, and-true}
 use Rattle.promise.specs.Queue.{leaves}
 use Rattle.promise.specs.Served.{always}
-use Rattle.strip.specs.Answers.{countOf, key, numberOf, refusalNumber}
+use Rattle.strip.specs.Answers.{countOf, numberOf, refusalNumber}
 use Rattle.strip.specs.declared.Answer.the-variants.{Done, Out, Refused}
 use Rattle.strip.specs.declared.Refusal.{Refusal}
 use Rattle.strip.specs.declared.Refusal.the-variants.{BadRank, BadShape, Damaged, Empty, Full, TooSoon}
@@ -62,9 +62,9 @@ ruleMarked-word false Pop c nd e = popped (eqb (sumCounts nd) 0) e
     popped true e = absurd (omega (arith, ap length e))
     popped false e = absurd (omega (arith, ap length e))
 ruleMarked-word true (Replace x) c nd e = absurd (omega (arith, ap length e))
-ruleMarked-word false (Replace x) c nd e = replaced (eqb (sumCounts nd) 0 || ltb (key x) (key (low nd))) e
+ruleMarked-word false (Replace x) c nd e = replaced (eqb (sumCounts nd) 0) e
   where
-    replaced : (b : Bool) → wordOf (Replace x) (cond b (ruling (Out x) Nothing) (ruling (Out (low nd)) (Swap x)) .answer) ≡ [] → ⊥
+    replaced : (b : Bool) → wordOf (Replace x) (cond b (ruling (Refused Empty) Nothing) (ruling (Out (low nd)) (Swap x)) .answer) ≡ [] → ⊥
     replaced true e = absurd (omega (arith, ap length e))
     replaced false e = absurd (omega (arith, ap length e))
 

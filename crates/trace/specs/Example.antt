@@ -1,4 +1,4 @@
--- 01's worked trace, and what it gives. Assumes nothing: these are definitions.
+-- 01's worked trace and one of replaces, and what they give. Assumes nothing: these are definitions.
 use Prim.Native.Nat.{ℕ}
 use mathlib.Core.List.{[], _++_, _∷_, List}
 use Rattle.text.specs.Text.{bytesOf}
@@ -13,3 +13,10 @@ example = bytesOf "PFT" ++ ((1 ∷ 0 ∷ 2 ∷ 2 ∷ []) ++ (small 1 5 50 ++ (sm
 
 abbrev pub exampleSays : List ℕ
 exampleSays = bytesOf "1 pushed\n2 too soon\n3 out 5 50\n4 too soon\nheld 0 drained 0\n"
+
+-- a replace with nothing held writes `empty`, and a pop just after it is not too soon; one of a lower rank than all held writes what was held
+abbrev pub emptied : List ℕ
+emptied = bytesOf "PFT" ++ ((1 ∷ 0 ∷ 2 ∷ 2 ∷ []) ++ (small 3 5 50 ++ (small 2 0 0 ++ (small 1 5 50 ++ (small 0 0 0 ++ small 3 4 7)))))
+
+abbrev pub emptiedSays : List ℕ
+emptiedSays = bytesOf "1 empty\n2 empty\n3 pushed\n4 idle\n5 out 5 50\nheld 1 drained 0\n"

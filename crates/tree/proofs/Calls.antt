@@ -7,15 +7,13 @@ use mathlib.Core.Bool.{_&&_, Bool, cond, false, not, true}
 use mathlib.Core.List.{_++_, List}
 use mathlib.Core.Logic.{⊎-elim}
 use mathlib.Core.Path.{_∙_, _≡_, ap, ap₂, refl, sym}
-use lib.Dec.{ltb}
 use lib.ListN.{drop, length, replicate}
 use borrow.Author.Tests.{lt-ltb, not-false, not-true}
 use Rattle.laws.specs.Tests.{and-left, and-right, sub-one}
-use Rattle.node.proofs.Rulings.{pop-empty, pop-takes, push-full, push-puts, replace-back, replace-empty, replace-swaps}
+use Rattle.node.proofs.Rulings.{pop-empty, pop-takes, push-full, push-puts, replace-empty, replace-swaps}
 use Rattle.node.proofs.Scan.{low-found}
 use Rattle.node.proofs.Steps.{lowest-in, room-next, room-up, some-test}
 use Rattle.node.specs.Scan.{Capacity}
-use Rattle.strip.specs.Answers.{key}
 use Rattle.strip.specs.declared.Answer.{Answer}
 use Rattle.strip.specs.declared.Answer.the-variants.{Done, Out, Refused}
 use Rattle.strip.specs.declared.Count.{Count}
@@ -165,8 +163,8 @@ module _ {m levels cap : ℕ} {ws : List ℕ} (f : Fit m levels cap ws) where
     pub pop-none : j ≡ m → outcome (Refused Empty) ws ≡ called m levels Pop ws
     pop-none e = still root-fine Pop (Refused Empty) Nothing (pop-empty m levels ws _ refl (root-none e)) refl
 
-    pub replace-none : (x : Element) → j ≡ m → outcome (Out x) ws ≡ called m levels (Replace x) ws
-    replace-none x e = still root-fine (Replace x) (Out x) Nothing (replace-empty m levels ws _ refl x (root-none e)) refl
+    pub replace-none : (x : Element) → j ≡ m → outcome (Refused Empty) ws ≡ called m levels (Replace x) ws
+    replace-none x e = still root-fine (Replace x) (Refused Empty) Nothing (replace-empty m levels ws _ refl x (root-none e)) refl
 
     pub opened : (j ≡ m → ⊥) → j ≤ m → Opened m levels cap j ws
     opened n most =
@@ -249,16 +247,12 @@ module _ {m levels cap j : ℕ} {ws : List ℕ} (o : Opened m levels cap j ws) (
     pub pop-done : not t ≡ false → outcome (Out (a .element)) q ≡ called m levels Pop ws
     pop-done e = carried (o .fits) (o .fine) Pop (Out (a .element)) Take takes t q d (not-false t e)
 
-  module _ (x : Element) (s : Bool) (is-lower : s ≡ ltb (key x) (key (a .element))) where
-    pub replace-first : s ≡ true → outcome (Out x) ws ≡ called m levels (Replace x) ws
-    replace-first e = still (o .fits) (o .fine) (Replace x) (Out x) Nothing (replace-back m levels ws _ refl (o .some) (a .element) low-is x s is-lower e) refl
+  module _ (x : Element) (t : Bool) (q : List ℕ) (d : Carried m levels 0 (Swap x) ws t q) where
+    swaps : ruleAt m levels (Replace x) ws ≡ ruling (Out (a .element)) (Swap x)
+    swaps = replace-swaps m levels ws _ refl (o .some) (a .element) low-is x
 
-    module _ (no : s ≡ false) (t : Bool) (q : List ℕ) (d : Carried m levels 0 (Swap x) ws t q) where
-      swaps : ruleAt m levels (Replace x) ws ≡ ruling (Out (a .element)) (Swap x)
-      swaps = replace-swaps m levels ws _ refl (o .some) (a .element) low-is x s is-lower no
+    pub replace-broken : not t ≡ true → outcome (Refused Damaged) q ≡ called m levels (Replace x) ws
+    replace-broken e = broken (o .fits) (o .fine) (Replace x) (Out (a .element)) (Swap x) swaps t q d (not-true t e)
 
-      pub replace-broken : not t ≡ true → outcome (Refused Damaged) q ≡ called m levels (Replace x) ws
-      replace-broken e = broken (o .fits) (o .fine) (Replace x) (Out (a .element)) (Swap x) swaps t q d (not-true t e)
-
-      pub replace-done : not t ≡ false → outcome (Out (a .element)) q ≡ called m levels (Replace x) ws
-      replace-done e = carried (o .fits) (o .fine) (Replace x) (Out (a .element)) (Swap x) swaps t q d (not-false t e)
+    pub replace-done : not t ≡ false → outcome (Out (a .element)) q ≡ called m levels (Replace x) ws
+    replace-done e = carried (o .fits) (o .fine) (Replace x) (Out (a .element)) (Swap x) swaps t q d (not-false t e)

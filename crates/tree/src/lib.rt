@@ -197,7 +197,7 @@ pub fn pop(store: &mut [u32], order: usize, levels: usize) -> Answer
     }
     let j = v.place;
     if j == order {
-        return Answer::Refused(Refusal::Empty);
+        return Answer::Refused(Refusal::Empty); // nothing to take
     }
     let a = slot_at(store, j);
     let low = a.element;
@@ -207,7 +207,7 @@ pub fn pop(store: &mut [u32], order: usize, levels: usize) -> Answer
     Answer::Out(low)
 }
 
-// A newcomer of a rank below all held comes straight back, and the store stands.
+// A pop and then a push in one: the lowest held element is answered even where x's rank is lower, and x is swapped in.
 pub fn replace(store: &mut [u32], order: usize, levels: usize, x: Element) -> Answer
     ensures { λ r. ⌜ outcome r (now (store .exit)) ≡ called order levels (Request.Replace x) (now (store .entry)) ⌝ }
 {
@@ -215,23 +215,20 @@ pub fn replace(store: &mut [u32], order: usize, levels: usize, x: Element) -> An
         return Answer::Refused(Refusal::BadShape);
     }
     let cap = capacity(order, levels - 1);
-    let v = look_low(store, 0, order, cap);
-    if !v.ok {
+    let root = look_low(store, 0, order, cap);
+    let j = root.place;
+    if !root.ok {
         return Answer::Refused(Refusal::Damaged);
     }
-    let j = v.place;
     if j == order {
-        return Answer::Out(x);
+        return Answer::Refused(Refusal::Empty); // nothing to swap with
     }
     let a = slot_at(store, j);
-    let low = a.element;
-    if lower(x, low) {
-        return Answer::Out(x);
-    }
+    let least = a.element;
     if !swap(store, order, levels, 0, j, cap, x) {
         return Answer::Refused(Refusal::Damaged);
     }
-    Answer::Out(low)
+    Answer::Out(least)
 }
 
 pub fn clear(store: &mut [u32], order: usize, levels: usize) -> Answer

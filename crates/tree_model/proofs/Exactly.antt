@@ -36,7 +36,7 @@ use Rattle.tree_model.specs.Damage.{workOk, hasRoom, hasSome, isBlank, l
 use Rattle.tree_model.specs.Levels.{Level, Levels, stepWork, top, work}
 use Rattle.tree_model.specs.Node.{every, isEmpty, isNothing, low, lowest, slotAt, sumCounts}
 use Rattle.tree_model.specs.Promise.{clearRefusals, Damage, heldRefusals, Lifts, NodeDamaged, PathDamaged, ReadDamaged, refusals, Shape, SlotDamaged, Some, StepDamaged, WorkDamaged}
-use Rattle.tree_model.specs.Rules.{Comes, empty, full, idles, puts, returns, swaps, takes}
+use Rattle.tree_model.specs.Rules.{Comes, empty, full, idles, lacks, puts, swaps, takes}
 use Rattle.tree_model.specs.Words.{applyWords, levelOf, levelsOf, stepWords, under, wipe}
 use Rattle.tree_model.specs.declared.Op.{Op}
 use Rattle.tree_model.specs.declared.Op.the-variants.{Nothing, Put, Swap, Take}
@@ -251,8 +251,8 @@ module _ {O : Type 0} (answer : O → Answer) (left : Refusal → O) (left-says 
   comes-exactly c nd r g (full x h) most = climb-stop number left tells Full _ _ ladder.fine (inr (omega (arith, most tt), at-full))
   comes-exactly c nd r g (takes h) most = climb-stop number left tells Empty _ _ ladder.fine (inl ((λ e. omega arith), climb-fine number left _ (accepted (Out (low nd)) Take refl)))
   comes-exactly c nd r g (empty h) most = climb-stop number left tells Empty _ _ ladder.fine (inr (h, at-empty))
-  comes-exactly c nd r g (returns x h) most = climb-fine number left _ (accepted (Out x) Nothing refl)
-  comes-exactly c nd r g (swaps x h l) most = climb-fine number left _ (accepted (Out (low nd)) (Swap x) refl)
+  comes-exactly c nd r g (swaps x h) most = climb-stop number left tells Empty _ _ ladder.fine (inl ((λ e. omega arith), climb-fine number left _ (accepted (Out (low nd)) (Swap x) refl)))
+  comes-exactly c nd r g (lacks x h) most = climb-stop number left tells Empty _ _ ladder.fine (inr (h, at-empty))
 
   pub limits-exactly : (c : ℕ) (r : Request) (nd : List Slot) → (IsPush r → sumCounts nd ≤ c) → Exactly number left (o (rule c r nd)) (limits r (sumCounts nd) c ladder.fine)
   limits-exactly c r nd = comes-exactly c nd r _ (comes c r nd)
@@ -322,8 +322,8 @@ comes-kind c nd r g (puts x h) e = refl
 comes-kind c nd r g (full x h) e = absurd (omega arith)
 comes-kind c nd r g (takes h) e = tt
 comes-kind c nd r g (empty h) e = absurd (omega arith)
-comes-kind c nd r g (returns x h) e = tt
-comes-kind c nd r g (swaps x h l) e = tt
+comes-kind c nd r g (swaps x h) e = tt
+comes-kind c nd r g (lacks x h) e = absurd (omega arith)
 
 -- .. and its number is 0, 5 or 6
 pub comes-number : (c : ℕ) (nd : List Slot) (r : Request) (g : Ruling) → Comes c nd r g → (numberOf (g .answer) ≡ 0) ⊎ (numberOf (g .answer) ≡ 5) ⊎ (numberOf (g .answer) ≡ 6)
@@ -332,8 +332,8 @@ comes-number c nd r g (puts x h) = inl refl
 comes-number c nd r g (full x h) = inr (inl refl)
 comes-number c nd r g (takes h) = inl refl
 comes-number c nd r g (empty h) = inr (inr refl)
-comes-number c nd r g (returns x h) = inl refl
-comes-number c nd r g (swaps x h l) = inl refl
+comes-number c nd r g (swaps x h) = inl refl
+comes-number c nd r g (lacks x h) = inr (inr refl)
 
 pub kind : (m levels : ℕ) (r : Request) (ws : List ℕ) → numberOf (called m levels r ws .answer) ≡ 0 → Kind r (called m levels r ws .answer)
 kind m levels r ws =

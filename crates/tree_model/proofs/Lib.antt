@@ -14,3 +14,4 @@ pub mod Root
 pub mod Slice
 pub mod Agreement
 pub mod Unread
+pub mod Replace

@@ -206,7 +206,7 @@ module _ (m k : ℕ) (ws : List ℕ) (sh : Shape m (suc k) (length ws)) where
   start-empty f = stored-holding m k (start m (suc k) ws) f ∙ ap (λ (l : Levels (suc k)). holding m k l f) start-bare ∙ cleared-holds m k f
 
 -- the call held on a kept store
-kept-sum : (m k : ℕ) (ws : List ℕ) → Kept m k ws → sumCounts (rootOf m ws) ≡ holding m k (levelsOf m (suc k) ws 0 1) always
+pub kept-sum : (m k : ℕ) (ws : List ℕ) → Kept m k ws → sumCounts (rootOf m ws) ≡ holding m k (levelsOf m (suc k) ws 0 1) always
 unfolding holding levelsOf
 kept-sum m k ws kept = ap sumCounts (sym (root-node m ws)) ∙ root-sum m k (order-pos (kept .shape)) (levelsOf m (suc k) ws 0 1) (kept .store)
 
@@ -227,7 +227,7 @@ module _ (m : ℕ) (ws : List ℕ) (rs : List Request) where
       → stored (room m levels) (after m levels rs ws) (same e) + allGiven rs (said levels) (same e) ≡ allBrought rs (said levels) (same e)
   pairs levels sh e = holds levels sh (same e)
 
-  -- LEAST: what comes out has the lowest rank of all stored and, in a replace, of the newcomer
+  -- LEAST: what comes out, of a pop or a replace, has the lowest rank of all stored before
   pub least : (levels : ℕ) → Shape m levels (length ws) → (r : Request)
       → Least (stored (room m levels) (after m levels rs ws)) r (called m levels r (after m levels rs ws) .answer)
   least zero sh r = absurd (not-suc-le-zero (sh .some))

@@ -13,7 +13,7 @@ use Rattle.tree_model.specs.Calls.{rootOf, Ruling, ruleAt}
 use Rattle.tree_model.specs.Damage.{room}
 use Rattle.tree_model.specs.Node.{sumCounts}
 use Rattle.tree_model.specs.Promise.{Stuck}
-use Rattle.tree_model.specs.Rules.{Comes, empty, full, idles, puts, returns, swaps, takes}
+use Rattle.tree_model.specs.Rules.{Comes, empty, full, idles, lacks, puts, swaps, takes}
 use Rattle.tree_model.specs.declared.Slot.{Slot}
 
 all-same : (c : ℕ) (nd : List Slot) → All (λ s. s .count ≡ c) nd → sumCounts nd ≡ length nd * c
@@ -36,5 +36,5 @@ root-not-stuck m (suc k) r ws h = go r _ (comes (room m (suc k)) r (rootOf m ws)
     go r g (full x h) s = s
     go r g (takes h) s = none h s
     go r g (empty h) s = s
-    go r g (returns x h) s = s
-    go r g (swaps x h l) s = none h s
+    go r g (swaps x h) s = none h s
+    go r g (lacks x h) s = s

@@ -10,15 +10,14 @@ use lib.ListN.{length}
 use borrow.Author.Tests.{eqb-false, eqb-true, leb-false, leb-true, ltb-false, ltb-true}
 use Rattle.laws.specs.Tests.{cond-both}
 use Rattle.strip.specs.Answers.{blank, key}
-use Rattle.strip.specs.declared.Answer.the-variants.{Out}
 use Rattle.strip.specs.declared.Element.{Element}
 use Rattle.strip.specs.declared.Request.{Request}
 use Rattle.strip.specs.declared.Request.the-variants.{Idle, Pop, Push, Replace}
 use Rattle.tree_model.proofs.Choice.{all-slotAt, least-in, least-le, least-left, lowest-is, lowest-left}
-use Rattle.tree_model.specs.Calls.{rule, ruling}
-use Rattle.tree_model.specs.Node.{firstEmpty, keep, leastCount, low, lowest, move, pass, putBy, putMove, slotAt, sumCounts, swapBy, swapMove, takeBy, takeMove}
-use Rattle.tree_model.specs.Rules.{clears, Comes, empty, ends, exchanges, full, goes, idles, IsLeast, IsLowest, passes, puts, Puts, receives, returns, stays, swaps, Swaps, takes, Takes}
-use Rattle.tree_model.specs.declared.Op.the-variants.{Nothing, Put, Swap}
+use Rattle.tree_model.specs.Calls.{rule}
+use Rattle.tree_model.specs.Node.{firstEmpty, keep, leastCount, lowest, move, pass, putBy, putMove, slotAt, sumCounts, swapBy, swapMove, takeBy, takeMove}
+use Rattle.tree_model.specs.Rules.{clears, Comes, empty, ends, exchanges, full, goes, idles, IsLeast, IsLowest, lacks, passes, puts, Puts, receives, stays, swaps, Swaps, takes, Takes}
+use Rattle.tree_model.specs.declared.Op.the-variants.{Put}
 use Rattle.tree_model.specs.declared.Slot.{Slot}
 
 -- ---- the choices
@@ -72,14 +71,9 @@ swap-rule x nd below = go (leb (slotAt nd (lowest nd) .count) 1) refl (ltb (belo
 
 -- ---- the request
 pub comes : (c : ℕ) (r : Request) (nd : List Slot) → Comes c nd r (rule c r nd)
-unfolding rule key
+unfolding rule
 comes c Idle nd = idles
 comes c (Push x) nd = cond-both (Comes c nd (Push x)) (ltb (sumCounts nd) c) _ _ (λ e. puts x (ltb-true (sumCounts nd) c e)) (λ e. full x (ltb-false (sumCounts nd) c e))
 comes c Pop nd = cond-both (Comes c nd Pop) (eqb (sumCounts nd) 0) _ _ (λ e. empty (eqb-true (sumCounts nd) 0 e)) (λ e. takes (pos-of-ne-zero (eqb-false (sumCounts nd) 0 e)))
-comes c (Replace x) nd = go (eqb (sumCounts nd) 0) refl (ltb (x .rank .0) (low nd .rank .0)) refl
-  where
-    go : (a : Bool) → eqb (sumCounts nd) 0 ≡ a → (b : Bool) → ltb (x .rank .0) (low nd .rank .0) ≡ b
-        → Comes c nd (Replace x) (cond (a || b) (ruling (Out x) Nothing) (ruling (Out (low nd)) (Swap x)))
-    go true e b f = returns x (inl (eqb-true (sumCounts nd) 0 e))
-    go false e true f = returns x (inr (ltb-true (x .rank .0) (low nd .rank .0) f))
-    go false e false f = swaps x (pos-of-ne-zero (eqb-false (sumCounts nd) 0 e)) (ltb-false (x .rank .0) (low nd .rank .0) f)
+comes c (Replace x) nd =
+    cond-both (Comes c nd (Replace x)) (eqb (sumCounts nd) 0) _ _ (λ e. lacks x (eqb-true (sumCounts nd) 0 e)) (λ e. swaps x (pos-of-ne-zero (eqb-false (sumCounts nd) 0 e)))

@@ -1,27 +1,23 @@
 -- A request served on a sound store leaves it sound, holding what was brought in less what was given out; what is given has the lowest rank.
 use Prim.Native.Nat.{_*_, _+_, _<_, suc, zero, ℕ}
-use native.Mathlib.Nat.{le-of-lt}
 use native.Mathlib.Omega.{arith}
-use mathlib.Core.Bool.{Bool, false, true}
+use mathlib.Core.Bool.{Bool}
 use mathlib.Core.List.{[], _∷_, List}
-use mathlib.Core.Logic.{_⊎_, inl, inr}
 use mathlib.Core.Path.{_∙_, _≡_, ap, refl, subst, sym}
-use lib.Dec.{ltb}
 use lib.ListN.{getD, getD-replicate, length, length-replicate, replicate}
-use borrow.Author.Tests.{ltb-false, ltb-true}
 use Rattle.laws.specs.Lists.{All, all-replicate, sum-zero}
 use Rattle.promise.specs.Served.{always, brought, given, Least, lower}
 use Rattle.strip.specs.declared.Element.{Element}
 use Rattle.strip.specs.declared.Request.{Request}
 use Rattle.tree_model.proofs.Acts.{acts}
 use Rattle.tree_model.proofs.Hang.{apply-shaped, below-less, root-commutes, slots-hang}
-use Rattle.tree_model.proofs.Many.{low-least, many-held, none-lower, sum-counts}
+use Rattle.tree_model.proofs.Many.{low-least, sum-counts}
 use Rattle.tree_model.proofs.Rules.{comes}
 use Rattle.tree_model.specs.Calls.{Ruling}
 use Rattle.tree_model.specs.Damage.{room}
 use Rattle.tree_model.specs.Levels.{apply, Levels, Shaped, work}
 use Rattle.tree_model.specs.Node.{low, sumCounts, vacant}
-use Rattle.tree_model.specs.Rules.{Comes, empty, full, idles, puts, returns, swaps, takes}
+use Rattle.tree_model.specs.Rules.{Comes, empty, full, idles, lacks, puts, swaps, takes}
 use Rattle.tree_model.specs.Serve.{bareLevels, holding, ruled, serve, Store}
 use Rattle.tree_model.specs.Tree.{Can, gain, hang, held, loss, lowOf, many, nothing, slots, Sound, Tree, treeOf}
 use Rattle.tree_model.specs.declared.Op.{Op}
@@ -73,14 +69,6 @@ module _ (m k : ℕ) (some : 0 < m) (ls : Levels (suc k)) (st : Store m k ls) wh
     sum : (f : Element → Bool) → loss (suc k) (g .op) t f + brought r (g .answer) f ≡ gain (g .op) f + given r (g .answer) f
     least : Least (holding m k ls) r (g .answer)
 
-  none-lower-than : (x : Element) → (sumCounts root ≡ 0) ⊎ (x .rank .0 < low root .rank .0) → many (lower (x .rank .0)) (suc k) t ≡ 0
-  none-lower-than x (inl e) = omega (arith, many-held (lower (x .rank .0)) (suc k) t, root-sum)
-  none-lower-than x (inr e) = go (ltb 0 (sumCounts root)) refl
-    where
-      go : (b : Bool) → ltb 0 (sumCounts root) ≡ b → many (lower (x .rank .0)) (suc k) t ≡ 0
-      go true p = none-lower (x .rank .0) (low root .rank .0) (suc k) t (le-of-lt e) (root-least (ltb-true 0 (sumCounts root) p))
-      go false p = omega (arith, many-held (lower (x .rank .0)) (suc k) t, root-sum, ltb-false 0 (sumCounts root) p)
-
   rules : (r : Request) → Ruled r (ruled m k r ls)
   unfolding ruled holding
   rules r = go r _ (comes (room m (suc k)) r root)
@@ -91,8 +79,8 @@ module _ (m k : ℕ) (some : 0 < m) (ls : Levels (suc k)) (st : Store m k ls) wh
       go r g (full x h) = record { can = tt; sum = λ f. refl; least = tt }
       go r g (takes h) = record { can = some-held h; sum = λ f. rw root-low (omega arith); least = λ z. root-least h }
       go r g (empty h) = record { can = tt; sum = λ f. refl; least = λ z. absurd (omega arith) }
-      go r g (returns x h) = record { can = tt; sum = λ f. omega arith; least = λ z. (none-lower-than x h, omega arith) }
-      go r g (swaps x h l) = record { can = some-held h; sum = λ f. rw root-low (omega arith); least = λ z. (root-least h, l) }
+      go r g (swaps x h) = record { can = some-held h; sum = λ f. rw root-low (omega arith); least = λ z. root-least h }
+      go r g (lacks x h) = record { can = tt; sum = λ f. refl; least = λ z. absurd (omega arith) }
 
   -- what a request does
   pub record Answered (r : Request) : Type 0 where

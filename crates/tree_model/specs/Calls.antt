@@ -13,7 +13,6 @@ use Rattle.strip.specs.declared.Count.{Count}
 use Rattle.strip.specs.declared.Count.the-variants.{Held, Unknown}
 use Rattle.strip.specs.declared.Request.{Request}
 use Rattle.strip.specs.declared.Request.the-variants.{Idle, Push, Pop, Replace}
-use Rattle.strip.specs.Answers.{key}
 use Rattle.tree_model.specs.declared.Slot.{Slot}
 use Rattle.tree_model.specs.declared.Op.{Op}
 use Rattle.tree_model.specs.declared.Op.the-variants.{Nothing, Put, Take, Swap}
@@ -43,14 +42,14 @@ pub record Ruling : Type 0 where
 abbrev pub ruling : Answer → Op → Ruling
 ruling a o = record { answer = a; op = o }
 
--- "Push puts at the root, pop takes there. Replace takes a new element in and gives back the lowest of all, the new one included, a held
--- one before the new one on equal rank. So on an empty queue, or with a rank strictly below every held one, the new element is answered
--- and the store stands; otherwise a swap at the root". "full: push, held = capacity"; "empty: pop, held = 0"
+-- "Push puts at the root, pop takes there". Replace is a pop and then a push (02 [4]): "an empty queue refuses replace with 6 .., and
+-- otherwise the lowest held element is answered, even if the new rank is lower, and the new one is swapped in by the same swap rule". "full:
+-- push, held = capacity"; "empty: pop, held = 0"
 unfoldable pub rule : ℕ → Request → List Slot → Ruling
 rule c Idle nd = ruling Done Nothing
 rule c (Push x) nd = cond (ltb (sumCounts nd) c) (ruling Done (Put x)) (ruling (Refused Full) Nothing)
 rule c Pop nd = cond (eqb (sumCounts nd) 0) (ruling (Refused Empty) Nothing) (ruling (Out (low nd)) Take)
-rule c (Replace x) nd = cond (eqb (sumCounts nd) 0 || ltb (key x) (key (low nd))) (ruling (Out x) Nothing) (ruling (Out (low nd)) (Swap x))
+rule c (Replace x) nd = cond (eqb (sumCounts nd) 0) (ruling (Refused Empty) Nothing) (ruling (Out (low nd)) (Swap x))
 
 -- ---- the calls
 pub record Outcome : Type 0 where

@@ -1,7 +1,7 @@
 -- What is promised of the tree is said in these words: 01's causes of refusal, and what a store holds over a list of requests.
 use Prim.Native.Nat.{_*_, _+_, _<_, _≤_, pred, suc, zero, ℕ}
 use mathlib.Core.Bool.{Bool}
-use mathlib.Core.List.{[], List}
+use mathlib.Core.List.{[], _∷_, List}
 use mathlib.Core.Logic.{_⊎_}
 use mathlib.Core.Path.{_≡_}
 use lib.ListN.{getD, length}
@@ -11,8 +11,10 @@ use Rattle.laws.specs.Lists.{All}
 use Rattle.laws.specs.Sums.{sumTo}
 use Rattle.promise.specs.Queue.{leaves, Pins, step, Step}
 use Rattle.promise.specs.Refused.{limits}
-use Rattle.strip.specs.Answers.{element}
+use Rattle.promise.specs.Served.{hit}
+use Rattle.strip.specs.Answers.{element, numberOf}
 use Rattle.strip.specs.declared.Answer.{Answer}
+use Rattle.strip.specs.declared.Answer.the-variants.{Done, Out}
 use Rattle.strip.specs.declared.Element.{Element}
 use Rattle.strip.specs.declared.Refusal.{Refusal}
 use Rattle.strip.specs.declared.Refusal.the-variants.{BadShape, Damaged}
@@ -141,6 +143,22 @@ start m levels ws = cleared m levels ws .words
 
 abbrev pub after : ℕ → ℕ → List Request → List ℕ → List ℕ
 after m levels rs ws = leaves (treeQueue m levels) rs (start m levels ws)
+
+-- REPLACE: "a replace is a pop and then a push" (02 [4]), on the words ws: of the pair the words may lie elsewhere, but what is answered and
+-- what is held is the same
+pub record PopThenPush (m levels : ℕ) (x : Element) (ws : List ℕ) : Type 0 where
+  -- it is answered as a pop is there, refusals too ..
+  pub answer : called m levels (Replace x) ws .answer ≡ called m levels Pop ws .answer
+  -- .. and refused it leaves what the refused pop leaves
+  pub refused : (numberOf (called m levels (Replace x) ws .answer) ≡ 0 → ⊥) → called m levels (Replace x) ws ≡ called m levels Pop ws
+  -- not refused, the push on what the pop leaves is taken ..
+  pub taken : numberOf (called m levels (Replace x) ws .answer) ≡ 0 → called m levels (Push x) (called m levels Pop ws .words) .answer ≡ Done
+  -- .. and of every kind of element as many are stored as after the pop and the push
+  pub stores : numberOf (called m levels (Replace x) ws .answer) ≡ 0 → (f : Element → Bool)
+      → stored (room m levels) (called m levels (Replace x) ws .words) f ≡ stored (room m levels) (leaves (treeQueue m levels) (Pop ∷ Push x ∷ []) ws) f
+  -- that is what was stored, less what is answered, and the newcomer
+  pub swapped : (e : Element) → called m levels (Replace x) ws .answer ≡ Out e → (f : Element → Bool)
+      → stored (room m levels) (called m levels (Replace x) ws .words) f + hit (f e) ≡ stored (room m levels) ws f + hit (f x)
 
 -- ---- each public call's outcome is one
 pub record Pinned (m levels : ℕ) (ws : List ℕ) : Type 0 where

@@ -52,13 +52,13 @@ pub data Swaps (x : Element) (nd : List Slot) (below : ℕ → Element) : Move �
   goes : 1 < slotAt nd (lowest nd) .count → below (lowest nd) .rank .0 < x .rank .0
       → Swaps x nd below (move (lowest nd) (below (lowest nd)) (slotAt nd (lowest nd) .count) (Swap x))
 
--- "Push puts at the root, pop takes there. Replace takes a new element in and gives back the lowest of all .. So on an empty queue, or with a rank
--- strictly below every held one, the new element is answered and the store stands; otherwise a swap at the root". c is the capacity
+-- "Push puts at the root, pop takes there". Replace: "an empty queue refuses replace with 6 .., and otherwise the lowest held element is answered,
+-- even if the new rank is lower, and the new one is swapped in by the same swap rule": x's rank is not looked at. c is the capacity
 pub data Comes (c : ℕ) (nd : List Slot) : Request → Ruling → Type 0 where
   idles : Comes c nd Idle (ruling Done Nothing)
   puts : (x : Element) → sumCounts nd < c → Comes c nd (Push x) (ruling Done (Put x))
   full : (x : Element) → c ≤ sumCounts nd → Comes c nd (Push x) (ruling (Refused Full) Nothing)
   takes : 0 < sumCounts nd → Comes c nd Pop (ruling (Out (low nd)) Take)
   empty : sumCounts nd ≡ 0 → Comes c nd Pop (ruling (Refused Empty) Nothing)
-  returns : (x : Element) → (sumCounts nd ≡ 0) ⊎ (x .rank .0 < low nd .rank .0) → Comes c nd (Replace x) (ruling (Out x) Nothing)
-  swaps : (x : Element) → 0 < sumCounts nd → low nd .rank .0 ≤ x .rank .0 → Comes c nd (Replace x) (ruling (Out (low nd)) (Swap x))
+  swaps : (x : Element) → 0 < sumCounts nd → Comes c nd (Replace x) (ruling (Out (low nd)) (Swap x))
+  lacks : (x : Element) → sumCounts nd ≡ 0 → Comes c nd (Replace x) (ruling (Refused Empty) Nothing)

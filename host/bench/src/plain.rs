@@ -140,18 +140,12 @@ impl Plain {
                 (0, 0, 0, self.put(0, self.order, 0, rank, tag))
             }
             Ask::Pop | Ask::Replace(..) if self.mark => (3, 0, 0, Work::Nothing),
+            Ask::Pop | Ask::Replace(..) if self.held() == 0 => (6, 0, 0, Work::Nothing),
             Ask::Pop => {
-                if self.held() == 0 {
-                    return (6, 0, 0, Work::Nothing);
-                }
                 let (rank, tag, left) = self.take(0, self.order, 0);
                 (0, rank, tag, left)
             }
             Ask::Replace(rank, tag) => {
-                let lowest = self.slots[self.lowest(0)];
-                if lowest.count == 0 || rank < lowest.rank {
-                    return (0, rank, tag, Work::Nothing);
-                }
                 let (rank, tag, left) = self.swap(0, self.order, 0, rank, tag);
                 (0, rank, tag, left)
             }

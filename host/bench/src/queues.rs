@@ -97,14 +97,9 @@ impl Queue for MapQueue {
     }
     #[inline]
     fn replace(&mut self, rank: u32, tag: u32) -> (u32, u32) {
-        match self.0.keys().next() {
-            Some(&lowest) if lowest <= rank => {
-                let given = self.pop();
-                self.push(rank, tag);
-                given
-            }
-            _ => (rank, tag),
-        }
+        let given = self.pop();
+        self.push(rank, tag);
+        given
     }
 }
 
@@ -147,10 +142,7 @@ impl Queue for HeapQueue {
     }
     #[inline]
     fn replace(&mut self, rank: u32, tag: u32) -> (u32, u32) {
-        match self.0.peek_mut() {
-            Some(mut lowest) if lowest.0 .0 <= rank => std::mem::replace(&mut *lowest, Reverse((rank, tag))).0,
-            _ => (rank, tag),
-        }
+        std::mem::replace(&mut *self.0.peek_mut().expect("replace"), Reverse((rank, tag))).0
     }
 }
 
@@ -173,13 +165,8 @@ impl Queue for RankHeap {
     }
     #[inline]
     fn replace(&mut self, rank: u32, tag: u32) -> (u32, u32) {
-        match self.0.peek_mut() {
-            Some(mut lowest) if lowest.0 <= rank => {
-                let x = std::mem::replace(&mut *lowest, ByRank(rank, tag));
-                (x.0, x.1)
-            }
-            _ => (rank, tag),
-        }
+        let x = std::mem::replace(&mut *self.0.peek_mut().expect("replace"), ByRank(rank, tag));
+        (x.0, x.1)
     }
 }
 

@@ -113,7 +113,7 @@ pub fn buckets(plan: &Plan) -> Vec<Row> {
         Work { fill: Vec::new(), trace }
     });
     bucket(plan, &mut all, "bucket, one rank only", |_| refilled(pushes(4000, || 7), operations, |_| 7));
-    bucket(plan, &mut all, "bucket, replaces that come straight back", |rng| {
+    bucket(plan, &mut all, "bucket, replace at ranks below all others", |rng| {
         let fill = pushes(4000, || 100 + rng.below(3996));
         replaced(fill, operations / 2, |_| rng.below(100))
     });

@@ -84,8 +84,8 @@ impl<B: AsRef<[u64]> + AsMut<[u64]>, W: AsRef<[u32]> + AsMut<[u32]>> Bucket<B, W
         Ok(Element::from(out))
     }
 
-    /// Takes a new element in and gives the lowest of all, the new one included, a held one before the new one on equal rank. Works
-    /// on an empty and on a full queue.
+    /// A pop, and then a push of the new element: gives the first element of the lowest rank, even if the new rank is lower. Works
+    /// on a full queue. Refused [`Refusal::BadRank`] above 4,095, [`Refusal::Empty`] where nothing is held.
     #[inline]
     pub fn replace(&mut self, x: Element) -> Result<Element, Refusal> {
         let (bits, words, mut out) = (self.bits.as_mut(), self.words.as_mut(), [0; 2]);

@@ -45,7 +45,7 @@ pub fn tree_pop(store: &mut [u32], order: u32, levels: u32, out: &mut [u32]) -> 
     unsafe { raw::card_tree_pop(store.as_mut_ptr(), store.len(), order, levels, out.as_mut_ptr(), out.len()) }
 }
 
-/// Takes a new element into a tree and gives the lowest of all.
+/// Gives a tree's element of lowest rank, and then takes a new element in.
 #[inline]
 pub fn tree_replace(store: &mut [u32], order: u32, levels: u32, rank: u32, tag: u32, out: &mut [u32]) -> u32 {
     let (s, o) = (store, out);
@@ -83,7 +83,7 @@ pub fn bucket_pop(bits: &mut [u64], words: &mut [u32], nodes: u32, out: &mut [u3
     unsafe { raw::card_bucket_pop(b.as_mut_ptr(), b.len(), w.as_mut_ptr(), w.len(), nodes, o.as_mut_ptr(), o.len()) }
 }
 
-/// Takes a new element into a bucket queue and gives the lowest of all.
+/// Gives a bucket queue's first element of the lowest rank, and then takes a new element in.
 #[inline]
 pub fn bucket_replace(bits: &mut [u64], words: &mut [u32], nodes: u32, rank: u32, tag: u32, out: &mut [u32]) -> u32 {
     let (b, w, o) = (bits, words, out);

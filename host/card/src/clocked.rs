@@ -12,7 +12,7 @@ pub enum Request {
     Push(Element),
     /// Give the element of lowest rank.
     Pop,
-    /// Take this element in and give the lowest of all.
+    /// Give the element of lowest rank, and then take this one in.
     Replace(Element),
 }
 
@@ -163,8 +163,8 @@ impl<W: AsRef<[u32]> + AsMut<[u32]>, R: AsRef<[u32]> + AsMut<[u32]>> Clocked<W, 
         self.cycle(Request::Pop)
     }
 
-    /// A cycle that takes a new element in and gives the lowest of all, the new one included, a held one before the new one on equal
-    /// rank.
+    /// A cycle that is a pop, and then a push of the new element: gives the element of lowest rank, even if the new rank is lower.
+    /// Refused [`Refusal::Empty`] where nothing is held.
     #[inline]
     pub fn replace(&mut self, x: Element) -> Result<Element, Refusal> {
         self.cycle(Request::Replace(x))

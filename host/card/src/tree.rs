@@ -78,8 +78,8 @@ impl<W: AsRef<[u32]> + AsMut<[u32]>> Tree<W> {
         Ok(Element::from(out))
     }
 
-    /// Takes a new element in and gives the lowest of all, the new one included, a held one before the new one on equal rank. Works
-    /// on an empty and on a full tree.
+    /// A pop, and then a push of the new element: gives the element of lowest rank, even if the new rank is lower. Works on a full
+    /// tree. Refused [`Refusal::Empty`] where nothing is held.
     #[inline]
     pub fn replace(&mut self, x: Element) -> Result<Element, Refusal> {
         let mut out = [0; 2];

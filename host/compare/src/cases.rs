@@ -99,8 +99,10 @@ fn case_2<C: Card>(c: &mut C) -> Done {
 
 fn case_3<C: Card>(c: &mut C) -> Done {
     let mut t = Queue::a(c)?;
-    same("replace 0/7", t.ask(Op::TreeReplace, 0, 0, 7), (0, 0, 7))?;
-    same("store", t.words(), A.to_vec())
+    same("replace 0/7", t.ask(Op::TreeReplace, 0, 0, 7), (0, 1, 10))?;
+    let mut after = A.to_vec();
+    after[3..6].copy_from_slice(&[0, 7, 2]);
+    same("store", t.words(), after)
 }
 
 fn case_4<C: Card>(c: &mut C) -> Done {
@@ -221,6 +223,18 @@ fn in_turn<C: Card>(c: &mut C) -> Done {
     same("freed node", (words[8194], words[8195]), (0, 0))
 }
 
+/// A replace is a pop and then a push: a lower newcomer goes into its own bucket, an empty queue refuses.
+fn pop_then_push<C: Card>(c: &mut C) -> Done {
+    let mut q = Queue::bucket(c, 2)?;
+    same("replace on an empty queue", q.ask(Op::BucketReplace, 0, 7, 1), (6, 0, 0))?;
+    same("push", q.number(Op::BucketPush, 7, 1), 0)?;
+    same("replace by a lower rank", q.ask(Op::BucketReplace, 0, 3, 2), (0, 7, 1))?;
+    let words = q.words();
+    same("heads of 3 and 7", (words[3], words[7]), (1, 0))?;
+    same("pop", q.pop(), (0, 3, 2))?;
+    same("replace on an emptied queue", q.ask(Op::BucketReplace, 0, 3, 3), (6, 0, 0))
+}
+
 /// Equal ranks are not exchanged in a put, and the leftmost smallest count is chosen.
 fn ties<C: Card>(c: &mut C) -> Done {
     let mut t = Queue::tree(c, 2, 2, 6)?;
@@ -230,6 +244,22 @@ fn ties<C: Card>(c: &mut C) -> Done {
     same("store", t.words(), vec![5, 1, 2, 5, 2, 2, 5, 3, 1, 0, 0, 0, 5, 4, 1, 0, 0, 0])?;
     same("pop", t.pop(), (0, 5, 1))?;
     same("store", t.words(), vec![5, 3, 1, 5, 2, 2, 0, 0, 0, 0, 0, 0, 5, 4, 1, 0, 0, 0])
+}
+
+/// A replace with nothing held is refused and runs as an idle cycle, so that a pop just after it is not too soon; and a lower
+/// newcomer is taken in, not answered.
+fn empty_machine<C: Card>(c: &mut C) -> Done {
+    let mut t = Queue::tree(c, 2, 2, 6)?;
+    same("replace on an empty tree", t.ask(Op::TreeReplace, 0, 5, 50), (6, 0, 0))?;
+    same("store", t.words(), vec![0; 18])?;
+    let mut m = Queue::machine(c, 2, 2, 6)?;
+    same("replace on an empty machine", m.ask(Op::CycleReplace, 3, 5, 50), (6, 0, 0))?;
+    same("pop", m.pop(), (6, 0, 0))?;
+    same("push", m.push(1, 10), (0, 0, 0))?;
+    same("replace too soon", m.ask(Op::CycleReplace, 3, 0, 7), (3, 0, 0))?;
+    same("replace by a lower rank", m.ask(Op::CycleReplace, 3, 0, 7), (0, 1, 10))?;
+    same("idle", m.idle(), (0, 0, 0))?;
+    same("pop", m.pop(), (0, 0, 7))
 }
 
 /// The worked trace, by cycles.
@@ -257,7 +287,9 @@ pub fn all<C: Card>(c: &mut C) -> Vec<(&'static str, Done)> {
         ("case 10: what is too soon", case_10(c)),
         ("push 1, 9, 2: still on its way", on_its_way(c)),
         ("first in, first out in a bucket", in_turn(c)),
+        ("a bucket's replace: a pop and then a push", pop_then_push(c)),
         ("equal ranks in a tree", ties(c)),
+        ("a tree's replace, empty and by a lower rank", empty_machine(c)),
         ("the worked trace by cycles", worked(c)),
     ]
 }

@@ -12,16 +12,13 @@ fn numbers(op: Op) -> &'static [u32] {
     match op {
         Op::TreeClear | Op::BucketClear | Op::ClockedClear => &[0, 1],
         Op::TreePush | Op::CyclePush => &[0, 1, 2, 5],
-        Op::TreePop => &[0, 1, 2, 6],
+        Op::TreePop | Op::TreeReplace => &[0, 1, 2, 6],
         Op::BucketPush => &[0, 1, 2, 4, 5],
         Op::BucketPop => &[0, 1, 2, 6],
-        Op::BucketReplace => &[0, 1, 2, 4],
-        Op::CyclePop => &[0, 1, 2, 3, 6],
-        Op::CycleReplace => &[0, 1, 2, 3],
+        Op::BucketReplace => &[0, 1, 2, 4, 6],
+        Op::CyclePop | Op::CycleReplace => &[0, 1, 2, 3, 6],
         Op::CycleOther => &[1],
-        Op::TreeReplace | Op::TreeHeld | Op::BucketHeld | Op::CycleIdle | Op::ClockedDrain | Op::ClockedHeld => {
-            &[0, 1, 2]
-        }
+        Op::TreeHeld | Op::BucketHeld | Op::CycleIdle | Op::ClockedDrain | Op::ClockedHeld => &[0, 1, 2],
     }
 }
 

@@ -15,7 +15,7 @@ pub enum Event {
     DrainBudgetExact,
     DrainNothingMarkOn,
     DamagedMarkOn,
-    NewcomerBackMarkOn,
+    TreeReplaceLower,
     NothingWithNumbers,
     RecordsPast,
     BoundaryAndShape,
@@ -23,10 +23,11 @@ pub enum Event {
     RefusedWorkMoves,
     BucketReplaceFull,
     BucketReplaceSameBucket,
+    BucketReplaceLower,
     TreeReplaceFull,
 }
 
-pub const EVENTS: [(Event, &str); 17] = [
+pub const EVENTS: [(Event, &str); 18] = [
     (Event::DrainDamagedAtOnce, "drain refused 2 with no cycle run"),
     (Event::DrainDamagedLater, "drain refused 2 after a cycle or more"),
     (Event::DrainNoBudget, "drain with budget 0 and work pending"),
@@ -35,15 +36,16 @@ pub const EVENTS: [(Event, &str); 17] = [
     (Event::DrainBudgetExact, "drain whose last work ends with its budget"),
     (Event::DrainNothingMarkOn, "drain with nothing pending and the mark on"),
     (Event::DamagedMarkOn, "pop or replace with the mark on, refused 2"),
-    (Event::NewcomerBackMarkOn, "replace that answers its newcomer and sets the mark"),
+    (Event::TreeReplaceLower, "tree replace, called or by a cycle, of a rank below all held"),
     (Event::NothingWithNumbers, "cycle that ran over a record of nothing with other numbers"),
     (Event::RecordsPast, "cycle that ran with a kind above 3 past the last level"),
     (Event::BoundaryAndShape, "a boundary's fault and a bad shape at once"),
     (Event::DrainRefusedShapeWorkPending, "drain refused 1 with work pending"),
     (Event::RefusedWorkMoves, "cycle refused 3, 5 or 6 in which pending work moved"),
-    (Event::BucketReplaceFull, "bucket replace that stored on a full queue"),
+    (Event::BucketReplaceFull, "bucket replace on a full queue"),
     (Event::BucketReplaceSameBucket, "bucket replace into the bucket that it popped from"),
-    (Event::TreeReplaceFull, "tree replace that stored on a full queue"),
+    (Event::BucketReplaceLower, "bucket replace of a rank below all held"),
+    (Event::TreeReplaceFull, "tree replace on a full queue"),
 ];
 
 pub struct Tally {
@@ -54,7 +56,7 @@ pub struct Tally {
     pub damage_any: Vec<[u64; 64]>,
     /// How often one cause alone made each call refuse 1.
     pub shape: [[u64; 9]; 18],
-    pub events: [u64; 17],
+    pub events: [u64; 18],
 }
 
 pub struct Harness<C: Card> {
@@ -80,7 +82,7 @@ impl<C: Card> Harness<C> {
                 damage: vec![[0; 64]; 18],
                 damage_any: vec![[0; 64]; 18],
                 shape: [[0; 9]; 18],
-                events: [0; 17],
+                events: [0; 18],
             },
             failed: None,
         }
@@ -176,9 +178,6 @@ impl<C: Card> Harness<C> {
             if asks && number == 2 && before.mark == 1 {
                 self.event(Event::DamagedMarkOn);
             }
-            if k.op == Op::CycleReplace && number == 0 && (self.b.out[0], self.b.out[1]) == (k.rank, k.tag) {
-                self.event(Event::NewcomerBackMarkOn);
-            }
             let ran = number != 1 && number != 2;
             if ran && before.nothing_with_numbers {
                 self.event(Event::NothingWithNumbers);
@@ -190,14 +189,23 @@ impl<C: Card> Harness<C> {
                 self.event(Event::RefusedWorkMoves);
             }
         }
-        if k.op == Op::BucketReplace && number == 0 && before.full && k.rank >= self.b.out[0] {
-            self.event(Event::BucketReplaceFull);
+        if k.op == Op::BucketReplace && number == 0 {
+            if before.full {
+                self.event(Event::BucketReplaceFull);
+            }
             if k.rank == self.b.out[0] {
                 self.event(Event::BucketReplaceSameBucket);
             }
+            if k.rank < self.b.out[0] {
+                self.event(Event::BucketReplaceLower);
+            }
         }
-        if k.op == Op::TreeReplace && number == 0 && before.full && k.rank > self.b.out[0] {
+        if k.op == Op::TreeReplace && number == 0 && before.full {
             self.event(Event::TreeReplaceFull);
+        }
+        let lower = number == 0 && k.rank < self.b.out[0];
+        if lower && (k.op == Op::TreeReplace || k.op == Op::CycleReplace) {
+            self.event(Event::TreeReplaceLower);
         }
     }
 }

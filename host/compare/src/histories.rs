@@ -102,17 +102,18 @@ fn held_to_list(
                 }
             }
         },
+        // a pop and then a push
         Op::TreeReplace => match list.lowest() {
-            Some(rank) if rank <= x.rank => {
+            None => {
+                if (number, answer) != (6, none) {
+                    return Err(format!("replace with nothing held answered {number}, {answer:?}"));
+                }
+            }
+            Some(rank) => {
                 if number != 0 || answer.rank != rank || !list.take_out(answer) {
                     return Err(format!("replace answered {number}, {answer:?}; the list's lowest rank is {rank}"));
                 }
                 list.push(x);
-            }
-            _ => {
-                if (number, answer) != (0, x) {
-                    return Err(format!("replace answered {number}, {answer:?}; the newcomer {x:?} is lowest"));
-                }
             }
         },
         _ => {
@@ -229,7 +230,15 @@ pub fn bucket<C: Card>(h: &mut Harness<C>, rng: &mut Rng, nodes: u32, calls: u64
         } else if at < push + pop {
             (Op::BucketPop, list.pop().map_or((6, none), |e| (0, e)))
         } else if at < push + pop + replace {
-            (Op::BucketReplace, if bad_rank { (4, none) } else { (0, list.replace(x)) })
+            let expected = if bad_rank {
+                (4, none)
+            } else if let Some(e) = list.pop() {
+                list.push(x);
+                (0, e)
+            } else {
+                (6, none)
+            };
+            (Op::BucketReplace, expected)
         } else {
             (Op::BucketHeld, (0, element(list.held() as u32, 0)))
         };

@@ -49,7 +49,11 @@ fn bucket_queues_beside_the_list() {
                     assert_eq!((queue.pop(), lent.pop()), (expected, expected));
                 }
                 _ => {
-                    let expected = if bad { Err(Refusal::BadRank) } else { Ok(of(list.replace(x))) };
+                    // a pop and then a push
+                    let expected = if bad { Err(Refusal::BadRank) } else { pop(&mut list) };
+                    if expected.is_ok() {
+                        list.push(x);
+                    }
                     assert_eq!((queue.replace(of(x)), lent.replace(of(x))), (expected, expected));
                 }
             }
@@ -90,7 +94,11 @@ fn trees_beside_the_list() {
                     assert_eq!((queue.pop(), lent.pop()), (expected, expected));
                 }
                 _ => {
-                    let expected = Ok(of(list.replace(x)));
+                    // a pop and then a push
+                    let expected = pop(&mut list);
+                    if expected.is_ok() {
+                        list.push(x);
+                    }
                     assert_eq!((queue.replace(of(x)), lent.replace(of(x))), (expected, expected));
                 }
             }
@@ -130,7 +138,11 @@ fn clocked_trees_beside_the_list() {
                     assert_eq!((tree.pop(), lent.pop()), (expected, expected));
                 }
                 3 => {
-                    let expected = if soon { Err(Refusal::TooSoon) } else { Ok(of(list.replace(x))) };
+                    // a pop and then a push
+                    let expected = if soon { Err(Refusal::TooSoon) } else { pop(&mut list) };
+                    if expected.is_ok() {
+                        list.push(x);
+                    }
                     assert_eq!((tree.replace(of(x)), lent.replace(of(x))), (expected, expected));
                 }
                 4 => assert_eq!((tree.idle(), lent.idle()), (Ok(()), Ok(()))),

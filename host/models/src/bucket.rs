@@ -433,12 +433,9 @@ pub fn replace(bits: &mut [u64], words: &mut [u32], nodes: u32, x: Element) -> R
         return Err(No::Damaged(c));
     }
     if p.held() == 0 {
-        return Ok(x);
+        return Err(No::Empty);
     }
     let lowest = pop_tests(&p).map_err(No::Damaged)?;
-    if x.rank < lowest {
-        return Ok(x);
-    }
     // the pop, and all the push's tests on the store as after it; written only if all hold
     let answer = pop_writes(&mut p, lowest);
     let mut c = p.whole();

@@ -170,8 +170,8 @@ fn root_step(shape: Shape, store: &[u32], mark: bool, request: Request) -> Resul
             if mark {
                 return Err(No::TooSoon);
             }
-            if tree::newcomer_comes_back(&n, x) {
-                return Ok(Step { gives: x, writes: Writes::new(), loads: Work::Nothing });
+            if n.held() == 0 {
+                return Err(No::Empty);
             }
             swap_step(shape, store, 1, 0, x, ASKED).map_err(damaged)
         }

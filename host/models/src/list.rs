@@ -34,18 +34,6 @@ impl SortedList {
         Some(self.held.remove(0))
     }
 
-    /// The lowest of all, the new one included, a held one before the new one on equal rank.
-    pub fn replace(&mut self, x: Element) -> Element {
-        match self.held.first() {
-            Some(first) if first.rank <= x.rank => {
-                let answer = self.held.remove(0);
-                self.push(x);
-                answer
-            }
-            _ => x,
-        }
-    }
-
     /// The lowest rank that is held.
     pub fn lowest(&self) -> Option<u32> {
         self.held.first().map(|e| e.rank)

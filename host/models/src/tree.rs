@@ -344,15 +344,6 @@ pub fn root(shape: Shape, store: &[u32]) -> Result<Node, No> {
     read(shape, store, 1, 0)
 }
 
-/// Whether a replace answers its newcomer: on an empty queue, or with a rank strictly below the
-/// root's lowest.
-pub fn newcomer_comes_back(root: &Node, x: Element) -> bool {
-    match root.lowest() {
-        None => true,
-        Some(j) => x.rank < root.slots()[j].rank,
-    }
-}
-
 pub fn clear(store: &mut [u32], order: u32, levels: u32) -> Result<(), No> {
     let shape = shape(store, order, levels)?;
     for word in &mut store[..(3 * shape.capacity()) as usize] {
@@ -385,11 +376,12 @@ pub fn pop(store: &mut [u32], order: u32, levels: u32) -> Result<Element, No> {
     Ok(gives)
 }
 
+/// A pop and then a push: refused like a pop, and the newcomer's rank has no say in what is given.
 pub fn replace(store: &mut [u32], order: u32, levels: u32, x: Element) -> Result<Element, No> {
     let shape = shape(store, order, levels)?;
     let n = root(shape, store)?;
-    if newcomer_comes_back(&n, x) {
-        return Ok(x);
+    if n.held() == 0 {
+        return Err(No::Empty);
     }
     let mut w = Writes::new();
     let gives = swap(shape, store, 1, 0, x, &mut w)?;

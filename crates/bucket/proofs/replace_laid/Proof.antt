@@ -5,7 +5,7 @@ use borrow.Author.Tests.{not-true, not-false}
 use Rattle.bucket_model.specs.Calls.{isShaped, isWhole}
 use Rattle.bucket_tests.specs.Stores.{Stands, Freeing}
 use Rattle.bucket_model.specs.Layout.{word}
-use Rattle.bucket_model.proofs.Returns.{replace-bad, replace-high, replace-torn, replace-none, replace-unfit, replace-back, replace-shut, replace-out}
+use Rattle.bucket_model.proofs.Returns.{replace-bad, replace-high, replace-torn, replace-none, replace-unfit, replace-shut, replace-out}
 use Rattle.bucket.proofs.Steps.{stands, fits, held≤, freeing, joining-after}
 use borrow.Author.Needs.{needs}
 use Rattle.bucket.proofs.replace_laid.Statement.{statement}
@@ -87,6 +87,9 @@ same-length-10 c = search needs
 returns-5 : tie.Need-returns-5
 returns-5 c = replace-unfit _ _ _ (c .before .before .before .before .before .before .before .before .before .before .before .before .before .before .before .before .before .before .before .before .before .before .args .e) (ok (c .before .before .before .before .before .before .before .before .before .before .before .before .before .before .before .before)) (c .before .before .before .before .before .before .before .before .before .before .before .before .if2 .left) (sound (c .before .before .before .before .before .before .before .before)) (some (c .before .before .before .before .before)) _ (c .before .before .find-lowest .ensures .is) (not-true (c .before .before .find-lowest .result .good) (c .if5 .taken))
 
+room-after-requires : tie.Need-room-after-requires
+room-after-requires c κs = (takes (c .before .before), ((c .before .before .before .before .before .before .before .before .before .before .before .before .before .before .if2 .left), (held≤ (c .before .before .before .before .before .before .before .before .before .before .before .before .before .before .before .before .before .before .before .before .before .before .before .before .args .k) (c .before .before .before .before .before .before .before .before .before .before .before .before .before .before .before .before .before .before .before .before .before .before .before .before .args .bits .now) (c .before .before .before .before .before .before .before .before .before .before .before .before .before .before .before .before .before .before .before .before .before .before .before .before .args .words .now) (sound (c .before .before .before .before .before .before .before .before .before .before)))))
+
 same-length-11 : tie.Need-same-length-11
 same-length-11 c = search needs
 
@@ -94,10 +97,16 @@ same-length-12 : tie.Need-same-length-12
 same-length-12 c = search needs
 
 returns-6 : tie.Need-returns-6
-returns-6 c = replace-back _ _ _ (c .before .before .before .before .before .before .before .before .before .before .before .before .before .before .before .before .before .before .before .before .before .before .before .before .before .args .e) (ok (c .before .before .before .before .before .before .before .before .before .before .before .before .before .before .before .before .before .before .before)) (c .before .before .before .before .before .before .before .before .before .before .before .before .before .before .before .if2 .left) (sound (c .before .before .before .before .before .before .before .before .before .before .before)) (some (c .before .before .before .before .before .before .before .before)) _ (c .before .before .before .before .before .find-lowest .ensures .is) (good (c .before .before .before)) (c .if6 .taken)
+returns-6 c = replace-shut _ _ _ (c .before .before .before .before .before .before .before .before .before .before .before .before .before .before .before .before .before .before .before .before .before .before .before .before .before .before .before .args .e) (ok (c .before .before .before .before .before .before .before .before .before .before .before .before .before .before .before .before .before .before .before .before .before)) (c .before .before .before .before .before .before .before .before .before .before .before .before .before .before .before .before .before .if2 .left) (sound (c .before .before .before .before .before .before .before .before .before .before .before .before .before)) (some (c .before .before .before .before .before .before .before .before .before .before)) _ (c .before .before .before .before .before .before .before .find-lowest .ensures .is) (good (c .before .before .before .before .before)) _ (c .before .before .room-after .ensures) (not-true (c .before .before .room-after .result .good) (c .if6 .taken))
 
-room-after-requires : tie.Need-room-after-requires
-room-after-requires c κs = (takes (c .before .before .before .before .before), ((c .before .before .before .before .before .before .before .before .before .before .before .before .before .before .before .before .before .if2 .left), (held≤ (c .before .before .before .before .before .before .before .before .before .before .before .before .before .before .before .before .before .before .before .before .before .before .before .before .before .before .before .args .k) (c .before .before .before .before .before .before .before .before .before .before .before .before .before .before .before .before .before .before .before .before .before .before .before .before .before .before .before .args .bits .now) (c .before .before .before .before .before .before .before .before .before .before .before .before .before .before .before .before .before .before .before .before .before .before .before .before .before .before .before .args .words .now) (sound (c .before .before .before .before .before .before .before .before .before .before .before .before .before)))))
+element-of-requires : tie.Need-element-of-requires
+element-of-requires c κs = takes (c .before .before .before .before .before .before) .takable .node
+
+take-requires : tie.Need-take-requires
+take-requires c κs = takes (c .before .before .before .before .before .before .before .before .before)
+
+join-requires : tie.Need-join-requires
+join-requires c κs = joining-after _ _ _ _ _ _ _ _ (takes (c .before .before .before .before .before .before .before .before .before .before .before .before .before .before .before .before)) (c .before .before .before .before .before .before .before .before .before .before .before .before .before .before .before .before .before .before .before .before .before .before .before .before .before .before .before .before .if2 .left) (held≤ (c .before .before .before .before .before .before .before .before .before .before .before .before .before .before .before .before .before .before .before .before .before .before .before .before .before .before .before .before .before .before .before .before .before .before .before .before .before .before .args .k) (c .before .before .before .before .before .before .before .before .before .before .before .before .before .before .before .before .before .before .before .before .before .before .before .before .before .before .before .before .before .before .before .before .before .before .before .before .before .before .args .bits .now) (c .before .before .before .before .before .before .before .before .before .before .before .before .before .before .before .before .before .before .before .before .before .before .before .before .before .before .before .before .before .before .before .before .before .before .before .before .before .before .args .words .now) (sound (c .before .before .before .before .before .before .before .before .before .before .before .before .before .before .before .before .before .before .before .before .before .before .before .before))) (c .before .before .before .before .before .before .before .before .before .before .before .before .before .room-after .ensures) (not-false (c .before .before .before .before .before .before .before .before .before .before .before .before .before .room-after .result .good) (c .before .before .before .before .before .before .before .before .before .before .before .if6 .left)) (c .before .before .before .before .before .before .take .ensures .0) (c .before .before .before .before .before .before .take .ensures .1)
 
 same-length-13 : tie.Need-same-length-13
 same-length-13 c = search needs
@@ -106,25 +115,7 @@ same-length-14 : tie.Need-same-length-14
 same-length-14 c = search needs
 
 returns-7 : tie.Need-returns-7
-returns-7 c = replace-shut _ _ _ (c .before .before .before .before .before .before .before .before .before .before .before .before .before .before .before .before .before .before .before .before .before .before .before .before .before .before .before .before .before .before .args .e) (ok (c .before .before .before .before .before .before .before .before .before .before .before .before .before .before .before .before .before .before .before .before .before .before .before .before)) (c .before .before .before .before .before .before .before .before .before .before .before .before .before .before .before .before .before .before .before .before .if2 .left) (sound (c .before .before .before .before .before .before .before .before .before .before .before .before .before .before .before .before)) (some (c .before .before .before .before .before .before .before .before .before .before .before .before .before)) _ (c .before .before .before .before .before .before .before .before .before .before .find-lowest .ensures .is) (good (c .before .before .before .before .before .before .before .before)) (c .before .before .before .before .before .if6 .left) _ (c .before .before .room-after .ensures) (not-true (c .before .before .room-after .result .good) (c .if7 .taken))
-
-element-of-requires : tie.Need-element-of-requires
-element-of-requires c κs = takes (c .before .before .before .before .before .before .before .before .before) .takable .node
-
-take-requires : tie.Need-take-requires
-take-requires c κs = takes (c .before .before .before .before .before .before .before .before .before .before .before .before)
-
-join-requires : tie.Need-join-requires
-join-requires c κs = joining-after _ _ _ _ _ _ _ _ (takes (c .before .before .before .before .before .before .before .before .before .before .before .before .before .before .before .before .before .before .before)) (c .before .before .before .before .before .before .before .before .before .before .before .before .before .before .before .before .before .before .before .before .before .before .before .before .before .before .before .before .before .before .before .if2 .left) (held≤ (c .before .before .before .before .before .before .before .before .before .before .before .before .before .before .before .before .before .before .before .before .before .before .before .before .before .before .before .before .before .before .before .before .before .before .before .before .before .before .before .before .before .args .k) (c .before .before .before .before .before .before .before .before .before .before .before .before .before .before .before .before .before .before .before .before .before .before .before .before .before .before .before .before .before .before .before .before .before .before .before .before .before .before .before .before .before .args .bits .now) (c .before .before .before .before .before .before .before .before .before .before .before .before .before .before .before .before .before .before .before .before .before .before .before .before .before .before .before .before .before .before .before .before .before .before .before .before .before .before .before .before .before .args .words .now) (sound (c .before .before .before .before .before .before .before .before .before .before .before .before .before .before .before .before .before .before .before .before .before .before .before .before .before .before .before))) (c .before .before .before .before .before .before .before .before .before .before .before .before .before .room-after .ensures) (not-false (c .before .before .before .before .before .before .before .before .before .before .before .before .before .room-after .result .good) (c .before .before .before .before .before .before .before .before .before .before .before .if7 .left)) (c .before .before .before .before .before .before .take .ensures .0) (c .before .before .before .before .before .before .take .ensures .1)
-
-same-length-15 : tie.Need-same-length-15
-same-length-15 c = search needs
-
-same-length-16 : tie.Need-same-length-16
-same-length-16 c = search needs
-
-returns-8 : tie.Need-returns-8
-returns-8 c = replace-out _ _ _ (c .before .before .before .before .before .before .before .before .before .before .before .before .before .before .before .before .before .before .before .before .before .before .before .before .before .before .before .before .before .before .before .before .before .before .before .before .before .before .before .before .before .before .before .before .before .before .args .e) (ok (c .before .before .before .before .before .before .before .before .before .before .before .before .before .before .before .before .before .before .before .before .before .before .before .before .before .before .before .before .before .before .before .before .before .before .before .before .before .before .before .before)) (c .before .before .before .before .before .before .before .before .before .before .before .before .before .before .before .before .before .before .before .before .before .before .before .before .before .before .before .before .before .before .before .before .before .before .before .before .if2 .left) (sound (c .before .before .before .before .before .before .before .before .before .before .before .before .before .before .before .before .before .before .before .before .before .before .before .before .before .before .before .before .before .before .before .before)) (some (c .before .before .before .before .before .before .before .before .before .before .before .before .before .before .before .before .before .before .before .before .before .before .before .before .before .before .before .before .before)) _ (c .before .before .before .before .before .before .before .before .before .before .before .before .before .before .before .before .before .before .before .before .before .before .before .before .before .before .find-lowest .ensures .is) (good (c .before .before .before .before .before .before .before .before .before .before .before .before .before .before .before .before .before .before .before .before .before .before .before .before)) (c .before .before .before .before .before .before .before .before .before .before .before .before .before .before .before .before .before .before .before .before .before .if6 .left) _ (c .before .before .before .before .before .before .before .before .before .before .before .before .before .before .before .before .before .before .room-after .ensures) _ _ _ _ _ (not-false (c .before .before .before .before .before .before .before .before .before .before .before .before .before .before .before .before .before .before .room-after .result .good) (c .before .before .before .before .before .before .before .before .before .before .before .before .before .before .before .before .if7 .left)) (c .before .before .before .before .before .before .before .before .before .before .before .before .before .before .element-of .ensures) (c .before .before .before .before .before .before .before .before .before .before .before .take .ensures .0) (c .before .before .before .before .before .before .before .before .before .before .before .take .ensures .1) (c .before .before .before .before .join .ensures .0) (c .before .before .before .before .join .ensures .1)
+returns-7 c = replace-out _ _ _ (c .before .before .before .before .before .before .before .before .before .before .before .before .before .before .before .before .before .before .before .before .before .before .before .before .before .before .before .before .before .before .before .before .before .before .before .before .before .before .before .before .before .before .before .args .e) (ok (c .before .before .before .before .before .before .before .before .before .before .before .before .before .before .before .before .before .before .before .before .before .before .before .before .before .before .before .before .before .before .before .before .before .before .before .before .before)) (c .before .before .before .before .before .before .before .before .before .before .before .before .before .before .before .before .before .before .before .before .before .before .before .before .before .before .before .before .before .before .before .before .before .if2 .left) (sound (c .before .before .before .before .before .before .before .before .before .before .before .before .before .before .before .before .before .before .before .before .before .before .before .before .before .before .before .before .before)) (some (c .before .before .before .before .before .before .before .before .before .before .before .before .before .before .before .before .before .before .before .before .before .before .before .before .before .before)) _ (c .before .before .before .before .before .before .before .before .before .before .before .before .before .before .before .before .before .before .before .before .before .before .before .find-lowest .ensures .is) (good (c .before .before .before .before .before .before .before .before .before .before .before .before .before .before .before .before .before .before .before .before .before)) _ (c .before .before .before .before .before .before .before .before .before .before .before .before .before .before .before .before .before .before .room-after .ensures) _ _ _ _ _ (not-false (c .before .before .before .before .before .before .before .before .before .before .before .before .before .before .before .before .before .before .room-after .result .good) (c .before .before .before .before .before .before .before .before .before .before .before .before .before .before .before .before .if6 .left)) (c .before .before .before .before .before .before .before .before .before .before .before .before .before .before .element-of .ensures) (c .before .before .before .before .before .before .before .before .before .before .before .take .ensures .0) (c .before .before .before .before .before .before .before .before .before .before .before .take .ensures .1) (c .before .before .before .before .join .ensures .0) (c .before .before .before .before .join .ensures .1)
 
 pub replace-laid-spec : {M : Type 1} → statement M
 replace-laid-spec =
@@ -149,16 +140,13 @@ replace-laid-spec =
     same-length-9
     same-length-10
     returns-5
+    room-after-requires
     same-length-11
     same-length-12
     returns-6
-    room-after-requires
-    same-length-13
-    same-length-14
-    returns-7
     element-of-requires
     take-requires
     join-requires
-    same-length-15
-    same-length-16
-    returns-8)
+    same-length-13
+    same-length-14
+    returns-7)

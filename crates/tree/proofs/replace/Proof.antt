@@ -1,7 +1,7 @@
 -- `tree::replace` meets its contract. Assumes nothing.
 use native.Mathlib.Omega.{arith}
 use borrow.Author.Needs.{needs}
-use Rattle.tree.proofs.Calls.{called-damaged, called-shape, Fit, fit, Opened, opened, replace-broken, replace-done, replace-first, replace-none, root-stands, shape-few, shape-here}
+use Rattle.tree.proofs.Calls.{called-damaged, called-shape, Fit, fit, Opened, opened, replace-broken, replace-done, replace-none, root-stands, shape-few, shape-here}
 use Rattle.tree.proofs.Once.{look-in, numbers}
 use Rattle.tree.proofs.replace.Statement.{statement}
 use Rattle.tree.proofs.replace.Tie as tie
@@ -52,39 +52,20 @@ returns-3 c = replace-none (fitting (c .before .before .before .before .before))
 slot-at-requires : tie.Need-slot-at-requires
 slot-at-requires c κs = omega (arith, numbers (root-stands (fitting (c .before .before .before .before .before .before))), opening (c .before))
 
-lower-requires : tie.Need-lower-requires
-lower-requires c κs = search needs
+swap-requires : tie.Need-swap-requires
+swap-requires c κs = opening (c .before .before .before .before) .looked
 
 same-length-3 : tie.Need-same-length-3
 same-length-3 c = search needs
 
 returns-4 : tie.Need-returns-4
-returns-4 c = replace-first (opening (c .before .before .before .before .before)) _ (c .before .before .before .slot-at .ensures) (start (c .before .before .before .before .before .before .before .before .before .before) .args .x) _ (c .before .lower .ensures) (c .if4 .taken)
-
-swap-requires : tie.Need-swap-requires
-swap-requires c κs = opening (c .before .before .before .before .before .before) .looked
+returns-4 c = replace-broken (opening (c .before .before .before .before .before .before .before .before)) _ (c .before .before .before .before .before .before .slot-at .ensures) (start (at-count (c .before .before .before .before .before .before .before .before)) .args .x) _ _ (c .before .before .before .swap .ensures) (c .if4 .taken)
 
 same-length-4 : tie.Need-same-length-4
 same-length-4 c = search needs
 
 returns-5 : tie.Need-returns-5
-returns-5 c =
-    let at-done = c .before .before .before in
-    let at-if4 = at-done .before .before in
-    let at-lower = at-if4 .before in
-    let at-slot = at-lower .before .before in
-    replace-broken (opening (c .before .before .before .before .before .before .before .before .before .before)) _ (at-slot .slot-at .ensures) (start (c .before .before .before .before .before .before .before .before .before .before .before .before .before .before .before) .args .x) _ (at-lower .lower .ensures) (at-if4 .if4 .left) _ _ (at-done .swap .ensures) (c .if5 .taken)
-
-same-length-5 : tie.Need-same-length-5
-same-length-5 c = search needs
-
-returns-6 : tie.Need-returns-6
-returns-6 c =
-    let at-done = c .before .before .before in
-    let at-if4 = at-done .before .before in
-    let at-lower = at-if4 .before in
-    let at-slot = at-lower .before .before in
-    replace-done (opening (c .before .before .before .before .before .before .before .before .before .before)) _ (at-slot .slot-at .ensures) (start (c .before .before .before .before .before .before .before .before .before .before .before .before .before .before .before) .args .x) _ (at-lower .lower .ensures) (at-if4 .if4 .left) _ _ (at-done .swap .ensures) (c .if5 .left)
+returns-5 c = replace-done (opening (c .before .before .before .before .before .before .before .before)) _ (c .before .before .before .before .before .before .slot-at .ensures) (start (at-count (c .before .before .before .before .before .before .before .before)) .args .x) _ _ (c .before .before .before .swap .ensures) (c .if4 .left)
 
 pub replace-spec : {M : Type 1} → statement M
-replace-spec = tie.close (tie.spec shape-ok-requires returns sub-capacity capacity-requires look-low-requires same-length returns-2 same-length-2 returns-3 slot-at-requires lower-requires same-length-3 returns-4 swap-requires same-length-4 returns-5 same-length-5 returns-6)
+replace-spec = tie.close (tie.spec shape-ok-requires returns sub-capacity capacity-requires look-low-requires same-length returns-2 same-length-2 returns-3 slot-at-requires swap-requires same-length-3 returns-4 same-length-4 returns-5)
