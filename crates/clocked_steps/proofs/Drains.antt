@@ -1,5 +1,5 @@
 -- Drain: each test and what follows it make the outcome that the definition says. Assumes nothing.
-use Prim.Native.Nat.{_+_, _-_, _≤_, pred, suc, zero, ℕ}
+use Prim.Native.Nat.{_+_, _-_, pred, suc, zero, ℕ}
 use native.Mathlib.Numerals.{add-one}
 use native.Mathlib.Omega.{arith}
 use mathlib.Core.Bool.{Bool, cond, false, not, true}
@@ -11,8 +11,7 @@ use Rattle.clocked_model.specs.Cycle.{quiet}
 use Rattle.clocked_model.specs.Records.{worksOf}
 use Rattle.clocked_model.specs.declared.State.{State}
 use Rattle.strip.specs.declared.Answer.{Answer}
-use Rattle.strip.specs.declared.Answer.the-variants.{Done, Refused}
-use Rattle.strip.specs.declared.Refusal.the-variants.{BadShape}
+use Rattle.strip.specs.declared.Answer.the-variants.{Done}
 use Rattle.strip.specs.declared.Request.the-variants.{Idle}
 use Rattle.tree_model.specs.Calls.{shapeOk}
 

@@ -16,12 +16,12 @@ use Rattle.clocked_model.specs.Cycle.{cycleOk, cycleWords, Works}
 use Rattle.clocked_model.specs.Records.{landed, recordAt, recordsAfter, worksOf}
 use Rattle.clocked_model.specs.declared.State.{State}
 use Rattle.clocked_steps.proofs.Works.{fine-plain, rest-plain, words-plain}
-use Rattle.clocked_steps.specs.Steps.{Does, LevelIn, LevelPlanned, noWrite, RoomIs, Rooted, RootPlanned, SecondLevel, stateOf, StepOf, turnedBy, Within, written}
+use Rattle.clocked_steps.specs.Steps.{Does, LevelIn, LevelPlanned, noWrite, RoomIs, Rooted, RootPlanned, SecondLevel, stateOf, StepOf, turnedBy, written}
 use Rattle.clocked_steps.specs.declared.asked.RootStep.{RootStep}
 use Rattle.clocked_steps.specs.declared.levels.AtLevel.{AtLevel}
 use Rattle.clocked_steps.specs.declared.levels.Step.{Step}
 use Rattle.clocked_steps.specs.declared.levels.Write.{Write}
-use Rattle.laws.specs.Tests.{and-left, and-right, sub-one}
+use Rattle.laws.specs.Tests.{sub-one}
 use Rattle.node.proofs.Steps.{move-nothing, room-up}
 use Rattle.node_plan.specs.Planning.{Planned, PlanIn}
 use Rattle.node.specs.Scan.{childOf, RoomUnder}
@@ -35,13 +35,12 @@ use Rattle.tree_model.proofs.Place.{fine-here, move-here, place-here, rest-here
 use Rattle.tree_model.proofs.Words.{level-length, levels-before, size-room}
 use Rattle.tree_model.specs.Calls.{slotLimit}
 use Rattle.tree_model.specs.Damage.{workOk, room, stepOk}
-use Rattle.tree_model.specs.Levels.{idle, Level, levelMove, Levels, stepWork, top, work}
+use Rattle.tree_model.specs.Levels.{idle, Level, levelMove, Levels, top, work}
 use Rattle.tree_model.specs.Node.{isNothing, move}
 use Rattle.tree_model.specs.Words.{levelOf, levelsOf, nodeMove, nodeOf, restWords, size, stepWords, under, slotWords, write}
 use Rattle.tree_model.specs.declared.Move.{Move}
 use Rattle.tree_model.specs.declared.Op.{Op}
 use Rattle.tree_model.specs.declared.Op.the-variants.{Nothing}
-use Rattle.tree_model.specs.declared.Slot.{Slot}
 use Rattle.tree_model.specs.declared.Work.{Work}
 
 -- ---- one level's pending work

@@ -1,10 +1,10 @@
 -- A cycle and a clear of a tree whose shape has been tested: each test and what follows it make the outcome that the definitions say.
 -- Assumes nothing.
-use Prim.Native.Nat.{_*_, _+_, _-_, _<_, _≤_, pred, suc, zero, ℕ}
+use Prim.Native.Nat.{_*_, _+_, _-_, _<_, _≤_, suc, zero, ℕ}
 use native.Mathlib.Omega.{arith}
-use mathlib.Core.Bool.{_&&_, Bool, cond, false, not, true, true≢false}
+use mathlib.Core.Bool.{_&&_, Bool, false, not, true}
 use mathlib.Core.List.{List}
-use mathlib.Core.Path.{_∙_, _≡_, ap, ap₂, refl, subst, sym}
+use mathlib.Core.Path.{_∙_, _≡_, ap, ap₂, refl, sym}
 use lib.ListN.{length, replicate}
 use borrow.Author.Tests.{not-false, not-true}
 use Rattle.clocked_model.proofs.Demand.{few-levels}
@@ -15,7 +15,7 @@ use Rattle.clocked_model.specs.declared.State.{State}
 use Rattle.clocked_steps.proofs.Works.{still-ok, still-records, still-words}
 use Rattle.clocked_steps.specs.Steps.{RulesRoot, RoomIs, Rooted, RootIn, RootPlanned, stateOf, turnedBy}
 use Rattle.clocked_steps.specs.declared.asked.RootStep.{RootStep}
-use Rattle.laws.specs.Tests.{and-assoc, and-left, and-right, sub-one}
+use Rattle.laws.specs.Tests.{and-assoc, and-right}
 use Rattle.node.proofs.Shapes.{shaped-levels, shaped-slots}
 use Rattle.node.proofs.Steps.{room-up}
 use Rattle.node.specs.Scan.{childOf}
@@ -23,19 +23,19 @@ use Rattle.node.specs.Shaping.{Shaped}
 use Rattle.node.specs.declared.shape.Shape.{Shape}
 use Rattle.strip.specs.declared.Answer.{Answer}
 use Rattle.strip.specs.declared.Answer.the-variants.{Done, Refused}
-use Rattle.strip.specs.declared.Refusal.the-variants.{BadShape, Damaged}
+use Rattle.strip.specs.declared.Refusal.the-variants.{Damaged}
 use Rattle.strip.specs.declared.Request.{Request}
-use Rattle.tree.proofs.Calls.{shape-few, shape-here}
+use Rattle.tree.proofs.Calls.{shape-few}
 use Rattle.tree.specs.Down.{Lies}
-use Rattle.tree_model.proofs.Exactly.{order-pos, shape-is}
+use Rattle.tree_model.proofs.Exactly.{shape-is}
 use Rattle.tree_model.proofs.Nothing.{is-none, work-none}
 use Rattle.tree_model.proofs.Place.{fine-here}
 use Rattle.tree_model.proofs.Words.{size-room}
-use Rattle.tree_model.specs.Calls.{cleared, Outcome, outcome, Ruling, shapeOk, slotLimit}
+use Rattle.tree_model.specs.Calls.{Ruling, shapeOk, slotLimit}
 use Rattle.tree_model.specs.Damage.{workOk, room, stepOk}
 use Rattle.tree_model.specs.Levels.{idle, top, work}
 use Rattle.tree_model.specs.Node.{isNothing}
-use Rattle.tree_model.specs.Words.{levelOf, levelsOf, nodeMove, nodeOf, restWords, size, stepWords, under, slotWords, wipe}
+use Rattle.tree_model.specs.Words.{levelOf, levelsOf, nodeMove, nodeOf, size, stepWords, under, slotWords, wipe}
 use Rattle.tree_model.specs.declared.Op.{Op}
 use Rattle.tree_model.specs.declared.Op.the-variants.{Nothing}
 use Rattle.tree_model.specs.declared.Work.{Work}

@@ -4,7 +4,7 @@ use native.Mathlib.Numerals.{add-one}
 use native.Mathlib.Omega.{arith}
 use mathlib.Core.Bool.{_&&_, Bool, cond, false, not, true, true≢false}
 use mathlib.Core.List.{List}
-use mathlib.Core.Path.{_∙_, _≡_, ap, ap₂, refl, subst, sym}
+use mathlib.Core.Path.{_∙_, _≡_, ap, ap₂, refl, sym}
 use lib.ListN.{getD, set}
 use lib.Seq.{set-getD}
 use borrow.Author.Tests.{not-false, not-true}
@@ -15,7 +15,7 @@ use Rattle.tree_model.proofs.Nothing.{is-none, op-work, work-none}
 use Rattle.tree_model.specs.Damage.{workOk}
 use Rattle.tree_model.specs.Levels.{idle, Level, Levels, stepWork, top, work}
 use Rattle.tree_model.specs.Node.{isNothing}
-use Rattle.tree_model.specs.Words.{levelsOf, stepWords}
+use Rattle.tree_model.specs.Words.{stepWords}
 use Rattle.tree_model.specs.declared.Op.{Op}
 use Rattle.tree_model.specs.declared.Op.the-variants.{Nothing, Put, Swap, Take}
 use Rattle.tree_model.specs.declared.Work.{Work}

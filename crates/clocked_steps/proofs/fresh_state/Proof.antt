@@ -3,9 +3,6 @@ use borrow.Author.Needs.{needs}
 use Rattle.clocked_steps.proofs.Shaped.{fresh-is}
 use Rattle.clocked_steps.proofs.fresh_state.Statement.{statement}
 use Rattle.clocked_steps.proofs.fresh_state.Tie as tie
-use Rattle.clocked_steps.proofs.fresh_state.Reads as reads
-use Rattle.clocked_steps.proofs.fresh_state.Lts as lts
-use Rattle.clocked_steps.proofs.records.no_work.Reads as no-work-reads
 
 no-work-requires : tie.Need-no-work-requires
 no-work-requires c κs = search needs

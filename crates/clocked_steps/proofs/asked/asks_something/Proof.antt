@@ -4,8 +4,6 @@ use borrow.Author.Needs.{needs}
 use Rattle.clocked_model.specs.Calls.{asks}
 use Rattle.clocked_steps.proofs.asked.asks_something.Statement.{statement}
 use Rattle.clocked_steps.proofs.asked.asks_something.Tie as tie
-use Rattle.clocked_steps.proofs.asked.asks_something.Reads as reads
-use Rattle.clocked_steps.proofs.asked.asks_something.Lts as lts
 
 enum-told : tie.Need-enum-told
 enum-told c = search needs

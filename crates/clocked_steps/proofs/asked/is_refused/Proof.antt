@@ -4,8 +4,6 @@ use borrow.Author.Needs.{needs}
 use Rattle.clocked_model.specs.Calls.{isRefused}
 use Rattle.clocked_steps.proofs.asked.is_refused.Statement.{statement}
 use Rattle.clocked_steps.proofs.asked.is_refused.Tie as tie
-use Rattle.clocked_steps.proofs.asked.is_refused.Reads as reads
-use Rattle.clocked_steps.proofs.asked.is_refused.Lts as lts
 
 enum-told : tie.Need-enum-told
 enum-told c = search needs

@@ -5,10 +5,6 @@ use Rattle.clocked_model.specs.Calls.{marks}
 use borrow.Author.Needs.{needs}
 use Rattle.clocked_steps.proofs.asked.leaves_mark.Statement.{statement}
 use Rattle.clocked_steps.proofs.asked.leaves_mark.Tie as tie
-use Rattle.clocked_steps.proofs.asked.leaves_mark.Reads as reads
-use Rattle.clocked_steps.proofs.asked.leaves_mark.Lts as lts
-use Rattle.clocked_steps.proofs.asked.asks_something.Reads as asks-something-reads
-use Rattle.clocked_steps.proofs.asked.is_refused.Reads as is-refused-reads
 
 asks-something-requires : tie.Need-asks-something-requires
 asks-something-requires c κs = search needs

@@ -4,8 +4,6 @@ use borrow.Author.Needs.{needs}
 use Rattle.clocked_model.specs.Calls.{popsOrReplaces}
 use Rattle.clocked_steps.proofs.asked.pops_or_replaces.Statement.{statement}
 use Rattle.clocked_steps.proofs.asked.pops_or_replaces.Tie as tie
-use Rattle.clocked_steps.proofs.asked.pops_or_replaces.Reads as reads
-use Rattle.clocked_steps.proofs.asked.pops_or_replaces.Lts as lts
 
 enum-told : tie.Need-enum-told
 enum-told c = search needs

@@ -4,12 +4,6 @@ use Rattle.clocked_steps.proofs.Root.{pop-step, pop-still, root-below}
 use borrow.Author.Needs.{needs}
 use Rattle.clocked_steps.proofs.asked.rule_pop.Statement.{statement}
 use Rattle.clocked_steps.proofs.asked.rule_pop.Tie as tie
-use Rattle.clocked_steps.proofs.asked.rule_pop.Reads as reads
-use Rattle.clocked_steps.proofs.asked.rule_pop.Lts as lts
-use Rattle.clocked_steps.proofs.asked.stands.Reads as stands-reads
-use Rattle.node_plan.proofs.choose_low.Reads as choose-low-reads
-use Rattle.node_plan.proofs.plan_take.Reads as plan-take-reads
-use Rattle.node.proofs.room_under.Reads as room-under-reads
 
 choose-low-requires : tie.Need-choose-low-requires
 choose-low-requires c κs = search needs

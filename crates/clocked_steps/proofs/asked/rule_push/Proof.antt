@@ -5,11 +5,6 @@ use Rattle.clocked_steps.proofs.Root.{push-step, push-still}
 use borrow.Author.Needs.{needs}
 use Rattle.clocked_steps.proofs.asked.rule_push.Statement.{statement}
 use Rattle.clocked_steps.proofs.asked.rule_push.Tie as tie
-use Rattle.clocked_steps.proofs.asked.rule_push.Reads as reads
-use Rattle.clocked_steps.proofs.asked.rule_push.Lts as lts
-use Rattle.clocked_steps.proofs.asked.stands.Reads as stands-reads
-use Rattle.node_plan.proofs.choose_least.Reads as choose-least-reads
-use Rattle.node_plan.proofs.plan_put.Reads as plan-put-reads
 
 choose-least-requires : tie.Need-choose-least-requires
 choose-least-requires c κs = search needs

@@ -5,13 +5,6 @@ use Rattle.clocked_steps.proofs.Root.{hears-as, hears-idle, hears-soon}
 use borrow.Author.Needs.{needs}
 use Rattle.clocked_steps.proofs.asked.rule_root.Statement.{statement}
 use Rattle.clocked_steps.proofs.asked.rule_root.Tie as tie
-use Rattle.clocked_steps.proofs.asked.rule_root.Reads as reads
-use Rattle.clocked_steps.proofs.asked.rule_root.Lts as lts
-use Rattle.clocked_steps.proofs.asked.rule_pop.Reads as rule-pop-reads
-use Rattle.clocked_steps.proofs.asked.rule_push.Reads as rule-push-reads
-use Rattle.clocked_steps.proofs.asked.rule_replace.Reads as rule-replace-reads
-use Rattle.clocked_steps.proofs.asked.pops_or_replaces.Reads as pops-or-replaces-reads
-use Rattle.clocked_steps.proofs.asked.stands.Reads as stands-reads
 
 pops-or-replaces-requires : tie.Need-pops-or-replaces-requires
 pops-or-replaces-requires c κs = search needs

@@ -5,10 +5,6 @@ use Rattle.clocked_steps.proofs.Root.{stands-not, stands-tested}
 use borrow.Author.Needs.{needs}
 use Rattle.clocked_steps.proofs.asked.stands.Statement.{statement}
 use Rattle.clocked_steps.proofs.asked.stands.Tie as tie
-use Rattle.clocked_steps.proofs.asked.stands.Reads as reads
-use Rattle.clocked_steps.proofs.asked.stands.Lts as lts
-use Rattle.clocked_steps.proofs.asked.still.Reads as still-reads
-use Rattle.node.proofs.node_ok.Reads as node-ok-reads
 
 still-requires : tie.Need-still-requires
 still-requires c κs = search needs

@@ -3,9 +3,6 @@ use Rattle.clocked_steps.proofs.Works.{steps-none, steps-one}
 use borrow.Author.Needs.{needs}
 use Rattle.clocked_steps.proofs.levels.steps_of.Statement.{statement}
 use Rattle.clocked_steps.proofs.levels.steps_of.Tie as tie
-use Rattle.clocked_steps.proofs.levels.steps_of.Reads as reads
-use Rattle.clocked_steps.proofs.levels.steps_of.Lts as lts
-use Rattle.clocked_steps.proofs.records.is_nothing.Reads as is-nothing-reads
 
 is-nothing-requires : tie.Need-is-nothing-requires
 is-nothing-requires c κs = search needs

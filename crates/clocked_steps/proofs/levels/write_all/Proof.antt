@@ -8,9 +8,6 @@ use Rattle.clocked_steps.proofs.Rounds.{written-next, written-none}
 use borrow.Author.Needs.{needs}
 use Rattle.clocked_steps.proofs.levels.write_all.Statement.{statement}
 use Rattle.clocked_steps.proofs.levels.write_all.Tie as tie
-use Rattle.clocked_steps.proofs.levels.write_all.Reads as reads
-use Rattle.clocked_steps.proofs.levels.write_all.Lts as lts
-use Rattle.node.proofs.write_slot.Reads as write-slot-reads
 
 abbrev Inv-loop : tie.InvT-loop
 Inv-loop s₀ count writes i₀ s i = (i ≤ count) × (length s ≡ length s₀) × (s ≡ written i writes s₀)

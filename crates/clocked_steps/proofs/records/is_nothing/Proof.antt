@@ -4,8 +4,6 @@ use borrow.Author.Needs.{needs}
 use Rattle.tree_model.specs.Node.{isNothing}
 use Rattle.clocked_steps.proofs.records.is_nothing.Statement.{statement}
 use Rattle.clocked_steps.proofs.records.is_nothing.Tie as tie
-use Rattle.clocked_steps.proofs.records.is_nothing.Reads as reads
-use Rattle.clocked_steps.proofs.records.is_nothing.Lts as lts
 
 enum-told : tie.Need-enum-told
 enum-told c = search needs

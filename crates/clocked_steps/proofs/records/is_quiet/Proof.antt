@@ -5,9 +5,6 @@ use Rattle.clocked_steps.proofs.Works.{Asking, quiet-end, quiet-next, q
 use borrow.Author.Needs.{needs}
 use Rattle.clocked_steps.proofs.records.is_quiet.Statement.{statement}
 use Rattle.clocked_steps.proofs.records.is_quiet.Tie as tie
-use Rattle.clocked_steps.proofs.records.is_quiet.Reads as reads
-use Rattle.clocked_steps.proofs.records.is_quiet.Lts as lts
-use Rattle.clocked_steps.proofs.records.is_idle.Reads as is-idle-reads
 
 abbrev Inv-loop : tie.InvT-loop
 Inv-loop count records ok₀ i₀ ok i = (i ≤ count) × Asking records count i ok

@@ -3,10 +3,6 @@ use borrow.Author.Needs.{needs}
 use Rattle.clocked_steps.proofs.Works.{land-done, land-loads, land-stands}
 use Rattle.clocked_steps.proofs.records.land.Statement.{statement}
 use Rattle.clocked_steps.proofs.records.land.Tie as tie
-use Rattle.clocked_steps.proofs.records.land.Reads as reads
-use Rattle.clocked_steps.proofs.records.land.Lts as lts
-use Rattle.clocked_steps.proofs.records.is_idle.Reads as is-idle-reads
-use Rattle.clocked_steps.proofs.records.no_work.Reads as no-work-reads
 
 is-idle-requires : tie.Need-is-idle-requires
 is-idle-requires c κs = search needs

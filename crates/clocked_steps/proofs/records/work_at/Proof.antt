@@ -3,10 +3,6 @@ use borrow.Author.Needs.{needs}
 use Rattle.clocked_steps.proofs.Works.{work-nothing, work-some}
 use Rattle.clocked_steps.proofs.records.work_at.Statement.{statement}
 use Rattle.clocked_steps.proofs.records.work_at.Tie as tie
-use Rattle.clocked_steps.proofs.records.work_at.Reads as reads
-use Rattle.clocked_steps.proofs.records.work_at.Lts as lts
-use Rattle.clocked_steps.proofs.records.is_nothing.Reads as is-nothing-reads
-use Rattle.clocked_steps.proofs.records.no_work.Reads as no-work-reads
 
 is-nothing-requires : tie.Need-is-nothing-requires
 is-nothing-requires c κs = search needs
