@@ -13,12 +13,16 @@ use bucket_nodes::element_of;
 use bucket_nodes::held_count;
 use bucket_nodes::join_words;
 use bucket_nodes::queue_of;
+use bucket_nodes::swap_words;
 use bucket_nodes::take_words;
 use bucket_nodes::wipe_words;
 use bucket_tests::find_lowest;
 use bucket_tests::find_room;
+use bucket_tests::has_room;
+use bucket_tests::has_some;
 use bucket_tests::is_shaped;
 use bucket_tests::is_whole;
+use bucket_tests::limit_or_damage;
 use bucket_tests::room_after;
 use strip::Answer;
 use strip::Count;
@@ -28,7 +32,7 @@ ghost use mathlib.Core.Path.{_≡_};
 ghost use Rattle.bucket_model.specs.Layout.{queue};
 ghost use Rattle.bucket_model.specs.Calls.{outcome, cleared, pushed, popped, replaced, heldCount, takenBits, takenWords, joinedBits, joinedWords};
 ghost use Rattle.bucket_tests.specs.Stores.{Freeing};
-ghost use Rattle.bucket.specs.Stores.{Placed, Joining};
+ghost use Rattle.bucket.specs.Stores.{Placed, Joining, Swapping};
 
 // ---- 01's queue of n nodes
 
@@ -100,9 +104,15 @@ fn take(bits: &mut [u64], words: &mut [u32], k: Lay, low: Lowest)
     ensures { λ _. ⌜ (now (bits .exit) ≡ takenBits k (now (bits .entry)) low) × (now (words .exit) ≡ takenWords k (now (words .entry)) low) ⌝ }
 {
     take_words(words, k, low);
-    if low.next == 0 {
-        mark(bits, false, k.bits, k.storeys, k.tower, low.rank);
-    }
+    mark(
+        bits,
+        false,
+        low.next == 0,
+        k.bits,
+        k.storeys,
+        k.tower,
+        low.rank,
+    );
 }
 
 // Joins a newcomer to its bucket, with its bits where that was empty.
@@ -112,9 +122,26 @@ fn join(bits: &mut [u64], words: &mut [u32], k: Lay, e: Element, to: Room)
 {
     let rank = e.rank;
     join_words(words, k, e, to);
-    if to.tail == 0 {
-        mark(bits, true, k.bits, k.storeys, k.tower, rank.0);
-    }
+    mark(bits, true, to.tail == 0, k.bits, k.storeys, k.tower, rank.0);
+}
+
+// Takes the head out of the lowest bucket and joins its node, with what the newcomer carries, to the newcomer's.
+fn swap(bits: &mut [u64], words: &mut [u32], k: Lay, low: Lowest, e: Element, to: Room)
+    requires { ⌜ Swapping k (now bits) (now words) low (e .rank .0) to ⌝ }
+    ensures { λ _. ⌜ (now (bits .exit) ≡ joinedBits k (takenBits k (now (bits .entry)) low) e to) × (now (words .exit) ≡ joinedWords k (takenWords k (now (words .entry)) low) e to) ⌝ }
+{
+    let rank = e.rank;
+    swap_words(words, k, low, e, to);
+    mark(
+        bits,
+        false,
+        low.next == 0,
+        k.bits,
+        k.storeys,
+        k.tower,
+        low.rank,
+    );
+    mark(bits, true, to.tail == 0, k.bits, k.storeys, k.tower, rank.0);
 }
 
 fn pop_laid(bits: &mut [u64], words: &mut [u32], k: Lay) -> Answer
@@ -124,11 +151,8 @@ fn pop_laid(bits: &mut [u64], words: &mut [u32], k: Lay) -> Answer
     if !is_shaped(bits, words, k) {
         return Answer::Refused(Refusal::BadShape);
     }
-    if !is_whole(bits, words, k) {
-        return Answer::Refused(Refusal::Damaged);
-    }
-    if held_count(words, k) == 0 {
-        return Answer::Refused(Refusal::Empty);
+    if !has_some(bits, words, k) {
+        return Answer::Refused(limit_or_damage(bits, words, k, Refusal::Empty));
     }
     let low = find_lowest(bits, words, k);
     if !low.good {
@@ -150,12 +174,8 @@ fn push_laid(bits: &mut [u64], words: &mut [u32], k: Lay, e: Element) -> Answer
     if k.ranks <= rank.0 {
         return Answer::Refused(Refusal::BadRank);
     }
-    if !is_whole(bits, words, k) {
-        return Answer::Refused(Refusal::Damaged);
-    }
-    let left = k.nodes - held_count(words, k);
-    if left == 0 {
-        return Answer::Refused(Refusal::Full);
+    if !has_room(bits, words, k) {
+        return Answer::Refused(limit_or_damage(bits, words, k, Refusal::Full));
     }
     let to = find_room(bits, words, k, rank.0);
     if !to.good {
@@ -176,11 +196,8 @@ fn replace_laid(bits: &mut [u64], words: &mut [u32], k: Lay, e: Element) -> Answ
     if k.ranks <= rank.0 {
         return Answer::Refused(Refusal::BadRank);
     }
-    if !is_whole(bits, words, k) {
-        return Answer::Refused(Refusal::Damaged);
-    }
-    if held_count(words, k) == 0 {
-        return Answer::Refused(Refusal::Empty);
+    if !has_some(bits, words, k) {
+        return Answer::Refused(limit_or_damage(bits, words, k, Refusal::Empty));
     }
     let low = find_lowest(bits, words, k);
     if !low.good {
@@ -191,7 +208,6 @@ fn replace_laid(bits: &mut [u64], words: &mut [u32], k: Lay, e: Element) -> Answ
         return Answer::Refused(Refusal::Damaged);
     }
     let first = element_of(words, k, low.rank, low.head);
-    take(bits, words, k, low);
-    join(bits, words, k, e, room);
+    swap(bits, words, k, low, e, room);
     Answer::Out(first)
 }

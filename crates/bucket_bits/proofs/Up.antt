@@ -6,24 +6,37 @@ use Prim.Native.Nat.{ℕ, zero, suc, _+_, _-_, _/_, _%_, _^_, _≤_, _<_}
 use native.Mathlib.Decide.{ℕ-discrete}
 use native.Mathlib.Nat.{pow-suc}
 use native.Mathlib.Omega.{arith}
-use borrow.Author.Tests.{eq-eqb, ne-eqb, eqb-true, ltb-true, ltb-false}
+use borrow.Author.Tests.{eq-eqb, ne-eqb, eqb-true, lt-ltb, ltb-true, ltb-false}
 use lib.Dec.{eqb, ltb}
 use lib.ListN.{length, set, length-set}
 use Rattle.laws.specs.Tests.{and-left, and-right, and-unit, and-assoc, sub-one}
-use Rattle.bitmap.specs.Bits.{bitAt}
+use lib.Seq.{set-getD}
+use Rattle.bitmap.specs.Bits.{bitAt, bit-lt, some-set}
 use Rattle.bucket_model.specs.Layout.{word, wordsOf}
 use Rattle.bucket_model.specs.Storeys.{Storey, storey, storeysFrom, wordOf, bitOf, turned, bitFor, tellsAbove, edit, agree}
-use Rattle.bucket_model.specs.Causes.{Agrees}
+use Rattle.bucket_model.specs.Causes.{bitNo, Agrees}
 use Rattle.bucket_model.proofs.Writes.{same, other}
 use Rattle.bucket_model.proofs.Tower.{Outside, Shape, Bits, past-all, shape-from, bits-from, deeper, edit-off}
 use Rattle.bucket_bits.specs.declared.Climb.{Climb}
-use Rattle.bucket_bits.specs.Climbs.{Turnable, Turning, bitsLeft, Agreed, cleared, wordLeft, climbed, Climbable}
+use Rattle.bucket_bits.specs.Climbs.{Tall, Turnable, Stays, Turning, Marking, bitsLeft, Agreed, cleared, wordLeft, climbed, Climbable}
 use Rattle.bucket_bits.proofs.Numbers.{words-up, words-le}
 
 -- bits that agree with what is below them, from an empty bucket on, can be set
 pub agreed-turnable : (b : List ℕ) (ps : List Storey) (j : ℕ) (E : Type 0) → Agrees b ps j E → E → Turnable true b ps j
 agreed-turnable b [] j E a e = tt
 agreed-turnable b (p ∷ ps) j E a e = (a .0 .to e, λ t. agreed-turnable b ps (j / 64) (wordOf b p j ≡ 0) (a .1) (eqb-true (wordOf b p j) 0 t))
+
+-- .. and those of a bucket that is not empty are set
+pub agreed-stays : (b : List ℕ) (ps : List Storey) (j : ℕ) (E : Type 0) → Agrees b ps j E → (E → ⊥) → Stays b ps j
+agreed-stays b [] j E a n = tt
+agreed-stays b (p ∷ ps) j E a n =
+    let z : bitNo b p j ≡ 0 → ⊥ = λ z. n (a .0 .from z) in
+    omega (arith, bit-lt (wordOf b p j) (j % 64))
+
+-- so are bits that can be cleared
+pub turnable-stays : (b : List ℕ) (ps : List Storey) (j : ℕ) → Turnable false b ps j → Stays b ps j
+turnable-stays b [] j t = tt
+turnable-stays b (p ∷ ps) j t = t .0
 
 -- a word of another storey written
 turnable-off : (on : Bool) (b : List ℕ) (ps : List Storey) (j x v : ℕ) → Shape ps → Bits ps j → Outside x ps → Turnable on b ps j → Turnable on (set b x v) ps j
@@ -34,26 +47,23 @@ turnable-off on b (p ∷ ps) j x v s h o t =
 
 -- ---- writing
 
--- d storeys are still to be written, from bit j on, where i is its number; b0 is what stood at first
-pub record Rise (on : Bool) (b0 : List ℕ) (o D r : ℕ) (b : List ℕ) (more : Bool) (i d j : ℕ) : Type 0 where
+-- d storeys are still to be written, from bit j on, where i is its number; b0 is what stood at first, b1 what shall stand at last
+pub record Rise (on : Bool) (b0 b1 : List ℕ) (o D : ℕ) (b : List ℕ) (more : Bool) (i d j : ℕ) : Type 0 where
   pub is : i ≡ wordsOf d + j
   pub deep : d ≤ D
   pub within : j < 64 ^ d
   pub long : length b ≡ length b0
   pub todo : more ≡ true → Turnable on b (storeysFrom o d) j
-  pub done : cond more (edit on b (storeysFrom o d) j) b ≡ edit on b0 (storeysFrom o D) r
+  pub done : cond more (edit on b (storeysFrom o d) j) b ≡ b1
 
-abbrev pub Rising : Bool → List ℕ → ℕ → ℕ → ℕ → List ℕ → Bool → ℕ → ℕ → Type 0
-Rising on b0 o D r b more d i = (j : ℕ) × Rise on b0 o D r b more i d j
-
-pub rising-start : (on : Bool) (b : List ℕ) (o D tower r : ℕ) → tower ≡ wordsOf D → r < 64 ^ D → Turnable on b (storeysFrom o D) r → Rising on b o D r b true D (tower + r)
-rising-start on b o D tower r e h t = (r, record { is = omega arith; deep = omega arith; within = h; long = refl; todo = λ e. t; done = refl })
+abbrev pub Rising : Bool → List ℕ → List ℕ → ℕ → ℕ → List ℕ → Bool → ℕ → ℕ → Type 0
+Rising on b0 b1 o D b more d i = (j : ℕ) × Rise on b0 b1 o D b more i d j
 
 -- bit j of the storey below e others, by its number
 number : (o e i j : ℕ) → i ≡ wordsOf (suc e) + j → (o + (i - 1) / 64 ≡ o + wordsOf e + j / 64) × ((i - 1) % 64 ≡ j % 64) × ((i - 1) / 64 ≡ wordsOf e + j / 64)
 number o e i j h = let u = words-up e in (omega arith, omega arith, omega arith)
 
-module _ (on : Bool) (b0 : List ℕ) (o D r : ℕ) (b : List ℕ) (more : Bool) (d i : ℕ) (long : o + wordsOf D ≤ length b0) (test : (more && ltb 0 d) ≡ true) where
+module _ (on : Bool) (b0 b1 : List ℕ) (o D : ℕ) (b : List ℕ) (more : Bool) (d i : ℕ) (long : o + wordsOf D ≤ length b0) (test : (more && ltb 0 d) ≡ true) where
   e : more ≡ true
   e = and-left more (ltb 0 d) test
 
@@ -61,10 +71,10 @@ module _ (on : Bool) (b0 : List ℕ) (o D r : ℕ) (b : List ℕ) (more : Bool) 
   some = ltb-true 0 d (and-right more (ltb 0 d) test)
 
   -- the bit to be turned
-  pub rising-turns : Rising on b0 o D r b more d i → (0 < i) × Turning b on (o + (i - 1) / 64) ((i - 1) % 64)
+  pub rising-turns : Rising on b0 b1 o D b more d i → (0 < i) × Turning b on true (o + (i - 1) / 64) ((i - 1) % 64)
   rising-turns z = go d (z .0) some (z .1)
     where
-      go : (d j : ℕ) → 0 < d → Rise on b0 o D r b more i d j → (0 < i) × Turning b on (o + (i - 1) / 64) ((i - 1) % 64)
+      go : (d j : ℕ) → 0 < d → Rise on b0 b1 o D b more i d j → (0 < i) × Turning b on true (o + (i - 1) / 64) ((i - 1) % 64)
       go zero j l z = absurd (omega arith)
       go (suc d) j l z =
           let n = number o d i j (z .is) in (
@@ -72,19 +82,20 @@ module _ (on : Bool) (b0 : List ℕ) (o D r : ℕ) (b : List ℕ) (more : Bool) 
             record {
               inside = omega (arith, n .0, z .within, z .long, long, pow-suc 64 d, words-le (suc d) D (z .deep));
               bit< = omega arith;
-              bit = rw (n .0, n .1) (z .todo e .0);
+              bit = λ t. rw (n .0, n .1) (z .todo e .0);
+              stays = λ t. absurd (false≢true (sym t));
             },
           )
 
-  pub rising-step : Rising on b0 o D r b more d i → (b′ : List ℕ) (more′ : Bool)
+  pub rising-step : Rising on b0 b1 o D b more d i → (b′ : List ℕ) (more′ : Bool)
       → b′ ≡ set b (o + (i - 1) / 64) (turned on (word b (o + (i - 1) / 64)) ((i - 1) % 64))
       → more′ ≡ tellsAbove on (word b (o + (i - 1) / 64)) (turned on (word b (o + (i - 1) / 64)) ((i - 1) % 64))
-      → Rising on b0 o D r b′ more′ (d - 1) ((i - 1) / 64)
+      → Rising on b0 b1 o D b′ more′ (d - 1) ((i - 1) / 64)
   rising-step z b′ more′ p q = go d (z .0) some (z .1)
     where
-      go : (d j : ℕ) → 0 < d → Rise on b0 o D r b more i d j → Rising on b0 o D r b′ more′ (d - 1) ((i - 1) / 64)
+      go : (d j : ℕ) → 0 < d → Rise on b0 b1 o D b more i d j → Rising on b0 b1 o D b′ more′ (d - 1) ((i - 1) / 64)
       go zero j l z = absurd (omega arith)
-      go (suc d) j l z = subst (λ (d : ℕ). Rising on b0 o D r b′ more′ d ((i - 1) / 64)) (sym (sub-one (suc d))) (
+      go (suc d) j l z = subst (λ (d : ℕ). Rising on b0 b1 o D b′ more′ d ((i - 1) / 64)) (sym (sub-one (suc d))) (
         j / 64,
         record {
           is = n .2;
@@ -106,13 +117,74 @@ module _ (on : Bool) (b0 : List ℕ) (o D r : ℕ) (b : List ℕ) (more : Bool) 
           more-is : more′ ≡ tellsAbove on (word b (o + wordsOf d + j / 64)) (turned on (word b (o + wordsOf d + j / 64)) (j % 64))
           more-is = rw (n .0, n .1) at q
 
-pub rising-end : (on : Bool) (b0 : List ℕ) (o D r : ℕ) (b : List ℕ) (more : Bool) (d i : ℕ) → Rising on b0 o D r b more d i → (more && ltb 0 d) ≡ false → b ≡ edit on b0 (storeysFrom o D) r
-rising-end on b0 o D r b more d i z q = go d (z .0) (z .1) more refl q
+pub rising-end : (on : Bool) (b0 b1 : List ℕ) (o D : ℕ) (b : List ℕ) (more : Bool) (d i : ℕ) → Rising on b0 b1 o D b more d i → (more && ltb 0 d) ≡ false → b ≡ b1
+rising-end on b0 b1 o D b more d i z q = go d (z .0) (z .1) more refl q
   where
-    go : (d j : ℕ) → Rise on b0 o D r b more i d j → (m : Bool) → more ≡ m → (more && ltb 0 d) ≡ false → b ≡ edit on b0 (storeysFrom o D) r
+    go : (d j : ℕ) → Rise on b0 b1 o D b more i d j → (m : Bool) → more ≡ m → (more && ltb 0 d) ≡ false → b ≡ b1
     go d j z false e q = sym (ap (λ (t : Bool). cond t (edit on b (storeysFrom o d) j) b) e) ∙ z .done
     go zero j z true e q = sym (ap (λ (t : Bool). cond t b b) e) ∙ z .done
     go (suc d) j z true e q = let l = ltb-false 0 (suc d) (sym (ap (λ (t : Bool). t && ltb 0 (suc d)) e) ∙ q) in absurd (omega arith)
+
+-- what shall stand at last, by what stands now
+pub rising-goal : (on : Bool) (b0 b1 : List ℕ) (o D : ℕ) (b : List ℕ) (more : Bool) (d i : ℕ) → Rising on b0 b1 o D b more d i → cond more (edit on b (storeysFrom o d) (i - wordsOf d)) b ≡ b1
+rising-goal on b0 b1 o D b more d i z = let j : i - wordsOf d ≡ z .0 = omega (arith, z .1 .is) in ap (λ (j : ℕ). cond more (edit on b (storeysFrom o d) j) b) j ∙ z .1 .done
+
+pub rising-from : (on : Bool) (b0 b1 : List ℕ) (o D : ℕ) (b : List ℕ) (more : Bool) (d i : ℕ) → Rising on b0 b1 o D b more d i → Rising on b (cond more (edit on b (storeysFrom o d) (i - wordsOf d)) b) o d b more d i
+rising-from on b0 b1 o D b more d i z = (z .0, record { is = z .1 .is; deep = omega arith; within = z .1 .within; long = refl; todo = z .1 .todo; done = z .1 .done ∙ sym (rising-goal on b0 b1 o D b more d i z) })
+
+-- the lowest storey, whose bit changes or not
+module _ (on changes : Bool) (b : List ℕ) (o D tower r : ℕ) (tall : Tall b o D tower) (r< : r < 64 ^ D) (m : Marking on changes b (storeysFrom o D) r) where
+  abbrev lowest : ℕ
+  lowest = o + (tower + r - 1) / 64
+
+  pub first-turns : (0 < tower + r) × Turning b on changes (o + (tower + r - 1) / 64) ((tower + r - 1) % 64)
+  first-turns = go D (tall .some) (tall .words) r< (tall .long) m
+    where
+      go : (D : ℕ) → 1 ≤ D → tower ≡ wordsOf D → r < 64 ^ D → o + wordsOf D ≤ length b → Marking on changes b (storeysFrom o D) r → (0 < tower + r) × Turning b on changes (o + (tower + r - 1) / 64) ((tower + r - 1) % 64)
+      go zero l e h long m = absurd (omega arith)
+      go (suc d) l e h long m =
+          let n = number o d (tower + r) r (omega arith) in (
+            omega (arith, words-up d),
+            record {
+              inside = omega (arith, n .0, pow-suc 64 d);
+              bit< = omega arith;
+              bit = λ t. rw (n .0, n .1) (m .turns t .0);
+              stays = λ t. rw (n .0, n .1) (m .stays t);
+            },
+          )
+
+  pub rising-first : (b′ : List ℕ) (more : Bool)
+      → b′ ≡ cond changes (set b (o + (tower + r - 1) / 64) (turned on (word b (o + (tower + r - 1) / 64)) ((tower + r - 1) % 64))) b
+      → more ≡ (changes && tellsAbove on (word b (o + (tower + r - 1) / 64)) (turned on (word b (o + (tower + r - 1) / 64)) ((tower + r - 1) % 64)))
+      → Rising on b (cond changes (edit on b (storeysFrom o D) r) b) o D b′ more (D - 1) ((tower + r - 1) / 64)
+  rising-first b′ more = go changes (m .turns)
+    where
+      within : ((tower + r - 1) / 64 ≡ wordsOf (D - 1) + r / 64) × (r / 64 < 64 ^ (D - 1))
+      within = by D (tall .some) (tall .words) r<
+        where
+          by : (D : ℕ) → 1 ≤ D → tower ≡ wordsOf D → r < 64 ^ D → ((tower + r - 1) / 64 ≡ wordsOf (D - 1) + r / 64) × (r / 64 < 64 ^ (D - 1))
+          by zero l e h = absurd (omega arith)
+          by (suc d) l e h =
+              let n = number o d (tower + r) r (omega arith) in
+              subst (λ (x : ℕ). ((tower + r - 1) / 64 ≡ wordsOf x + r / 64) × (r / 64 < 64 ^ x)) (sym (sub-one (suc d))) (n .2, omega (arith, pow-suc 64 d))
+
+      go : (changes : Bool) → (changes ≡ true → Turnable on b (storeysFrom o D) r)
+          → b′ ≡ cond changes (set b lowest (turned on (word b lowest) ((tower + r - 1) % 64))) b → more ≡ (changes && tellsAbove on (word b lowest) (turned on (word b lowest) ((tower + r - 1) % 64)))
+          → Rising on b (cond changes (edit on b (storeysFrom o D) r) b) o D b′ more (D - 1) ((tower + r - 1) / 64)
+      go true t p q =
+          let s : Rising on b (edit on b (storeysFrom o D) r) o D b true D (tower + r) = (r, record { is = omega (arith, tall .words); deep = omega arith; within = r<; long = refl; todo = t; done = refl }) in
+          rising-step on b (edit on b (storeysFrom o D) r) o D b true D (tower + r) (tall .long) (lt-ltb 0 D (omega (arith, tall .some))) s b′ more p q
+      go false t p q = (
+        r / 64,
+        record {
+          is = within .0;
+          deep = omega arith;
+          within = within .1;
+          long = ap length p;
+          todo = λ e. absurd (false≢true (sym q ∙ e));
+          done = ap (λ (x : Bool). cond x (edit on b′ (storeysFrom o (D - 1)) (r / 64)) b′) q ∙ p;
+        },
+      )
 
 -- ---- reading
 
@@ -283,34 +355,36 @@ module _ (b : List ℕ) (o D : ℕ) (clears : Bool) (gone : ℕ) (empty : Bool) 
           w-is : word B (o + wordsOf d + j / 64) ≡ wordLeft b o (c .clears) (g - 1) (i - 1)
           w-is = rw (m .0, m .1, m .2, n .0, n .2) (word-is b v o d h j B inside (z .h<) (z .j<) (z .alike) (c .clears) (z .done))
 
-pub climbing-end : (b : List ℕ) (o D : ℕ) (clears : Bool) (gone : ℕ) (empty : Bool) (own : ℕ) (c : Climb) (d g i : ℕ) → 1 ≤ D → d ≡ 0 → Climbing b o D clears gone empty own c d g i → Agreed b o D clears gone empty own (c .agrees) (c .top)
-climbing-end b o D clears gone empty own c d g i D> e z = go d (z .0) (z .1) (z .2) e (z .3)
+pub climbing-end : (b : List ℕ) (o D : ℕ) (clears : Bool) (gone : ℕ) (empty : Bool) (own : ℕ) (c : Climb) (d g i : ℕ) → 1 ≤ D → (c .agrees && ltb 0 d) ≡ false → Climbing b o D clears gone empty own c d g i
+    → Agreed b o D clears gone empty own (c .agrees) (c .top)
+climbing-end b o D clears gone empty own c d g i D> e z = go d (z .0) (z .1) (z .2) (c .agrees) refl e (z .3)
   where
-    go : (d h j : ℕ) (v : List ℕ) → d ≡ 0 → Climbs b o D clears gone empty own c g i d h j v → Agreed b o D clears gone empty own (c .agrees) (c .top)
-    go zero h j v e z = record { agreed = sym (z .agreed ∙ and-unit (c .agrees)); topmost = z .topmost D> refl }
-    go (suc d) h j v e z = absurd (omega arith)
+    go : (d h j : ℕ) (v : List ℕ) (t : Bool) → c .agrees ≡ t → (c .agrees && ltb 0 d) ≡ false → Climbs b o D clears gone empty own c g i d h j v → Agreed b o D clears gone empty own (c .agrees) (c .top)
+    go d h j v false a e z =
+        record {
+          agreed = a ∙ sym (z .agreed ∙ ap (λ (x : Bool). x && agree (bitsLeft b o D clears gone) (storeysFrom o d) j (c .empty)) a);
+          topmost = λ y. absurd (false≢true (sym a ∙ y));
+        }
+    go zero h j v true a e z = record { agreed = sym (z .agreed ∙ and-unit (c .agrees)); topmost = λ y. z .topmost D> refl }
+    go (suc d) h j v true a e z = let l = ltb-false 0 (suc d) (sym (ap (λ (t : Bool). t && ltb 0 (suc d)) a) ∙ e) in absurd (omega arith)
 
 -- ---- one storey as the code does it
 
-pub turn-on : (b : List ℕ) (on : Bool) (at k x : ℕ) → on ≡ true → x ≡ word b at + 2 ^ k
-    → (set b at x ≡ set b at (turned on (word b at) k)) × (eqb (word b at) 0 ≡ tellsAbove on (word b at) (turned on (word b at) k))
-turn-on b on at k x e p = rw (e, p) (refl, refl)
+pub turn-on : (b : List ℕ) (on changes : Bool) (at k x : ℕ) → on ≡ true → (changes ≡ false → bitAt (word b at) k ≡ 1) → x ≡ cond changes (word b at + 2 ^ k) (word b at)
+    → (set b at x ≡ cond changes (set b at (turned on (word b at) k)) b) × (eqb (word b at) 0 ≡ (changes && tellsAbove on (word b at) (turned on (word b at) k)))
+turn-on b on true at k x e s p = rw (e, p) (refl, refl)
+turn-on b on false at k x e s p = (ap (set b at) p ∙ set-getD b at 0, ne-eqb (word b at) 0 (some-set (word b at) k (s refl)))
 
-pub turn-off : (b : List ℕ) (on : Bool) (at k x : ℕ) → on ≡ false → x ≡ word b at - 2 ^ k
-    → (set b at x ≡ set b at (turned on (word b at) k)) × (eqb x 0 ≡ tellsAbove on (word b at) (turned on (word b at) k))
-turn-off b on at k x e p = rw (e, p) (refl, refl)
+pub turn-off : (b : List ℕ) (on changes : Bool) (at k x : ℕ) → on ≡ false → (changes ≡ false → bitAt (word b at) k ≡ 1) → x ≡ cond changes (word b at - 2 ^ k) (word b at)
+    → (set b at x ≡ cond changes (set b at (turned on (word b at) k)) b) × (eqb x 0 ≡ (changes && tellsAbove on (word b at) (turned on (word b at) k)))
+turn-off b on true at k x e s p = rw (e, p) (refl, refl)
+turn-off b on false at k x e s p = (ap (set b at) p ∙ set-getD b at 0, ap (λ (y : ℕ). eqb y 0) p ∙ ne-eqb (word b at) 0 (some-set (word b at) k (s refl)))
 
 pub bit-clear : (on : Bool) (x : ℕ) → on ≡ true → x ≡ bitFor (not on) → x ≡ 0
 bit-clear on x e p = p ∙ ap (λ (t : Bool). bitFor (not t)) e
 
 pub bit-set : (on : Bool) (x : ℕ) → on ≡ false → x ≡ bitFor (not on) → x ≡ 1
 bit-set on x e p = p ∙ ap (λ (t : Bool). bitFor (not t)) e
-
-pub cleared-yes : (w k x : ℕ) (clears : Bool) → clears ≡ true → x ≡ w - 2 ^ k → x ≡ cleared w clears k
-cleared-yes w k x clears e p = rw e p
-
-pub cleared-no : (w k : ℕ) (clears : Bool) → clears ≡ false → w ≡ cleared w clears k
-cleared-no w k clears e = rw e refl
 
 pub word-known : (x y : ℕ) (t : Bool) → t ≡ true → x ≡ cond t x y
 word-known x y t e = rw e refl

@@ -23,10 +23,20 @@ abbrev pub Turnable : Bool → List ℕ → List Storey → ℕ → Type 0
 Turnable on b [] j = Unit {0}
 Turnable on b (p ∷ ps) j = (bitNo b p j ≡ bitFor (not on)) × (tellsAbove on (wordOf b p j) (turned on (wordOf b p j) (j % 64)) ≡ true → Turnable on b ps (j / 64))
 
-pub record Turning (b : List ℕ) (on : Bool) (at k : ℕ) : Type 0 where
+-- a bit that does not change: it is set
+abbrev pub Stays : List ℕ → List Storey → ℕ → Type 0
+Stays b [] j = Unit {0}
+Stays b (p ∷ ps) j = bitNo b p j ≡ 1
+
+pub record Marking (on changes : Bool) (b : List ℕ) (ps : List Storey) (j : ℕ) : Type 0 where
+  pub turns : changes ≡ true → Turnable on b ps j
+  pub stays : changes ≡ false → Stays b ps j
+
+pub record Turning (b : List ℕ) (on changes : Bool) (at k : ℕ) : Type 0 where
   pub inside : at < length b
   pub bit< : k < 64
-  pub bit : bitAt (word b at) k ≡ bitFor (not on)
+  pub bit : changes ≡ true → bitAt (word b at) k ≡ bitFor (not on)
+  pub stays : changes ≡ false → bitAt (word b at) k ≡ 1
 
 -- the way down: whether it is open, and where it leads; where it is open the rank's bits can be cleared
 pub record Leads (b : List ℕ) (o d : ℕ) (open? : Bool) (rank : ℕ) : Type 0 where
@@ -40,10 +50,10 @@ pub record Leads (b : List ℕ) (o d : ℕ) (open? : Bool) (rank : ℕ) : Type 0
 abbrev pub bitsLeft : List ℕ → ℕ → ℕ → Bool → ℕ → List ℕ
 bitsLeft b o d clears gone = cond clears (edit false b (storeysFrom o d) gone) b
 
--- what these bits say of a rank, and their top word
+-- what these bits say of a rank, and their top word where they agree
 pub record Agreed (b : List ℕ) (o d : ℕ) (clears : Bool) (gone : ℕ) (empty : Bool) (own : ℕ) (agrees : Bool) (top : ℕ) : Type 0 where
   pub agreed : agrees ≡ agree (bitsLeft b o d clears gone) (storeysFrom o d) own empty
-  pub topmost : top ≡ word (bitsLeft b o d clears gone) o
+  pub topmost : agrees ≡ true → top ≡ word (bitsLeft b o d clears gone) o
 
 -- ---- one storey on the way up
 

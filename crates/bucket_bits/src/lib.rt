@@ -4,14 +4,13 @@
 // tower + r. Bit k of word w tells of number 64 w + k + 1, so the way up from number i leads to bit (i - 1) % 64 of word
 // (i - 1) / 64, however many storeys there are.
 ghost use mathlib.Core.Path.{_≡_};
-ghost use mathlib.Core.Bool.{true, false, cond};
+ghost use mathlib.Core.Bool.{true, false, cond, _&&_};
 ghost use Prim.Native.Nat.{_+_, _≤_, _<_, _^_};
 ghost use lib.ListN.{length, set};
-ghost use Rattle.bitmap.specs.Bits.{bitAt};
 ghost use Rattle.bucket_model.specs.Layout.{word};
 ghost use Rattle.bucket_model.specs.Storeys.{storeysFrom, turned, tellsAbove, edit};
 ghost use Rattle.bucket_model.specs.Calls.{fill};
-ghost use Rattle.bucket_bits.specs.Climbs.{Tall, Turnable, Turning, Leads, Agreed, cleared, climbed, Climbable};
+ghost use Rattle.bucket_bits.specs.Climbs.{Tall, Turnable, Turning, Marking, Leads, Agreed, climbed, Climbable};
 
 // The lowest rank: whether no word on the way down to it is 0, and the rank (0 where one is).
 pub struct LowestRank {
@@ -58,32 +57,43 @@ pub fn lowest_rank(bits: &[u64], base: usize, storeys: usize, tower: usize) -> L
 
 // ---- up, writing
 
-// Sets or clears one bit. Answers whether its word was 0, or is 0 now, so that the storey above hears of it.
-fn turn(bits: &mut [u64], on: bool, at: usize, k: usize) -> bool
-    requires { ⌜ Turning (now bits) on at k ⌝ }
-    ensures { λ r. ⌜ (now (bits .exit) ≡ set (now (bits .entry)) at (turned on (word (now (bits .entry)) at) k)) × (r ≡ tellsAbove on (word (now (bits .entry)) at) (turned on (word (now (bits .entry)) at) k)) ⌝ }
+// Sets or clears one bit, where it changes. Answers whether its word was 0, or is 0 now, so that the storey above hears of it;
+// a bit that does not change is set, so that its word is not 0.
+fn turn(bits: &mut [u64], on: bool, changes: bool, at: usize, k: usize) -> bool
+    requires { ⌜ Turning (now bits) on changes at k ⌝ }
+    ensures { λ r. ⌜ (now (bits .exit) ≡ cond changes (set (now (bits .entry)) at (turned on (word (now (bits .entry)) at) k)) (now (bits .entry))) × (r ≡ (changes && tellsAbove on (word (now (bits .entry)) at) (turned on (word (now (bits .entry)) at) k))) ⌝ }
 {
     let word = bits[at];
     if on {
-        bits[at] = bitmap::with(word, k);
+        bits[at] = bitmap::with(word, k, changes);
         return word == 0;
     }
-    let left = bitmap::without(word, k);
+    let left = bitmap::without(word, k, changes);
     bits[at] = left;
     left == 0
 }
 
-// The bits of a rank whose bucket was empty and no longer is, or is empty now and was not.
-pub fn mark(bits: &mut [u64], on: bool, base: usize, storeys: usize, tower: usize, rank: u32)
-    requires { ⌜ Tall (now bits) base storeys tower ⌝ ∗ ⌜ rank < 64 ^ storeys ⌝ ∗ ⌜ Turnable on (now bits) (storeysFrom base storeys) rank ⌝ }
-    ensures { λ _. ⌜ now (bits .exit) ≡ edit on (now (bits .entry)) (storeysFrom base storeys) rank ⌝ }
+// The bits of a rank, where its bucket was empty and no longer is, or is empty now and was not. The lowest storey's word is
+// written in any case: whether a bucket changes so can often not be foretold, whether a whole word does mostly can.
+pub fn mark(
+    bits: &mut [u64],
+    on: bool,
+    changes: bool,
+    base: usize,
+    storeys: usize,
+    tower: usize,
+    rank: u32,
+)
+    requires { ⌜ Tall (now bits) base storeys tower ⌝ ∗ ⌜ rank < 64 ^ storeys ⌝ ∗ ⌜ Marking on changes (now bits) (storeysFrom base storeys) rank ⌝ }
+    ensures { λ _. ⌜ now (bits .exit) ≡ cond changes (edit on (now (bits .entry)) (storeysFrom base storeys) rank) (now (bits .entry)) ⌝ }
 {
-    let mut more = true;
-    let mut d = storeys;
-    let mut i = tower + rank as usize;
+    let low = tower + rank as usize - 1;
+    let mut more = turn(bits, on, changes, base + low / 64, low % 64);
+    let mut d = storeys - 1;
+    let mut i = low / 64;
     while more & (0 < d) {
         let bit = i - 1;
-        more = turn(bits, on, base + bit / 64, bit % 64);
+        more = turn(bits, on, true, base + bit / 64, bit % 64);
         i = bit / 64;
         d -= 1;
     }
@@ -103,17 +113,6 @@ pub fn wipe(bits: &mut [u64], end: usize)
 
 // ---- up, reading what will stand after a pop that is not done yet
 
-// A word with bit k cleared, if it is.
-fn cleared_of(word: u64, clears: bool, k: usize) -> u64
-    requires { ⌜ (k < 64) × (clears ≡ true → bitAt word k ≡ 1) ⌝ }
-    ensures { λ r. ⌜ r ≡ cleared word clears k ⌝ }
-{
-    if clears {
-        return bitmap::without(word, k);
-    }
-    word
-}
-
 // The word at place `at`, or the one that is known where it is the same.
 fn word_or(bits: &[u64], at: usize, same: bool, known: u64) -> u64
     requires { ⌜ at < length (now bits) ⌝ }
@@ -130,7 +129,7 @@ fn climb_one(bits: &[u64], base: usize, c: Climb, gone: usize, own: usize) -> Cl
     requires { ⌜ Climbable (now bits) base (c .clears) gone own ⌝ }
     ensures { λ r. ⌜ r ≡ climbed (now (bits .entry)) base c gone own ⌝ }
 {
-    let left = cleared_of(bits[base + gone / 64], c.clears, gone % 64);
+    let left = bitmap::without(bits[base + gone / 64], gone % 64, c.clears);
     let word = word_or(bits, base + own / 64, gone / 64 == own / 64, left);
     let bit = bitmap::bit(word, own % 64);
     Climb {
@@ -142,7 +141,7 @@ fn climb_one(bits: &[u64], base: usize, c: Climb, gone: usize, own: usize) -> Cl
 }
 
 // Whether the bits of rank own agree with what is below them, a bucket that is empty or not and then the words, once the bits
-// of rank gone are cleared where its pop clears them; and the top word then.
+// of rank gone are cleared where its pop clears them; and the top word then, where all agree.
 pub fn agreement(
     bits: &[u64],
     base: usize,
@@ -165,7 +164,7 @@ pub fn agreement(
     let mut d = storeys;
     let mut g = tower + gone as usize;
     let mut i = tower + own as usize;
-    while 0 < d {
+    while c.agrees & (0 < d) {
         c = climb_one(bits, base, c, g - 1, i - 1);
         g = (g - 1) / 64;
         i = (i - 1) / 64;

@@ -19,6 +19,7 @@ pub mod Runs
 pub mod Clear
 pub mod Taken
 pub mod Joined
+pub mod Swapped
 pub mod Promises
 pub mod Untouched
 pub mod Unread

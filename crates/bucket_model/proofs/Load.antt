@@ -4,6 +4,7 @@ use mathlib.Core.List.{List}
 use Prim.Native.Nat.{ℕ, _≤_, _<_}
 use native.Mathlib.Omega.{arith}
 use lib.ListN.{length}
+use lib.Seq.{set-set}
 use Rattle.laws.specs.Lists.{All, all-map}
 use Rattle.bucket_model.specs.Layout.{word, write, cell, loadWords, Load, loadIn, loadWrites, noLoad}
 use Rattle.bucket_model.proofs.Writes.{same, Misses}
@@ -25,6 +26,10 @@ load-misses stem l t a h = all-map (λ (p : ℕ × ℕ). InLoad stem l (p .0)) (
 
 pub load-there : (stem : ℕ) (s : List ℕ) (l : ℕ) (t : Load) → cell stem l loadWords ≤ length s → loadIn stem (write s (loadWrites stem l t)) l ≡ t
 load-there stem s l t h = λ i. record { tag = same s (cell stem l 0) (t .tag) (omega arith) i }
+
+-- a load is written over another
+pub load-over : (stem : ℕ) (s : List ℕ) (l : ℕ) (t u : Load) → write (write s (loadWrites stem l t)) (loadWrites stem l u) ≡ write s (loadWrites stem l u)
+load-over stem s l t u = set-set s (cell stem l 0) (t .tag) (u .tag)
 
 -- a load whose words are all 0 is none
 pub load-blank : (stem : ℕ) (w : List ℕ) (l : ℕ) → ((i : ℕ) → i < loadWords → word w (cell stem l i) ≡ 0) → loadIn stem w l ≡ noLoad

@@ -1,15 +1,23 @@
 -- Each answer of each call, from what the call has tested.
-use mathlib.Core.Path.{_≡_}
-use mathlib.Core.Bool.{true, false}
+use mathlib.Core.Path.{_≡_, sym, ap}
+use mathlib.Core.Bool.{Bool, true, false, cond, not, _&&_, false≢true}
 use mathlib.Core.List.{List}
 use Prim.Native.Nat.{ℕ, _≤_, _<_}
+use lib.Dec.{eqb}
 use borrow.Author.Tests.{eq-eqb, ne-eqb, lt-ltb, le-ltb}
 use Rattle.strip.specs.declared.Element.{Element}
+use Rattle.strip.specs.declared.Refusal.{Refusal}
 use Rattle.strip.specs.declared.Refusal.the-variants.{BadShape, Damaged, BadRank, Full, Empty}
 use Rattle.strip.specs.declared.Answer.the-variants.{Done, Out}
 use Rattle.strip.specs.declared.Count.the-variants.{Held, Unknown}
 use Rattle.bucket_model.specs.Layout.{Lay, bitWords, storeWords, word}
-use Rattle.bucket_model.specs.Calls.{outcome, refused, isShaped, isWhole, fill, blankWord, cleared, heldCount, Lowest, Room, lowestOf, takenBits, takenWords, given, popFound, popped, roomOf, joinedBits, joinedWords, pushFound, pushed, roomAfter, replaceFound, replaceJoined, replaced}
+use Rattle.bucket_model.specs.Calls.{Outcome, outcome, refused, isShaped, isWhole, fill, blankWord, cleared, heldCount, Lowest, Room, lowestOf, takenBits, takenWords, given, popFound, popped, roomOf, joinedBits, joinedWords, pushFound, pushed, roomAfter, replaceFound, replaceJoined, replaced}
+
+-- a limit that is met on a whole queue, or a queue that is not whole
+limit : (b w : List ℕ) (whole ok : Bool) (x y : Refusal) (o : Outcome) → (whole && ok) ≡ false → x ≡ cond whole y Damaged → refused x b w ≡ cond whole (cond ok o (refused y b w)) (refused Damaged b w)
+limit b w true true x y o e p = absurd (false≢true (sym e))
+limit b w true false x y o e p = ap (λ (r : Refusal). refused r b w) p
+limit b w false ok x y o e p = ap (λ (r : Refusal). refused r b w) p
 
 module _ (k : Lay) (b w : List ℕ) where
   -- ---- clear
@@ -43,9 +51,9 @@ module _ (k : Lay) (b w : List ℕ) where
   pop-bad s = simp s
 
   module _ (s : isShaped k b w ≡ true) where
-    pub pop-torn : isWhole k b w ≡ false → refused Damaged b w ≡ popped k b w
+    pub pop-limit : (x : Refusal) → (isWhole k b w && not (eqb (word w (k .held)) 0)) ≡ false → x ≡ cond (isWhole k b w) Empty Damaged → refused x b w ≡ popped k b w
     unfolding popped
-    pop-torn j = simp (s, j)
+    pop-limit x e p = rw s (limit b w (isWhole k b w) (not (eqb (word w (k .held)) 0)) x Empty _ e p)
 
     module _ (j : isWhole k b w ≡ true) where
       pub pop-none : word w (k .held) ≡ 0 → refused Empty b w ≡ popped k b w
@@ -75,9 +83,9 @@ module _ (k : Lay) (b w : List ℕ) where
       push-high l = simp (s, le-ltb _ _ l)
 
       module _ (l : x .rank .0 < k .ranks) where
-        pub push-torn : isWhole k b w ≡ false → refused Damaged b w ≡ pushed k b w x
+        pub push-limit : (y : Refusal) → (isWhole k b w && not (eqb (word w (k .held)) (k .nodes))) ≡ false → y ≡ cond (isWhole k b w) Full Damaged → refused y b w ≡ pushed k b w x
         unfolding pushed
-        push-torn j = simp (s, lt-ltb _ _ l, j)
+        push-limit y e p = rw (s, lt-ltb (x .rank .0) (k .ranks) l) (limit b w (isWhole k b w) (not (eqb (word w (k .held)) (k .nodes))) y Full _ e p)
 
         module _ (j : isWhole k b w ≡ true) where
           pub push-full : word w (k .held) ≡ k .nodes → refused Full b w ≡ pushed k b w x
@@ -106,9 +114,9 @@ module _ (k : Lay) (b w : List ℕ) where
       replace-high l = simp (s, le-ltb _ _ l)
 
       module _ (l : x .rank .0 < k .ranks) where
-        pub replace-torn : isWhole k b w ≡ false → refused Damaged b w ≡ replaced k b w x
+        pub replace-limit : (y : Refusal) → (isWhole k b w && not (eqb (word w (k .held)) 0)) ≡ false → y ≡ cond (isWhole k b w) Empty Damaged → refused y b w ≡ replaced k b w x
         unfolding replaced
-        replace-torn j = simp (s, lt-ltb _ _ l, j)
+        replace-limit y e p = rw (s, lt-ltb (x .rank .0) (k .ranks) l) (limit b w (isWhole k b w) (not (eqb (word w (k .held)) 0)) y Empty _ e p)
 
         module _ (j : isWhole k b w ≡ true) where
           pub replace-none : word w (k .held) ≡ 0 → refused Empty b w ≡ replaced k b w x

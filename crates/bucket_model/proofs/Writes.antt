@@ -1,9 +1,9 @@
 -- Words written: what stands where.
-use mathlib.Core.Path.{_≡_, refl, _∙_}
+use mathlib.Core.Path.{_≡_, refl, ap, _∙_}
 use mathlib.Core.List.{List, [], _∷_}
 use Prim.Native.Nat.{ℕ, _<_}
 use lib.ListN.{length, set, length-set}
-use lib.Seq.{getD-set-same, getD-set-other}
+use lib.Seq.{getD-set-same, getD-set-other, set-comm}
 use Rattle.laws.specs.Lists.{All}
 use Rattle.bucket_model.specs.Layout.{word, write}
 
@@ -24,6 +24,11 @@ write-length w (p ∷ ps) = write-length (set w (p .0) (p .1)) ps ∙ length-set
 pub write-other : (w : List ℕ) (ps : List (ℕ × ℕ)) (a : ℕ) → Misses a ps → word (write w ps) a ≡ word w a
 write-other w [] a h = refl
 write-other w (p ∷ ps) a h = write-other (set w (p .0) (p .1)) ps a (h .1) ∙ other w (p .0) (p .1) a (h .0)
+
+-- a word that none of the writes is at may be written after them
+pub write-past : (w : List ℕ) (a v : ℕ) (ps : List (ℕ × ℕ)) → Misses a ps → write (set w a v) ps ≡ set (write w ps) a v
+write-past w a v [] h = refl
+write-past w a v (p ∷ ps) h = ap (λ (x : List ℕ). write x ps) (set-comm w a (p .0) v (p .1) (h .0)) ∙ write-past (set w (p .0) (p .1)) a v ps (h .1)
 
 -- a word that is not written again
 pub write-here : (w : List ℕ) (a v : ℕ) (ps : List (ℕ × ℕ)) → a < length w → Misses a ps → word (write (set w a v) ps) a ≡ v

@@ -1,5 +1,5 @@
 -- What each function answers, from what it has tested.
-use mathlib.Core.Path.{_≡_, refl}
+use mathlib.Core.Path.{_≡_, refl, sym}
 use mathlib.Core.List.{List, [], _∷_, _++_}
 use Prim.Native.Nat.{ℕ, _+_, _-_, _/_, _%_, _≤_, _<_}
 use native.Mathlib.Omega.{arith}
@@ -11,7 +11,8 @@ use Rattle.bucket_model.specs.declared.Room.{Room}
 use Rattle.bucket_model.specs.Layout.{nodeWords, word, write, headAt, tailAt, nextAt, loadWrites, loadOf, noLoad}
 use Rattle.bucket_model.specs.Checks.{nextOf}
 use Rattle.bucket_model.specs.Calls.{tailLeft, takenWords, linkAt, joinedWords, blankCell, blankWord}
-use Rattle.bucket_nodes.specs.Places.{Linkable}
+use Rattle.bucket_model.proofs.Swapped.{swapped}
+use Rattle.bucket_nodes.specs.Places.{Linkable, Swappable}
 
 module _ (k : Lay) (w : List ℕ) (l : ℕ) where
   pub next-zero : l ≡ 0 → 0 ≡ nextOf k w l
@@ -77,6 +78,13 @@ pub taken-is : (k : Lay) (w : List ℕ) (low : Lowest) (tail : ℕ) → tail ≡
     → write w ((headAt k (low .rank), low .next) ∷ (tailAt k (low .rank), tail) ∷ (loadWrites (k .stem) (low .head) noLoad ++ (nextAt k (low .head), word w (k .free)) ∷ (k .free, low .head) ∷ (k .held, word w (k .held) - 1) ∷ [])) ≡ takenWords k w low
 unfolding takenWords
 taken-is k w low tail e = rw e refl
+
+pub swapped-is : (k : Lay) (w : List ℕ) (low : Lowest) (e : Element) (to : Room) (left link : ℕ) → Swappable k w low (e .rank .0) to → left ≡ tailLeft (low .next) (low .tail) → link ≡ linkAt k (e .rank .0) (to .tail)
+    → write w ((headAt k (low .rank), low .next) ∷ (tailAt k (low .rank), left) ∷ (loadWrites (k .stem) (low .head) (loadOf e) ++ (nextAt k (low .head), 0) ∷ (link, low .head) ∷ (tailAt k (e .rank .0), low .head) ∷ []))
+    ≡ joinedWords k (takenWords k w low) e to
+swapped-is k w low e to left link s p q =
+    let f = s .node .fits in
+    rw (p, q) (sym (swapped k (f .laid) w low e to (f .words) (s .held>) (s .node .high) (s .from<) (s .rank<) (s .tail≤) (s .next)))
 
 pub joined-is : (k : Lay) (w : List ℕ) (e : Element) (to : Room) (link : ℕ) → link ≡ linkAt k (e .rank .0) (to .tail)
     → write w ((k .free, to .next) ∷ (loadWrites (k .stem) (word w (k .free)) (loadOf e) ++ (nextAt k (word w (k .free)), 0) ∷ (link, word w (k .free)) ∷ (tailAt k (e .rank .0), word w (k .free)) ∷ (k .held, word w (k .held) + 1) ∷ [])) ≡ joinedWords k w e to

@@ -1,9 +1,11 @@
 -- What the functions on the words ask of their callers. These are definitions.
+use mathlib.Core.Path.{_≡_}
 use mathlib.Core.List.{List}
 use Prim.Native.Nat.{ℕ, _≤_, _<_}
 use lib.ListN.{length}
 use Rattle.bucket_model.specs.declared.Lay.{Lay}
 use Rattle.bucket_model.specs.declared.Lowest.{Lowest}
+use Rattle.bucket_model.specs.declared.Room.{Room}
 use Rattle.bucket_model.specs.Layout.{Laid, storeWords, word}
 
 -- all words of the layout are there
@@ -34,3 +36,12 @@ pub record Joinable (k : Lay) (w : List ℕ) (r tail : ℕ) : Type 0 where
   pub rank< : r < k .ranks
   pub tail≤ : tail ≤ k .nodes
   pub held< : word w (k .held) < k .nodes
+
+-- a bucket that the head of another, or of itself, can join; the free link stands
+pub record Swappable (k : Lay) (w : List ℕ) (low : Lowest) (r : ℕ) (to : Room) : Type 0 where
+  pub node : NodeOf k w (low .head)
+  pub from< : low .rank < k .ranks
+  pub held> : 1 ≤ word w (k .held)
+  pub rank< : r < k .ranks
+  pub tail≤ : to .tail ≤ k .nodes
+  pub next : to .next ≡ word w (k .free)

@@ -13,7 +13,7 @@ ghost use Rattle.bucket_model.specs.Layout.{storeWords, word, headAt, tailAt, l
 ghost use Rattle.bucket_model.specs.Layout as layout;
 ghost use Rattle.bucket_model.specs.Checks.{nextOf};
 ghost use Rattle.bucket_model.specs.Calls.{fill, blankWord, tailLeft, takenWords, linkAt, joinedWords, blankCell};
-ghost use Rattle.bucket_nodes.specs.Places.{Fits, NodeOf, Takable, Linkable, Joinable};
+ghost use Rattle.bucket_nodes.specs.Places.{Fits, NodeOf, Takable, Linkable, Joinable, Swappable};
 
 // How many storeys of bits a queue has, how many words these have, and how many ranks they tell of.
 const STOREYS: usize = 2;
@@ -175,6 +175,29 @@ pub fn join_words(words: &mut [u32], k: Lay, e: Element, to: Room)
     words[link] = free;
     words[tail_at] = free;
     words[held_at] = held + 1;
+}
+
+// ---- a replace
+
+// Takes the head out of its bucket, and joins it, with what e carries, to that of e. The free chain and the held count end as
+// they were, so they are not touched.
+pub fn swap_words(words: &mut [u32], k: Lay, low: Lowest, e: Element, to: Room)
+    requires { ⌜ Swappable k (now words) low (e .rank .0) to ⌝ }
+    ensures { λ _. ⌜ now (words .exit) ≡ joinedWords k (takenWords k (now (words .entry)) low) e to ⌝ }
+{
+    let rank = e.rank;
+    let load = e.tag;
+    let head_at = k.heads + low.rank as usize;
+    let node = k.stem + NODE * (low.head as usize);
+    let left = tail_left(low.next, low.tail);
+    let link = link_at(k, rank.0, to.tail);
+    let tail_at = k.heads + rank.0 as usize + k.ranks as usize;
+    words[head_at] = low.next;
+    words[head_at + k.ranks as usize] = left;
+    words[node + TAG] = load.0;
+    words[node + NEXT] = 0;
+    words[link] = low.head;
+    words[tail_at] = low.head;
 }
 
 // ---- clear

@@ -1,11 +1,13 @@
 -- What the functions ask of their callers, and what they promise. These are definitions.
 use mathlib.Core.Path.{_≡_}
-use mathlib.Core.Bool.{true, false}
+use mathlib.Core.Bool.{Bool, true, false, not, _&&_, Bool·beq}
 use mathlib.Core.List.{List}
-use Prim.Native.Nat.{ℕ, _<_}
+use Prim.Native.Nat.{ℕ, _+_, _≤_, _<_}
+use lib.Dec.{leb, eqb}
 use Rattle.bucket_model.specs.declared.Lay.{Lay}
 use Rattle.bucket_model.specs.declared.Lowest.{Lowest}
-use Rattle.bucket_model.specs.Layout.{Laid}
+use Rattle.bucket_model.specs.declared.Room.{Room}
+use Rattle.bucket_model.specs.Layout.{Laid, word}
 use Rattle.bucket_model.specs.Storeys.{storeysAt}
 use Rattle.bucket_model.specs.Calls.{lowestOf}
 use Rattle.bucket_model.specs.Causes.{Shaped}
@@ -17,11 +19,38 @@ pub record Stands (k : Lay) (b w : List ℕ) : Type 0 where
   pub laid : Laid k
   pub shaped : Shaped k b w
 
--- the lowest bucket that the rules find; where it passes the tests its rank is one of the ranks, and its bits can be cleared
+-- a push's queue: whole, with a node that is free
+pub record Roomy (k : Lay) (w : List ℕ) : Type 0 where
+  pub held< : word w (k .held) < k .nodes
+  pub free> : 1 ≤ word w (k .free)
+
+-- ---- the tests of a bucket, in the parts that are made one after the other
+
+-- a pop's bucket, whose head and tail name nodes: "no link read may exceed N; a tail's next must be 0; on a pop, the head's next is 0 exactly if head equals tail"
+abbrev pub endsOk : ℕ → ℕ → ℕ → ℕ → ℕ → Bool
+endsOk n head tail next behind = leb next n && eqb behind 0 && Bool·beq (eqb next 0) (eqb head tail)
+
+-- the node that a push takes: "no link read may exceed N; .. its next is 0 exactly at held = N−1"
+abbrev pub nodeOk : ℕ → ℕ → ℕ → Bool
+nodeOk n held next = leb next n && Bool·beq (eqb next 0) (eqb (held + 1) n)
+
+-- the bucket that it joins: "head, tail .. must agree on emptiness; .. no link read may exceed N; a tail's next must be 0; .. the taken node is not the tail"
+abbrev pub linksOk : ℕ → ℕ → ℕ → ℕ → ℕ → Bool
+linksOk n head tail behind free = Bool·beq (eqb head 0) (eqb tail 0) && leb head n && leb tail n && eqb behind 0 && not (eqb free tail)
+
+-- ---- what is found
+
+-- the lowest bucket passes the tests exactly if the rules' does; then it is that one, its rank is one of the ranks, and its bits can be cleared
 pub record FoundLow (k : Lay) (b w : List ℕ) (low : Lowest) : Type 0 where
-  pub is : low ≡ lowestOf k b w
+  pub good : low .good ≡ lowestOf k b w .good
+  pub is : low .good ≡ true → low ≡ lowestOf k b w
   pub rank< : low .good ≡ true → low .rank < k .ranks
   pub set : low .good ≡ true → Turnable false b (storeysAt k) (low .rank)
+
+-- a bucket to join passes the tests exactly if the rules' does, and then it is that one
+pub record FoundRoom (to room : Room) : Type 0 where
+  pub good : to .good ≡ room .good
+  pub is : to .good ≡ true → to ≡ room
 
 -- a store that a pop can take low's head from
 pub record Freeing (k : Lay) (b w : List ℕ) (low : Lowest) : Type 0 where

@@ -3,7 +3,6 @@ use bucket_bits::agreement;
 use bucket_bits::lowest_rank;
 use bucket_model::Lay;
 use bucket_model::Lowest;
-use bucket_model::Reads;
 use bucket_model::Room;
 use bucket_nodes::free_link;
 use bucket_nodes::head_of;
@@ -11,13 +10,18 @@ use bucket_nodes::held_count;
 use bucket_nodes::next_of;
 use bucket_nodes::tail_left;
 use bucket_nodes::tail_of;
+use strip::Refusal;
 ghost use mathlib.Core.Path.{_≡_};
-ghost use Prim.Native.Nat.{_+_, _≤_, _<_};
+ghost use mathlib.Core.Bool.{false, cond, not, _&&_};
+ghost use Prim.Native.Nat.{_≤_, _<_};
+ghost use lib.Dec.{leb, eqb};
+ghost use Rattle.strip.specs.declared.Refusal.the-variants.{Damaged};
 ghost use Rattle.bucket_model.specs.Layout.{bitWords, word, headAt, tailAt};
-ghost use Rattle.bucket_model.specs.Checks.{wholeOk, nextOf, popOk, pushOk};
-ghost use Rattle.bucket_model.specs.Calls.{isShaped, isWhole, takenWords, takenBits, roomOf, roomAfter};
-ghost use Rattle.bucket_nodes.specs.Places.{Takable};
-ghost use Rattle.bucket_tests.specs.Stores.{Stands, Freeing, FoundLow};
+ghost use Rattle.bucket_model.specs.Checks.{wholeOk, nextOf};
+ghost use Rattle.bucket_model.specs.Calls.{isShaped, isWhole, noLowest, takenWords, takenBits, roomOf, roomAfter};
+ghost use Rattle.bucket_model.specs.Causes.{Whole};
+ghost use Rattle.bucket_nodes.specs.Places.{Fits, Takable};
+ghost use Rattle.bucket_tests.specs.Stores.{Stands, Roomy, Freeing, FoundLow, FoundRoom, endsOk, nodeOk, linksOk};
 
 // The most nodes that a pool may have.
 const POOL: u32 = 4096;
@@ -49,19 +53,84 @@ pub fn is_whole(bits: &[u64], words: &[u32], k: Lay) -> bool
     whole(bits[top], free, held, k.nodes)
 }
 
+// Whole, and something is held: then the top word is not 0.
+fn some_held(top: u64, free: u32, held: u32, n: u32) -> bool
+    ensures { λ r. ⌜ r ≡ (wholeOk top free held n && not (eqb held 0)) ⌝ }
+{
+    (held != 0) & (held <= n) & (top != 0) & (free <= n) & ((free == 0) == (held == n))
+}
+
+pub fn has_some(bits: &[u64], words: &[u32], k: Lay) -> bool
+    requires { ⌜ Stands k (now bits) (now words) ⌝ }
+    ensures { λ r. ⌜ r ≡ (isWhole k (now (bits .entry)) (now (words .entry)) && not (eqb (word (now (words .entry)) (k .held)) 0)) ⌝ }
+{
+    let top = k.bits;
+    let free = free_link(words, k);
+    let held = held_count(words, k);
+    some_held(bits[top], free, held, k.nodes)
+}
+
+// Whole, and a node is free: then the free link is not 0.
+fn room_left(top: u64, free: u32, held: u32, n: u32) -> bool
+    ensures { λ r. ⌜ r ≡ (wholeOk top free held n && not (eqb held n)) ⌝ }
+{
+    (held < n) & (free != 0) & (free <= n) & ((top == 0) == (held == 0))
+}
+
+pub fn has_room(bits: &[u64], words: &[u32], k: Lay) -> bool
+    requires { ⌜ Stands k (now bits) (now words) ⌝ }
+    ensures { λ r. ⌜ r ≡ (isWhole k (now (bits .entry)) (now (words .entry)) && not (eqb (word (now (words .entry)) (k .held)) (k .nodes))) ⌝ }
+{
+    let top = k.bits;
+    let free = free_link(words, k);
+    let held = held_count(words, k);
+    room_left(bits[top], free, held, k.nodes)
+}
+
+// Why nothing can be given, or nothing taken in: the limit is met where the queue is whole.
+pub fn limit_or_damage(bits: &[u64], words: &[u32], k: Lay, limit: Refusal) -> Refusal
+    requires { ⌜ Stands k (now bits) (now words) ⌝ }
+    ensures { λ r. ⌜ r ≡ cond (isWhole k (now (bits .entry)) (now (words .entry))) limit Damaged ⌝ }
+{
+    if is_whole(bits, words, k) {
+        return limit;
+    }
+    Refusal::Damaged
+}
+
 // ---- the bucket that a pop takes from
 
-// What a pop tests of its bucket; next is the head's, behind the tail's.
-fn pop_fits(n: u32, head: u32, tail: u32, next: u32, behind: u32) -> bool
-    ensures { λ r. ⌜ r ≡ popOk n head tail next behind ⌝ }
+// Whether a link names one of n nodes.
+fn names_node(n: u32, link: u32) -> bool
+    ensures { λ r. ⌜ r ≡ (not (eqb link 0) && leb link n) ⌝ }
 {
-    (head != 0)
-        & (tail != 0)
-        & (head <= n)
-        & (tail <= n)
-        & (next <= n)
-        & (behind == 0)
-        & ((next == 0) == (head == tail))
+    (link != 0) & (link <= n)
+}
+
+// What a pop tests of the ends of its bucket's chain; next is the head's.
+fn ends_fit(words: &[u32], k: Lay, head: u32, tail: u32, next: u32) -> bool
+    requires { ⌜ Fits k (now words) ⌝ }
+    ensures { λ r. ⌜ r ≡ endsOk (k .nodes) head tail next (nextOf k (now (words .entry)) tail) ⌝ }
+{
+    if k.nodes < next {
+        return false;
+    }
+    if next_of(words, k, tail) != 0 {
+        return false;
+    }
+    (next == 0) == (head == tail)
+}
+
+fn no_lowest() -> Lowest
+    ensures { λ r. ⌜ r ≡ noLowest ⌝ }
+{
+    Lowest {
+        good: false,
+        rank: 0,
+        head: 0,
+        tail: 0,
+        next: 0,
+    }
 }
 
 pub fn find_lowest(bits: &[u64], words: &[u32], k: Lay) -> Lowest
@@ -70,22 +139,20 @@ pub fn find_lowest(bits: &[u64], words: &[u32], k: Lay) -> Lowest
 {
     let found = lowest_rank(bits, k.bits, k.storeys, k.tower);
     if !found.open {
-        return Lowest {
-            good: false,
-            rank: 0,
-            head: 0,
-            tail: 0,
-            next: 0,
-        };
+        return no_lowest();
     }
     let rank = found.rank;
     let head = head_of(words, k, rank);
     let tail = tail_of(words, k, rank);
+    if !names_node(k.nodes, head) {
+        return no_lowest();
+    }
+    if !names_node(k.nodes, tail) {
+        return no_lowest();
+    }
     let next = next_of(words, k, head);
-    let behind = next_of(words, k, tail);
-    let good = pop_fits(k.nodes, head, tail, next, behind);
     Lowest {
-        good,
+        good: ends_fit(words, k, head, tail, next),
         rank,
         head,
         tail,
@@ -95,31 +162,59 @@ pub fn find_lowest(bits: &[u64], words: &[u32], k: Lay) -> Lowest
 
 // ---- the bucket that a push joins
 
-// What a push tests of its bucket.
-fn push_fits(n: u32, x: Reads) -> bool
-    requires { ⌜ x .held < n ⌝ }
-    ensures { λ r. ⌜ r ≡ pushOk n x ⌝ }
+// What a push tests of the node that it takes; next is that node's.
+fn node_fits(n: u32, held: u32, next: u32) -> bool
+    requires { ⌜ held < n ⌝ }
+    ensures { λ r. ⌜ r ≡ nodeOk n held next ⌝ }
 {
-    ((x.head == 0) == (x.tail == 0))
-        & x.agrees
-        & (x.head <= n)
-        & (x.tail <= n)
-        & (x.next <= n)
-        & (x.behind == 0)
-        & (x.free != x.tail)
-        & ((x.next == 0) == (x.held + 1 == n))
+    (next <= n) & ((next == 0) == (held + 1 == n))
+}
+
+// What a push tests of its bucket's links, where the node at link free is to join it.
+fn links_fit(words: &[u32], k: Lay, head: u32, tail: u32, free: u32) -> bool
+    requires { ⌜ Fits k (now words) ⌝ ∗ ⌜ 1 ≤ free ⌝ }
+    ensures { λ r. ⌜ r ≡ linksOk (k .nodes) head tail (nextOf k (now (words .entry)) tail) free ⌝ }
+{
+    if tail == 0 {
+        return head == 0;
+    }
+    if !names_node(k.nodes, head) {
+        return false;
+    }
+    if !names_node(k.nodes, tail) {
+        return false;
+    }
+    if tail == free {
+        return false;
+    }
+    next_of(words, k, tail) == 0
+}
+
+fn no_room() -> Room
+    ensures { λ r. ⌜ r .good ≡ false ⌝ }
+{
+    Room {
+        good: false,
+        tail: 0,
+        next: 0,
+    }
 }
 
 pub fn find_room(bits: &[u64], words: &[u32], k: Lay, rank: u32) -> Room
-    requires { ⌜ Stands k (now bits) (now words) ⌝ ∗ ⌜ rank < k .ranks ⌝ ∗ ⌜ word (now words) (k .held) < k .nodes ⌝ }
-    ensures { λ r. ⌜ r ≡ roomOf k (now (bits .entry)) (now (words .entry)) rank ⌝ }
+    requires { ⌜ Stands k (now bits) (now words) ⌝ ∗ ⌜ rank < k .ranks ⌝ ∗ ⌜ Roomy k (now words) ⌝ }
+    ensures { λ r. ⌜ FoundRoom r (roomOf k (now (bits .entry)) (now (words .entry)) rank) ⌝ }
 {
     let held = held_count(words, k);
     let free = free_link(words, k);
+    let next = next_of(words, k, free);
+    if !node_fits(k.nodes, held, next) {
+        return no_room();
+    }
     let head = head_of(words, k, rank);
     let tail = tail_of(words, k, rank);
-    let next = next_of(words, k, free);
-    let behind = next_of(words, k, tail);
+    if !links_fit(words, k, head, tail, free) {
+        return no_room();
+    }
     let up = agreement(
         bits,
         k.bits,
@@ -130,17 +225,8 @@ pub fn find_room(bits: &[u64], words: &[u32], k: Lay, rank: u32) -> Room
         head == 0,
         rank,
     );
-    let x = Reads {
-        held,
-        agrees: up.agrees,
-        head,
-        tail,
-        behind,
-        free,
-        next,
-    };
     Room {
-        good: push_fits(k.nodes, x),
+        good: up.agrees,
         tail,
         next,
     }
@@ -168,51 +254,30 @@ fn tail_after(words: &[u32], k: Lay, low: Lowest, rank: u32) -> u32
     tail_of(words, k, rank)
 }
 
-fn next_after(words: &[u32], k: Lay, low: Lowest, link: u32) -> u32
-    requires { ⌜ Takable k (now words) low ⌝ }
-    ensures { λ r. ⌜ r ≡ nextOf k (takenWords k (now (words .entry)) low) link ⌝ }
-{
-    if link == low.head {
-        return free_link(words, k);
-    }
-    next_of(words, k, link)
-}
-
-// The bucket of rank with all the tests of a push, on the store as after the pop: the node to be taken is
-// then the freed one, and its next the free link of today.
+// The bucket of rank with all the tests of a push, on the store as after the pop. The node to be taken is then the freed one,
+// and its next the free link of today; so of the tests of the whole queue only the top word's is new, and none of the node's.
 pub fn room_after(bits: &[u64], words: &[u32], k: Lay, low: Lowest, rank: u32) -> Room
-    requires { ⌜ Freeing k (now bits) (now words) low ⌝ ∗ ⌜ rank < k .ranks ⌝ ∗ ⌜ word (now words) (k .held) ≤ k .nodes ⌝ }
-    ensures { λ r. ⌜ r ≡ roomAfter k (takenBits k (now (bits .entry)) low) (takenWords k (now (words .entry)) low) rank ⌝ }
+    requires { ⌜ Freeing k (now bits) (now words) low ⌝ ∗ ⌜ rank < k .ranks ⌝ ∗ ⌜ Whole k (now bits) (now words) ⌝ }
+    ensures { λ r. ⌜ FoundRoom r (roomAfter k (takenBits k (now (bits .entry)) low) (takenWords k (now (words .entry)) low) rank) ⌝ }
 {
-    let n = k.nodes;
-    let held = held_count(words, k) - 1;
-    let next = free_link(words, k);
     let head = head_after(words, k, low, rank);
     let tail = tail_after(words, k, low, rank);
-    let behind = next_after(words, k, low, tail);
-    let empties = low.next == 0;
+    if !links_fit(words, k, head, tail, low.head) {
+        return no_room();
+    }
     let up = agreement(
         bits,
         k.bits,
         k.storeys,
         k.tower,
-        empties,
+        low.next == 0,
         low.rank,
         head == 0,
         rank,
     );
-    let x = Reads {
-        held,
-        agrees: up.agrees,
-        head,
-        tail,
-        behind,
-        free: low.head,
-        next,
-    };
     Room {
-        good: whole(up.top, low.head, held, n) & push_fits(n, x),
+        good: up.agrees & ((up.top == 0) == (held_count(words, k) == 1)),
         tail,
-        next,
+        next: free_link(words, k),
     }
 }

@@ -1,7 +1,7 @@
 -- `bucket::take` meets its contract.
 use native.Mathlib.Omega.{arith}
 use Rattle.bucket_tests.proofs.Read.{tall}
-use Rattle.bucket.proofs.Steps.{taken-yes, taken-no}
+use Rattle.bucket.proofs.Steps.{clears, taken-is}
 use borrow.Author.Needs.{needs}
 use Rattle.bucket.proofs.take.Statement.{statement}
 use Rattle.bucket.proofs.take.Tie as tie
@@ -10,7 +10,7 @@ take-words-requires : tie.Need-take-words-requires
 take-words-requires c κs = search needs
 
 mark-requires : tie.Need-mark-requires
-mark-requires c κs = (tall _ _ _ (c .before .before .before .before .before .before .before .before .before .pre .stands) (omega arith), (omega (arith, c .before .before .before .before .before .before .before .before .before .pre .takable .rank<, c .before .before .before .before .before .before .before .before .before .pre .stands .laid .ranks), c .before .before .before .before .before .before .before .before .before .pre .set))
+mark-requires c κs = (tall _ _ _ (c .before .before .before .before .before .before .before .before .pre .stands) (omega arith), (omega (arith, c .before .before .before .before .before .before .before .before .pre .takable .rank<, c .before .before .before .before .before .before .before .before .pre .stands .laid .ranks), clears (c .before .before .before .before .before .before .before .before .args .k) (c .before .before .before .before .before .before .before .before .args .bits .now) (c .before .before .before .before .before .before .before .before .args .low) (c .before .before .before .before .before .before .before .before .pre .set)))
 
 same-length : tie.Need-same-length
 same-length c = search needs
@@ -19,22 +19,8 @@ same-length-2 : tie.Need-same-length-2
 same-length-2 c = search needs
 
 returns : tie.Need-returns
-returns c = (taken-yes _ _ _ (c .before .before .before .before .before .before .before .before .before .before .before .before .args .low) (c .before .before .before .before .if1 .taken) (c .before .before .mark .ensures), c .before .before .before .before .before .before .before .before .take-words .ensures)
-
-same-length-3 : tie.Need-same-length-3
-same-length-3 c = search needs
-
-returns-2 : tie.Need-returns-2
-returns-2 c = (taken-no _ _ (c .before .before .before .before .before .before .before .before .args .low) (c .if1 .left), c .before .before .before .before .take-words .ensures)
+returns c = (taken-is (c .before .before .before .before .before .before .before .before .before .before .before .args .k) (c .before .before .before .before .before .before .before .before .before .before .before .args .bits .now) _ (c .before .before .before .before .before .before .before .before .before .before .before .args .low) (c .before .before .mark .ensures), c .before .before .before .before .before .before .before .take-words .ensures)
 
 pub take-spec : {M : Type 1} → statement M
 take-spec =
-    tie.close
-    (tie.spec
-    take-words-requires
-    mark-requires
-    same-length
-    same-length-2
-    returns
-    same-length-3
-    returns-2)
+    tie.close (tie.spec take-words-requires mark-requires same-length same-length-2 returns)

@@ -1,6 +1,9 @@
 -- `bucket_bits::agreement` meets its contract.
 use Prim.Native.Nat.{_-_, _<_}
 use native.Mathlib.Omega.{arith}
+use borrow.Author.Tests.{ltb-true}
+use lib.Dec.{ltb}
+use Rattle.laws.specs.Tests.{and-right}
 use Rattle.bucket_bits.specs.Climbs.{Climbable}
 use Rattle.bucket_bits.proofs.Up.{Climbing, climbing-start, climbing-room, climbing-step, climbing-end}
 use borrow.Author.Needs.{needs}
@@ -22,9 +25,12 @@ add-i c = search needs
 loop-holds : tie.Need-loop-holds Inv-loop μ-loop
 loop-holds c = climbing-start _ _ _ _ _ _ _ _ (c .before .pre .0 .words) (c .before .pre .1 .0) (c .before .pre .1 .1 .0) (c .before .pre .1 .1 .1)
 
--- the numbers of both bits, and their words
-room : (c : tie.In-loop Inv-loop μ-loop) → (0 < c .before .loop .g) × (0 < c .before .loop .i) × Climbable (c .before .before .before .args .bits .now) (c .before .before .before .args .base) (c .before .loop .c .clears) (c .before .loop .g - 1) (c .before .loop .i - 1)
-room c = climbing-room _ _ _ _ _ _ _ _ _ _ _ (c .before .before .before .pre .0 .long) (c .loop-test .taken) (c .before .loop .inv)
+-- a storey is left; the numbers of both bits, and their words
+some : (c : tie.Then1 Inv-loop μ-loop) → 0 < c .before .before .loop .d
+some c = ltb-true 0 (c .before .before .loop .d) (and-right (c .before .before .loop .c .agrees) (ltb 0 (c .before .before .loop .d)) (c .if1 .taken))
+
+room : (c : tie.Then1 Inv-loop μ-loop) → (0 < c .before .before .loop .g) × (0 < c .before .before .loop .i) × Climbable (c .before .before .before .before .args .bits .now) (c .before .before .before .before .args .base) (c .before .before .loop .c .clears) (c .before .before .loop .g - 1) (c .before .before .loop .i - 1)
+room c = climbing-room _ _ _ _ _ _ _ _ _ _ _ (c .before .before .before .before .pre .0 .long) (some c) (c .before .before .loop .inv)
 
 sub-climb-one : tie.Need-sub-climb-one Inv-loop μ-loop
 sub-climb-one c = room c .0
@@ -42,16 +48,16 @@ sub-i : tie.Need-sub-i Inv-loop μ-loop
 sub-i c = room (c .before) .1
 
 sub-d : tie.Need-sub-d Inv-loop μ-loop
-sub-d c = search needs
+sub-d c = omega (arith, some (c .before))
 
 loop-less : tie.Need-loop-less Inv-loop μ-loop
-loop-less c = search needs
+loop-less c = omega (arith, some (c .before))
 
 loop-again : tie.Need-loop-again Inv-loop μ-loop
-loop-again c = rw (c .climb-one .ensures) (climbing-step _ _ _ _ _ _ _ _ _ _ _ (c .before .before .before .before .pre .0 .long) (c .before .loop-test .taken) (c .before .before .loop .inv))
+loop-again c = rw (c .climb-one .ensures) (climbing-step _ _ _ _ _ _ _ _ _ _ _ (c .before .before .before .before .before .pre .0 .long) (some (c .before)) (c .before .before .before .loop .inv))
 
 returns : tie.Need-returns Inv-loop μ-loop
-returns c = climbing-end _ _ _ _ _ _ _ _ _ _ _ (c .before .before .before .pre .0 .some) (omega (arith, c .loop-test .left)) (c .before .loop .inv)
+returns c = climbing-end _ _ _ _ _ _ _ _ _ _ _ (c .before .before .before .before .pre .0 .some) (c .if1 .left) (c .before .before .loop .inv)
 
 pub agreement-spec : {M : Type 1} → statement M
 agreement-spec =

@@ -4,17 +4,17 @@ use borrow.Author.Needs.{needs}
 use Rattle.bucket_bits.proofs.climb_one.Statement.{statement}
 use Rattle.bucket_bits.proofs.climb_one.Tie as tie
 
-add-cleared-of : tie.Need-add-cleared-of
-add-cleared-of c = search needs
+add-without : tie.Need-add-without
+add-without c = search needs
 
-mul-cleared-of : tie.Need-mul-cleared-of
-mul-cleared-of c = search needs
+mul-without : tie.Need-mul-without
+mul-without c = search needs
 
-shared-slice-read-cleared-of : tie.Need-shared-slice-read-cleared-of
-shared-slice-read-cleared-of c = search needs
+shared-slice-read-without : tie.Need-shared-slice-read-without
+shared-slice-read-without c = search needs
 
-cleared-of-requires : tie.Need-cleared-of-requires
-cleared-of-requires c κs = search needs
+without-requires : tie.Need-without-requires
+without-requires c κs = search needs
 
 add-word-or : tie.Need-add-word-or
 add-word-or c = search needs
@@ -26,16 +26,16 @@ bit-requires : tie.Need-bit-requires
 bit-requires c κs = search needs
 
 returns : tie.Need-returns
-returns c = climbed-is _ _ _ _ _ _ _ _ (c .before .before .before .before .before .cleared-of .ensures) (c .before .before .before .before .word-or .ensures) (c .before .before .before .bit .ensures)
+returns c = climbed-is _ _ _ _ _ _ _ _ (c .before .before .before .before .before .without .ensures) (c .before .before .before .before .word-or .ensures) (c .before .before .before .bit .ensures)
 
 pub climb-one-spec : {M : Type 1} → statement M
 climb-one-spec =
     tie.close
     (tie.spec
-    add-cleared-of
-    mul-cleared-of
-    shared-slice-read-cleared-of
-    cleared-of-requires
+    add-without
+    mul-without
+    shared-slice-read-without
+    without-requires
     add-word-or
     word-or-requires
     bit-requires

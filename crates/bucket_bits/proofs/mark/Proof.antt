@@ -1,30 +1,59 @@
 -- `bucket_bits::mark` meets its contract.
-use Prim.Native.Nat.{_+_, _-_, _/_, _%_, _<_}
+use mathlib.Core.Path.{_∙_}
+use mathlib.Core.Bool.{true, cond}
+use Prim.Native.Nat.{_+_, _-_, _/_, _%_, _≤_, _<_}
 use native.Mathlib.Omega.{arith}
 use borrow.Author.Tests.{ltb-true}
 use lib.Dec.{ltb}
+use lib.ListN.{length}
 use Rattle.laws.specs.Tests.{and-right}
+use Rattle.bucket_model.specs.Layout.{wordsOf}
+use Rattle.bucket_model.specs.Storeys.{storeysFrom, edit}
 use Rattle.bucket_bits.specs.Climbs.{Turning}
-use Rattle.bucket_bits.proofs.Up.{Rising, rising-start, rising-turns, rising-step, rising-end}
+use Rattle.bucket_bits.proofs.Numbers.{words-le}
+use Rattle.bucket_bits.proofs.Up.{Rising, first-turns, rising-first, rising-goal, rising-from, rising-turns, rising-step, rising-end}
 use borrow.Author.Needs.{needs}
 use Rattle.bucket_bits.proofs.mark.Statement.{statement}
 use Rattle.bucket_bits.proofs.mark.Tie as tie
 
 abbrev Inv-loop : tie.InvT-loop
-Inv-loop bits₀ on base storeys tower rank more₀ d₀ i₀ bits more d i = Rising on bits₀ base storeys rank bits more d i
+Inv-loop bits₀ on changes base storeys tower rank low more₀ d₀ i₀ bits more d i = Rising on bits₀ (cond more₀ (edit on bits₀ (storeysFrom base d₀) (i₀ - wordsOf d₀)) bits₀) base d₀ bits more d i
 
 abbrev μ-loop : tie.MeasureT-loop
-μ-loop bits₀ on base storeys tower rank more₀ d₀ i₀ bits more d i = d
+μ-loop bits₀ on changes base storeys tower rank low more₀ d₀ i₀ bits more d i = d
 
-add-i : tie.Need-add-i Inv-loop μ-loop
-add-i c = search needs
+-- the lowest storey's bit
+lowest : (c : tie.After-slice-known Inv-loop μ-loop) → (0 < c .before .args .tower + c .before .args .rank) × Turning (c .before .args .bits .now) (c .before .args .on) (c .before .args .changes) (c .before .args .base + (c .before .args .tower + c .before .args .rank - 1) / 64) ((c .before .args .tower + c .before .args .rank - 1) % 64)
+lowest c = first-turns (c .before .args .on) (c .before .args .changes) (c .before .args .bits .now) (c .before .args .base) (c .before .args .storeys) (c .before .args .tower) (c .before .args .rank) (c .before .pre .0) (c .before .pre .1 .0) (c .before .pre .1 .1)
+
+add-low : tie.Need-add-low Inv-loop μ-loop
+add-low c = search needs
+
+sub-low : tie.Need-sub-low Inv-loop μ-loop
+sub-low c = lowest c .0
+
+add-turn : tie.Need-add-turn Inv-loop μ-loop
+add-turn c = omega (arith, lowest (c .before) .1 .inside)
+
+turn-requires : tie.Need-turn-requires Inv-loop μ-loop
+turn-requires c κs = lowest (c .before) .1
+
+sub-d : tie.Need-sub-d Inv-loop μ-loop
+sub-d c = c .before .before .before .before .before .pre .0 .some
+
+-- .. written; the storeys above it
+first : (c : tie.After-slice-known2 Inv-loop μ-loop) → Rising (c .before .before .before .before .before .args .on) (c .before .before .before .before .before .args .bits .now) (cond (c .before .before .before .before .before .args .changes) (edit (c .before .before .before .before .before .args .on) (c .before .before .before .before .before .args .bits .now) (storeysFrom (c .before .before .before .before .before .args .base) (c .before .before .before .before .before .args .storeys)) (c .before .before .before .before .before .args .rank)) (c .before .before .before .before .before .args .bits .now)) (c .before .before .before .before .before .args .base) (c .before .before .before .before .before .args .storeys) (c .before .before .turn .last .0) (c .before .before .turn .result) (c .before .before .before .before .before .args .storeys - 1) ((c .before .before .before .before .before .args .tower + c .before .before .before .before .before .args .rank - 1) / 64)
+first c = rising-first (c .before .before .before .before .before .args .on) (c .before .before .before .before .before .args .changes) (c .before .before .before .before .before .args .bits .now) (c .before .before .before .before .before .args .base) (c .before .before .before .before .before .args .storeys) (c .before .before .before .before .before .args .tower) (c .before .before .before .before .before .args .rank) (c .before .before .before .before .before .pre .0) (c .before .before .before .before .before .pre .1 .0) (c .before .before .before .before .before .pre .1 .1) (c .before .before .turn .last .0) (c .before .before .turn .result) (c .before .before .turn .ensures .0) (c .before .before .turn .ensures .1)
+
+long : (c : tie.After-slice-known2 Inv-loop μ-loop) → c .before .before .before .before .before .args .base + wordsOf (c .before .before .before .before .before .args .storeys - 1) ≤ length (c .before .before .turn .last .0)
+long c = omega (arith, first c .1 .long, c .before .before .before .before .before .pre .0 .long, words-le (c .before .before .before .before .before .args .storeys - 1) (c .before .before .before .before .before .args .storeys) (omega arith))
 
 loop-holds : tie.Need-loop-holds Inv-loop μ-loop
-loop-holds c = rising-start _ _ _ _ _ _ (c .before .pre .0 .words) (c .before .pre .1 .0) (c .before .pre .1 .1)
+loop-holds c = rising-from _ _ _ _ _ _ _ _ _ (first c)
 
 -- the number of a bit, and its word
-turns : (c : tie.In-loop Inv-loop μ-loop) → (0 < c .before .loop .i) × Turning (c .before .loop .bits) (c .before .before .before .args .on) (c .before .before .before .args .base + (c .before .loop .i - 1) / 64) ((c .before .loop .i - 1) % 64)
-turns c = rising-turns _ _ _ _ _ _ (c .before .loop .more) (c .before .loop .d) (c .before .loop .i) (c .before .before .before .pre .0 .long) (c .loop-test .taken) (c .before .loop .inv)
+turns : (c : tie.In-loop Inv-loop μ-loop) → (0 < c .before .loop .i) × Turning (c .before .loop .bits) (c .before .before .before .before .before .before .before .args .on) true (c .before .before .before .before .before .before .before .args .base + (c .before .loop .i - 1) / 64) ((c .before .loop .i - 1) % 64)
+turns c = rising-turns _ _ _ _ _ _ (c .before .loop .more) (c .before .loop .d) (c .before .loop .i) (long (c .before .before)) (c .loop-test .taken) (c .before .loop .inv)
 
 left : (c : tie.In-loop Inv-loop μ-loop) → 0 < c .before .loop .d
 left c = ltb-true 0 (c .before .loop .d) (and-right (c .before .loop .more) (ltb 0 (c .before .loop .d)) (c .loop-test .taken))
@@ -32,26 +61,26 @@ left c = ltb-true 0 (c .before .loop .d) (and-right (c .before .loop .more) (ltb
 sub-bit : tie.Need-sub-bit Inv-loop μ-loop
 sub-bit c = turns c .0
 
-add-turn : tie.Need-add-turn Inv-loop μ-loop
-add-turn c = omega (arith, turns (c .before) .1 .inside)
+add-turn-2 : tie.Need-add-turn-2 Inv-loop μ-loop
+add-turn-2 c = omega (arith, turns (c .before) .1 .inside)
 
-turn-requires : tie.Need-turn-requires Inv-loop μ-loop
-turn-requires c κs = turns (c .before) .1
+turn-requires-2 : tie.Need-turn-requires-2 Inv-loop μ-loop
+turn-requires-2 c κs = turns (c .before) .1
 
-sub-d : tie.Need-sub-d Inv-loop μ-loop
-sub-d c = left (c .before .before .before .before)
+sub-d-2 : tie.Need-sub-d-2 Inv-loop μ-loop
+sub-d-2 c = left (c .before .before .before .before)
 
 loop-less : tie.Need-loop-less Inv-loop μ-loop
 loop-less c = omega (arith, left (c .before .before .before .before))
 
 loop-again : tie.Need-loop-again Inv-loop μ-loop
-loop-again c = rising-step _ _ _ _ _ _ _ _ _ (c .before .before .before .before .before .before .before .pre .0 .long) (c .before .before .before .before .loop-test .taken) (c .before .before .before .before .before .loop .inv) _ _ (c .before .before .turn .ensures .0) (c .before .before .turn .ensures .1)
+loop-again c = rising-step _ _ _ _ _ _ _ _ _ (long (c .before .before .before .before .before .before)) (c .before .before .before .before .loop-test .taken) (c .before .before .before .before .before .loop .inv) _ _ (c .before .before .turn2 .ensures .0) (c .before .before .turn2 .ensures .1)
 
 same-length : tie.Need-same-length Inv-loop μ-loop
-same-length c = c .before .loop .inv .1 .long
+same-length c = c .before .loop .inv .1 .long ∙ first (c .before .before) .1 .long
 
 returns : tie.Need-returns Inv-loop μ-loop
-returns c = rising-end _ _ _ _ _ _ _ _ _ (c .before .loop .inv) (c .loop-test .left)
+returns c = rising-end _ _ _ _ _ _ _ _ _ (c .before .loop .inv) (c .loop-test .left) ∙ rising-goal _ _ _ _ _ _ _ _ _ (first (c .before .before))
 
 pub mark-spec : {M : Type 1} → statement M
 mark-spec =
@@ -59,12 +88,16 @@ mark-spec =
     (tie.spec
     Inv-loop
     μ-loop
-    add-i
-    loop-holds
-    sub-bit
+    add-low
+    sub-low
     add-turn
     turn-requires
     sub-d
+    loop-holds
+    sub-bit
+    add-turn-2
+    turn-requires-2
+    sub-d-2
     loop-less
     loop-again
     same-length

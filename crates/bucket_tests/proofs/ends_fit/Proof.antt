@@ -1,0 +1,22 @@
+-- `bucket_tests::ends_fit` meets its contract.
+use mathlib.Core.Path.{sym, _∙_}
+use Rattle.bucket_model.specs.Checks.{nextOf}
+use Rattle.bucket_tests.proofs.Read.{ends-high, ends-behind, ends-both}
+use borrow.Author.Needs.{needs}
+use Rattle.bucket_tests.proofs.ends_fit.Statement.{statement}
+use Rattle.bucket_tests.proofs.ends_fit.Tie as tie
+
+returns : tie.Need-returns
+returns c = ends-high (c .before .before .before .args .k .nodes) (c .before .before .before .args .head) (c .before .before .before .args .tail) (c .before .before .before .args .next) (nextOf (c .before .before .before .args .k) (c .before .before .before .args .words .now) (c .before .before .before .args .tail)) (c .if1 .taken)
+
+next-of-requires : tie.Need-next-of-requires
+next-of-requires c κs = search needs
+
+returns-2 : tie.Need-returns-2
+returns-2 c = ends-behind (c .before .before .before .before .before .args .k .nodes) (c .before .before .before .before .before .args .head) (c .before .before .before .before .before .args .tail) (c .before .before .before .before .before .args .next) (nextOf (c .before .before .before .before .before .args .k) (c .before .before .before .before .before .args .words .now) (c .before .before .before .before .before .args .tail)) (c .before .before .if1 .left) (λ z. c .if2 .taken (c .before .next-of .ensures ∙ z))
+
+returns-3 : tie.Need-returns-3
+returns-3 c = ends-both (c .before .before .before .before .before .args .k .nodes) (c .before .before .before .before .before .args .head) (c .before .before .before .before .before .args .tail) (c .before .before .before .before .before .args .next) (nextOf (c .before .before .before .before .before .args .k) (c .before .before .before .before .before .args .words .now) (c .before .before .before .before .before .args .tail)) (c .before .before .if1 .left) (sym (c .before .next-of .ensures) ∙ c .if2 .left)
+
+pub ends-fit-spec : {M : Type 1} → statement M
+ends-fit-spec = tie.close (tie.spec returns next-of-requires returns-2 returns-3)
