@@ -8,7 +8,8 @@
  *   3 too soon    a clocked pop or replace just after an answered operation
  *   4 bad rank    a bucket rank above 4095
  *   5 full        a push on a full queue
- *   6 empty       a pop on an empty queue
+ *   6 empty       a pop or replace on an empty queue
+ *   7 no tag      a push or replace with tag 0, which stands for no strip
  *
  * A slice is a pointer and then its length in words. The pointer must really have so many words,
  * aligned as usual; it may be NULL where the length is 0. The slices of one call must not overlap.
@@ -40,6 +41,7 @@ extern "C" {
 #define CARD_BAD_RANK 4u
 #define CARD_FULL 5u
 #define CARD_EMPTY 6u
+#define CARD_NO_TAG 7u
 
 #define CARD_IDLE 0u
 #define CARD_PUSH 1u
@@ -48,8 +50,9 @@ extern "C" {
 
 /* The name of a number that a call answered. */
 static inline const char *card_name(uint32_t number) {
-    static const char *const names[7] = {"ok", "bad shape", "damaged", "too soon", "bad rank", "full", "empty"};
-    return number < 7 ? names[number] : "no such number";
+    static const char *const names[8] = {"ok",       "bad shape", "damaged", "too soon",
+                                         "bad rank", "full",      "empty",   "no tag"};
+    return number < 8 ? names[number] : "no such number";
 }
 
 /*
@@ -87,7 +90,7 @@ uint32_t card_bucket_words(uint32_t nodes);
 /* Empties the tree: 3 * capacity words of zero. Never refused 2. */
 uint32_t card_tree_clear(uint32_t *store, size_t store_len, uint32_t order, uint32_t levels);
 
-/* Takes an element in. Refused 5 where the tree is full. */
+/* Takes an element in. Refused 7 with tag 0, 5 where the tree is full. */
 uint32_t card_tree_push(uint32_t *store, size_t store_len, uint32_t order, uint32_t levels,
                         uint32_t rank, uint32_t tag);
 
@@ -96,7 +99,8 @@ uint32_t card_tree_pop(uint32_t *store, size_t store_len, uint32_t order, uint32
                        uint32_t *out, size_t out_len);
 
 /* A pop, and then a push of the new element: gives the element of lowest rank in out[0] and out[1],
-   even if the new rank is lower. Works on a full tree. Refused 6 where nothing is held. */
+   even if the new rank is lower. Works on a full tree. Refused 7 with tag 0, 6 where nothing is
+   held. */
 uint32_t card_tree_replace(uint32_t *store, size_t store_len, uint32_t order, uint32_t levels,
                            uint32_t rank, uint32_t tag, uint32_t *out, size_t out_len);
 
@@ -114,8 +118,8 @@ uint32_t card_tree_held(const uint32_t *store, size_t store_len, uint32_t order,
 uint32_t card_bucket_clear(uint64_t *bits, size_t bits_len, uint32_t *words, size_t words_len,
                            uint32_t nodes);
 
-/* Takes an element in, behind those of its rank. Refused 4 above rank 4095, 5 where no node is
-   free. */
+/* Takes an element in, behind those of its rank. Refused 4 above rank 4095, 7 with tag 0, 5 where
+   no node is free. */
 uint32_t card_bucket_push(uint64_t *bits, size_t bits_len, uint32_t *words, size_t words_len,
                           uint32_t nodes, uint32_t rank, uint32_t tag);
 
@@ -125,8 +129,8 @@ uint32_t card_bucket_pop(uint64_t *bits, size_t bits_len, uint32_t *words, size_
                          uint32_t nodes, uint32_t *out, size_t out_len);
 
 /* A pop, and then a push of the new element: gives the first element of the lowest rank in out[0]
-   and out[1], even if the new rank is lower. Works on a full queue. Refused 4 above rank 4095, 6
-   where nothing is held. */
+   and out[1], even if the new rank is lower. Works on a full queue. Refused 4 above rank 4095, 7
+   with tag 0, 6 where nothing is held. */
 uint32_t card_bucket_replace(uint64_t *bits, size_t bits_len, uint32_t *words, size_t words_len,
                              uint32_t nodes, uint32_t rank, uint32_t tag, uint32_t *out,
                              size_t out_len);
@@ -147,7 +151,7 @@ uint32_t card_clocked_clear(uint32_t *store, size_t store_len, uint32_t order, u
                             uint32_t *records, size_t records_len, uint32_t *mark, size_t mark_len);
 
 /* Runs one cycle with a request: 0 idle, 1 push, 2 pop, 3 replace. The operation is answered in
-   its own cycle. Refused 3, 5 or 6 it runs as an idle cycle. */
+   its own cycle. Refused 3, 5, 6 or 7 it runs as an idle cycle. */
 uint32_t card_clocked_cycle(uint32_t *store, size_t store_len, uint32_t order, uint32_t levels,
                             uint32_t *records, size_t records_len, uint32_t *mark, size_t mark_len,
                             uint32_t request, uint32_t rank, uint32_t tag, uint32_t *out,

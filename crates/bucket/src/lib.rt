@@ -28,6 +28,7 @@ use strip::Answer;
 use strip::Count;
 use strip::Element;
 use strip::Refusal;
+use strip::is_untagged;
 ghost use mathlib.Core.Path.{_≡_};
 ghost use Rattle.bucket_model.specs.Layout.{queue};
 ghost use Rattle.bucket_model.specs.Calls.{outcome, cleared, pushed, popped, replaced, heldCount, takenBits, takenWords, joinedBits, joinedWords};
@@ -174,6 +175,9 @@ fn push_laid(bits: &mut [u64], words: &mut [u32], k: Lay, e: Element) -> Answer
     if k.ranks <= rank.0 {
         return Answer::Refused(Refusal::BadRank);
     }
+    if is_untagged(e) {
+        return Answer::Refused(Refusal::NoTag);
+    }
     if !has_room(bits, words, k) {
         return Answer::Refused(limit_or_damage(bits, words, k, Refusal::Full));
     }
@@ -195,6 +199,9 @@ fn replace_laid(bits: &mut [u64], words: &mut [u32], k: Lay, e: Element) -> Answ
     let rank = e.rank;
     if k.ranks <= rank.0 {
         return Answer::Refused(Refusal::BadRank);
+    }
+    if is_untagged(e) {
+        return Answer::Refused(Refusal::NoTag);
     }
     if !has_some(bits, words, k) {
         return Answer::Refused(limit_or_damage(bits, words, k, Refusal::Empty));

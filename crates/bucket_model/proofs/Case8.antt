@@ -2,6 +2,7 @@
 use mathlib.Core.Path.{_≡_, refl}
 use lib.Count.{trailingZeros}
 use Rattle.bitmap.specs.Bits.{bitAt}
+use Rattle.strip.specs.Answers.{untagged}
 use Rattle.bucket_model.specs.Case8.{case8, case8Answers}
 use Rattle.bucket_model.specs.Layout.{queue}
 use Rattle.bucket_model.specs.Storeys.{marked, lowestRank, lowestOpen, rankAgrees}
@@ -10,5 +11,5 @@ use Rattle.bucket_model.specs.Calls.{fill, blankWord, cleared, lowestOf,
 use Rattle.bucket_model.specs.Plain.{asked, answersFrom, bucketAnswers}
 
 pub case8-holds : bucketAnswers (queue 3) case8 ≡ case8Answers
-unfolding bucketAnswers answersFrom asked marked lowestRank lowestOpen rankAgrees shapeOk wholeOk nextOf popOk pushOk fill blankWord cleared lowestOf tailLeft takenWords takenBits popFound popped roomOf linkAt joinedWords joinedBits pushFound pushed bitAt trailingZeros
+unfolding bucketAnswers answersFrom asked marked lowestRank lowestOpen rankAgrees shapeOk wholeOk nextOf popOk pushOk fill blankWord cleared lowestOf tailLeft takenWords takenBits popFound popped roomOf linkAt joinedWords joinedBits pushFound pushed untagged bitAt trailingZeros
 case8-holds = refl

@@ -2,6 +2,7 @@
 use mathlib.Core.Path.{_≡_, refl}
 use lib.Count.{trailingZeros}
 use Rattle.bitmap.specs.Bits.{bitAt}
+use Rattle.strip.specs.Answers.{untagged}
 use Rattle.bucket_model.specs.CaseWords.{filled, leftBy, popCase, popCaseBits, popCaseWords, replaceCase, replaceCaseBits, replaceCaseWords}
 use Rattle.bucket_model.specs.Storeys.{marked, lowestRank, lowestOpen, rankAgrees}
 use Rattle.bucket_model.specs.Checks.{shapeOk, wholeOk, nextOf, popOk, pushOk}
@@ -9,17 +10,17 @@ use Rattle.bucket_model.specs.Calls.{fill, blankWord, cleared, lowestOf,
 use Rattle.bucket_model.specs.Plain.{after, asked, called}
 
 pub pop-case-bits : filled 0 (leftBy 4 popCase .bits) ≡ popCaseBits
-unfolding filled after called asked marked lowestRank lowestOpen rankAgrees shapeOk wholeOk nextOf popOk pushOk fill blankWord cleared lowestOf tailLeft takenWords takenBits popFound popped roomOf linkAt joinedWords joinedBits pushFound pushed bitAt trailingZeros
+unfolding filled after called asked marked lowestRank lowestOpen rankAgrees shapeOk wholeOk nextOf popOk pushOk fill blankWord cleared lowestOf tailLeft takenWords takenBits popFound popped roomOf linkAt joinedWords joinedBits pushFound pushed untagged bitAt trailingZeros
 pop-case-bits = refl
 
 pub pop-case-words : filled 0 (leftBy 4 popCase .words) ≡ popCaseWords
-unfolding filled after called asked marked lowestRank lowestOpen rankAgrees shapeOk wholeOk nextOf popOk pushOk fill blankWord cleared lowestOf tailLeft takenWords takenBits popFound popped roomOf linkAt joinedWords joinedBits pushFound pushed bitAt trailingZeros
+unfolding filled after called asked marked lowestRank lowestOpen rankAgrees shapeOk wholeOk nextOf popOk pushOk fill blankWord cleared lowestOf tailLeft takenWords takenBits popFound popped roomOf linkAt joinedWords joinedBits pushFound pushed untagged bitAt trailingZeros
 pop-case-words = refl
 
 pub replace-case-bits : filled 0 (leftBy 4 replaceCase .bits) ≡ replaceCaseBits
-unfolding filled after called asked marked lowestRank lowestOpen rankAgrees shapeOk wholeOk nextOf popOk pushOk fill blankWord cleared lowestOf tailLeft takenWords takenBits popFound popped roomOf linkAt joinedWords joinedBits pushFound pushed roomAfter replaceFound replaceJoined replaced bitAt trailingZeros
+unfolding filled after called asked marked lowestRank lowestOpen rankAgrees shapeOk wholeOk nextOf popOk pushOk fill blankWord cleared lowestOf tailLeft takenWords takenBits popFound popped roomOf linkAt joinedWords joinedBits pushFound pushed roomAfter replaceFound replaceJoined replaced untagged bitAt trailingZeros
 replace-case-bits = refl
 
 pub replace-case-words : filled 0 (leftBy 4 replaceCase .words) ≡ replaceCaseWords
-unfolding filled after called asked marked lowestRank lowestOpen rankAgrees shapeOk wholeOk nextOf popOk pushOk fill blankWord cleared lowestOf tailLeft takenWords takenBits popFound popped roomOf linkAt joinedWords joinedBits pushFound pushed roomAfter replaceFound replaceJoined replaced bitAt trailingZeros
+unfolding filled after called asked marked lowestRank lowestOpen rankAgrees shapeOk wholeOk nextOf popOk pushOk fill blankWord cleared lowestOf tailLeft takenWords takenBits popFound popped roomOf linkAt joinedWords joinedBits pushFound pushed roomAfter replaceFound replaceJoined replaced untagged bitAt trailingZeros
 replace-case-words = refl

@@ -7,13 +7,14 @@ use lib.Dec.{ltb, eqb}
 use Rattle.laws.specs.Ladder as ladder
 use Rattle.laws.specs.Ladder.{Ladder, fine, rung}
 use Rattle.laws.specs.Means.{Means, means-ltb, means-eqb, means-not}
-use Rattle.promise.specs.Refused.{refusal-told, zero-told}
-use Rattle.strip.specs.Answers.{numberOf, countNumber}
+use Rattle.promise.specs.Refused.{refusal-told, zero-told, Untagged, untagged-means}
+use Rattle.strip.specs.Answers.{untagged, numberOf, countNumber}
 use Rattle.strip.specs.declared.Element.{Element}
 use Rattle.strip.specs.declared.Refusal.{Refusal}
-use Rattle.strip.specs.declared.Refusal.the-variants.{BadShape, Damaged, BadRank, Full, Empty}
+use Rattle.strip.specs.declared.Refusal.the-variants.{BadShape, Damaged, BadRank, Full, Empty, NoTag}
 use Rattle.strip.specs.declared.Answer.the-variants.{Done, Out}
 use Rattle.strip.specs.declared.Count.the-variants.{Held, Unknown}
+use Rattle.strip.specs.declared.Request.the-variants.{Push, Replace}
 use Rattle.bucket_model.specs.Layout.{Lay, word}
 use Rattle.bucket_model.specs.Storeys.{lowestRank}
 use Rattle.bucket_model.specs.Calls.{Outcome, outcome, refused, isShaped, isWhole, cleared, heldCount, popFound, popped, pushFound, pushed, replaceJoined, replaceFound, replaced, lowestOf, roomOf, roomAfter}
@@ -62,14 +63,19 @@ module _ (k : Lay) (b w : List ℕ) where
     abbrev r : ℕ
     r = e .rank .0
 
-    pub exactly-push : Exactly (pushed k b w e) b w (pushLadder k b w (e .rank .0))
+    -- 7, of a push and of a replace
+    tag-means : Means (not (untagged e)) (e .tag .0 ≡ 0 → ⊥)
+    tag-means = means-not (untagged-means e)
+
+    pub exactly-push : Exactly (pushed k b w e) b w (pushLadder k b w e)
     unfolding pushed pushFound
     exactly-push =
         step b w (isShaped k b w) (Shaped k b w) BadShape _ _ (shape-means k b w)
         (λ _. step b w (ltb r (k .ranks)) (r < k .ranks) BadRank _ _ (means-ltb r (k .ranks))
+        (λ _. step b w (not (untagged e)) (Untagged (Push e) → ⊥) NoTag _ _ tag-means
         (λ _. step b w (isWhole k b w) (Whole k b w) Damaged _ _ (whole-means k b w)
         (λ _. step b w (not (eqb (word w (k .held)) (k .nodes))) (word w (k .held) ≡ k .nodes → ⊥) Full _ _ (means-not (means-eqb (word w (k .held)) (k .nodes)))
-        (λ _. step b w (roomOf k b w r .good) (PushFit k b w r) Damaged _ fine (push-means k b w r) (λ _. done b w _ _)))))
+        (λ _. step b w (roomOf k b w r .good) (PushFit k b w r) Damaged _ fine (push-means k b w r) (λ _. done b w _ _))))))
 
     abbrev b1 : List ℕ
     b1 = bitsAfter k b w
@@ -77,12 +83,13 @@ module _ (k : Lay) (b w : List ℕ) where
     abbrev w1 : List ℕ
     w1 = wordsAfter k b w
 
-    pub exactly-replace : Exactly (replaced k b w e) b w (replaceLadder k b w (e .rank .0))
+    pub exactly-replace : Exactly (replaced k b w e) b w (replaceLadder k b w e)
     unfolding replaced replaceFound replaceJoined
     exactly-replace =
         step b w (isShaped k b w) (Shaped k b w) BadShape _ _ (shape-means k b w)
         (λ _. step b w (ltb r (k .ranks)) (r < k .ranks) BadRank _ _ (means-ltb r (k .ranks))
+        (λ _. step b w (not (untagged e)) (Untagged (Replace e) → ⊥) NoTag _ _ tag-means
         (λ _. step b w (isWhole k b w) (Whole k b w) Damaged _ _ (whole-means k b w)
         (λ _. step b w (not (eqb (word w (k .held)) 0)) (Some k b w) Empty _ _ some-means
         (λ _. step b w (lowestOf k b w .good) (PopFit k b w (lowestRank k b)) Damaged _ _ (pop-means k b w)
-        (λ _. step b w (roomAfter k b1 w1 r .good) (Whole k b1 w1 × PushFit k b1 w1 r) Damaged _ fine (room-means k b1 w1 r) (λ _. out b w _ _ _))))))
+        (λ _. step b w (roomAfter k b1 w1 r .good) (Whole k b1 w1 × PushFit k b1 w1 r) Damaged _ fine (room-means k b1 w1 r) (λ _. out b w _ _ _)))))))

@@ -30,3 +30,4 @@ pub mod Spare
 pub mod Shown
 pub mod Case8
 pub mod CaseWords
+pub mod CaseTag

@@ -1,20 +1,23 @@
 -- What the bucket queue promises, wherever its words are laid out and however many storeys it has.
 use mathlib.Core.Path.{_≡_, sym, ap, subst, _∙_}
-use mathlib.Core.Bool.{Bool, true, false, cond}
+use mathlib.Core.Bool.{Bool, true, false, cond, not}
 use mathlib.Core.List.{List, [], _∷_, _++_}
 use Prim.Native.Nat.{ℕ, _+_, _<_}
 use native.Mathlib.Omega.{arith}
 use lib.Dec.{ltb}
 use lib.ListN.{length}
 use Rattle.laws.specs.Lists.{All}
+use Rattle.laws.specs.Means.{means-off}
+use Rattle.promise.specs.Refused.{Untagged, untagged-means}
+use Rattle.strip.specs.Answers.{untagged}
 use Rattle.strip.specs.declared.Element.{Element}
-use Rattle.strip.specs.declared.Refusal.the-variants.{BadRank, Full, Empty}
+use Rattle.strip.specs.declared.Refusal.the-variants.{BadRank, Full, Empty, NoTag}
 use Rattle.strip.specs.declared.Answer.the-variants.{Done, Out, Refused}
 use Rattle.strip.specs.declared.Request.the-variants.{Idle, Push, Pop, Replace}
 use Rattle.bucket_model.specs.Layout.{Lay, Laid, queue, word, headAt, tailAt}
 use Rattle.bucket_model.specs.Calls.{Outcome, outcome, Lowest, lowestOf, takenBits, takenWords, roomOf, joinedBits, joinedWords, popped}
 use Rattle.bucket_model.specs.Causes.{Shaped}
-use Rattle.bucket_model.specs.Plain.{Call, ask, held, answered, saidNumber, Step, step, Store, store, asked, called, says, after, start, Reached, insert, roomy, plainReplace, plain, plainSays, plainAfter, stored, brought, gone, ofRank, times, Sorted, FirstOut, Reused}
+use Rattle.bucket_model.specs.Plain.{Call, ask, held, answered, saidNumber, Step, step, Store, store, asked, called, says, after, start, Reached, insert, tagged, roomy, plainReplace, plain, plainSays, plainAfter, stored, brought, gone, ofRank, times, Sorted, FirstOut, Reused}
 use Rattle.bucket_model.proofs.Sorted.{Through, through}
 use Rattle.bucket_model.proofs.Facts.{pop-means, pop-way, low-is}
 use Rattle.bucket_model.proofs.Taken.{free-after}
@@ -47,11 +50,15 @@ unfolding plain
 plain-sane k (ask Idle) l = λ e. omega arith
 plain-sane k (ask (Push e)) l =
     let yes = step (answered Done) (insert e l) in
-    sane-either (ltb (e .rank .0) (k .ranks)) (roomy (ltb (length l) (k .nodes)) l yes) (step (answered (Refused BadRank)) l)
-    (sane-either (ltb (length l) (k .nodes)) yes (step (answered (Refused Full)) l) (λ e. omega arith) (λ e. omega arith)) (λ e. omega arith)
+    let put = roomy (ltb (length l) (k .nodes)) l yes in
+    sane-either (ltb (e .rank .0) (k .ranks)) (tagged e l put) (step (answered (Refused BadRank)) l)
+    (sane-either (not (untagged e)) put (step (answered (Refused NoTag)) l)
+    (sane-either (ltb (length l) (k .nodes)) yes (step (answered (Refused Full)) l) (λ e. omega arith) (λ e. omega arith)) (λ e. omega arith)) (λ e. omega arith)
 plain-sane k (ask Pop) [] = λ e. omega arith
 plain-sane k (ask Pop) (x ∷ l) = λ e. omega arith
-plain-sane k (ask (Replace e)) l = sane-either (ltb (e .rank .0) (k .ranks)) (plainReplace e l) (step (answered (Refused BadRank)) l) (sane-replace e l) (λ e. omega arith)
+plain-sane k (ask (Replace e)) l =
+    sane-either (ltb (e .rank .0) (k .ranks)) (tagged e l (plainReplace e l)) (step (answered (Refused BadRank)) l)
+    (sane-either (not (untagged e)) (plainReplace e l) (step (answered (Refused NoTag)) l) (sane-replace e l) (λ e. omega arith)) (λ e. omega arith)
 plain-sane k held l = λ e. omega arith
 
 plain-undamaged : (k : Lay) (cs : List Call) (l : List Element) → All (λ s. saidNumber s ≡ 2 → ⊥) (plainSays k cs l)
@@ -141,7 +148,7 @@ module _ (k : Lay) (laid : Laid k) where
   -- ---- "The freed node .. becomes first in the free chain, so freed room is used at once"
 
   module _ (s : Store) (l : List Element) (h : Holds k laid (s .bits) (s .words) l) (some : word (s .words) (k .held) ≡ 0 → ⊥) (x : Element) (l′ : List Element)
-      (p : Popped k laid (s .bits) (s .words) l h x l′) (e : Element) (r< : e .rank .0 < k .ranks) where
+      (p : Popped k laid (s .bits) (s .words) l h x l′) (e : Element) (r< : e .rank .0 < k .ranks) (t : untagged e ≡ false) where
     abbrev b1 : List ℕ
     b1 = takenBits k (s .bits) (lowestOf k (s .bits) (s .words))
 
@@ -160,7 +167,7 @@ module _ (k : Lay) (laid : Laid k) where
 
     pushed-on : asked k (Push e) (store b1 w1) ≡ outcome Done (joinedBits k b1 e (roomOf k b1 w1 (e .rank .0))) (joinedWords k w1 e (roomOf k b1 w1 (e .rank .0)))
     unfolding asked
-    pushed-on = push-is k laid (store b1 w1) l′ (p .after) e r< again (pushes k laid b1 w1 l′ (p .after) e r< again)
+    pushed-on = push-is k laid (store b1 w1) l′ (p .after) e r< t again (pushes k laid b1 w1 l′ (p .after) e r< again)
 
     reused : Reused k s (store b1 w1) x e
     reused =
@@ -170,9 +177,9 @@ module _ (k : Lay) (laid : Laid k) where
           node = ap (λ (o : Outcome). word (o .words) (tailAt k (e .rank .0))) pushed-on ∙ joined-tail k laid w1 e (roomOf k b1 w1 (e .rank .0)) r< (p .after .shaped .words) ∙ freed;
         }
 
-  pub reuse : (s : Store) (x e : Element) → Reached k s → asked k Pop s .answer ≡ Out x → e .rank .0 < k .ranks → Reused k s (store (asked k Pop s .bits) (asked k Pop s .words)) x e
+  pub reuse : (s : Store) (x e : Element) → Reached k s → asked k Pop s .answer ≡ Out x → e .rank .0 < k .ranks → (Untagged (Push e) → ⊥) → Reused k s (store (asked k Pop s .bits) (asked k Pop s .words)) x e
   unfolding asked
-  reuse s x e r a r< = go (reached-holds s r .0) (reached-holds s r .2)
+  reuse s x e r a r< t = go (reached-holds s r .0) (reached-holds s r .2)
     where
       go : (l : List Element) → Holds k laid (s .bits) (s .words) l → Reused k s (store (popped k (s .bits) (s .words) .bits) (popped k (s .bits) (s .words) .words)) x e
       go l h = some (pops k laid (s .bits) (s .words) l h (pop-some s x l h a))
@@ -180,4 +187,4 @@ module _ (k : Lay) (laid : Laid k) where
           some : (y : Element) × (l′ : List Element) × Popped k laid (s .bits) (s .words) l h y l′ → Reused k s (store (popped k (s .bits) (s .words) .bits) (popped k (s .bits) (s .words) .words)) x e
           some z =
               let held = pop-some s x l h a in
-              rw (← pop-gives s x l h a (z .0) (z .1) (z .2), pop-is k laid s l h held (z .0) (z .1) (z .2)) (reused s l h held (z .0) (z .1) (z .2) e r<)
+              rw (← pop-gives s x l h a (z .0) (z .1) (z .2), pop-is k laid s l h held (z .0) (z .1) (z .2)) (reused s l h held (z .0) (z .1) (z .2) e r< (means-off (untagged-means e) t))

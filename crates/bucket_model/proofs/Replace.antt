@@ -5,13 +5,15 @@ use mathlib.Core.List.{List}
 use mathlib.Core.Logic.{inl, inr, ⊎-elim}
 use Prim.Native.Nat.{ℕ, _<_}
 use native.Mathlib.Omega.{arith}
+use borrow.Author.Tests.{not-true}
 use lib.Dec.{ltb, eqb}
 use Rattle.laws.specs.Ladder.{First}
 use Rattle.laws.specs.Means.{Iff, means-not, means-eqb, means-ltb}
-use Rattle.strip.specs.Answers.{numberOf, refusalNumber}
+use Rattle.promise.specs.Refused.{Untagged}
+use Rattle.strip.specs.Answers.{untagged, numberOf, refusalNumber}
 use Rattle.strip.specs.declared.Element.{Element}
 use Rattle.strip.specs.declared.Refusal.{Refusal}
-use Rattle.strip.specs.declared.Refusal.the-variants.{BadShape, Damaged, BadRank, Empty}
+use Rattle.strip.specs.declared.Refusal.the-variants.{BadShape, Damaged, BadRank, Empty, NoTag}
 use Rattle.strip.specs.declared.Answer.the-variants.{Done, Out, Refused}
 use Rattle.strip.specs.declared.Request.the-variants.{Push, Pop, Replace}
 use Rattle.bucket_model.specs.Layout.{Lay, Laid, word}
@@ -76,6 +78,7 @@ module _ (k : Lay) (b w : List ℕ) where
   -- .. a push that is done
   record Takes (e : Element) : Type 0 where
     ranked : e .rank .0 < k .ranks
+    tagged : untagged e ≡ false
     whole : isWhole k b w ≡ true
     good : roomOf k b w (e .rank .0) .good ≡ true
     is : pushed k b w e ≡ outcome Done (joinedBits k b e (roomOf k b w (e .rank .0))) (joinedWords k w e (roomOf k b w (e .rank .0)))
@@ -85,10 +88,17 @@ module _ (k : Lay) (b w : List ℕ) where
   takes e d =
       let p = passed b w (isShaped k b w) _ _ (done-granted (pushed k b w e) d) in
       let l = passed b w (ltb (e .rank .0) (k .ranks)) _ _ (p .2) in
-      let q = passed b w (isWhole k b w) _ _ (l .2) in
+      let t = passed b w (not (untagged e)) _ _ (l .2) in
+      let q = passed b w (isWhole k b w) _ _ (t .2) in
       let r = passed b w (not (eqb (word w (k .held)) (k .nodes))) _ _ (q .2) in
       let g = passed b w (roomOf k b w (e .rank .0) .good) _ _ (r .2) in
-      record { ranked = means-ltb (e .rank .0) (k .ranks) .says (l .0); whole = q .0; good = g .0; is = p .1 ∙ l .1 ∙ q .1 ∙ r .1 ∙ g .1 }
+      record {
+        ranked = means-ltb (e .rank .0) (k .ranks) .says (l .0);
+        tagged = not-true (untagged e) (t .0);
+        whole = q .0;
+        good = g .0;
+        is = p .1 ∙ l .1 ∙ t .1 ∙ q .1 ∙ r .1 ∙ g .1;
+      }
 
   -- the store as after the pop
   abbrev B : List ℕ
@@ -101,6 +111,7 @@ module _ (k : Lay) (b w : List ℕ) where
   record Swaps (e x : Element) : Type 0 where
     gives : Gives x
     ranked : e .rank .0 < k .ranks
+    tagged : untagged e ≡ false
     good : roomAfter k B W (e .rank .0) .good ≡ true
 
   swaps : (e x : Element) → replaced k b w e .answer ≡ Out x → Swaps e x
@@ -108,7 +119,8 @@ module _ (k : Lay) (b w : List ℕ) where
   swaps e x a =
       let p = passed b w (isShaped k b w) _ _ (out-granted x (replaced k b w e) a) in
       let l = passed b w (ltb (e .rank .0) (k .ranks)) _ _ (p .2) in
-      let q = passed b w (isWhole k b w) _ _ (l .2) in
+      let n = passed b w (not (untagged e)) _ _ (l .2) in
+      let q = passed b w (isWhole k b w) _ _ (n .2) in
       let r = passed b w (not (eqb (word w (k .held)) 0)) _ _ (q .2) in
       let g = passed b w (lowestOf k b w .good) _ _ (r .2) in
       let t = passed b w (roomAfter k B W (e .rank .0) .good) _ _ (g .2) in
@@ -119,9 +131,10 @@ module _ (k : Lay) (b w : List ℕ) where
               whole = q .0;
               some = means-not (means-eqb (word w (k .held)) 0) .says (r .0);
               good = g .0;
-              is = out-same _ _ (ap (λ (o : Outcome). o .answer) (sym (p .1 ∙ l .1 ∙ q .1 ∙ r .1 ∙ g .1 ∙ t .1)) ∙ a);
+              is = out-same _ _ (ap (λ (o : Outcome). o .answer) (sym (p .1 ∙ l .1 ∙ n .1 ∙ q .1 ∙ r .1 ∙ g .1 ∙ t .1)) ∙ a);
             };
         ranked = means-ltb (e .rank .0) (k .ranks) .says (l .0);
+        tagged = not-true (untagged e) (n .0);
         good = t .0;
       }
 
@@ -142,7 +155,7 @@ module _ (k : Lay) (b w : List ℕ) where
       ap (λ (o : Outcome). o .answer)
       (sym (told.push-done k B W e
       (shape-means k B W .holds (shaped-after k b w B W (taken-bits-length k b low) (taken-length k w low) s))
-      (u .ranked) (whole-means k B W .holds (t .0)) (λ z. u .gives .some (omega (arith, held-after k laid w low (s .words), h .held≤)))
+      (u .ranked) (u .tagged) (whole-means k B W .holds (t .0)) (λ z. u .gives .some (omega (arith, held-after k laid w low (s .words), h .held≤)))
       (roomOf k B W (e .rank .0)) refl _ _ (push-means k B W (e .rank .0) .holds (t .1)) refl refl))
 
 module _ (k : Lay) (s : Store) (e x : Element) where
@@ -170,7 +183,7 @@ module _ (k : Lay) (s : Store) (e x : Element) where
       both g t =
           let bits = ap (λ (o : Outcome). o .bits) (t .is) in
           let words = ap (λ (o : Outcome). o .words) (t .is) in
-          sym (told.replace-out k b w e (g .shaped) (t .ranked) (g .whole) (g .some) (lowestOf k b w) refl (g .good) (roomOf k (B k b w) (W k b w) (e .rank .0)) (sym (same-room k (B k b w) (W k b w) e (t .whole))) x (B k b w) (W k b w) _ _ (t .good) (sym (g .is)) refl refl bits words)
+          sym (told.replace-out k b w e (g .shaped) (t .ranked) (t .tagged) (g .whole) (g .some) (lowestOf k b w) refl (g .good) (roomOf k (B k b w) (W k b w) (e .rank .0)) (sym (same-room k (B k b w) (W k b w) e (t .whole))) x (B k b w) (W k b w) _ _ (t .good) (sym (g .is)) refl refl bits words)
 
   -- .. and it is done exactly where the replace gives something
   pub replace-pushes : Laid k → asked k (Replace e) s .answer ≡ Out x → asked k (Push e) (popLeaves k s) .answer ≡ Done
@@ -178,9 +191,9 @@ module _ (k : Lay) (s : Store) (e x : Element) where
   replace-pushes laid a = let u = swaps k b w e x a in ap (λ (o : Outcome). o .answer) (push-leaves k b w x e (u .gives)) ∙ push-taken k b w laid e x u
 
 -- .. so on a store that the queue's own calls lead to always
-pub replace-swaps : (k : Lay) → Laid k → (s : Store) (e x : Element) → Reached k s → e .rank .0 < k .ranks → asked k Pop s .answer ≡ Out x
+pub replace-swaps : (k : Lay) → Laid k → (s : Store) (e x : Element) → Reached k s → e .rank .0 < k .ranks → (Untagged (Replace e) → ⊥) → asked k Pop s .answer ≡ Out x
     → asked k (Replace e) s ≡ outcome (Out x) (asked k (Push e) (popLeaves k s) .bits) (asked k (Push e) (popLeaves k s) .words)
-replace-swaps k laid s e x h e< a = replace-both k s e x a (reuse k laid s x e h a e< .taken)
+replace-swaps k laid s e x h e< t a = replace-both k s e x a (reuse k laid s x e h a e< t .taken)
 
 -- ---- "an empty queue refuses replace with 6"; "The order of checks puts replace's 6 with pop's"
 
@@ -193,6 +206,9 @@ no-damage e = let z : _≡_ {A = ℕ} 6 2 = ap refusalNumber e in omega arith
 no-rank : Empty ≡ BadRank → ⊥
 no-rank e = let z : _≡_ {A = ℕ} 6 4 = ap refusalNumber e in omega arith
 
+no-untagged : Empty ≡ NoTag → ⊥
+no-untagged e = let z : _≡_ {A = ℕ} 6 7 = ap refusalNumber e in omega arith
+
 module _ (k : Lay) (b w : List ℕ) where
   -- both say 6 of a store that is whole, with nothing held
   abbrev Bare : Type 0
@@ -202,22 +218,23 @@ module _ (k : Lay) (b w : List ℕ) where
   pop-bare u =
       ⊎-elim (λ v. absurd (no-shape (v .1))) (λ x. ⊎-elim (λ v. absurd (no-damage (v .1))) (λ y. ⊎-elim (λ v. (x .0, y .0, v .0)) (λ z. ⊎-elim (λ v. absurd (no-damage (v .1))) (λ v. absurd (v .1)) (z .1)) (y .1)) (x .1)) u
 
-  replace-bare : (r : ℕ) → First (replaceLadder k b w r) Empty → Bare
-  replace-bare r u =
+  replace-bare : (e : Element) → First (replaceLadder k b w e) Empty → Bare
+  replace-bare e u =
       ⊎-elim (λ v. absurd (no-shape (v .1)))
       (λ x. ⊎-elim (λ v. absurd (no-rank (v .1)))
-      (λ l. ⊎-elim (λ v. absurd (no-damage (v .1)))
-      (λ y. ⊎-elim (λ v. (x .0, y .0, v .0)) (λ z. ⊎-elim (λ v. absurd (no-damage (v .1))) (λ t. ⊎-elim (λ v. absurd (no-damage (v .1))) (λ v. absurd (v .1)) (t .1)) (z .1)) (y .1)) (l .1)) (x .1)) u
+      (λ l. ⊎-elim (λ v. absurd (no-untagged (v .1)))
+      (λ n. ⊎-elim (λ v. absurd (no-damage (v .1)))
+      (λ y. ⊎-elim (λ v. (x .0, y .0, v .0)) (λ z. ⊎-elim (λ v. absurd (no-damage (v .1))) (λ t. ⊎-elim (λ v. absurd (no-damage (v .1))) (λ v. absurd (v .1)) (t .1)) (z .1)) (y .1)) (n .1)) (l .1)) (x .1)) u
 
 -- replace's 6 is where the pop's is
-pub replace-empty : (k : Lay) (s : Store) (e : Element) → e .rank .0 < k .ranks → Iff (numberOf (asked k (Replace e) s .answer) ≡ 6) (numberOf (asked k Pop s .answer) ≡ 6)
+pub replace-empty : (k : Lay) (s : Store) (e : Element) → e .rank .0 < k .ranks → (Untagged (Replace e) → ⊥) → Iff (numberOf (asked k (Replace e) s .answer) ≡ 6) (numberOf (asked k Pop s .answer) ≡ 6)
 unfolding asked
-replace-empty k s e l =
+replace-empty k s e l n =
     let b = s .bits in
     let w = s .words in
     let pop = exactly-pop k b w in
     let replace = exactly-replace k b w e in
     record {
-      to = λ a. let x = replace-bare k b w (e .rank .0) (replace .only Empty a) in ap (λ (o : Outcome). numberOf (o .answer)) (pop .always Empty (inr (x .0, inr (x .1, inl (x .2, refl)))));
-      from = λ a. let x = pop-bare k b w (pop .only Empty a) in ap (λ (o : Outcome). numberOf (o .answer)) (replace .always Empty (inr (x .0, inr (l, inr (x .1, inl (x .2, refl))))));
+      to = λ a. let x = replace-bare k b w e (replace .only Empty a) in ap (λ (o : Outcome). numberOf (o .answer)) (pop .always Empty (inr (x .0, inr (x .1, inl (x .2, refl)))));
+      from = λ a. let x = pop-bare k b w (pop .only Empty a) in ap (λ (o : Outcome). numberOf (o .answer)) (replace .always Empty (inr (x .0, inr (l, inr (n, inr (x .1, inl (x .2, refl)))))));
     }

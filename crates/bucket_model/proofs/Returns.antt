@@ -5,9 +5,10 @@ use mathlib.Core.List.{List}
 use Prim.Native.Nat.{ℕ, _≤_, _<_}
 use lib.Dec.{eqb}
 use borrow.Author.Tests.{eq-eqb, ne-eqb, lt-ltb, le-ltb}
+use Rattle.strip.specs.Answers.{untagged}
 use Rattle.strip.specs.declared.Element.{Element}
 use Rattle.strip.specs.declared.Refusal.{Refusal}
-use Rattle.strip.specs.declared.Refusal.the-variants.{BadShape, Damaged, BadRank, Full, Empty}
+use Rattle.strip.specs.declared.Refusal.the-variants.{BadShape, Damaged, BadRank, Full, Empty, NoTag}
 use Rattle.strip.specs.declared.Answer.the-variants.{Done, Out}
 use Rattle.strip.specs.declared.Count.the-variants.{Held, Unknown}
 use Rattle.bucket_model.specs.Layout.{Lay, bitWords, storeWords, word}
@@ -83,23 +84,28 @@ module _ (k : Lay) (b w : List ℕ) where
       push-high l = simp (s, le-ltb _ _ l)
 
       module _ (l : x .rank .0 < k .ranks) where
-        pub push-limit : (y : Refusal) → (isWhole k b w && not (eqb (word w (k .held)) (k .nodes))) ≡ false → y ≡ cond (isWhole k b w) Full Damaged → refused y b w ≡ pushed k b w x
+        pub push-untagged : untagged x ≡ true → refused NoTag b w ≡ pushed k b w x
         unfolding pushed
-        push-limit y e p = rw (s, lt-ltb (x .rank .0) (k .ranks) l) (limit b w (isWhole k b w) (not (eqb (word w (k .held)) (k .nodes))) y Full _ e p)
+        push-untagged t = simp (s, lt-ltb _ _ l, t)
 
-        module _ (j : isWhole k b w ≡ true) where
-          pub push-full : word w (k .held) ≡ k .nodes → refused Full b w ≡ pushed k b w x
+        module _ (t : untagged x ≡ false) where
+          pub push-limit : (y : Refusal) → (isWhole k b w && not (eqb (word w (k .held)) (k .nodes))) ≡ false → y ≡ cond (isWhole k b w) Full Damaged → refused y b w ≡ pushed k b w x
           unfolding pushed
-          push-full z = simp (s, lt-ltb _ _ l, j, eq-eqb _ _ z)
+          push-limit y e p = rw (s, lt-ltb (x .rank .0) (k .ranks) l, t) (limit b w (isWhole k b w) (not (eqb (word w (k .held)) (k .nodes))) y Full _ e p)
 
-          module _ (z : word w (k .held) ≡ k .nodes → ⊥) (to : Room) (e : to ≡ roomOf k b w (x .rank .0)) where
-            pub push-unfit : to .good ≡ false → refused Damaged b w ≡ pushed k b w x
-            unfolding pushed pushFound
-            push-unfit g = simp (s, lt-ltb _ _ l, j, ne-eqb _ _ z, ← e, g)
+          module _ (j : isWhole k b w ≡ true) where
+            pub push-full : word w (k .held) ≡ k .nodes → refused Full b w ≡ pushed k b w x
+            unfolding pushed
+            push-full z = simp (s, lt-ltb _ _ l, t, j, eq-eqb _ _ z)
 
-            pub push-done : (b′ w′ : List ℕ) → to .good ≡ true → b′ ≡ joinedBits k b x to → w′ ≡ joinedWords k w x to → outcome Done b′ w′ ≡ pushed k b w x
-            unfolding pushed pushFound
-            push-done b′ w′ g p q = simp (s, lt-ltb _ _ l, j, ne-eqb _ _ z, ← e, g, p, q)
+            module _ (z : word w (k .held) ≡ k .nodes → ⊥) (to : Room) (e : to ≡ roomOf k b w (x .rank .0)) where
+              pub push-unfit : to .good ≡ false → refused Damaged b w ≡ pushed k b w x
+              unfolding pushed pushFound
+              push-unfit g = simp (s, lt-ltb _ _ l, t, j, ne-eqb _ _ z, ← e, g)
+
+              pub push-done : (b′ w′ : List ℕ) → to .good ≡ true → b′ ≡ joinedBits k b x to → w′ ≡ joinedWords k w x to → outcome Done b′ w′ ≡ pushed k b w x
+              unfolding pushed pushFound
+              push-done b′ w′ g p q = simp (s, lt-ltb _ _ l, t, j, ne-eqb _ _ z, ← e, g, p, q)
 
   -- ---- replace
 
@@ -114,26 +120,31 @@ module _ (k : Lay) (b w : List ℕ) where
       replace-high l = simp (s, le-ltb _ _ l)
 
       module _ (l : x .rank .0 < k .ranks) where
-        pub replace-limit : (y : Refusal) → (isWhole k b w && not (eqb (word w (k .held)) 0)) ≡ false → y ≡ cond (isWhole k b w) Empty Damaged → refused y b w ≡ replaced k b w x
+        pub replace-untagged : untagged x ≡ true → refused NoTag b w ≡ replaced k b w x
         unfolding replaced
-        replace-limit y e p = rw (s, lt-ltb (x .rank .0) (k .ranks) l) (limit b w (isWhole k b w) (not (eqb (word w (k .held)) 0)) y Empty _ e p)
+        replace-untagged t = simp (s, lt-ltb _ _ l, t)
 
-        module _ (j : isWhole k b w ≡ true) where
-          pub replace-none : word w (k .held) ≡ 0 → refused Empty b w ≡ replaced k b w x
+        module _ (t : untagged x ≡ false) where
+          pub replace-limit : (y : Refusal) → (isWhole k b w && not (eqb (word w (k .held)) 0)) ≡ false → y ≡ cond (isWhole k b w) Empty Damaged → refused y b w ≡ replaced k b w x
           unfolding replaced
-          replace-none z = simp (s, lt-ltb _ _ l, j, eq-eqb _ _ z)
+          replace-limit y e p = rw (s, lt-ltb (x .rank .0) (k .ranks) l, t) (limit b w (isWhole k b w) (not (eqb (word w (k .held)) 0)) y Empty _ e p)
 
-          module _ (z : word w (k .held) ≡ 0 → ⊥) (low : Lowest) (e : low ≡ lowestOf k b w) where
-            pub replace-unfit : low .good ≡ false → refused Damaged b w ≡ replaced k b w x
-            unfolding replaced replaceFound
-            replace-unfit g = simp (s, lt-ltb _ _ l, j, ne-eqb _ _ z, ← e, g)
+          module _ (j : isWhole k b w ≡ true) where
+            pub replace-none : word w (k .held) ≡ 0 → refused Empty b w ≡ replaced k b w x
+            unfolding replaced
+            replace-none z = simp (s, lt-ltb _ _ l, t, j, eq-eqb _ _ z)
 
-            module _ (g : low .good ≡ true) (to : Room) (f : to ≡ roomAfter k (takenBits k b low) (takenWords k w low) (x .rank .0)) where
-              pub replace-shut : to .good ≡ false → refused Damaged b w ≡ replaced k b w x
-              unfolding replaced replaceFound replaceJoined
-              replace-shut u = simp (s, lt-ltb _ _ l, j, ne-eqb _ _ z, ← e, g, ← f, u)
+            module _ (z : word w (k .held) ≡ 0 → ⊥) (low : Lowest) (e : low ≡ lowestOf k b w) where
+              pub replace-unfit : low .good ≡ false → refused Damaged b w ≡ replaced k b w x
+              unfolding replaced replaceFound
+              replace-unfit g = simp (s, lt-ltb _ _ l, t, j, ne-eqb _ _ z, ← e, g)
 
-              pub replace-out : (y : Element) (b1 w1 b′ w′ : List ℕ) → to .good ≡ true → y ≡ given k w low → b1 ≡ takenBits k b low → w1 ≡ takenWords k w low
-                  → b′ ≡ joinedBits k b1 x to → w′ ≡ joinedWords k w1 x to → outcome (Out y) b′ w′ ≡ replaced k b w x
-              unfolding replaced replaceFound replaceJoined
-              replace-out y b1 w1 b′ w′ v u p1 q1 p q = simp (s, lt-ltb _ _ l, j, ne-eqb _ _ z, ← e, g, ← f, v, u, p, q, p1, q1)
+              module _ (g : low .good ≡ true) (to : Room) (f : to ≡ roomAfter k (takenBits k b low) (takenWords k w low) (x .rank .0)) where
+                pub replace-shut : to .good ≡ false → refused Damaged b w ≡ replaced k b w x
+                unfolding replaced replaceFound replaceJoined
+                replace-shut u = simp (s, lt-ltb _ _ l, t, j, ne-eqb _ _ z, ← e, g, ← f, u)
+
+                pub replace-out : (y : Element) (b1 w1 b′ w′ : List ℕ) → to .good ≡ true → y ≡ given k w low → b1 ≡ takenBits k b low → w1 ≡ takenWords k w low
+                    → b′ ≡ joinedBits k b1 x to → w′ ≡ joinedWords k w1 x to → outcome (Out y) b′ w′ ≡ replaced k b w x
+                unfolding replaced replaceFound replaceJoined
+                replace-out y b1 w1 b′ w′ v u p1 q1 p q = simp (s, lt-ltb _ _ l, t, j, ne-eqb _ _ z, ← e, g, ← f, v, u, p, q, p1, q1)

@@ -1,6 +1,6 @@
 -- A store that holds a list does what the plain list does, call by call, and its list is read off its words.
 use mathlib.Core.Path.{_≡_, refl, sym, ap, subst, _∙_}
-use mathlib.Core.Bool.{true}
+use mathlib.Core.Bool.{Bool, true, false}
 use mathlib.Core.List.{List, [], _∷_}
 use Prim.Native.Nat.{ℕ, zero, suc, _≤_, _<_}
 use native.Mathlib.Decide.{ℕ-discrete, decLt}
@@ -9,13 +9,14 @@ use borrow.Author.Tests.{lt-ltb, le-ltb}
 use lib.Dec.{ltb}
 use lib.ListN.{length}
 use Rattle.laws.specs.Lists.{All}
+use Rattle.strip.specs.Answers.{untagged}
 use Rattle.strip.specs.declared.Element.{Element}
-use Rattle.strip.specs.declared.Refusal.the-variants.{BadRank, Full, Empty}
+use Rattle.strip.specs.declared.Refusal.the-variants.{BadRank, Full, Empty, NoTag}
 use Rattle.strip.specs.declared.Answer.the-variants.{Done, Out, Refused}
 use Rattle.strip.specs.declared.Request.the-variants.{Idle, Push, Pop, Replace}
 use Rattle.bucket_model.specs.Layout.{Lay, Laid, word, headAt, nextIn, Load, loadIn}
 use Rattle.bucket_model.specs.Calls.{Outcome, outcome, refused, isShaped, isWhole, lowestOf, Room, roomOf, roomAfter, takenBits, takenWords, joinedBits, joinedWords, pushed, popped, replaced}
-use Rattle.bucket_model.specs.Plain.{Call, ask, held, Said, answered, counted, Step, step, Store, store, asked, called, says, after, insert, roomy, plain, plainPop, plainReplace, plainSays, plainAfter, walk, lane, stored}
+use Rattle.bucket_model.specs.Plain.{Call, ask, held, Said, answered, counted, Step, step, Store, store, asked, called, says, after, insert, tagged, roomy, plain, plainPop, plainReplace, plainSays, plainAfter, walk, lane, stored}
 use Rattle.bucket_model.proofs.Returns as told
 use Rattle.bucket_model.proofs.Facts.{shape-means, whole-means, pop-means, push-means, room-means}
 use Rattle.bucket_model.proofs.Chain.{Node, Seg, Mine}
@@ -99,9 +100,9 @@ module _ (k : Lay) (laid : Laid k) where
 
     -- ---- push
 
-    module _ (e : Element) (r< : e .rank .0 < k .ranks) where
+    module _ (e : Element) (r< : e .rank .0 < k .ranks) (t : untagged e ≡ false) where
       pub push-is : (word w (k .held) ≡ k .nodes → ⊥) → Pushed k laid b w l h e r< → pushed k b w e ≡ outcome Done (joinedBits k b e (roomOf k b w (e .rank .0))) (joinedWords k w e (roomOf k b w (e .rank .0)))
-      push-is f p = sym (told.push-done k b w e shape-ok r< whole-ok f (roomOf k b w (e .rank .0)) refl _ _ (push-means k b w (e .rank .0) .holds (p .fit)) refl refl)
+      push-is f p = sym (told.push-done k b w e shape-ok r< t whole-ok f (roomOf k b w (e .rank .0)) refl _ _ (push-means k b w (e .rank .0) .holds (p .fit)) refl refl)
 
       push-agrees : Agree (ran (pushed k b w e)) (roomy (ltb (length l) (k .nodes)) l (step (answered Done) (insert e l)))
       push-agrees = elim (ℕ-discrete (word w (k .held)) (k .nodes)) [ yes f ↦ full f | no f ↦ taken f (pushes k laid b w l h e r< f) ]
@@ -109,7 +110,7 @@ module _ (k : Lay) (laid : Laid k) where
           full : word w (k .held) ≡ k .nodes → Agree (ran (pushed k b w e)) (roomy (ltb (length l) (k .nodes)) l (step (answered Done) (insert e l)))
           full f =
               rw (le-ltb (length l) (k .nodes) (omega (arith, h .held)))
-              (by (pushed k b w e) (refused Full b w) (step (answered (Refused Full)) l) (sym (told.push-full k b w e shape-ok r< whole-ok f)) (stays (answered (Refused Full))))
+              (by (pushed k b w e) (refused Full b w) (step (answered (Refused Full)) l) (sym (told.push-full k b w e shape-ok r< t whole-ok f)) (stays (answered (Refused Full))))
 
           taken : (word w (k .held) ≡ k .nodes → ⊥) → Pushed k laid b w l h e r< → Agree (ran (pushed k b w e)) (roomy (ltb (length l) (k .nodes)) l (step (answered Done) (insert e l)))
           taken f p =
@@ -119,9 +120,16 @@ module _ (k : Lay) (laid : Laid k) where
     call-push : (e : Element) → Agree (ran (pushed k b w e)) (plain k (ask (Push e)) l)
     unfolding plain
     call-push e = elim (decLt (e .rank .0) (k .ranks)) [
-      | yes r< ↦ rw (lt-ltb (e .rank .0) (k .ranks) r<) (push-agrees e r<)
+      | yes r< ↦ rw (lt-ltb (e .rank .0) (k .ranks) r<) (go r< (untagged e) refl)
       | no r< ↦ rw (le-ltb (e .rank .0) (k .ranks) (omega arith)) (by (pushed k b w e) (refused BadRank b w) (step (answered (Refused BadRank)) l) (sym (told.push-high k b w e shape-ok (omega arith))) (stays (answered (Refused BadRank))))
     ]
+      where
+        put : Step (List Element)
+        put = roomy (ltb (length l) (k .nodes)) l (step (answered Done) (insert e l))
+
+        go : e .rank .0 < k .ranks → (t : Bool) → untagged e ≡ t → Agree (ran (pushed k b w e)) (tagged e l put)
+        go r< true t = rw t (by (pushed k b w e) (refused NoTag b w) (step (answered (Refused NoTag)) l) (sym (told.push-untagged k b w e shape-ok r< t)) (stays (answered (Refused NoTag))))
+        go r< false t = rw t (push-agrees e r< t)
 
     -- ---- pop, and replace with something held
 
@@ -144,10 +152,10 @@ module _ (k : Lay) (laid : Laid k) where
         unfolding roomAfter
         room-same = let t = whole-means k B W .holds (whole k laid B W l′ (p .after)) in simp t
 
-        swap-is : Pushed k laid B W l′ (p .after) e r< → replaced k b w e ≡ outcome (Out x) (joinedBits k B e (roomOf k B W (e .rank .0))) (joinedWords k W e (roomOf k B W (e .rank .0)))
-        swap-is u =
+        swap-is : untagged e ≡ false → Pushed k laid B W l′ (p .after) e r< → replaced k b w e ≡ outcome (Out x) (joinedBits k B e (roomOf k B W (e .rank .0))) (joinedWords k W e (roomOf k B W (e .rank .0)))
+        swap-is t u =
             let to = roomAfter k B W (e .rank .0) in
-            sym (told.replace-out k b w e shape-ok r< whole-ok some (lowestOf k b w) refl good to refl _ _ _ _ _ (room-means k B W (e .rank .0) .holds (whole k laid B W l′ (p .after), u .fit)) refl refl refl refl refl)
+            sym (told.replace-out k b w e shape-ok r< t whole-ok some (lowestOf k b w) refl good to refl _ _ _ _ _ (room-means k B W (e .rank .0) .holds (whole k laid B W l′ (p .after), u .fit)) refl refl refl refl refl)
             ∙ ap (λ (y : Element). outcome (Out y) (joinedBits k B e to) (joinedWords k W e to)) (p .gives)
             ∙ ap (λ (v : Room). outcome (Out x) (joinedBits k B e v) (joinedWords k W e v)) room-same
 
@@ -155,10 +163,10 @@ module _ (k : Lay) (laid : Laid k) where
         pub room-again : word W (k .held) ≡ k .nodes → ⊥
         room-again f = let n : length l ≡ suc (length l′) = ap length (p .list) in omega (arith, p .after .held, h .room)
 
-        swap-agrees : Agree (ran (replaced k b w e)) (plainReplace e (x ∷ l′))
-        swap-agrees =
+        swap-agrees : untagged e ≡ false → Agree (ran (replaced k b w e)) (plainReplace e (x ∷ l′))
+        swap-agrees t =
             let u = pushes k laid B W l′ (p .after) e r< room-again in
-            by (replaced k b w e) _ (step (answered (Out x)) (insert e l′)) (swap-is u) (record { alike = refl; holds = u .after })
+            by (replaced k b w e) _ (step (answered (Out x)) (insert e l′)) (swap-is t u) (record { alike = refl; holds = u .after })
 
     call-pop : Agree (ran (popped k b w)) (plainPop l)
     call-pop = elim (ℕ-discrete (word w (k .held)) 0) [
@@ -170,21 +178,25 @@ module _ (k : Lay) (laid : Laid k) where
         some z y =
             rw (y .2 .list) (by (popped k b w) _ (step (answered (Out (y .0))) (y .1)) (pop-is z (y .0) (y .1) (y .2)) (record { alike = refl; holds = y .2 .after }))
 
-    replace-agrees : (e : Element) → e .rank .0 < k .ranks → Agree (ran (replaced k b w e)) (plainReplace e l)
-    replace-agrees e r< = elim (ℕ-discrete (word w (k .held)) 0) [
-      | yes z ↦ rw (empty-list z) (by (replaced k b w e) (refused Empty b w) (step (answered (Refused Empty)) []) (sym (told.replace-none k b w e shape-ok r< whole-ok z)) (record { alike = refl; holds = subst (Holds k laid b w) (empty-list z) h }))
+    replace-agrees : (e : Element) → e .rank .0 < k .ranks → untagged e ≡ false → Agree (ran (replaced k b w e)) (plainReplace e l)
+    replace-agrees e r< t = elim (ℕ-discrete (word w (k .held)) 0) [
+      | yes z ↦ rw (empty-list z) (by (replaced k b w e) (refused Empty b w) (step (answered (Refused Empty)) []) (sym (told.replace-none k b w e shape-ok r< t whole-ok z)) (record { alike = refl; holds = subst (Holds k laid b w) (empty-list z) h }))
       | no z ↦ some z (pops k laid b w l h z)
     ]
       where
         some : (word w (k .held) ≡ 0 → ⊥) → (x : Element) × (l′ : List Element) × Popped k laid b w l h x l′ → Agree (ran (replaced k b w e)) (plainReplace e l)
-        some z y = rw (y .2 .list) (swap-agrees z (y .0) (y .1) (y .2) e r<)
+        some z y = rw (y .2 .list) (swap-agrees z (y .0) (y .1) (y .2) e r< t)
 
     call-replace : (e : Element) → Agree (ran (replaced k b w e)) (plain k (ask (Replace e)) l)
     unfolding plain
     call-replace e = elim (decLt (e .rank .0) (k .ranks)) [
-      | yes r< ↦ rw (lt-ltb (e .rank .0) (k .ranks) r<) (replace-agrees e r<)
+      | yes r< ↦ rw (lt-ltb (e .rank .0) (k .ranks) r<) (go r< (untagged e) refl)
       | no r< ↦ rw (le-ltb (e .rank .0) (k .ranks) (omega arith)) (by (replaced k b w e) (refused BadRank b w) (step (answered (Refused BadRank)) l) (sym (told.replace-high k b w e shape-ok (omega arith))) (stays (answered (Refused BadRank))))
     ]
+      where
+        go : e .rank .0 < k .ranks → (t : Bool) → untagged e ≡ t → Agree (ran (replaced k b w e)) (tagged e l (plainReplace e l))
+        go r< true t = rw t (by (replaced k b w e) (refused NoTag b w) (step (answered (Refused NoTag)) l) (sym (told.replace-untagged k b w e shape-ok r< t)) (stays (answered (Refused NoTag))))
+        go r< false t = rw t (replace-agrees e r< t)
 
     -- every call
     pub calls : (c : Call) → Agree (called k c s) (plain k c l)

@@ -1,6 +1,6 @@
 -- What goes in and out and what is least, in 01's numbers: by the number of an answer, its rank and its tag.
 use mathlib.Core.Path.{_≡_, refl, sym, ap, _∙_}
-use mathlib.Core.Bool.{Bool, true, false, cond}
+use mathlib.Core.Bool.{Bool, true, false, cond, not}
 use mathlib.Core.List.{List, [], _∷_}
 use Prim.Native.Nat.{ℕ, _+_, _≤_}
 use native.Mathlib.Omega.{arith}
@@ -8,13 +8,16 @@ use borrow.Author.Tests.{le-ltb}
 use lib.Dec.{ltb}
 use lib.ListN.{length}
 use Rattle.laws.specs.Lists.{All}
+use Rattle.laws.specs.Means.{means-off}
 use Rattle.laws.specs.Tests.{cond-both}
 use Rattle.promise.specs.Queue as served
 use Rattle.promise.specs.Served.{hit, lower, given, brought, all-sum, Least, IsOut}
 use Rattle.promise.specs.Served as said
-use Rattle.strip.specs.Answers.{rankOf, countNumber, countOf}
+use Rattle.promise.specs.Refused.{untagged-means}
+use Rattle.promise.specs.Tagged.{Barred, Tagged, tagged-by}
+use Rattle.strip.specs.Answers.{untagged, rankOf, countNumber, countOf}
 use Rattle.strip.specs.declared.Element.{Element}
-use Rattle.strip.specs.declared.Refusal.the-variants.{BadRank, Full}
+use Rattle.strip.specs.declared.Refusal.the-variants.{BadRank, Full, NoTag}
 use Rattle.strip.specs.declared.Answer.{Answer}
 use Rattle.strip.specs.declared.Answer.the-variants.{Done, Out, Refused}
 use Rattle.strip.specs.declared.Count.{Count}
@@ -24,13 +27,14 @@ use Rattle.strip.specs.declared.Request.the-variants.{Idle, Push, Pop, Replace}
 use Rattle.bucket_model.specs.Layout.{Lay, Laid}
 use Rattle.bucket_model.specs.Calls.{heldCount}
 use Rattle.bucket_model.specs.Causes.{Shaped}
-use Rattle.bucket_model.specs.Plain.{ask, held, Said, answered, counted, Step, step, Store, store, asked, called, start, Reached, insert, roomy, plainPop, plainReplace, plain, stored, times}
+use Rattle.bucket_model.specs.Plain as listed
+use Rattle.bucket_model.specs.Plain.{Call, ask, held, says, brings, came, Said, answered, counted, Step, step, Store, store, asked, called, start, Reached, insert, tagged, roomy, plainPop, plainReplace, plain, stored, times}
 use Rattle.bucket_model.specs.Promise.{bucketQueue, storedBy}
-use Rattle.bucket_model.proofs.Kind.{kind}
-use Rattle.bucket_model.proofs.Sorted.{times-insert}
+use Rattle.bucket_model.proofs.Kind.{kind, barred}
+use Rattle.bucket_model.proofs.Sorted.{times-append, times-insert}
 use Rattle.bucket_model.proofs.Queue.{Holds}
 use Rattle.bucket_model.proofs.Runs.{stored-is, calls, Agree}
-use Rattle.bucket_model.proofs.Promises.{start-holds, reached-holds, least}
+use Rattle.bucket_model.proofs.Promises.{start-holds, reached-holds, least, holds}
 use Rattle.bucket_model.proofs.Replace.{replace-answers}
 
 abbrev answerOf : Said → Answer
@@ -50,8 +54,10 @@ module _ (l : List Element) (f : Element → Bool) where
   sum-push : (k : Lay) (e : Element) → Sums (Push e) (plain k (ask (Push e)) l)
   unfolding plain
   sum-push k e =
-      cond-both (Sums (Push e)) (ltb (e .rank .0) (k .ranks)) (roomy (ltb (length l) (k .nodes)) l (step (answered Done) (insert e l))) (step (answered (Refused BadRank)) l)
-      (λ _. cond-both (Sums (Push e)) (ltb (length l) (k .nodes)) (step (answered Done) (insert e l)) (step (answered (Refused Full)) l) (λ _. omega (arith, times-insert f e l, hit-is (f e))) (λ _. refl)) (λ _. refl)
+      let put = roomy (ltb (length l) (k .nodes)) l (step (answered Done) (insert e l)) in
+      cond-both (Sums (Push e)) (ltb (e .rank .0) (k .ranks)) (tagged e l put) (step (answered (Refused BadRank)) l)
+      (λ _. cond-both (Sums (Push e)) (not (untagged e)) put (step (answered (Refused NoTag)) l)
+      (λ _. cond-both (Sums (Push e)) (ltb (length l) (k .nodes)) (step (answered Done) (insert e l)) (step (answered (Refused Full)) l) (λ _. omega (arith, times-insert f e l, hit-is (f e))) (λ _. refl)) (λ _. refl)) (λ _. refl)
 
 sum-pop : (l : List Element) (f : Element → Bool) → Sums l f Pop (plainPop l)
 unfolding times
@@ -69,7 +75,25 @@ sums k Idle l f = refl
 sums k (Push e) l f = sum-push l f k e
 sums k Pop l f = sum-pop l f
 sums k (Replace e) l f =
-    cond-both (Sums l f (Replace e)) (ltb (e .rank .0) (k .ranks)) (plainReplace e l) (step (answered (Refused BadRank)) l) (λ _. sum-replace e l f) (λ _. refl)
+    cond-both (Sums l f (Replace e)) (ltb (e .rank .0) (k .ranks)) (tagged e l (plainReplace e l)) (step (answered (Refused BadRank)) l)
+    (λ _. cond-both (Sums l f (Replace e)) (not (untagged e)) (plainReplace e l) (step (answered (Refused NoTag)) l) (λ _. sum-replace e l f) (λ _. refl)) (λ _. refl)
+
+-- ---- an element without a tag
+
+none-in : (e : Element) → (e .tag .0 ≡ 0 → ⊥) → times untagged (e ∷ []) ≡ 0
+unfolding times
+none-in e n = rw (means-off (untagged-means e) n) refl
+
+none-brings : (q : Request) (a : Answer) → Barred q a → times untagged (brings q a) ≡ 0
+unfolding times
+none-brings Idle a b = refl
+none-brings (Push e) Done b = none-in e (λ u. b u refl)
+none-brings (Push e) (Out x) b = refl
+none-brings (Push e) (Refused r) b = refl
+none-brings Pop a b = refl
+none-brings (Replace e) Done b = refl
+none-brings (Replace e) (Out x) b = none-in e (λ u. b u refl)
+none-brings (Replace e) (Refused r) b = refl
 
 -- ---- on the words
 
@@ -98,6 +122,27 @@ module _ (k : Lay) (laid : Laid k) where
       let z = start-holds k laid b w h in
       let none : times f (stored k (start k b w .words)) ≡ 0 = ap (times f) (stored-is k laid (start k b w .bits) (start k b w .words) [] z) in
       omega (arith, all-sum (bucketQueue k) Kept keep (storedBy k) sum qs (start k b w) ([], z) f)
+
+  -- TAGGED: no element of tag 0 is stored, and none has come out
+  pub served-tagged : (b w : List ℕ) → Shaped k b w → (qs : List Request) → Tagged (storedBy k (served.leaves (bucketQueue k) qs (start k b w))) qs (served.answers (bucketQueue k) qs (start k b w))
+  served-tagged b w h qs = tagged-by (bucketQueue k) (barred k) (storedBy k (served.leaves (bucketQueue k) qs (start k b w))) qs (start k b w) (served-holds b w h qs)
+
+  -- .. with held among the calls too, on a store that the queue's own calls lead to
+  none-came : (c : Call) (s : Store) → times untagged (came c (called k c s .said)) ≡ 0
+  unfolding called times
+  none-came (ask q) s = none-brings q (asked k q s .answer) (barred k q s)
+  none-came held s = refl
+
+  never-came : (cs : List Call) (s : Store) → times untagged (listed.brought cs (says k cs s)) ≡ 0
+  unfolding says listed.brought times
+  never-came [] s = refl
+  never-came (c ∷ cs) s =
+      rw (times-append untagged (came c (called k c s .said)) (listed.brought cs (says k cs (called k c s .next))))
+      (omega (arith, none-came c s, never-came cs (called k c s .next)))
+
+  pub tagged-reached : (s : Store) → Reached k s → storedBy k s untagged ≡ 0
+  tagged-reached s r =
+      rw (r .is) (omega (arith, holds k laid (r .bits) (r .words) (r .shaped) (r .calls) untagged, never-came (r .calls) (start k (r .bits) (r .words))))
 
   -- ---- LEAST, on a store that the queue's own calls lead to
 

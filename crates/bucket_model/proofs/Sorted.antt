@@ -1,6 +1,6 @@
 -- The plain list, one call after another: in leaving order, first in first out within a rank, nothing lost.
 use mathlib.Core.Path.{_≡_, refl, sym, ap, subst, _∙_}
-use mathlib.Core.Bool.{Bool, true, false, cond}
+use mathlib.Core.Bool.{Bool, true, false, cond, not}
 use mathlib.Core.List.{List, [], _∷_, _++_, append-assoc, append-nil}
 use Prim.Native.Nat.{ℕ, suc, _+_, _≤_, _<_}
 use native.Mathlib.Decide.{ℕ-discrete, decLt}
@@ -9,12 +9,13 @@ use borrow.Author.Tests.{lt-ltb, le-ltb, ne-eqb}
 use lib.Dec.{ltb, eqb}
 use lib.ListN.{length}
 use Rattle.laws.specs.Lists.{All, all-map}
+use Rattle.strip.specs.Answers.{untagged}
 use Rattle.strip.specs.declared.Element.{Element}
-use Rattle.strip.specs.declared.Refusal.the-variants.{BadRank, Full}
+use Rattle.strip.specs.declared.Refusal.the-variants.{BadRank, Full, NoTag}
 use Rattle.strip.specs.declared.Answer.the-variants.{Done, Refused}
 use Rattle.strip.specs.declared.Request.the-variants.{Idle, Push, Pop, Replace}
 use Rattle.bucket_model.specs.Layout.{Lay}
-use Rattle.bucket_model.specs.Plain.{Call, ask, held, Said, answered, Step, step, insert, roomy, plainPop, plainReplace, plain, plainSays, plainAfter, came, went, brought, gone, ofRank, times, Sorted}
+use Rattle.bucket_model.specs.Plain.{Call, ask, held, Said, answered, Step, step, insert, tagged, roomy, plainPop, plainReplace, plain, plainSays, plainAfter, came, went, brought, gone, ofRank, times, Sorted}
 
 -- ---- the elements of a rank
 
@@ -160,12 +161,17 @@ pub plain-kept : (k : Lay) (c : Call) (l : List Element) → Sorted l → Kept c
 unfolding plain
 plain-kept k (ask Idle) l s = kept-no (ask Idle) l (plain k (ask Idle) l) s refl refl refl
 plain-kept k (ask (Push e)) l s =
-    kept-if (ask (Push e)) l (ltb (e .rank .0) (k .ranks)) (roomy (ltb (length l) (k .nodes)) l (step (answered Done) (insert e l))) (step (answered (Refused BadRank)) l)
+    let put = roomy (ltb (length l) (k .nodes)) l (step (answered Done) (insert e l)) in
+    kept-if (ask (Push e)) l (ltb (e .rank .0) (k .ranks)) (tagged e l put) (step (answered (Refused BadRank)) l)
+    (kept-if (ask (Push e)) l (not (untagged e)) put (step (answered (Refused NoTag)) l)
     (kept-if (ask (Push e)) l (ltb (length l) (k .nodes)) (step (answered Done) (insert e l)) (step (answered (Refused Full)) l) (kept-push e l s) (kept-no (ask (Push e)) l (step (answered (Refused Full)) l) s refl refl refl))
+    (kept-no (ask (Push e)) l (step (answered (Refused NoTag)) l) s refl refl refl))
     (kept-no (ask (Push e)) l (step (answered (Refused BadRank)) l) s refl refl refl)
 plain-kept k (ask Pop) l s = kept-pop l s
 plain-kept k (ask (Replace e)) l s =
-    kept-if (ask (Replace e)) l (ltb (e .rank .0) (k .ranks)) (plainReplace e l) (step (answered (Refused BadRank)) l) (kept-replace e l s) (kept-no (ask (Replace e)) l (step (answered (Refused BadRank)) l) s refl refl refl)
+    kept-if (ask (Replace e)) l (ltb (e .rank .0) (k .ranks)) (tagged e l (plainReplace e l)) (step (answered (Refused BadRank)) l)
+    (kept-if (ask (Replace e)) l (not (untagged e)) (plainReplace e l) (step (answered (Refused NoTag)) l) (kept-replace e l s) (kept-no (ask (Replace e)) l (step (answered (Refused NoTag)) l) s refl refl refl))
+    (kept-no (ask (Replace e)) l (step (answered (Refused BadRank)) l) s refl refl refl)
 plain-kept k held l s = kept-no held l (plain k held l) s refl refl refl
 
 -- ---- any list of calls

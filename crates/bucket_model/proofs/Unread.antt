@@ -9,6 +9,7 @@ use native.Mathlib.Omega.{arith}
 use borrow.Author.Tests.{eq-eqb, ne-eqb, lt-ltb, le-ltb, ltb-true}
 use lib.Dec.{ltb, eqb}
 use lib.ListN.{length, set, length-set}
+use Rattle.strip.specs.Answers.{untagged}
 use Rattle.strip.specs.declared.Element.{Element}
 use Rattle.strip.specs.declared.Answer.{Answer}
 use Rattle.strip.specs.declared.Answer.the-variants.{Done, Out}
@@ -195,9 +196,10 @@ module _ (k : Lay) (laid : Laid k) where
       unread-push e =
           alike-cond (isShaped k b w) (isShaped k c v) _ _ _ _ shape-same
           (λ _. alike-cond (ltb (e .rank .0) (k .ranks)) (ltb (e .rank .0) (k .ranks)) _ _ _ _ refl
-          (λ l. alike-cond (isWhole k b w) (isWhole k c v) _ _ _ _ whole-same
+          (λ l. alike-cond (not (untagged e)) (not (untagged e)) _ _ _ _ refl
+          (λ _. alike-cond (isWhole k b w) (isWhole k c v) _ _ _ _ whole-same
           (λ _. alike-cond (not (eqb (word w (k .held)) (k .nodes))) (not (eqb (word v (k .held)) (k .nodes))) _ _ _ _ (ap (λ (x : ℕ). not (eqb x (k .nodes))) (held-same w v h))
-          (λ _. push-found-same e (ltb-true (e .rank .0) (k .ranks) l)) (standing _)) (standing _)) (standing _)) (standing _)
+          (λ _. push-found-same e (ltb-true (e .rank .0) (k .ranks) l)) (standing _)) (standing _)) (standing _)) (standing _)) (standing _)
 
       -- ---- pop and replace: the bits are words of 64 bits
 
@@ -281,9 +283,10 @@ module _ (k : Lay) (laid : Laid k) where
         let stay = standing b c w v g h in
         alike-cond (isShaped k b w) (isShaped k c v) _ _ _ _ (shape-same b c w v g h s z)
         (λ _. alike-cond (ltb (e .rank .0) (k .ranks)) (ltb (e .rank .0) (k .ranks)) _ _ _ _ refl
-        (λ l. alike-cond (isWhole k b w) (isWhole k c v) _ _ _ _ (whole-same b c w v g h)
+        (λ l. alike-cond (not (untagged e)) (not (untagged e)) _ _ _ _ refl
+        (λ _. alike-cond (isWhole k b w) (isWhole k c v) _ _ _ _ (whole-same b c w v g h)
         (λ _. alike-cond (not (eqb (word w (k .held)) 0)) (not (eqb (word v (k .held)) 0)) _ _ _ _ (some-same b c w v g h s z fits)
-        (λ _. replace-found-same e (ltb-true (e .rank .0) (k .ranks) l)) (stay _)) (stay _)) (stay _)) (stay _)
+        (λ _. replace-found-same e (ltb-true (e .rank .0) (k .ranks) l)) (stay _)) (stay _)) (stay _)) (stay _)) (stay _)
 
     -- UNREAD: every request
     pub unread : (q : Request) → Alike k (asked k q (store b w)) (asked k q (store c v))

@@ -10,6 +10,7 @@ use lib.Dec.{eqb, ltb}
 use lib.ListN.{length}
 use Rattle.laws.specs.Tests.{cond-path}
 use Rattle.bitmap.specs.Bits as word64
+use Rattle.strip.specs.Answers.{untagged}
 use Rattle.strip.specs.declared.Element.{Element}
 use Rattle.strip.specs.declared.Answer.{Answer}
 use Rattle.bucket_model.specs.Layout.{Lay, Laid, bitWords, storeWords, wordsOf, word}
@@ -96,9 +97,10 @@ module _ (k : Lay) (laid : Laid k) where
     rest-push e =
         guard k b w (isShaped k b w) _ _
         (λ s. guard k b w (ltb (e .rank .0) (k .ranks)) _ _
-        (λ l. guard k b w (isWhole k b w) _ _
+        (λ l. guard k b w (not (untagged e)) _ _
+        (λ t. guard k b w (isWhole k b w) _ _
         (λ h. guard k b w (not (eqb (word w (k .held)) (k .nodes))) _ _
-        (λ z. push-found-rest e (ltb-true (e .rank .0) (k .ranks) l) (whole-means k b w .says h)))))
+        (λ z. push-found-rest e (ltb-true (e .rank .0) (k .ranks) l) (whole-means k b w .says h))))))
 
     module _ (fits : (i : ℕ) → word b i < 2 ^ 64) where
       abbrev low : Lowest
@@ -162,6 +164,7 @@ module _ (k : Lay) (laid : Laid k) where
       rest-replace e =
           guard k b w (isShaped k b w) _ _
           (λ s. guard k b w (ltb (e .rank .0) (k .ranks)) _ _
-          (λ l. guard k b w (isWhole k b w) _ _
+          (λ l. guard k b w (not (untagged e)) _ _
+          (λ t. guard k b w (isWhole k b w) _ _
           (λ h. guard k b w (not (eqb (word w (k .held)) 0)) _ _
-          (λ z. replace-found-rest e (ltb-true (e .rank .0) (k .ranks) l) (shape-means k b w .says s .words)))))
+          (λ z. replace-found-rest e (ltb-true (e .rank .0) (k .ranks) l) (shape-means k b w .says s .words))))))

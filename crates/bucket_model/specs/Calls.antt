@@ -4,9 +4,10 @@ use mathlib.Core.List.{List, [], _∷_, _++_}
 use Prim.Native.Nat.{ℕ, zero, suc, _+_, _-_, _/_, _%_}
 use lib.Dec.{ltb, eqb}
 use lib.ListN.{length}
+use Rattle.strip.specs.Answers.{untagged}
 use Rattle.strip.specs.declared.Element.{Element}
 use Rattle.strip.specs.declared.Refusal.{Refusal}
-use Rattle.strip.specs.declared.Refusal.the-variants.{BadShape, Damaged, BadRank, Full, Empty}
+use Rattle.strip.specs.declared.Refusal.the-variants.{BadShape, Damaged, BadRank, Full, Empty, NoTag}
 use Rattle.strip.specs.declared.Answer.{Answer}
 use Rattle.strip.specs.declared.Answer.the-variants.{Done, Out, Refused}
 use Rattle.strip.specs.declared.Count.{Count}
@@ -169,14 +170,17 @@ unfoldable pub pushFound : Lay → List ℕ → List ℕ → Element → Room �
 pushFound k b w e to =
     cond (to .good) (outcome Done (joinedBits k b e to) (joinedWords k w e to)) (refused Damaged b w)
 
+-- what takes an element in asks for its rank, 4, and then for its tag: 7 "comes after 4 in the bucket queue" (02 [1])
+abbrev pub taking : Lay → List ℕ → List ℕ → Element → Outcome → Outcome
+taking k b w e o = cond (ltb (e .rank .0) (k .ranks)) (cond (not (untagged e)) o (refused NoTag b w)) (refused BadRank b w)
+
 unfoldable pub pushed : Lay → List ℕ → List ℕ → Element → Outcome
 pushed k b w e =
     cond (isShaped k b w)
-    (cond (ltb (e .rank .0) (k .ranks))
+    (taking k b w e
     (cond (isWhole k b w)
     (cond (not (eqb (word w (k .held)) (k .nodes))) (pushFound k b w e (roomOf k b w (e .rank .0))) (refused Full b w))
-    (refused Damaged b w))
-    (refused BadRank b w))
+    (refused Damaged b w)))
     (refused BadShape b w)
 
 -- ---- replace: "a replace is a pop and then a push"
@@ -206,5 +210,5 @@ replaceFound k b w e low =
 unfoldable pub replaced : Lay → List ℕ → List ℕ → Element → Outcome
 replaced k b w e =
     cond (isShaped k b w)
-    (cond (ltb (e .rank .0) (k .ranks)) (giving k b w (replaceFound k b w e (lowestOf k b w))) (refused BadRank b w))
+    (taking k b w e (giving k b w (replaceFound k b w e (lowestOf k b w))))
     (refused BadShape b w)

@@ -7,9 +7,13 @@ use Rattle.laws.specs.Ladder as ladder
 use Rattle.laws.specs.Ladder.{Ladder, fine, rung}
 use Rattle.laws.specs.Means.{Iff}
 use Rattle.bitmap.specs.Bits.{bitAt}
+use Rattle.promise.specs.Refused.{Untagged}
 use Rattle.strip.specs.Answers.{numberOf, countNumber}
+use Rattle.strip.specs.declared.Element.{Element}
 use Rattle.strip.specs.declared.Refusal.{Refusal}
-use Rattle.strip.specs.declared.Refusal.the-variants.{BadShape, Damaged, BadRank, Full, Empty}
+use Rattle.strip.specs.declared.Refusal.the-variants.{BadShape, Damaged, BadRank, Full, Empty, NoTag}
+use Rattle.strip.specs.declared.Request.{Request}
+use Rattle.strip.specs.declared.Request.the-variants.{Push, Replace}
 use Rattle.strip.specs.declared.Count.{Count}
 use Rattle.strip.specs.declared.Count.the-variants.{Unknown}
 use Rattle.bucket_model.specs.Layout.{Lay, pool, bitWords, storeWords, word, headAt, tailAt}
@@ -89,14 +93,18 @@ module _ (k : Lay) (b w : List ℕ) where
   abbrev pub popLadder : Ladder Refusal
   popLadder = rung BadShape (Shaped k b w) (giveLadder fine)
 
+  -- what a push and a replace ask alike of their newcomer: 4, and 7, which "comes after 4 in the bucket queue"
+  abbrev pub takeLadder : Request → Element → Ladder Refusal → Ladder Refusal
+  takeLadder q e l = rung BadRank (e .rank .0 < k .ranks) (rung NoTag (Untagged q → ⊥) l)
+
   -- "A push with held below N"
-  abbrev pub pushLadder : ℕ → Ladder Refusal
-  pushLadder r =
+  abbrev pub pushLadder : Element → Ladder Refusal
+  pushLadder e =
       rung BadShape (Shaped k b w)
-      (rung BadRank (r < k .ranks)
+      (takeLadder (Push e) e
       (rung Damaged (Whole k b w)
       (rung Full (word w (k .held) ≡ k .nodes → ⊥)
-      (rung Damaged (PushFit k b w r) fine))))
+      (rung Damaged (PushFit k b w (e .rank .0)) fine))))
 
   -- the store as after the pop
   abbrev pub bitsAfter : List ℕ
@@ -106,12 +114,12 @@ module _ (k : Lay) (b w : List ℕ) where
   wordsAfter = takenWords k w (lowestOf k b w)
 
   -- "The order of checks puts replace's 6 with pop's"; behind the pop's tests "it then makes all the push's on the store as after the pop"
-  abbrev pub replaceLadder : ℕ → Ladder Refusal
-  replaceLadder r =
+  abbrev pub replaceLadder : Element → Ladder Refusal
+  replaceLadder e =
       rung BadShape (Shaped k b w)
-      (rung BadRank (r < k .ranks)
+      (takeLadder (Replace e) e
       (giveLadder
-      (rung Damaged (Whole k bitsAfter wordsAfter × PushFit k bitsAfter wordsAfter r) fine)))
+      (rung Damaged (Whole k bitsAfter wordsAfter × PushFit k bitsAfter wordsAfter (e .rank .0)) fine)))
 
 -- the columns "Exactly when" and "Left behind": a refusal's number is that of the first rung that does not hold, and where a rung does not hold there is its refusal, and everything is left behind
 abbrev pub Exactly : Outcome → List ℕ → List ℕ → Ladder Refusal → Type 0

@@ -8,3 +8,4 @@ pub mod Plain
 pub mod Promise
 pub mod Case8
 pub mod CaseWords
+pub mod CaseTag

@@ -1,14 +1,14 @@
 -- The plain queue, one list in leaving order, and lists of calls on it and on the words. These are definitions.
-use mathlib.Core.Bool.{Bool, cond}
+use mathlib.Core.Bool.{Bool, cond, not}
 use mathlib.Core.List.{List, [], _∷_, _++_}
 use mathlib.Core.Path.{_≡_}
 use Prim.Native.Nat.{ℕ, zero, suc, _+_, _≤_}
 use lib.Dec.{ltb, eqb}
 use lib.ListN.{length, replicate}
 use Rattle.laws.specs.Lists.{All}
-use Rattle.strip.specs.Answers.{numberOf, countNumber}
+use Rattle.strip.specs.Answers.{untagged, numberOf, countNumber}
 use Rattle.strip.specs.declared.Element.{Element}
-use Rattle.strip.specs.declared.Refusal.the-variants.{BadRank, Full, Empty}
+use Rattle.strip.specs.declared.Refusal.the-variants.{BadRank, Full, Empty, NoTag}
 use Rattle.strip.specs.declared.Answer.{Answer}
 use Rattle.strip.specs.declared.Answer.the-variants.{Done, Out, Refused}
 use Rattle.strip.specs.declared.Count.{Count}
@@ -98,15 +98,19 @@ plainReplace e (x ∷ l) = step (answered (Out x)) (insert e l)
 abbrev pub ranked : ℕ → Element → List Element → Step (List Element) → Step (List Element)
 ranked ranks e l x = cond (ltb (e .rank .0) ranks) x (step (answered (Refused BadRank)) l)
 
+-- only elements that have a tag
+abbrev pub tagged : Element → List Element → Step (List Element) → Step (List Element)
+tagged e l x = cond (not (untagged e)) x (step (answered (Refused NoTag)) l)
+
 -- only while there is room
 abbrev pub roomy : Bool → List Element → Step (List Element) → Step (List Element)
 roomy room l x = cond room x (step (answered (Refused Full)) l)
 
 unfoldable pub plain : Lay → Call → List Element → Step (List Element)
 plain k (ask Idle) l = step (answered Done) l
-plain k (ask (Push e)) l = ranked (k .ranks) e l (roomy (ltb (length l) (k .nodes)) l (step (answered Done) (insert e l)))
+plain k (ask (Push e)) l = ranked (k .ranks) e l (tagged e l (roomy (ltb (length l) (k .nodes)) l (step (answered Done) (insert e l))))
 plain k (ask Pop) l = plainPop l
-plain k (ask (Replace e)) l = ranked (k .ranks) e l (plainReplace e l)
+plain k (ask (Replace e)) l = ranked (k .ranks) e l (tagged e l (plainReplace e l))
 plain k held l = step (counted (Held (length l))) l
 
 unfoldable pub plainSays : Lay → List Call → List Element → List Said

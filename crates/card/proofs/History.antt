@@ -30,7 +30,7 @@ use Rattle.strip.specs.Answers.{numberOf}
 use Rattle.strip.specs.declared.Answer.{Answer}
 use Rattle.strip.specs.declared.Answer.the-variants.{Done, Out, Refused}
 use Rattle.strip.specs.declared.Refusal.{Refusal}
-use Rattle.strip.specs.declared.Refusal.the-variants.{BadRank, BadShape, Damaged, Empty, Full, TooSoon}
+use Rattle.strip.specs.declared.Refusal.the-variants.{BadRank, BadShape, Damaged, Empty, Full, NoTag, TooSoon}
 use Rattle.strip.specs.declared.Request.{Request}
 use Rattle.strip.specs.declared.Request.the-variants.{Idle, Pop, Push, Replace}
 use Rattle.tree_model.proofs.Exactly.{is-shape, shape-is}
@@ -93,6 +93,7 @@ not-run (Refused TooSoon) e = absurd (true≢false e)
 not-run (Refused BadRank) e = absurd (true≢false e)
 not-run (Refused Full) e = absurd (true≢false e)
 not-run (Refused Empty) e = absurd (true≢false e)
+not-run (Refused NoTag) e = absurd (true≢false e)
 
 -- the boundary's call b does what the model's d does
 record Goes (m levels : ℕ) (b : ClockedAfterOut) (d : Did) : Type 0 where

@@ -1,13 +1,14 @@
--- 01's worked cases that are marked (P), as one table.
+-- 01's worked cases that are marked (P), and those that 02 adds, as one table.
 use Prim.Native.Nat.{ℕ}
 use mathlib.Core.List.{[], _++_, _∷_, List, map}
 use mathlib.Core.Path.{_≡_}
 use lib.ListN.{length, replicate}
 use Rattle.bucket_model.specs.Case8.{case8}
+use Rattle.bucket_model.specs.CaseTag.{spoilt, spoiltCase, tagCase}
 use Rattle.bucket_model.specs.CaseWords.{filled, leftBy, popCase, popCaseBits, popCaseWords, replaceCase, replaceCaseBits, replaceCaseWords}
 use Rattle.bucket_model.specs.Layout.{queue}
-use Rattle.bucket_model.specs.Plain.{bucketAnswers}
-use Rattle.clocked_model.specs.Cases.{caseEmpty, caseEmptySays, caseSix, caseSixSays}
+use Rattle.bucket_model.specs.Plain.{answersFrom, bucketAnswers, Store}
+use Rattle.clocked_model.specs.Cases.{caseEmpty, caseEmptySays, caseSix, caseSixSays, caseUntagged, caseUntaggedSays}
 use Rattle.promise.specs.Queue.{answers}
 use Rattle.strip.specs.Answers.{countNumber, countOf, element, numberOf, rankOf, tagOf}
 use Rattle.strip.specs.declared.Answer.{Answer}
@@ -25,13 +26,14 @@ abbrev pub toldHeld : Count → ℕ × ℕ
 toldHeld c = (countNumber c, countOf c)
 
 -- a row: what is asked of a cleared queue, what it says, the words it leaves, and what held says then. A slice to begin with is garbage, and longer
--- than needed
+-- than needed. `bucketOn` asks it of a store that was not cleared
 pub data Row : Type 0 where
   tree : (order levels : ℕ) (requests : List Request) (said : List (ℕ × ℕ × ℕ)) (left : List ℕ) (held : ℕ × ℕ) → Row
   held : (order levels : ℕ) (words : List ℕ) (said : ℕ × ℕ) → Row
   clocked : (words said : List (List ℕ)) → Row
   cycles : (answers said : List (ℕ × ℕ × ℕ)) → Row
   bucket : (nodes : ℕ) (requests : List Request) (said : List (ℕ × ℕ × ℕ)) → Row
+  bucketOn : (nodes : ℕ) (store : Store) (requests : List Request) (said : List (ℕ × ℕ × ℕ)) → Row
   bucketWords : (nodes : ℕ) (requests : List Request) (bits words : List (ℕ × ℕ)) → Row
 
 abbrev pub garbage : ℕ → List ℕ
@@ -45,6 +47,7 @@ Right (held m l ws said) = toldHeld (heldCount m l ws) ≡ said
 Right (clocked words said) = words ≡ said
 Right (cycles answers said) = answers ≡ said
 Right (bucket n rs said) = map told (bucketAnswers (queue n) rs) ≡ said
+Right (bucketOn n s rs said) = map told (answersFrom (queue n) rs s) ≡ said
 Right (bucketWords n rs bits words) = (filled 0 (leftBy n rs .bits) ≡ bits) × (filled 0 (leftBy n rs .words) ≡ words)
 
 -- "Tree cases have order 2, levels 2, capacity 6. Store A is cleared, then push 5/50, 3/30, 8/80, 1/10"
@@ -83,6 +86,16 @@ table =
     -- the bucket's words that are not 0, with their places, after push 7/1, 7/2, 7/3 and a pop; and after replace 70/5 and replace 3/6
     ∷ bucketWords 4 popCase popCaseBits popCaseWords
     ∷ bucketWords 4 replaceCase replaceCaseBits replaceCaseWords
+    -- "Push and replace with tag 0 are to be refused with a new number 7": before 6, and the store stands
+    ∷ row (Push (element 5 0) ∷ Replace (element 5 0) ∷ []) ((7, 0, 0) ∷ (7, 0, 0) ∷ []) (replicate 18 0) 0
+    ∷ row (A ++ (Push (element 5 0) ∷ Replace (element 0 0) ∷ [])) (done 4 ++ ((7, 0, 0) ∷ (7, 0, 0) ∷ [])) (5 ∷ 50 ∷ 2 ∷ 1 ∷ 10 ∷ 2 ∷ 8 ∷ 80 ∷ 1 ∷ 0 ∷ 0 ∷ 0 ∷ 3 ∷ 30 ∷ 1 ∷ 0 ∷ 0 ∷ 0 ∷ []) 4
+    -- .. by cycles, after 3: as idle, so that a pop just after it is not too soon
+    ∷ cycles (map told caseUntagged) (map told caseUntaggedSays)
+    -- .. in the bucket queue, N = 3: push 4096/0 refused 4, push 7/0 and replace 7/0 refused 7, empty or full; rank 0 is taken
+    ∷ bucket 3 tagCase
+    ((4, 0, 0) ∷ (7, 0, 0) ∷ (7, 0, 0) ∷ (0, 0, 0) ∷ (0, 0, 0) ∷ (0, 0, 0) ∷ (7, 0, 0) ∷ (5, 0, 0) ∷ (7, 0, 0) ∷ (0, 0, 1) ∷ (0, 7, 2) ∷ (0, 7, 3) ∷ (6, 0, 0) ∷ [])
+    -- .. and on a damaged store: push 7/1 refused 2, push 7/0 refused 7, push 4096/0 refused 4, replace 7/0 refused 7, replace 7/1 and pop refused 2
+    ∷ bucketOn 3 spoilt spoiltCase ((2, 0, 0) ∷ (7, 0, 0) ∷ (4, 0, 0) ∷ (7, 0, 0) ∷ (2, 0, 0) ∷ (2, 0, 0) ∷ [])
     -- held refused: 1, an order of 3; 2, a slot with count 0 and a rank
     ∷ held 3 1 (replicate 9 0) (1, 0)
     ∷ held 2 1 (9 ∷ 0 ∷ 0 ∷ 0 ∷ 0 ∷ 0 ∷ []) (2, 0)

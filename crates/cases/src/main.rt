@@ -1,4 +1,4 @@
-// 01's worked cases, run: what each call answers, as number, rank and tag, and the words it leaves.
+// 01's worked cases and those that 02 adds, run: what each call answers, as number, rank and tag, and the words it leaves.
 use clocked_model::State;
 use strip::Answer;
 use strip::Element;
@@ -73,6 +73,13 @@ fn replaced_empty(store: &mut [u32]) {
     say_words(store);
 }
 
+// Tag 0 is refused, by a push and by a replace, and the store stands.
+fn untagged(store: &mut [u32], rank: u32) {
+    push(store, 5, 0);
+    say_answer(b"replace ", tree::replace(store, 2, 2, element(rank, 0)));
+    say_words(store);
+}
+
 fn replaced(store: &mut [u32], rank: u32) {
     fill(store);
     say_answer(b"replace ", tree::replace(store, 2, 2, element(rank, 7)));
@@ -109,11 +116,7 @@ fn shapes() {
 }
 
 fn bucket_push(bits: &mut [u64], words: &mut [u32], rank: u32, tag: u32) {
-    let e = Element {
-        rank: Rank(rank),
-        tag: Tag(tag),
-    };
-    say_answer(b"push ", bucket::push(bits, words, 3, e));
+    say_answer(b"push ", bucket::push(bits, words, 3, element(rank, tag)));
 }
 
 fn bucket_pop(bits: &mut [u64], words: &mut [u32]) {
@@ -135,6 +138,42 @@ fn bucket_pops(bits: &mut [u64], words: &mut [u32]) {
     bucket_pop(bits, words);
 }
 
+fn bucket_replace(bits: &mut [u64], words: &mut [u32], rank: u32, tag: u32) {
+    say_answer(
+        b"replace ",
+        bucket::replace(bits, words, 3, element(rank, tag)),
+    );
+}
+
+// Tag 0: after 4, and before 6.
+fn bucket_untagged(bits: &mut [u64], words: &mut [u32]) {
+    bucket_push(bits, words, 4096, 0);
+    bucket_push(bits, words, 7, 0);
+    bucket_replace(bits, words, 7, 0);
+    bucket_push(bits, words, 0, 1);
+    bucket_push(bits, words, 7, 2);
+}
+
+// .. and before 5.
+fn bucket_full(bits: &mut [u64], words: &mut [u32]) {
+    bucket_push(bits, words, 7, 3);
+    bucket_push(bits, words, 7, 0);
+    bucket_push(bits, words, 7, 4);
+    bucket_replace(bits, words, 0, 0);
+}
+
+// .. and before 2: a store of nines is damaged.
+fn bucket_spoilt() {
+    let mut bits = [9u64; 65];
+    let mut words = [9u32; 8200];
+    bucket_push(&mut bits, &mut words, 7, 1);
+    bucket_push(&mut bits, &mut words, 7, 0);
+    bucket_push(&mut bits, &mut words, 4096, 0);
+    bucket_replace(&mut bits, &mut words, 7, 0);
+    bucket_replace(&mut bits, &mut words, 7, 1);
+    bucket_pop(&mut bits, &mut words);
+}
+
 fn buckets() {
     let mut bits = [9u64; 65];
     let mut words = [9u32; 8200];
@@ -142,6 +181,11 @@ fn buckets() {
     say_answer(b"clear ", bucket::clear(&mut bits, &mut words, 3));
     bucket_pushes(&mut bits, &mut words);
     bucket_pops(&mut bits, &mut words);
+    io::write_all(1, b"tag 0\n");
+    bucket_untagged(&mut bits, &mut words);
+    bucket_full(&mut bits, &mut words);
+    bucket_pops(&mut bits, &mut words);
+    bucket_spoilt();
     io::write_all(1, b"case 9, N = 0\n");
     say_answer(b"clear ", bucket::clear(&mut bits, &mut words, 0));
 }
@@ -224,6 +268,22 @@ fn empty_machine(store: &mut [u32]) {
     tick(store, s6, Request::Pop);
 }
 
+// Tag 0 on an empty machine: a pop just after it is not too soon.
+fn untagged_machine(store: &mut [u32]) -> State {
+    let s0 = restart(store);
+    let s1 = tick(store, s0, asked(5, 0));
+    let s2 = tick(store, s1, Request::Pop);
+    tick(store, s2, asked(5, 50))
+}
+
+// .. and with the mark on: too soon comes first.
+fn untagged_marked(store: &mut [u32], s3: State) {
+    let s4 = tick(store, s3, newcomer(1, 0));
+    let s5 = tick(store, s4, newcomer(1, 0));
+    let s6 = tick(store, s5, asked(1, 0));
+    tick(store, s6, Request::Pop);
+}
+
 // Push 1, 9, 2: the 2 is still on its way and node 0 is empty, so that a pop just after is too soon.
 fn on_its_way(store: &mut [u32]) {
     io::write_all(1, b"a pop just after a push\n");
@@ -251,9 +311,17 @@ fn main() {
     replaced_empty(&mut store);
     io::write_all(1, b"case 7\n");
     filled(&mut store);
+    io::write_all(1, b"tag 0\n");
+    shaped(&mut store, 2, 2);
+    untagged(&mut store, 5);
+    fill(&mut store);
+    untagged(&mut store, 0);
     case_six(&mut store);
     case_ten(&mut store);
     empty_machine(&mut store);
+    io::write_all(1, b"tag 0 by cycles\n");
+    let marked = untagged_machine(&mut store);
+    untagged_marked(&mut store, marked);
     on_its_way(&mut store);
     shapes();
     buckets();

@@ -17,16 +17,17 @@ use Rattle.laws.specs.Ladder as ladder
 use Rattle.laws.specs.Means.{Iff}
 use Rattle.laws.specs.Tests.{and-left, and-right, and-true, cond-both}
 use Rattle.promise.specs.Queue.{leaves}
-use Rattle.promise.specs.Refused.{IsPush, limits, refusal-told, zero-told}
+use Rattle.promise.specs.Refused.{IsPush, limits, refusal-told, Untagged, zero-told}
 use Rattle.promise.specs.Served.{Kind}
+use Rattle.promise.specs.Tagged.{Barred}
 use Rattle.strip.specs.Answers.{numberOf, refusalNumber}
 use Rattle.strip.specs.declared.Answer.{Answer}
 use Rattle.strip.specs.declared.Answer.the-variants.{Done, Out, Refused}
 use Rattle.strip.specs.declared.Refusal.{Refusal}
-use Rattle.strip.specs.declared.Refusal.the-variants.{BadShape, Damaged, Empty, Full, TooSoon}
+use Rattle.strip.specs.declared.Refusal.the-variants.{BadShape, Damaged, Empty, Full, NoTag, TooSoon}
 use Rattle.strip.specs.declared.Request.{Request}
 use Rattle.strip.specs.declared.Request.the-variants.{Idle, Pop, Push, Replace}
-use Rattle.tree_model.proofs.Exactly.{comes-kind, is-shape, limits-exactly, node-fails, root-limit, shape-is, work-fails}
+use Rattle.tree_model.proofs.Exactly.{comes-barred, comes-kind, is-shape, limits-exactly, node-fails, root-limit, shape-is, work-fails}
 use Rattle.tree_model.proofs.Rules.{comes}
 use Rattle.tree_model.specs.Calls.{rootOf, rootOk, Ruling, ruling, shapeOk, ruleAt}
 use Rattle.tree_model.specs.Damage.{workOk, room}
@@ -168,7 +169,7 @@ module _ (m levels : ℕ) (r : Request) (s : State) (ws : List ℕ) where
   left = cycleLeft m levels s ws
 
   abbrev last : Ladder Refusal
-  last = limits r (sumCounts (rootOf m ws)) (room m levels) ladder.fine
+  last = stop NoTag (Untagged r) (limits r (sumCounts (rootOf m ws)) (room m levels) ladder.fine)
 
   push-asks : IsPush r → asks r ≡ true
   unfolding asks
@@ -190,13 +191,13 @@ module _ (m levels : ℕ) (r : Request) (s : State) (ws : List ℕ) where
     root-most : IsPush r → sumCounts (rootOf m ws) ≤ room m levels
     root-most p = root-limit m levels ws (shape-is m levels (length ws) e .some) (rw (push-asks p) at (and-left (askedOk m levels r ws) _ f))
 
-    -- 3, then 5 or 6
+    -- 3, then 7, then 5 or 6
     ruleMarked-exactly : Exactly said left (cycleRun m levels r (ruleNow m levels r s ws) s ws) (stop TooSoon (PopsOrReplaces r × (s .mark ≡ true)) last)
     unfolding ruleMarked cycleRun
     ruleMarked-exactly = climb-stop said left refusal-told TooSoon _ _ last (go (s .mark) refl (popsOrReplaces r) refl)
       where
         plain : Exactly said left (cycleRun m levels r (ruleAt m levels r ws) s ws) last
-        plain = limits-exactly (λ (c : CycleOutcome). c .answer) left (λ x. refl) (λ g. cycleRun m levels r g s ws) (λ g. refl) (refused-as Full refl) (refused-as Empty refl) (room m levels) r (rootOf m ws) root-most
+        plain = limits-exactly (λ (c : CycleOutcome). c .answer) left (λ x. refl) (λ g. cycleRun m levels r g s ws) (λ g. refl) (refused-as NoTag refl) (refused-as Full refl) (refused-as Empty refl) (room m levels) r (rootOf m ws) root-most
 
         go : (b : Bool) → s .mark ≡ b → (t : Bool) → popsOrReplaces r ≡ t
             → ((PopsOrReplaces r × (s .mark ≡ true) → ⊥) × Exactly said left (cycleRun m levels r (cond (b && t) (ruling (Refused TooSoon) Nothing) (ruleAt m levels r ws)) s ws) last)
@@ -221,7 +222,7 @@ module _ (m levels : ℕ) (r : Request) (s : State) (ws : List ℕ) where
       shape-by true e = inl (shape-is m levels (length ws) e, climb-stop said left refusal-told Damaged _ _ _ (damage-by e (sound m levels r s ws) refl))
       shape-by false e = inr ((λ sh. true≢false (sym (is-shape m levels (length ws) sh) ∙ e)), cycled-bad m levels r s ws e)
 
-  -- LEFT BEHIND: 1 and 2 everything, mark and records too; 3, 5 and 6 "cycle runs as idle"
+  -- LEFT BEHIND: 1 and 2 everything, mark and records too; 3, 5, 6 and 7 "cycle runs as idle"
   pub stands : (n : Refusal) → said (cycled m levels r s ws) ≡ refusalNumber n → cycled m levels r s ws ≡ left n
   stands = left-behind said left exactly-cycle
 
@@ -236,6 +237,14 @@ unfolding cycleRun
 kind m levels r s ws =
     cycled-either m levels r s ws (λ c. numberOf (c .answer) ≡ 0 → Kind r (c .answer)) (λ e. absurd (omega arith)) (λ e. absurd (omega arith))
     (λ e f. ruleMarked-kind (s .mark) r (ruleAt m levels r ws) (comes-kind (room m levels) (rootOf m ws) r _ (comes (room m levels) r (rootOf m ws))))
+
+-- ---- BARRED: an element without a tag is never let in, whatever stands in the machine
+pub barred : (m levels : ℕ) (r : Request) (s : State) (ws : List ℕ) → Barred r (cycled m levels r s ws .answer)
+unfolding cycleRun ruleMarked
+barred m levels r s ws =
+    cycled-either m levels r s ws (λ c. Barred r (c .answer)) (λ u e. omega arith) (λ u e. omega arith)
+    (λ e f. cond-both (λ (g : Ruling). Barred r (g .answer)) (s .mark && popsOrReplaces r) (ruling (Refused TooSoon) Nothing) (ruleAt m levels r ws) (λ t u e. omega arith)
+    (λ t. comes-barred (room m levels) (rootOf m ws) r _ (comes (room m levels) r (rootOf m ws))))
 
 -- ---- MARK: rows 1 and 2 aside, it is on exactly if an operation was asked for and not refused
 accepts-mean : (a : Answer) → Iff (not (isRefused a) ≡ true) (Unit {0} × (numberOf a ≡ 0))

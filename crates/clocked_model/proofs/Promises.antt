@@ -10,15 +10,16 @@ use mathlib.Core.Path.{_∙_, _≡_, ap, refl, subst, sym}
 use lib.ListN.{length}
 use Rattle.clocked_model.proofs.Demand.{demand-answers, demand-idles, demand-store, fresh-mark, fresh-quiet, idles-in-step, ran-in-step}
 use Rattle.clocked_model.proofs.Drain.{done, drain-ends, drain-left, drain-needed, drain-spent, drain-state, End, jammed, not-less}
-use Rattle.clocked_model.proofs.Exactly.{refused-mark, sound-no-damage}
+use Rattle.clocked_model.proofs.Exactly.{barred, refused-mark, sound-no-damage}
 use Rattle.clocked_model.proofs.Step.{one-by-one-is, one-by-one-kept, root-fine, same-root, step-answer, steps-fine}
 use Rattle.clocked_model.specs.Calls.{askedOk, clockedCleared, cycleOutcome, DrainOutcome, drains, fresh, ruleMarked, marks, pending, popsOrReplaces, recordCount, clearedMachine, cycled}
-use Rattle.clocked_model.specs.Promise.{oneByOne, oneByOneQueue, oneByOneWords, callsOf, cycleAnswers, CycleDamage, idles, Pinned, ran}
+use Rattle.clocked_model.specs.Promise.{oneByOne, oneByOneQueue, oneByOneWords, callsOf, clockedQueue, cycleAnswers, CycleDamage, idles, Pinned, ran}
 use Rattle.clocked_model.specs.declared.State.{State}
 use Rattle.laws.specs.Means.{means-off}
 use Rattle.laws.specs.Tests.{and-true, cond-both}
 use Rattle.promise.specs.Queue.{leaves, pins}
 use Rattle.promise.specs.Served.{all-sum, allBrought, allGiven, always, brought, given, Holds, Least, same}
+use Rattle.promise.specs.Tagged.{Tagged, tagged-by}
 use Rattle.strip.specs.Answers.{countNumber, countOf, numberOf}
 use Rattle.strip.specs.declared.Answer.{Answer}
 use Rattle.strip.specs.declared.Answer.the-variants.{Done, Refused}
@@ -123,16 +124,16 @@ module _ (m : ℕ) (ws : List ℕ) (rs : List Request) where
       let i = ran-in-step m ws rs k sh in
       sound-no-damage m (suc k) r _ _ (and-true (askedOk m (suc k) r (ran m (suc k) rs ws .words)) _ (root-fine m k _ _ _ i r) (steps-fine m k _ _ _ i r))
 
-  -- .. so that only 0, 3, 5 and 6 are answered
+  -- .. so that only 0, 3, 5, 6 and 7 are answered
   pub numbers : (levels : ℕ) → Shape m levels (length ws) → (r : Request)
-      → let n = numberOf (cycled m levels r (ran m levels rs ws .state) (ran m levels rs ws .words) .answer) in (n ≡ 0) ⊎ (n ≡ 3) ⊎ (n ≡ 5) ⊎ (n ≡ 6)
+      → let n = numberOf (cycled m levels r (ran m levels rs ws .state) (ran m levels rs ws .words) .answer) in (n ≡ 0) ⊎ (n ≡ 3) ⊎ (n ≡ 5) ⊎ (n ≡ 6) ⊎ (n ≡ 7)
   unfolding ruleMarked
   numbers zero sh r = absurd (not-suc-le-zero (sh .some))
   numbers (suc k) sh r =
       let i = ran-in-step m ws rs k sh in
       let vs : List ℕ = oneByOneWords m (suc k) rs false (start m (suc k) ws) in
       rw (step-answer m k _ _ _ i r, one-by-one-is m k vs (i .kept) (ran m (suc k) rs ws .state .mark) r)
-      (cond-both (λ (g : Ruling). let n = numberOf (g .answer) in (n ≡ 0) ⊎ (n ≡ 3) ⊎ (n ≡ 5) ⊎ (n ≡ 6)) (ran m (suc k) rs ws .state .mark && popsOrReplaces r) (ruling (Refused TooSoon) Nothing) _ (λ t. inr (inl refl))
+      (cond-both (λ (g : Ruling). let n = numberOf (g .answer) in (n ≡ 0) ⊎ (n ≡ 3) ⊎ (n ≡ 5) ⊎ (n ≡ 6) ⊎ (n ≡ 7)) (ran m (suc k) rs ws .state .mark && popsOrReplaces r) (ruling (Refused TooSoon) Nothing) _ (λ t. inr (inl refl))
       (λ t. ⊎-elim inl (λ e. inr (inr e)) (comes-number (room m (suc k)) (rootOf m vs) r _ (comes (room m (suc k)) r (rootOf m vs)))))
 
   pub shape-kept : (levels : ℕ) → Shape m levels (length ws) → Shape m levels (length (ran m levels rs ws .words))
@@ -157,6 +158,11 @@ module _ (m : ℕ) (ws : List ℕ) (rs : List Request) where
   pub pairs : (levels : ℕ) → Shape m levels (length ws) → (n : ℕ) → Idled levels n → (e : Element)
       → stored (room m levels) (at-rest-after levels n) (same e) + allGiven rs (cycleAnswers m levels rs ws) (same e) ≡ allBrought rs (cycleAnswers m levels rs ws) (same e)
   pairs levels sh n q e = holds levels sh n q (same e)
+
+  -- TAGGED: once idled no element of tag 0 is stored, and none has come out
+  pub tagged : (levels : ℕ) → Shape m levels (length ws) → (n : ℕ) → Idled levels n → Tagged (stored (room m levels) (at-rest-after levels n)) rs (cycleAnswers m levels rs ws)
+  tagged levels sh n e =
+      tagged-by (clockedQueue m levels) (λ r x. barred m levels r (x .state) (x .words)) (stored (room m levels) (at-rest-after levels n)) rs _ (holds levels sh n e)
 
   -- LEAST: what a cycle gives out, of a pop or a replace, has the lowest rank of all that the store held before it, once idled
   pub least : (levels : ℕ) → Shape m levels (length ws) → (n : ℕ) → Idled levels n

@@ -12,6 +12,7 @@ use Rattle.clocked_model.proofs.Step.{in-step, InStep, step-answer}
 use Rattle.clocked_model.specs.Calls.{CycleOutcome, cycled, popsOrReplaces}
 use Rattle.clocked_model.specs.Promise.{clockedQueue, Machine, machine, oneByOne, PopThenPush, ran, Rests, storedThen}
 use Rattle.promise.specs.Queue.{leaves, step, Step}
+use Rattle.promise.specs.Refused.{Untagged}
 use Rattle.promise.specs.Served.{hit}
 use Rattle.strip.specs.Answers.{numberOf}
 use Rattle.strip.specs.declared.Answer.{Answer}
@@ -61,9 +62,9 @@ module _ (m k : ℕ) where
   stored-beside : (x : Machine) (vs : List ℕ) → Beside x vs → (n : ℕ) → Rests m (suc k) n x → (f : Element → Bool) → storedThen m (suc k) n x f ≡ stored (room m (suc k)) vs f
   stored-beside x vs i n h f = ap (λ (w : List ℕ). stored (room m (suc k)) w f) (settled-words m k _ _ vs (idles-in-step m k n _ _ vs i) h)
 
-  module _ (e : Element) (x : Machine) (vs : List ℕ) (i : Beside x vs) where
+  module _ (e : Element) (tag : Untagged (Replace e) → ⊥) (x : Machine) (vs : List ℕ) (i : Beside x vs) where
     beside : tree.PopThenPush m (suc k) e vs
-    beside = kept-replaces m k e vs (i .kept)
+    beside = kept-replaces m k e tag vs (i .kept)
 
     -- with the mark on both are too soon
     same-one : (mark : Bool) → oneByOne m (suc k) mark (Replace e) vs .answer ≡ oneByOne m (suc k) mark Pop vs .answer
@@ -136,6 +137,7 @@ module _ (m k : ℕ) where
         }
 
 -- POP-THEN-PUSH: on whatever machine a list of cycles leaves from a cleared one
-pub pop-then-push : (m : ℕ) (ws : List ℕ) (rs : List Request) (levels : ℕ) → Shape m levels (length ws) → (e : Element) → PopThenPush m levels e (ran m levels rs ws)
-pop-then-push m ws rs zero sh e = absurd (not-suc-le-zero (sh .some))
-pop-then-push m ws rs (suc k) sh e = beside-replaces m k e (ran m (suc k) rs ws) _ (ran-in-step m ws rs k sh)
+pub pop-then-push : (m : ℕ) (ws : List ℕ) (rs : List Request) (levels : ℕ) → Shape m levels (length ws) → (e : Element) → (Untagged (Replace e) → ⊥)
+    → PopThenPush m levels e (ran m levels rs ws)
+pop-then-push m ws rs zero sh e tag = absurd (not-suc-le-zero (sh .some))
+pop-then-push m ws rs (suc k) sh e tag = beside-replaces m k e tag (ran m (suc k) rs ws) _ (ran-in-step m ws rs k sh)

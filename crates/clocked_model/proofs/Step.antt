@@ -31,7 +31,7 @@ use Rattle.tree_model.specs.Damage.{nodeOk, pathOk, room}
 use Rattle.tree_model.specs.Levels.{apply, idle, Levels, work}
 use Rattle.tree_model.specs.Node.{isNothing}
 use Rattle.tree_model.specs.Promise.{Shape}
-use Rattle.tree_model.specs.Rules.{Comes, empty, full, idles, lacks, puts, swaps, takes}
+use Rattle.tree_model.specs.Rules.{Comes, empty, full, idles, lacks, no-tag, puts, swaps, takes}
 use Rattle.tree_model.specs.Words.{applyWords, levelOf, levelsOf, size, under, slotWords}
 use Rattle.tree_model.specs.declared.Op.{Op}
 use Rattle.tree_model.specs.declared.Op.the-variants.{Nothing}
@@ -61,12 +61,13 @@ quiet-ready m (suc k) p ls e = (path-none m (suc k) (p .0) _ (quiet-clear (suc k
 comes-gap : (c : ℕ) (nd : List Slot) (G : Type 0) (r : Request) (g : Ruling) → Comes c nd r g → (popsOrReplaces r ≡ true → G) → Gap (g .op) G
 unfolding popsOrReplaces
 comes-gap c nd G r g idles h = tt
-comes-gap c nd G r g (puts x l) h = tt
-comes-gap c nd G r g (full x l) h = tt
+comes-gap c nd G r g (no-tag r′ u) h = tt
+comes-gap c nd G r g (puts x u l) h = tt
+comes-gap c nd G r g (full x u l) h = tt
 comes-gap c nd G r g (takes l) h = h refl
 comes-gap c nd G r g (empty l) h = tt
-comes-gap c nd G r g (swaps x l) h = h refl
-comes-gap c nd G r g (lacks x l) h = tt
+comes-gap c nd G r g (swaps x u l) h = h refl
+comes-gap c nd G r g (lacks x u l) h = tt
 
 -- .. and such a request is too soon with the mark on
 ruleMarked-gap : (mark : Bool) (r : Request) (g : Ruling) (G : Type 0) → (mark ≡ false → G) → ((popsOrReplaces r ≡ true → G) → Gap (g .op) G) → Gap (ruleMarked mark r g .op) G
@@ -83,12 +84,13 @@ ruleMarked-gap mark r g G off h = go mark (popsOrReplaces r) off h
 comes-unmarked : (c : ℕ) (nd : List Slot) (r : Request) (g : Ruling) → Comes c nd r g → marks r (g .answer) ≡ false → g .op ≡ Nothing
 unfolding marks isRefused asks
 comes-unmarked c nd r g idles e = refl
-comes-unmarked c nd r g (puts x l) e = absurd (true≢false e)
-comes-unmarked c nd r g (full x l) e = refl
+comes-unmarked c nd r g (no-tag r′ u) e = refl
+comes-unmarked c nd r g (puts x u l) e = absurd (true≢false e)
+comes-unmarked c nd r g (full x u l) e = refl
 comes-unmarked c nd r g (takes l) e = absurd (true≢false e)
 comes-unmarked c nd r g (empty l) e = refl
-comes-unmarked c nd r g (swaps x l) e = absurd (true≢false e)
-comes-unmarked c nd r g (lacks x l) e = refl
+comes-unmarked c nd r g (swaps x u l) e = absurd (true≢false e)
+comes-unmarked c nd r g (lacks x u l) e = refl
 
 ruleMarked-unmarked : (mark : Bool) (r : Request) (g : Ruling) → (marks r (g .answer) ≡ false → g .op ≡ Nothing) → marks r (ruleMarked mark r g .answer) ≡ false → ruleMarked mark r g .op ≡ Nothing
 unfolding ruleMarked

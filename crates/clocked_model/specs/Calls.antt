@@ -97,7 +97,7 @@ module _ (m levels : ℕ) where
         mark = marks r (g .answer);
       })
 
-  -- "Order for the tree: 1, 2, 3, then 5 or 6". After 3, 5 and 6 the "cycle runs as idle": such a ruling has no work
+  -- "Order for the tree: 1, 2, 3, then 5 or 6", with 7 behind 3. After 3, 5, 6 and 7 the "cycle runs as idle": such a ruling has no work
   unfoldable pub cycled : Request → State → List ℕ → CycleOutcome
   cycled r s ws =
       cond (shapeOk m levels (length ws))

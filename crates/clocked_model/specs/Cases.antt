@@ -1,4 +1,4 @@
--- 01's worked case 6, as a list of words after each cycle; case 10, and an empty machine, by their answers.
+-- 01's worked case 6, as a list of words after each cycle; case 10, an empty machine, and elements without a tag, by their answers.
 use Prim.Native.Nat.{ℕ}
 use mathlib.Core.List.{[], _∷_, List}
 use lib.ListN.{replicate}
@@ -8,7 +8,7 @@ use Rattle.promise.specs.Queue.{leaves}
 use Rattle.strip.specs.Answers.{element}
 use Rattle.strip.specs.declared.Answer.{Answer}
 use Rattle.strip.specs.declared.Answer.the-variants.{Done, Out, Refused}
-use Rattle.strip.specs.declared.Refusal.the-variants.{Empty, TooSoon}
+use Rattle.strip.specs.declared.Refusal.the-variants.{Empty, NoTag, TooSoon}
 use Rattle.strip.specs.declared.Request.the-variants.{Idle, Pop, Push, Replace}
 
 -- order 2, levels 2: "Store A is cleared, then push 5/50, 3/30, 8/80, 1/10", by cycles
@@ -42,3 +42,12 @@ caseEmpty = cycleAnswers 2 2 (Replace (element 5 50) ∷ Pop ∷ Push (element 1
 
 abbrev pub caseEmptySays : List Answer
 caseEmptySays = Refused Empty ∷ Refused Empty ∷ Done ∷ Refused TooSoon ∷ Out (element 1 10) ∷ Done ∷ Out (element 0 7) ∷ []
+
+-- "Push and replace with tag 0 are to be refused with a new number 7 .. after 3 in the clocked tree .., a clocked refusal counts as an idle cycle": a pop
+-- just after it is not too soon
+unfoldable pub caseUntagged : List Answer
+caseUntagged =
+    cycleAnswers 2 2 (Push (element 5 0) ∷ Pop ∷ Push (element 5 50) ∷ Replace (element 1 0) ∷ Replace (element 1 0) ∷ Push (element 1 0) ∷ Pop ∷ []) (replicate 18 0)
+
+abbrev pub caseUntaggedSays : List Answer
+caseUntaggedSays = Refused NoTag ∷ Refused Empty ∷ Done ∷ Refused TooSoon ∷ Refused NoTag ∷ Refused NoTag ∷ Out (element 5 50) ∷ []

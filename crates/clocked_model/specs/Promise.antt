@@ -13,14 +13,14 @@ use Rattle.clocked_model.specs.declared.State.{State}
 use Rattle.laws.specs.Ladder.{fine, Ladder, rung, stop}
 use Rattle.laws.specs.Sums.{sumTo}
 use Rattle.promise.specs.Queue.{answers, leaves, Pins, step, Step}
-use Rattle.promise.specs.Refused.{limits}
+use Rattle.promise.specs.Refused.{limits, Untagged}
 use Rattle.promise.specs.Served.{hit}
 use Rattle.strip.specs.Answers.{numberOf}
 use Rattle.strip.specs.declared.Answer.{Answer}
 use Rattle.strip.specs.declared.Answer.the-variants.{Done, Out, Refused}
 use Rattle.strip.specs.declared.Element.{Element}
 use Rattle.strip.specs.declared.Refusal.{Refusal}
-use Rattle.strip.specs.declared.Refusal.the-variants.{BadRank, BadShape, Damaged, Empty, Full, TooSoon}
+use Rattle.strip.specs.declared.Refusal.the-variants.{BadRank, BadShape, Damaged, Empty, Full, NoTag, TooSoon}
 use Rattle.strip.specs.declared.Request.{Request}
 use Rattle.strip.specs.declared.Request.the-variants.{Idle, Pop, Push, Replace}
 use Rattle.tree_model.specs.Calls.{called, heldCount, outcome, Outcome, rootOf}
@@ -112,15 +112,17 @@ CycleDamage m levels r s ws =
     (Asks r × NodeDamaged (room m (pred levels)) (rootOf m ws))
     ⊎ WorksDamaged m (suc (pred levels)) (cycleWork m levels (ruleNow m levels r s ws .op) s) (levelsOf m (suc (pred levels)) ws 0 1)
 
--- the table, in order: "Order for the tree: 1, 2, 3, then 5 or 6". 4 is the bucket queue's
+-- the table, in order: "Order for the tree: 1, 2, 3, then 5 or 6", and 7 "after 3 in the clocked tree". 4 is the bucket queue's
 abbrev pub cycleRefusals : ℕ → ℕ → Request → State → List ℕ → Ladder Refusal
 cycleRefusals m levels r s ws =
     rung BadShape (Shape m levels (length ws))
     (stop Damaged (CycleDamage m levels r s ws)
     (stop TooSoon (PopsOrReplaces r × (s .mark ≡ true))
-    (limits r (sumCounts (rootOf m ws)) (room m levels) fine)))
+    (stop NoTag (Untagged r)
+    (limits r (sumCounts (rootOf m ws)) (room m levels) fine))))
 
--- column "Left behind": after 1 and 2 "everything, mark and records too"; after the others the "cycle runs as idle"
+-- column "Left behind": after 1 and 2 "everything, mark and records too"; after the others the "cycle runs as idle", after 7 too: "a clocked refusal
+-- counts as an idle cycle"
 abbrev pub runsIdle : Refusal → Bool
 runsIdle BadShape = false
 runsIdle Damaged = false
@@ -128,6 +130,7 @@ runsIdle TooSoon = true
 runsIdle BadRank = true
 runsIdle Full = true
 runsIdle Empty = true
+runsIdle NoTag = true
 
 abbrev pub cycleLeft : ℕ → ℕ → State → List ℕ → Refusal → CycleOutcome
 cycleLeft m levels s ws n =
@@ -151,6 +154,7 @@ isBadShape TooSoon = false
 isBadShape BadRank = false
 isBadShape Full = false
 isBadShape Empty = false
+isBadShape NoTag = false
 
 abbrev pub drainLeft : ℕ → ℕ → ℕ → State → List ℕ → Refusal → DrainOutcome
 drainLeft m levels cycles s ws n =
@@ -218,8 +222,8 @@ pub record Alike (m levels : ℕ) (x y : Machine) : Type 0 where
   pub works : worksOf (pred levels) (x .state .records) 0 ≡ worksOf (pred levels) (y .state .records) 0
   pub mark : x .state .mark ≡ y .state .mark
 
--- ---- REPLACE: "a replace is a pop and then a push" (02 [4]), of the machine x. The words may lie elsewhere, but what is answered and what is held
--- is the same
+-- ---- REPLACE: "a replace is a pop and then a push" (02 [4]), of the machine x and an e that has a tag. The words may lie elsewhere, but what is
+-- answered and what is held is the same
 module _ (m levels : ℕ) where
   -- n idle cycles leave nothing pending, and then so many elements that pass the test are stored
   abbrev pub Rests : ℕ → Machine → Type 0

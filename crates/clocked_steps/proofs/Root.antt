@@ -13,15 +13,15 @@ use Rattle.clocked_steps.specs.declared.asked.RootStep.{RootStep}
 use Rattle.laws.specs.Lists.{All}
 use Rattle.laws.specs.Tests.{and-left, and-right, and-unit, sub-one}
 use Rattle.node_plan.proofs.Planning.{below-in, chosen-low, put-planned, swap-planned, take-planned}
-use Rattle.node.proofs.Rulings.{pop-empty, pop-takes, replace-empty, replace-swaps}
+use Rattle.node.proofs.Rulings.{pop-empty, pop-takes, push-untagged, replace-empty, replace-swaps, replace-untagged}
 use Rattle.node.proofs.Steps.{move-nothing, room-up, step-nothing}
 use Rattle.node_plan.specs.Planning.{Chosen, liftsOk, Planned, PlanIn, putFrom, swapFrom, takeFrom}
 use Rattle.node.specs.Scan.{Capacity, childOf, NodeIn, RoomUnder}
-use Rattle.strip.specs.Answers.{blank}
+use Rattle.strip.specs.Answers.{blank, untagged}
 use Rattle.strip.specs.declared.Answer.{Answer}
 use Rattle.strip.specs.declared.Answer.the-variants.{Done, Out, Refused}
 use Rattle.strip.specs.declared.Element.{Element}
-use Rattle.strip.specs.declared.Refusal.the-variants.{Empty, Full, TooSoon}
+use Rattle.strip.specs.declared.Refusal.the-variants.{Empty, Full, NoTag, TooSoon}
 use Rattle.strip.specs.declared.Request.{Request}
 use Rattle.strip.specs.declared.Request.the-variants.{Idle, Pop, Push, Replace}
 use Rattle.tree_model.proofs.Exactly.{room-fails, room-less}
@@ -54,13 +54,13 @@ second-off : (a b : Bool) → (a && b) ≡ false → a ≡ true → b ≡ false
 second-off true b e f = e
 second-off false b e f = absurd (true≢false (sym f))
 
-full-rules : (m levels : ℕ) (ws : List ℕ) (x : Element) → room m levels ≤ sumCounts (rootOf m ws) → ruleAt m levels (Push x) ws ≡ ruling (Refused Full) Nothing
+full-rules : (m levels : ℕ) (ws : List ℕ) (x : Element) → untagged x ≡ false → room m levels ≤ sumCounts (rootOf m ws) → ruleAt m levels (Push x) ws ≡ ruling (Refused Full) Nothing
 unfolding rule
-full-rules m levels ws x h = rw (le-ltb (sumCounts (rootOf m ws)) (room m levels) h)
+full-rules m levels ws x tag h = rw (tag, le-ltb (sumCounts (rootOf m ws)) (room m levels) h)
 
-puts-rules : (m levels : ℕ) (ws : List ℕ) (x : Element) → sumCounts (rootOf m ws) < room m levels → ruleAt m levels (Push x) ws ≡ ruling Done (Put x)
+puts-rules : (m levels : ℕ) (ws : List ℕ) (x : Element) → untagged x ≡ false → sumCounts (rootOf m ws) < room m levels → ruleAt m levels (Push x) ws ≡ ruling Done (Put x)
 unfolding rule
-puts-rules m levels ws x h = rw (lt-ltb (sumCounts (rootOf m ws)) (room m levels) h)
+puts-rules m levels ws x tag h = rw (tag, lt-ltb (sumCounts (rootOf m ws)) (room m levels) h)
 
 asks-too : (q : Request) → popsOrReplaces q ≡ true → asks q ≡ true
 unfolding popsOrReplaces asks
@@ -114,8 +114,18 @@ module _ (m r : ℕ) (ws : List ℕ) where
   root-as : (k : ℕ) → RoomIs m k r → nodeOk r root ≡ rootOk m (suc k) ws
   root-as k er = ap (λ (n : ℕ). nodeOk n root) er
 
+  -- ---- without a tag
+  module _ (x : Element) (none : untagged x ≡ true) (h : RootStep) (b : Bool) (whole : b ≡ nodeOk r root) (is : Still m b (Refused NoTag) h) where
+    pub push-barred : Ruled m r (Push x) ws h
+    push-barred k er =
+        settled-still h (Refused NoTag) b is k (ruleAt m (suc k) (Push x) ws) (rootOk m (suc k) ws) (whole ∙ root-as k er) (λ y. push-untagged m (suc k) ws x none)
+
+    pub replace-barred : Ruled m r (Replace x) ws h
+    replace-barred k er =
+        settled-still h (Refused NoTag) b is k (ruleAt m (suc k) (Replace x) ws) (rootOk m (suc k) ws) (whole ∙ root-as k er) (λ y. replace-untagged m (suc k) ws x none)
+
   -- ---- push
-  module _ (x : Element) (t : Bool) (tested : t ≡ (nodeOk r root && hasRoom r root)) where
+  module _ (x : Element) (tag : untagged x ≡ false) (t : Bool) (tested : t ≡ (nodeOk r root && hasRoom r root)) where
     cap-is : (k : ℕ) → RoomIs m k r → length root * suc r ≡ room m (suc k)
     unfolding room
     cap-is k er = ap₂ (λ (n q : ℕ). n * suc q) (node-length m ws 0) er
@@ -125,7 +135,7 @@ module _ (m r : ℕ) (ws : List ℕ) where
         settled-still h (Refused Full) b is k (ruleAt m (suc k) (Push x) ws) (rootOk m (suc k) ws) (whole ∙ root-as k er)
         (λ y.
         let off : hasRoom r root ≡ false = second-off (nodeOk r root) (hasRoom r root) (sym tested ∙ not-true t e) (root-as k er ∙ y) in
-        full-rules m (suc k) ws x (omega (arith, crowded-sum r root (room-fails r root .found off), cap-is k er)))
+        full-rules m (suc k) ws x tag (omega (arith, crowded-sum r root (room-fails r root .found off), cap-is k er)))
 
     pub push-step : (h : RootStep) (j : ℕ) (a : Slot) → not t ≡ false → (t ≡ true → Chosen m 0 ws (leastCount root) j a) → h .answer ≡ Done → h .op ≡ Put x
         → h .plan .ok ≡ true → h .plan .step ≡ putFrom j a x → Ruled m r (Push x) ws h
@@ -134,7 +144,7 @@ module _ (m r : ℕ) (ws : List ℕ) where
         let both : (nodeOk r root && hasRoom r root) ≡ true = sym tested ∙ y in
         let ok : nodeOk r root ≡ true = and-left (nodeOk r root) (hasRoom r root) both in
         let g : ruleAt m (suc k) (Push x) ws ≡ ruling Done (Put x) =
-        puts-rules m (suc k) ws x (omega (arith, room-less r root ok (and-right (nodeOk r root) (hasRoom r root) both), cap-is k er)) in
+        puts-rules m (suc k) ws x tag (omega (arith, room-less r root ok (and-right (nodeOk r root) (hasRoom r root) both), cap-is k er)) in
         subst (λ (g : Ruling). Settles m k (rootOk m (suc k) ws) g ws h) (sym g)
         (settled-step h k (room m (pred k)) (ruling Done (Put x)) (rootOk m (suc k) ws) (sym (root-as k er) ∙ ok) ea eo er refl
         (put-planned m 0 m r (room m (pred k)) ws x t tested (h .plan .ok) (h .plan .step) j a e ch eb ev))
@@ -149,10 +159,10 @@ module _ (m r : ℕ) (ws : List ℕ) where
         settled-still h (Refused Empty) b is k (ruleAt m (suc k) Pop ws) (rootOk m (suc k) ws) (whole ∙ root-as k er)
         (λ y. pop-empty m (suc k) ws (sumCounts root) refl (none-here k er e y))
 
-    pub replace-still : (x : Element) (h : RootStep) (b : Bool) → not t ≡ true → b ≡ nodeOk r root → Still m b (Refused Empty) h → Ruled m r (Replace x) ws h
-    replace-still x h b e whole is k er =
+    pub replace-still : (x : Element) → untagged x ≡ false → (h : RootStep) (b : Bool) → not t ≡ true → b ≡ nodeOk r root → Still m b (Refused Empty) h → Ruled m r (Replace x) ws h
+    replace-still x tag h b e whole is k er =
         settled-still h (Refused Empty) b is k (ruleAt m (suc k) (Replace x) ws) (rootOk m (suc k) ws) (whole ∙ root-as k er)
-        (λ y. replace-empty m (suc k) ws (sumCounts root) refl x (none-here k er e y))
+        (λ y. replace-empty m (suc k) ws (sumCounts root) refl x tag (none-here k er e y))
 
     module _ (e : not t ≡ false) (j : ℕ) (a : Slot) (chosen : t ≡ true → Chosen m 0 ws (lowest root) j a) where
       both : (nodeOk r root && hasSome root) ≡ true
@@ -180,10 +190,10 @@ module _ (m r : ℕ) (ws : List ℕ) where
           (settled-step h k u (ruling (Out (a .element)) Take) (rootOk m (suc k) ws) (sym (root-as k er) ∙ ok) ea eo er (f k er)
           (take-planned m 0 m r u ws t tested e j a chosen (h .plan .ok) (h .plan .step) eb ev))
 
-      pub replace-step : (x : Element) (h : RootStep) (u : ℕ) → RoomUnder m r u → h .answer ≡ Out (a .element) → h .op ≡ Swap x → h .plan .ok ≡ liftsOk u a (nodeOf m ws (m + j * m))
+      pub replace-step : (x : Element) → untagged x ≡ false → (h : RootStep) (u : ℕ) → RoomUnder m r u → h .answer ≡ Out (a .element) → h .op ≡ Swap x → h .plan .ok ≡ liftsOk u a (nodeOf m ws (m + j * m))
           → (h .plan .ok ≡ true → h .plan .step ≡ swapFrom j a (nodeOf m ws (m + j * m)) x) → Ruled m r (Replace x) ws h
-      replace-step x h u f ea eo eb ev k er =
-          subst (λ (g : Ruling). Settles m k (rootOk m (suc k) ws) g ws h) (sym (replace-swaps m (suc k) ws (sumCounts root) refl some (a .element) least x))
+      replace-step x tag h u f ea eo eb ev k er =
+          subst (λ (g : Ruling). Settles m k (rootOk m (suc k) ws) g ws h) (sym (replace-swaps m (suc k) ws (sumCounts root) refl some (a .element) least x tag))
           (settled-step h k u (ruling (Out (a .element)) (Swap x)) (rootOk m (suc k) ws) (sym (root-as k er) ∙ ok) ea eo er (f k er)
           (swap-planned m 0 m r u ws t tested e j a chosen x (h .plan .ok) (h .plan .step) eb ev))
 

@@ -18,6 +18,7 @@ use strip::Answer;
 use strip::Element;
 use strip::Refusal;
 use strip::Request;
+use strip::is_untagged;
 use tree_model::Op;
 
 // What a request comes to: its answer, the operation at the root, and the plan of that operation's step.
@@ -90,11 +91,14 @@ fn stands(s: &[u32], order: usize, room: usize, asked: bool, answer: Answer) -> 
     still(order, whole, answer)
 }
 
-// A root that is whole and leaves no room is full.
+// No strip without a tag is let in, whatever the root holds. A root that is whole and leaves no room is full.
 fn rule_push(s: &[u32], order: usize, room: usize, x: Element) -> RootStep
     requires { ⌜ RootIn order room (now s) ⌝ }
     ensures { λ r. ⌜ Ruled order room (Request.Push x) (now (s .entry)) r ⌝ }
 {
+    if is_untagged(x) {
+        return stands(s, order, room, true, Answer::Refused(Refusal::NoTag)); // nothing to put
+    }
     let c = choose_least(s, 0, order, room);
     if !c.ok {
         return stands(s, order, room, true, Answer::Refused(Refusal::Full));
@@ -128,11 +132,14 @@ fn rule_pop(s: &[u32], order: usize, room: usize) -> RootStep
     }
 }
 
-// Refused like a pop; else the lowest is answered even where x's rank is lower, and x is swapped in.
+// Refused without a tag, and like a pop; else the lowest is answered even where x's rank is lower, and x is swapped in.
 fn rule_replace(s: &[u32], order: usize, room: usize, x: Element) -> RootStep
     requires { ⌜ RootIn order room (now s) ⌝ }
     ensures { λ r. ⌜ Ruled order room (Request.Replace x) (now (s .entry)) r ⌝ }
 {
+    if is_untagged(x) {
+        return stands(s, order, room, true, Answer::Refused(Refusal::NoTag)); // nothing to swap in
+    }
     let c = choose_low(s, 0, order, room);
     if !c.ok {
         return stands(s, order, room, true, Answer::Refused(Refusal::Empty)); // nothing to swap with

@@ -1,42 +1,54 @@
 -- What is read of the root makes the ruling on a request. Assumes nothing.
 use Prim.Native.Nat.{_<_, _≤_, ℕ}
 use native.Mathlib.Omega.{arith}
+use mathlib.Core.Bool.{false, true}
 use mathlib.Core.List.{List}
 use mathlib.Core.Path.{_∙_, _≡_, sym}
 use borrow.Author.Tests.{eq-eqb, le-ltb, lt-ltb, ne-eqb}
 use Rattle.node.specs.Scan.{Capacity}
+use Rattle.strip.specs.Answers.{untagged}
 use Rattle.strip.specs.declared.Answer.the-variants.{Done, Out, Refused}
 use Rattle.strip.specs.declared.Element.{Element}
-use Rattle.strip.specs.declared.Refusal.the-variants.{Empty, Full}
+use Rattle.strip.specs.declared.Refusal.the-variants.{Empty, Full, NoTag}
 use Rattle.strip.specs.declared.Request.the-variants.{Pop, Push, Replace}
 use Rattle.tree_model.specs.Calls.{rootOf, rule, ruling, slotLimit, ruleAt}
 use Rattle.tree_model.specs.Damage.{room}
 use Rattle.tree_model.specs.Node.{low, sumCounts}
 use Rattle.tree_model.specs.declared.Op.the-variants.{Nothing, Put, Swap, Take}
 
+-- an element without a tag, whatever is held
+module _ (m levels : ℕ) (ws : List ℕ) (x : Element) (none : untagged x ≡ true) where
+  pub push-untagged : ruleAt m levels (Push x) ws ≡ ruling (Refused NoTag) Nothing
+  unfolding rule
+  push-untagged = rw none
+
+  pub replace-untagged : ruleAt m levels (Replace x) ws ≡ ruling (Refused NoTag) Nothing
+  unfolding rule
+  replace-untagged = rw none
+
 module _ (m levels : ℕ) (ws : List ℕ) (sum : ℕ) (summed : sum ≡ sumCounts (rootOf m ws)) where
-  module _ (x : Element) (cap : ℕ) (heldCount : Capacity m levels cap) (within : room m levels ≤ slotLimit) where
+  module _ (x : Element) (tag : untagged x ≡ false) (cap : ℕ) (heldCount : Capacity m levels cap) (within : room m levels ≤ slotLimit) where
     pub push-full : cap ≤ sum → ruleAt m levels (Push x) ws ≡ ruling (Refused Full) Nothing
     unfolding rule
-    push-full h = rw (le-ltb (sumCounts (rootOf m ws)) (room m levels) (omega (arith, heldCount .within within)))
+    push-full h = rw (tag, le-ltb (sumCounts (rootOf m ws)) (room m levels) (omega (arith, heldCount .within within)))
 
     pub push-puts : sum < cap → ruleAt m levels (Push x) ws ≡ ruling Done (Put x)
     unfolding rule
-    push-puts h = rw (lt-ltb (sumCounts (rootOf m ws)) (room m levels) (omega (arith, heldCount .within within)))
+    push-puts h = rw (tag, lt-ltb (sumCounts (rootOf m ws)) (room m levels) (omega (arith, heldCount .within within)))
 
   pub pop-empty : sum ≡ 0 → ruleAt m levels Pop ws ≡ ruling (Refused Empty) Nothing
   unfolding rule
   pop-empty z = rw (eq-eqb (sumCounts (rootOf m ws)) 0 (sym summed ∙ z))
 
-  pub replace-empty : (x : Element) → sum ≡ 0 → ruleAt m levels (Replace x) ws ≡ ruling (Refused Empty) Nothing
+  pub replace-empty : (x : Element) → untagged x ≡ false → sum ≡ 0 → ruleAt m levels (Replace x) ws ≡ ruling (Refused Empty) Nothing
   unfolding rule
-  replace-empty x z = rw (eq-eqb (sumCounts (rootOf m ws)) 0 (sym summed ∙ z))
+  replace-empty x tag z = rw (tag, eq-eqb (sumCounts (rootOf m ws)) 0 (sym summed ∙ z))
 
   module _ (more : sum ≡ 0 → ⊥) (least : Element) (is-low : least ≡ low (rootOf m ws)) where
     pub pop-takes : ruleAt m levels Pop ws ≡ ruling (Out least) Take
     unfolding rule
     pop-takes = rw (ne-eqb (sumCounts (rootOf m ws)) 0 (λ z. more (summed ∙ z)), ← is-low)
 
-    pub replace-swaps : (x : Element) → ruleAt m levels (Replace x) ws ≡ ruling (Out least) (Swap x)
+    pub replace-swaps : (x : Element) → untagged x ≡ false → ruleAt m levels (Replace x) ws ≡ ruling (Out least) (Swap x)
     unfolding rule
-    replace-swaps x = rw (ne-eqb (sumCounts (rootOf m ws)) 0 (λ z. more (summed ∙ z)), ← is-low)
+    replace-swaps x tag = rw (tag, ne-eqb (sumCounts (rootOf m ws)) 0 (λ z. more (summed ∙ z)), ← is-low)

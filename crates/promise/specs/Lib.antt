@@ -1,3 +1,4 @@
 pub mod Queue
 pub mod Served
 pub mod Refused
+pub mod Tagged

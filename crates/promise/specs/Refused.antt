@@ -1,4 +1,4 @@
--- What the tables of refusals share: 01's numbers tell the refusals apart, and 5 and 6. A table is a ladder, `Exactly` of `laws` says that a call
+-- What the tables of refusals share: 01's numbers tell the refusals apart; 7, and 5 and 6. A table is a ladder, `Exactly` of `laws` says that a call
 -- goes by it: by the number that it says, and with all that is left behind.
 use Prim.Native.Nat.{pred, ℕ}
 use native.Mathlib.Omega.{arith}
@@ -6,15 +6,17 @@ use mathlib.Core.List.{[], _∷_}
 use mathlib.Core.Path.{_∙_, _≡_, ap, refl, sym}
 use lib.ListN.{getD}
 use Rattle.laws.specs.Ladder.{Ladder, stop}
-use Rattle.strip.specs.Answers.{refusalNumber}
+use Rattle.laws.specs.Means.{Means, means-eqb}
+use Rattle.strip.specs.Answers.{refusalNumber, untagged}
+use Rattle.strip.specs.declared.Element.{Element}
 use Rattle.strip.specs.declared.Refusal.{Refusal}
-use Rattle.strip.specs.declared.Refusal.the-variants.{BadRank, BadShape, Damaged, Empty, Full, TooSoon}
+use Rattle.strip.specs.declared.Refusal.the-variants.{BadRank, BadShape, Damaged, Empty, Full, NoTag, TooSoon}
 use Rattle.strip.specs.declared.Request.{Request}
 use Rattle.strip.specs.declared.Request.the-variants.{Idle, Pop, Push, Replace}
 
 -- the refusal of a number
 abbrev refusalOf : ℕ → Refusal
-refusalOf n = getD (BadShape ∷ Damaged ∷ TooSoon ∷ BadRank ∷ Full ∷ Empty ∷ []) (pred n) BadShape
+refusalOf n = getD (BadShape ∷ Damaged ∷ TooSoon ∷ BadRank ∷ Full ∷ Empty ∷ NoTag ∷ []) (pred n) BadShape
 
 numbered : (r : Refusal) → refusalOf (refusalNumber r) ≡ r
 numbered BadShape = refl
@@ -23,6 +25,7 @@ numbered TooSoon = refl
 numbered BadRank = refl
 numbered Full = refl
 numbered Empty = refl
+numbered NoTag = refl
 
 -- no two refusals have one number, and none has 0
 pub refusal-told : (x y : Refusal) → refusalNumber x ≡ refusalNumber y → x ≡ y
@@ -35,6 +38,18 @@ zero-told TooSoon e = omega arith
 zero-told BadRank e = omega arith
 zero-told Full e = omega arith
 zero-told Empty e = omega arith
+zero-told NoTag e = omega arith
+
+-- 7: "Push and replace with tag 0 are to be refused with a new number 7, "no tag", in every queue" (02 [1]), whatever the rank and whatever is held
+abbrev pub Untagged : Request → Type 0
+Untagged Idle = ⊥
+Untagged (Push x) = x .tag .0 ≡ 0
+Untagged Pop = ⊥
+Untagged (Replace x) = x .tag .0 ≡ 0
+
+pub untagged-means : (x : Element) → Means (untagged x) (x .tag .0 ≡ 0)
+unfolding untagged
+untagged-means x = means-eqb (x .tag .0) 0
 
 -- 5 and 6, of a queue that holds n and has room for c: "full: push, held = capacity or N"; "empty: pop, held = 0", and "an empty queue refuses
 -- replace with 6". What is asked after is l

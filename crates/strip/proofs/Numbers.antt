@@ -1,7 +1,7 @@
--- What the order goes by, and the values where there is no element, in 01's words.
-use Prim.Native.Nat.{_<_, ℕ}
+-- What the order goes by, which elements have no tag, and the values where there is no element, in 01's and 02's words.
 use mathlib.Core.Path.{_≡_, refl}
-use Rattle.strip.specs.Answers.{blank, countOf, key, numberOf, rankOf, refusalNumber, tagOf}
+use lib.Dec.{eqb}
+use Rattle.strip.specs.Answers.{blank, countOf, key, rankOf, tagOf, untagged}
 use Rattle.strip.specs.declared.Answer.the-variants.{Done, Refused}
 use Rattle.strip.specs.declared.Count.the-variants.{Unknown}
 use Rattle.strip.specs.declared.Element.{Element}
@@ -11,6 +11,11 @@ use Rattle.strip.specs.declared.Refusal.{Refusal}
 pub by-rank : (e : Element) → key e ≡ e .rank .0
 unfolding key
 by-rank e = refl
+
+-- "Our lenders use tag 0 for "no strip"": whatever the rank is
+pub by-tag : (e : Element) → untagged e ≡ eqb (e .tag .0) 0
+unfolding untagged
+by-tag e = refl
 
 -- "A refusal, idle cycle or push answers rank 0, tag 0"; "In every queue a refused held answers 0"
 pub nothing-given : (r : Refusal) → (rankOf (Refused r) ≡ 0) × (tagOf (Refused r) ≡ 0) × (rankOf Done ≡ 0) × (tagOf Done ≡ 0) × (countOf (Unknown r) ≡ 0)

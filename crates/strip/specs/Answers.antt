@@ -1,9 +1,10 @@
 -- The paper's number, rank and tag of each answer.
 use Prim.Native.Nat.{ℕ}
-use mathlib.Core.Bool.{Bool, true, false}
+use mathlib.Core.Bool.{Bool}
+use lib.Dec.{eqb}
 use Rattle.strip.specs.declared.Element.{Element}
 use Rattle.strip.specs.declared.Refusal.{Refusal}
-use Rattle.strip.specs.declared.Refusal.the-variants.{BadShape, Damaged, TooSoon, BadRank, Full, Empty}
+use Rattle.strip.specs.declared.Refusal.the-variants.{BadShape, Damaged, TooSoon, BadRank, Full, Empty, NoTag}
 use Rattle.strip.specs.declared.Answer.{Answer}
 use Rattle.strip.specs.declared.Answer.the-variants.{Done, Out, Refused}
 use Rattle.strip.specs.declared.Count.{Count}
@@ -21,6 +22,10 @@ blank = element 0 0
 unfoldable pub key : Element → ℕ
 key e = e .rank .0
 
+-- an element without a tag: "Our lenders use tag 0 for "no strip"" (02 [1])
+unfoldable pub untagged : Element → Bool
+untagged e = eqb (e .tag .0) 0
+
 -- column "No." of the table of refusals
 abbrev pub refusalNumber : Refusal → ℕ
 refusalNumber BadShape = 1
@@ -29,6 +34,7 @@ refusalNumber TooSoon = 3
 refusalNumber BadRank = 4
 refusalNumber Full = 5
 refusalNumber Empty = 6
+refusalNumber NoTag = 7
 
 -- .. and 0 where nothing is refused
 abbrev pub numberOf : Answer → ℕ

@@ -1,6 +1,6 @@
 // What every queue of the card takes in and answers.
 ghost use mathlib.Core.Path.{_≡_};
-ghost use Rattle.strip.specs.Answers.{blank, refusalNumber, numberOf, elementOf, countNumber, countOf};
+ghost use Rattle.strip.specs.Answers.{blank, untagged, refusalNumber, numberOf, elementOf, countNumber, countOf};
 
 // When a strip must leave. A lower rank leaves first.
 pub struct Rank(pub u32);
@@ -22,6 +22,7 @@ pub enum Refusal {
     BadRank,
     Full,
     Empty,
+    NoTag,
 }
 
 // What a call answers: that it is done, an element, or a refusal.
@@ -45,6 +46,14 @@ pub enum Request {
     Replace(Element),
 }
 
+// Does the element lack a tag? Such a one is no strip, and no queue takes it in.
+pub fn is_untagged(e: Element) -> bool
+    ensures { λ r. ⌜ r ≡ untagged e ⌝ }
+{
+    let tag = e.tag;
+    tag.0 == 0
+}
+
 // ---- 01's numbers
 
 pub fn refusal_number(r: Refusal) -> u32
@@ -57,6 +66,7 @@ pub fn refusal_number(r: Refusal) -> u32
         Refusal::BadRank => 4,
         Refusal::Full => 5,
         Refusal::Empty => 6,
+        Refusal::NoTag => 7,
     }
 }
 

@@ -11,7 +11,7 @@ use Rattle.node.specs.Scan.{Capacity}
 use Rattle.strip.specs.declared.Answer.{Answer}
 use Rattle.strip.specs.declared.Answer.the-variants.{Done, Out, Refused}
 use Rattle.strip.specs.declared.Element.{Element}
-use Rattle.strip.specs.declared.Refusal.the-variants.{BadRank, BadShape, Damaged, Empty, Full, TooSoon}
+use Rattle.strip.specs.declared.Refusal.the-variants.{BadRank, BadShape, Damaged, Empty, Full, NoTag, TooSoon}
 use Rattle.strip.specs.declared.Request.{Request}
 use Rattle.strip.specs.declared.Request.the-variants.{Idle, Pop, Push, Replace}
 use Rattle.text.proofs.Laws.{decimal-short}
@@ -41,6 +41,7 @@ word-short r (Refused TooSoon) = omega arith
 word-short r (Refused BadRank) = omega arith
 word-short r (Refused Full) = omega arith
 word-short r (Refused Empty) = omega arith
+word-short r (Refused NoTag) = omega arith
 
 pub line-short : (n : ℕ) (r : Request) (a : Answer) → length (lineOf n r a) ≤ longestLine
 unfolding lineOf decimal

@@ -6,7 +6,7 @@ use mathlib.Core.Bool.{_&&_, Bool, cond, false, true}
 use mathlib.Core.List.{[], _++_, _∷_, List}
 use mathlib.Core.Logic.{_⊎_, ⊎-elim}
 use mathlib.Core.Path.{_∙_, _≡_, ap, ap₂, refl, subst, sym}
-use lib.Dec.{eqb, leb, ltb}
+use lib.Dec.{leb}
 use lib.ListN.{drop, length, length-replicate}
 use borrow.Author.Tests.{le-leb, leb-true}
 use Rattle.clocked_model.proofs.Drain.{drain-left, drain-state}
@@ -15,15 +15,14 @@ use Rattle.clocked_model.proofs.Promises.{drained-fine, drained-left, held-says
 use Rattle.clocked_model.specs.Calls.{CycleOutcome, DrainOutcome, drains, ruleMarked, pending, popsOrReplaces, clearedMachine, cycled, cycleRun}
 use Rattle.clocked_model.specs.Promise.{ran, runs}
 use Rattle.clocked_model.specs.declared.State.{State}
-use Rattle.laws.specs.Tests.{and-left, and-right, and-true}
+use Rattle.laws.specs.Tests.{and-left, and-right, and-true, cond-both}
 use Rattle.promise.specs.Queue.{leaves}
 use Rattle.promise.specs.Served.{always}
 use Rattle.strip.specs.Answers.{countOf, numberOf, refusalNumber}
-use Rattle.strip.specs.declared.Answer.the-variants.{Done, Out, Refused}
+use Rattle.strip.specs.declared.Answer.the-variants.{Refused}
 use Rattle.strip.specs.declared.Refusal.{Refusal}
-use Rattle.strip.specs.declared.Refusal.the-variants.{BadRank, BadShape, Damaged, Empty, Full, TooSoon}
+use Rattle.strip.specs.declared.Refusal.the-variants.{BadRank, BadShape, Damaged, Empty, Full, NoTag, TooSoon}
 use Rattle.strip.specs.declared.Request.{Request}
-use Rattle.strip.specs.declared.Request.the-variants.{Idle, Pop, Push, Replace}
 use Rattle.trace.specs.Format.{byteAt, doneWord, endLine, headerBytes, headerOf, markOk, outWord, recordsOf, refusalWord, traceLimit, traceShape, wordOf}
 use Rattle.trace.specs.Program.{emptyStore, endOf, storeWords}
 use Rattle.trace.specs.Promise.{Silent, TraceWorded, Worded, WordedBy}
@@ -32,41 +31,32 @@ use Rattle.trace.specs.declared.Header.the-variants.{Shape as Shaped, Wr
 use Rattle.trace.specs.declared.Record.{Record}
 use Rattle.trace.specs.declared.Record.the-variants.{Bad, Good}
 use Rattle.tree_model.proofs.Exactly.{is-shape, shape-is}
-use Rattle.tree_model.specs.Calls.{heldCount, orderOk, rule, ruling, shapeOk, slotLimit}
+use Rattle.tree_model.proofs.Rules.{comes}
+use Rattle.tree_model.specs.Calls.{heldCount, orderOk, rule, ruling, Ruling, shapeOk, slotLimit}
 use Rattle.tree_model.specs.Damage.{room}
-use Rattle.tree_model.specs.Node.{low, sumCounts}
 use Rattle.tree_model.specs.Promise.{Shape, stored}
+use Rattle.tree_model.specs.Rules.{Comes, empty, full, idles, lacks, no-tag, puts, swaps, takes}
 use Rattle.tree_model.specs.Words.{slotWords}
-use Rattle.tree_model.specs.declared.Op.the-variants.{Nothing, Put, Swap, Take}
+use Rattle.tree_model.specs.declared.Op.the-variants.{Nothing}
 use Rattle.tree_model.specs.declared.Slot.{Slot}
 
 -- ---- what a request comes to has a word
+comes-word : (c : ℕ) (nd : List Slot) (r : Request) (g : Ruling) → Comes c nd r g → wordOf r (g .answer) ≡ [] → ⊥
+unfolding wordOf doneWord refusalWord outWord
+comes-word c nd r g idles e = omega (arith, ap length e)
+comes-word c nd r g (no-tag r′ u) e = omega (arith, ap length e)
+comes-word c nd r g (puts x u h) e = omega (arith, ap length e)
+comes-word c nd r g (full x u h) e = omega (arith, ap length e)
+comes-word c nd r g (takes h) e = omega (arith, ap length e)
+comes-word c nd r g (empty h) e = omega (arith, ap length e)
+comes-word c nd r g (swaps x u h) e = omega (arith, ap length e)
+comes-word c nd r g (lacks x u h) e = omega (arith, ap length e)
+
 ruleMarked-word : (mark : Bool) (r : Request) (c : ℕ) (nd : List Slot) → wordOf r (ruleMarked mark r (rule c r nd) .answer) ≡ [] → ⊥
-unfolding ruleMarked rule popsOrReplaces wordOf doneWord refusalWord outWord
-ruleMarked-word true Idle c nd e = absurd (omega (arith, ap length e))
-ruleMarked-word false Idle c nd e = absurd (omega (arith, ap length e))
-ruleMarked-word true (Push x) c nd e = pushed (ltb (sumCounts nd) c) e
-  where
-    pushed : (b : Bool) → wordOf (Push x) (cond b (ruling Done (Put x)) (ruling (Refused Full) Nothing) .answer) ≡ [] → ⊥
-    pushed true e = absurd (omega (arith, ap length e))
-    pushed false e = absurd (omega (arith, ap length e))
-ruleMarked-word false (Push x) c nd e = pushed (ltb (sumCounts nd) c) e
-  where
-    pushed : (b : Bool) → wordOf (Push x) (cond b (ruling Done (Put x)) (ruling (Refused Full) Nothing) .answer) ≡ [] → ⊥
-    pushed true e = absurd (omega (arith, ap length e))
-    pushed false e = absurd (omega (arith, ap length e))
-ruleMarked-word true Pop c nd e = absurd (omega (arith, ap length e))
-ruleMarked-word false Pop c nd e = popped (eqb (sumCounts nd) 0) e
-  where
-    popped : (b : Bool) → wordOf Pop (cond b (ruling (Refused Empty) Nothing) (ruling (Out (low nd)) Take) .answer) ≡ [] → ⊥
-    popped true e = absurd (omega (arith, ap length e))
-    popped false e = absurd (omega (arith, ap length e))
-ruleMarked-word true (Replace x) c nd e = absurd (omega (arith, ap length e))
-ruleMarked-word false (Replace x) c nd e = replaced (eqb (sumCounts nd) 0) e
-  where
-    replaced : (b : Bool) → wordOf (Replace x) (cond b (ruling (Refused Empty) Nothing) (ruling (Out (low nd)) (Swap x)) .answer) ≡ [] → ⊥
-    replaced true e = absurd (omega (arith, ap length e))
-    replaced false e = absurd (omega (arith, ap length e))
+unfolding ruleMarked wordOf refusalWord
+ruleMarked-word mark r c nd =
+    cond-both (λ (g : Ruling). wordOf r (g .answer) ≡ [] → ⊥) (mark && popsOrReplaces r) (ruling (Refused TooSoon) Nothing) (rule c r nd) (λ t e. omega (arith, ap length e))
+    (λ t. comes-word c nd r (rule c r nd) (comes c r nd))
 
 pred-le : (n : ℕ) → pred n ≤ n
 pred-le zero = omega arith
@@ -93,16 +83,17 @@ module _ (m levels : ℕ) (ws : List ℕ) (sh : Shape m levels (length ws)) wher
   pub none-silent : (rs : List Request) (r : Request) (n : Refusal) → Silent n → cycled m levels r (stateAt rs) (wordsAt rs) .answer ≡ Refused n → ⊥
   none-silent rs r n q e = go n q (sym (ap numberOf e)) (numbers m ws rs levels sh r)
     where
-      other : (a k : ℕ) → k ≡ a → (k ≡ 0 → ⊥) → (k ≡ 3 → ⊥) → (k ≡ 5 → ⊥) → (k ≡ 6 → ⊥) → (a ≡ 0) ⊎ (a ≡ 3) ⊎ (a ≡ 5) ⊎ (a ≡ 6) → ⊥
-      other a k h no0 no3 no5 no6 = ⊎-elim (λ d. no0 (h ∙ d)) (⊎-elim (λ d. no3 (h ∙ d)) (⊎-elim (λ d. no5 (h ∙ d)) (λ d. no6 (h ∙ d))))
+      other : (a k : ℕ) → k ≡ a → (k ≡ 0 → ⊥) → (k ≡ 3 → ⊥) → (k ≡ 5 → ⊥) → (k ≡ 6 → ⊥) → (k ≡ 7 → ⊥) → (a ≡ 0) ⊎ (a ≡ 3) ⊎ (a ≡ 5) ⊎ (a ≡ 6) ⊎ (a ≡ 7) → ⊥
+      other a k h no0 no3 no5 no6 no7 = ⊎-elim (λ d. no0 (h ∙ d)) (⊎-elim (λ d. no3 (h ∙ d)) (⊎-elim (λ d. no5 (h ∙ d)) (⊎-elim (λ d. no6 (h ∙ d)) (λ d. no7 (h ∙ d)))))
 
-      go : (n : Refusal) → Silent n → refusalNumber n ≡ numberOf (cycled m levels r (stateAt rs) (wordsAt rs) .answer) → (numberOf (cycled m levels r (stateAt rs) (wordsAt rs) .answer) ≡ 0) ⊎ (numberOf (cycled m levels r (stateAt rs) (wordsAt rs) .answer) ≡ 3) ⊎ (numberOf (cycled m levels r (stateAt rs) (wordsAt rs) .answer) ≡ 5) ⊎ (numberOf (cycled m levels r (stateAt rs) (wordsAt rs) .answer) ≡ 6) → ⊥
-      go BadShape q h = other _ 1 h (λ d. omega arith) (λ d. omega arith) (λ d. omega arith) (λ d. omega arith)
-      go Damaged q h = other _ 2 h (λ d. omega arith) (λ d. omega arith) (λ d. omega arith) (λ d. omega arith)
+      go : (n : Refusal) → Silent n → refusalNumber n ≡ numberOf (cycled m levels r (stateAt rs) (wordsAt rs) .answer) → (numberOf (cycled m levels r (stateAt rs) (wordsAt rs) .answer) ≡ 0) ⊎ (numberOf (cycled m levels r (stateAt rs) (wordsAt rs) .answer) ≡ 3) ⊎ (numberOf (cycled m levels r (stateAt rs) (wordsAt rs) .answer) ≡ 5) ⊎ (numberOf (cycled m levels r (stateAt rs) (wordsAt rs) .answer) ≡ 6) ⊎ (numberOf (cycled m levels r (stateAt rs) (wordsAt rs) .answer) ≡ 7) → ⊥
+      go BadShape q h = other _ 1 h (λ d. omega arith) (λ d. omega arith) (λ d. omega arith) (λ d. omega arith) (λ d. omega arith)
+      go Damaged q h = other _ 2 h (λ d. omega arith) (λ d. omega arith) (λ d. omega arith) (λ d. omega arith) (λ d. omega arith)
       go TooSoon q h = absurd q
-      go BadRank q h = other _ 4 h (λ d. omega arith) (λ d. omega arith) (λ d. omega arith) (λ d. omega arith)
+      go BadRank q h = other _ 4 h (λ d. omega arith) (λ d. omega arith) (λ d. omega arith) (λ d. omega arith) (λ d. omega arith)
       go Full q h = absurd q
       go Empty q h = absurd q
+      go NoTag q h = absurd q
 
   word-some : (rs : List Request) (r : Request) → wordOf r (cycled m levels r (stateAt rs) (wordsAt rs) .answer) ≡ [] → ⊥
   unfolding cycleRun

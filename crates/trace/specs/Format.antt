@@ -9,7 +9,7 @@ use Rattle.strip.specs.declared.Answer.{Answer}
 use Rattle.strip.specs.declared.Answer.the-variants.{Done, Out, Refused}
 use Rattle.strip.specs.declared.Element.{Element}
 use Rattle.strip.specs.declared.Refusal.{Refusal}
-use Rattle.strip.specs.declared.Refusal.the-variants.{BadRank, BadShape, Damaged, Empty, Full, TooSoon}
+use Rattle.strip.specs.declared.Refusal.the-variants.{BadRank, BadShape, Damaged, Empty, Full, NoTag, TooSoon}
 use Rattle.strip.specs.declared.Request.{Request}
 use Rattle.strip.specs.declared.Request.the-variants.{Idle, Pop, Push, Replace}
 use Rattle.text.specs.Text.{bytesOf, decimal}
@@ -28,7 +28,7 @@ doneWord (Push x) = bytesOf "pushed"
 doneWord Pop = []
 doneWord (Replace x) = []
 
--- too soon, full, empty; the others have no word, and a cleared machine never gives them
+-- too soon, full, empty, and "The trace writes `no tag`" (02 [1]); the others have no word, and a cleared machine never gives them
 unfoldable pub refusalWord : Refusal → List ℕ
 refusalWord BadShape = []
 refusalWord Damaged = []
@@ -36,6 +36,7 @@ refusalWord TooSoon = bytesOf "too soon"
 refusalWord BadRank = []
 refusalWord Full = bytesOf "full"
 refusalWord Empty = bytesOf "empty"
+refusalWord NoTag = bytesOf "no tag"
 
 -- out R T
 unfoldable pub outWord : Element → List ℕ

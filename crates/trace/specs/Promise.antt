@@ -6,7 +6,7 @@ use lib.ListN.{drop}
 use Rattle.clocked_model.specs.Calls.{clearedMachine, cycled}
 use Rattle.clocked_model.specs.declared.State.{State}
 use Rattle.strip.specs.declared.Refusal.{Refusal}
-use Rattle.strip.specs.declared.Refusal.the-variants.{BadRank, BadShape, Damaged, Empty, Full, TooSoon}
+use Rattle.strip.specs.declared.Refusal.the-variants.{BadRank, BadShape, Damaged, Empty, Full, NoTag, TooSoon}
 use Rattle.trace.specs.Format.{headerBytes, headerOf, recordsOf, wordOf}
 use Rattle.trace.specs.Program.{emptyStore}
 use Rattle.trace.specs.declared.Header.{Header}
@@ -22,6 +22,7 @@ Silent TooSoon = ⊥
 Silent BadRank = Unit {0}
 Silent Full = ⊥
 Silent Empty = ⊥
+Silent NoTag = ⊥
 
 -- every line that these records write has a word
 abbrev pub Worded : ℕ → ℕ → State → List ℕ → List Record → Type 0

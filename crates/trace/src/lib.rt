@@ -61,6 +61,7 @@ fn put_refusal(out: &mut [u8], at: usize, refusal: Refusal) -> usize
         Refusal::TooSoon => put_bytes(out, at, b"too soon"),
         Refusal::Full => put_bytes(out, at, b"full"),
         Refusal::Empty => put_bytes(out, at, b"empty"),
+        Refusal::NoTag => put_bytes(out, at, b"no tag"),
         Refusal::BadShape => at,
         Refusal::Damaged => at,
         Refusal::BadRank => at,

@@ -10,17 +10,18 @@ use mathlib.Core.Path.{_∙_, _≡_, ap, ap₂, refl, sym}
 use lib.ListN.{drop, length, replicate}
 use borrow.Author.Tests.{lt-ltb, not-false, not-true}
 use Rattle.laws.specs.Tests.{and-left, and-right, sub-one}
-use Rattle.node.proofs.Rulings.{pop-empty, pop-takes, push-full, push-puts, replace-empty, replace-swaps}
+use Rattle.node.proofs.Rulings.{pop-empty, pop-takes, push-full, push-puts, push-untagged, replace-empty, replace-swaps, replace-untagged}
 use Rattle.node.proofs.Scan.{low-found}
 use Rattle.node.proofs.Steps.{lowest-in, room-next, room-up, some-test}
 use Rattle.node.specs.Scan.{Capacity}
+use Rattle.strip.specs.Answers.{untagged}
 use Rattle.strip.specs.declared.Answer.{Answer}
 use Rattle.strip.specs.declared.Answer.the-variants.{Done, Out, Refused}
 use Rattle.strip.specs.declared.Count.{Count}
 use Rattle.strip.specs.declared.Count.the-variants.{Held, Unknown}
 use Rattle.strip.specs.declared.Element.{Element}
 use Rattle.strip.specs.declared.Refusal.{Refusal}
-use Rattle.strip.specs.declared.Refusal.the-variants.{BadShape, Damaged, Empty, Full}
+use Rattle.strip.specs.declared.Refusal.the-variants.{BadShape, Damaged, Empty, Full, NoTag}
 use Rattle.strip.specs.declared.Request.{Request}
 use Rattle.strip.specs.declared.Request.the-variants.{Pop, Push, Replace}
 use Rattle.tree_model.proofs.Exactly.{called-bad, called-fine, called-root, called-way, room-less, root-limit, shape-is, words-none}
@@ -36,7 +37,7 @@ use Rattle.tree_model.specs.Words.{applyWords, levelsOf, nodeOf, slotOf, wipe}
 use Rattle.tree_model.specs.declared.Op.{Op}
 use Rattle.tree_model.specs.declared.Op.the-variants.{Nothing, Put, Swap, Take}
 use Rattle.tree_model.specs.declared.Slot.{Slot}
-use Rattle.tree.specs.Down.{Carried, Looked, Placed, Stands}
+use Rattle.tree.specs.Down.{Bars, Carried, Looked, Placed, Stands}
 use Rattle.tree.proofs.Once.{below-ne, on-path, tested}
 
 -- ---- the shape
@@ -50,6 +51,47 @@ counted-shape m levels ws t e p = rw (← e, not-true t p)
 pub clear-shape : (m levels : ℕ) (ws : List ℕ) (t : Bool) → t ≡ shapeOk m levels (length ws) → not t ≡ true → outcome (Refused BadShape) ws ≡ cleared m levels ws
 unfolding cleared
 clear-shape m levels ws t e p = rw (← e, not-true t p)
+
+-- ---- a root that is in order, and nothing is to be done: the answer alone
+still : (m levels : ℕ) (ws : List ℕ) → shapeOk m levels (length ws) ≡ true → rootOk m levels ws ≡ true → (r : Request) (a : Answer) → ruleAt m levels r ws ≡ ruling a Nothing
+    → outcome a ws ≡ called m levels r ws
+still m levels ws s o r a rules =
+    let n : work (ruleAt m levels r ws .op) 0 .op ≡ Nothing = op-work (ruleAt m levels r ws .op) 0 ∙ ap (λ (g : Ruling). g .op) rules in
+    sym (called-fine m levels r ws s o (path-none m levels (work (ruleAt m levels r ws .op) 0) (levelsOf m levels ws 0 1) n)
+    ∙ ap₂ outcome (ap (λ (g : Ruling). g .answer) rules) (words-none m levels (work (ruleAt m levels r ws .op) 0) 0 1 ws n))
+
+-- ---- what held answers says of every call
+module _ (m levels : ℕ) (ws : List ℕ) where
+  -- refused, every call is refused alike
+  pub held-refused : (why : Refusal) → Unknown why ≡ heldCount m levels ws → (r : Request) → outcome (Refused why) ws ≡ called m levels r ws
+  unfolding heldCount
+  held-refused why e r = go (shapeOk m levels (length ws)) refl (rootOk m levels ws) refl e
+    where
+      go : (s : Bool) → shapeOk m levels (length ws) ≡ s → (o : Bool) → rootOk m levels ws ≡ o
+          → Unknown why ≡ cond s (cond o (Held (sumCounts (rootOf m ws))) (Unknown Damaged)) (Unknown BadShape) → outcome (Refused why) ws ≡ called m levels r ws
+      go false s o p z = let w : why ≡ BadShape = cc in ap (λ (w : Refusal). outcome (Refused w) ws) w ∙ sym (called-bad m levels r ws s)
+      go true s false o z = let w : why ≡ Damaged = cc in ap (λ (w : Refusal). outcome (Refused w) ws) w ∙ sym (called-root m levels r ws s o)
+      go true s true o z = let n : _≡_ {A = ℕ} 0 1 = cc in absurd (omega arith)
+
+  -- and else the shape and the root are in order
+  pub held-fine : (n : ℕ) → Held n ≡ heldCount m levels ws → (shapeOk m levels (length ws) ≡ true) × (rootOk m levels ws ≡ true) × (n ≡ sumCounts (rootOf m ws))
+  unfolding heldCount
+  held-fine n e = go (shapeOk m levels (length ws)) refl (rootOk m levels ws) refl e
+    where
+      go : (s : Bool) → shapeOk m levels (length ws) ≡ s → (o : Bool) → rootOk m levels ws ≡ o
+          → Held n ≡ cond s (cond o (Held (sumCounts (rootOf m ws))) (Unknown Damaged)) (Unknown BadShape) → (s ≡ true) × (o ≡ true) × (n ≡ sumCounts (rootOf m ws))
+      go false s o p z = let n : _≡_ {A = ℕ} 0 1 = cc in absurd (omega arith)
+      go true s false o z = let n : _≡_ {A = ℕ} 0 1 = cc in absurd (omega arith)
+      go true s true o z = (refl, refl, cc)
+
+  -- ---- an element without a tag
+  pub bar-refused : (c : Count) (why : Refusal) → c ≡ heldCount m levels ws → c ≡ Unknown why → Bars m levels ws (Refused why)
+  bar-refused c why e u x none = let p = held-refused why (sym u ∙ e) in (p (Push x), p (Replace x))
+
+  pub bar-tag : (c : Count) (n : ℕ) → c ≡ heldCount m levels ws → c ≡ Held n → Bars m levels ws (Refused NoTag)
+  bar-tag c n e u x none =
+      let f = held-fine n (sym u ∙ e) in
+      (still m levels ws (f .0) (f .1) (Push x) (Refused NoTag) (push-untagged m levels ws x none), still m levels ws (f .0) (f .1) (Replace x) (Refused NoTag) (replace-untagged m levels ws x none))
 
 -- what is known once the shape is tested, and the room below the root's slots counted
 pub record Fit (m levels cap : ℕ) (ws : List ℕ) : Type 0 where
@@ -121,13 +163,6 @@ module _ {m levels cap : ℕ} {ws : List ℕ} (f : Fit m levels cap ws) where
 
   -- ---- a request by its ruling, at a root that is in order
   module _ (root : rootOk m levels ws ≡ true) (r : Request) (a : Answer) (o : Op) (rules : ruleAt m levels r ws ≡ ruling a o) where
-    -- nothing is to be done: the answer alone
-    still : o ≡ Nothing → outcome a ws ≡ called m levels r ws
-    still n =
-        let z : ruleAt m levels r ws .op ≡ Nothing = ap (λ (g : Ruling). g .op) rules ∙ n in
-        sym (called-fine m levels r ws (f .shaped) root (path-none m levels (work (ruleAt m levels r ws .op) 0) (levelsOf m levels ws 0 1) (op-work (ruleAt m levels r ws .op) 0 ∙ z))
-        ∙ ap₂ outcome (ap (λ (g : Ruling). g .answer) rules) (words-none m levels (work (ruleAt m levels r ws .op) 0) 0 1 ws (op-work (ruleAt m levels r ws .op) 0 ∙ z)))
-
     -- the operation answers whether its path was in order, and has done all of it or nothing
     module _ (t : Bool) (q : List ℕ) (d : Carried m levels 0 o ws t q) where
       way-is : (b : Bool) → t ≡ b → wayOk m levels (ruleAt m levels r ws .op) ws ≡ b
@@ -161,10 +196,10 @@ module _ {m levels cap : ℕ} {ws : List ℕ} (f : Fit m levels cap ws) where
         go (suc s) p = absurd (omega (arith, lowest-in m ws 0 j (omega arith) place))
 
     pub pop-none : j ≡ m → outcome (Refused Empty) ws ≡ called m levels Pop ws
-    pop-none e = still root-fine Pop (Refused Empty) Nothing (pop-empty m levels ws _ refl (root-none e)) refl
+    pop-none e = still m levels ws (f .shaped) root-fine Pop (Refused Empty) (pop-empty m levels ws _ refl (root-none e))
 
-    pub replace-none : (x : Element) → j ≡ m → outcome (Refused Empty) ws ≡ called m levels (Replace x) ws
-    replace-none x e = still root-fine (Replace x) (Refused Empty) Nothing (replace-empty m levels ws _ refl x (root-none e)) refl
+    pub replace-none : (x : Element) → untagged x ≡ false → j ≡ m → outcome (Refused Empty) ws ≡ called m levels (Replace x) ws
+    replace-none x tag e = still m levels ws (f .shaped) root-fine (Replace x) (Refused Empty) (replace-empty m levels ws _ refl x tag (root-none e))
 
     pub opened : (j ≡ m → ⊥) → j ≤ m → Opened m levels cap j ws
     opened n most =
@@ -187,7 +222,7 @@ module _ {m levels cap : ℕ} {ws : List ℕ} (f : Fit m levels cap ws) where
   known : Capacity m levels (room m levels)
   known = record { within = λ h. refl; above = λ h. h }
 
-  module _ (x : Element) (p : Bool) (q : List ℕ) (d : Carried m levels 0 (Put x) ws p q) where
+  module _ (x : Element) (tag : untagged x ≡ false) (p : Bool) (q : List ℕ) (d : Carried m levels 0 (Put x) ws p q) where
     -- a put that is done had room at the root
     pub push-done : p ≡ true → outcome Done q ≡ called m levels (Push x) ws
     unfolding stepOk readOk isNothing
@@ -200,37 +235,25 @@ module _ {m levels cap : ℕ} {ws : List ℕ} (f : Fit m levels cap ws) where
         let less : sumCounts nd < length nd * suc r = room-less r nd ok (and-right (nodeOk r nd) (hasRoom r nd) read) in
         let top : length nd * suc r ≡ room m levels = ap (λ (n : ℕ). n * suc r) (node-length m ws 0) ∙ room-top in
         let root : rootOk m levels ws ≡ true = ap (λ (n : ℕ). nodeOk (room m n) nd) (sym (sub-one levels)) ∙ ok in
-        carried root (Push x) Done (Put x) (push-puts m levels ws (sumCounts nd) refl x (room m levels) known (f .shape .capacity) (omega arith)) p q d e
+        carried root (Push x) Done (Put x) (push-puts m levels ws (sumCounts nd) refl x tag (room m levels) known (f .shape .capacity) (omega arith)) p q d e
 
     module _ (no : p ≡ false) where
       same-words : q ≡ ws
       same-words = d 0 1 0 root-placed .1 ∙ ap (λ (t : Bool). cond t (applyWords m levels (work (Put x) 0) 0 1 ws) ws) no
 
-      counted-as : (c : Count) → c ≡ heldCount m levels q → c ≡ cond (rootOk m levels ws) (Held (sumCounts (rootOf m ws))) (Unknown Damaged)
-      unfolding heldCount
-      counted-as c e = e ∙ ap (heldCount m levels) same-words ∙ rw (f .shaped)
-
       pub push-root : (why : Refusal) → Unknown why ≡ heldCount m levels q → outcome (Refused why) q ≡ called m levels (Push x) ws
-      push-root why e = ap (outcome (Refused why)) same-words ∙ go (rootOk m levels ws) refl (counted-as (Unknown why) e)
-        where
-          go : (b : Bool) → rootOk m levels ws ≡ b → Unknown why ≡ cond b (Held (sumCounts (rootOf m ws))) (Unknown Damaged) → outcome (Refused why) ws ≡ called m levels (Push x) ws
-          go true o z = let n : _≡_ {A = ℕ} 0 1 = cc in absurd (omega arith)
-          go false o z = let w : why ≡ Damaged = cc in ap (λ (w : Refusal). outcome (Refused w) ws) w ∙ sym (called-root m levels (Push x) ws (f .shaped) o)
+      push-root why e = ap (outcome (Refused why)) same-words ∙ held-refused m levels ws why (e ∙ ap (heldCount m levels) same-words) (Push x)
 
       module _ (n : ℕ) (all : Held n ≡ heldCount m levels q) (most : ℕ) (count : Capacity m levels most) where
         held-is : (rootOk m levels ws ≡ true) × (n ≡ sumCounts (rootOf m ws))
-        held-is = go (rootOk m levels ws) refl (counted-as (Held n) all)
-          where
-            go : (b : Bool) → rootOk m levels ws ≡ b → Held n ≡ cond b (Held (sumCounts (rootOf m ws))) (Unknown Damaged) → (b ≡ true) × (n ≡ sumCounts (rootOf m ws))
-            go true o z = (refl, cc)
-            go false o z = let n : _≡_ {A = ℕ} 0 1 = cc in absurd (omega arith)
+        held-is = let h = held-fine m levels ws n (all ∙ ap (heldCount m levels) same-words) in (h .1, h .2)
 
         pub push-below : n < most → outcome (Refused Damaged) q ≡ called m levels (Push x) ws
-        push-below h = broken (held-is .0) (Push x) Done (Put x) (push-puts m levels ws n (held-is .1) x most count (f .shape .capacity) h) p q d no
+        push-below h = broken (held-is .0) (Push x) Done (Put x) (push-puts m levels ws n (held-is .1) x tag most count (f .shape .capacity) h) p q d no
 
         pub push-over : most ≤ n → outcome (Refused Full) q ≡ called m levels (Push x) ws
         push-over h =
-            ap (outcome (Refused Full)) same-words ∙ still (held-is .0) (Push x) (Refused Full) Nothing (push-full m levels ws n (held-is .1) x most count (f .shape .capacity) h) refl
+            ap (outcome (Refused Full)) same-words ∙ still m levels ws (f .shaped) (held-is .0) (Push x) (Refused Full) (push-full m levels ws n (held-is .1) x tag most count (f .shape .capacity) h)
 
 -- ---- pop and replace at a root that holds something
 module _ {m levels cap j : ℕ} {ws : List ℕ} (o : Opened m levels cap j ws) (a : Slot) (read : a ≡ slotOf ws j) where
@@ -247,9 +270,9 @@ module _ {m levels cap j : ℕ} {ws : List ℕ} (o : Opened m levels cap j ws) (
     pub pop-done : not t ≡ false → outcome (Out (a .element)) q ≡ called m levels Pop ws
     pop-done e = carried (o .fits) (o .fine) Pop (Out (a .element)) Take takes t q d (not-false t e)
 
-  module _ (x : Element) (t : Bool) (q : List ℕ) (d : Carried m levels 0 (Swap x) ws t q) where
+  module _ (x : Element) (tag : untagged x ≡ false) (t : Bool) (q : List ℕ) (d : Carried m levels 0 (Swap x) ws t q) where
     swaps : ruleAt m levels (Replace x) ws ≡ ruling (Out (a .element)) (Swap x)
-    swaps = replace-swaps m levels ws _ refl (o .some) (a .element) low-is x
+    swaps = replace-swaps m levels ws _ refl (o .some) (a .element) low-is x tag
 
     pub replace-broken : not t ≡ true → outcome (Refused Damaged) q ≡ called m levels (Replace x) ws
     replace-broken e = broken (o .fits) (o .fine) (Replace x) (Out (a .element)) (Swap x) swaps t q d (not-true t e)

@@ -1,10 +1,14 @@
--- What the recursions over the levels ask of the words. Assumes nothing: these are definitions.
+-- What the recursions over the levels ask of the words, and what a call without a tag is answered. Assumes nothing: these are definitions.
 use Prim.Native.Nat.{_*_, _+_, _-_, _<_, _≤_, ℕ}
 use mathlib.Core.Bool.{Bool, cond, true}
 use mathlib.Core.List.{List}
 use mathlib.Core.Path.{_≡_}
 use lib.ListN.{length}
-use Rattle.tree_model.specs.Calls.{slotLimit}
+use Rattle.strip.specs.Answers.{untagged}
+use Rattle.strip.specs.declared.Answer.{Answer}
+use Rattle.strip.specs.declared.Element.{Element}
+use Rattle.strip.specs.declared.Request.the-variants.{Push, Replace}
+use Rattle.tree_model.specs.Calls.{called, outcome, slotLimit}
 use Rattle.tree_model.specs.Damage.{nodeOk, pathOk, room}
 use Rattle.tree_model.specs.Levels.{work}
 use Rattle.tree_model.specs.Node.{lowest}
@@ -45,3 +49,8 @@ pub record Looked (m k at j cap : ℕ) (ws : List ℕ) : Type 0 where
 abbrev pub Carried : ℕ → ℕ → ℕ → Op → List ℕ → Bool → List ℕ → Type 0
 Carried m k at o ws r ws′ =
     (b c n : ℕ) → Placed m k at b c n ws → (r ≡ pathOk m k (work o n) (levelsOf m k ws b c)) × (ws′ ≡ cond r (applyWords m k (work o n) b c ws) ws)
+
+-- the answer of a push and of a replace of any element without a tag; every word stands
+abbrev pub Bars : ℕ → ℕ → List ℕ → Answer → Type 0
+Bars m levels ws a =
+    (x : Element) → untagged x ≡ true → (outcome a ws ≡ called m levels (Push x) ws) × (outcome a ws ≡ called m levels (Replace x) ws)

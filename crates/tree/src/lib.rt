@@ -1,7 +1,7 @@
 // The multi-way tree, one operation at a time, over lent words. A node is named by its first slot.
 ghost use mathlib.Core.Path.{_≡_};
 ghost use Rattle.tree_model.specs.Calls.{outcome, called, cleared, heldCount};
-ghost use Rattle.tree.specs.Down.{Carried, Looked, Stands};
+ghost use Rattle.tree.specs.Down.{Bars, Carried, Looked, Stands};
 use node::capacity;
 use node::goes_down;
 use node::look_least;
@@ -18,6 +18,7 @@ use strip::Count;
 use strip::Element;
 use strip::Refusal;
 use strip::Request;
+use strip::is_untagged;
 use strip::no_element;
 use tree_model::Op;
 use tree_model::Slot;
@@ -160,10 +161,23 @@ pub fn held(store: &[u32], order: usize, levels: usize) -> Count
     Count::Held(sum_counts(store, 0, order) as u32)
 }
 
+// A push or replace without a tag: the root is tested all the same, since damage comes first, and nothing below it is read.
+fn bar(store: &[u32], order: usize, levels: usize) -> Answer
+    ensures { λ r. ⌜ Bars order levels (now (store .entry)) r ⌝ }
+{
+    match held(store, order, levels) {
+        Count::Unknown(why) => Answer::Refused(why),
+        Count::Held(_) => Answer::Refused(Refusal::NoTag),
+    }
+}
+
 // The put comes first: where it is done there was room, and the root was read once.
 pub fn push(store: &mut [u32], order: usize, levels: usize, x: Element) -> Answer
     ensures { λ r. ⌜ outcome r (now (store .exit)) ≡ called order levels (Request.Push x) (now (store .entry)) ⌝ }
 {
+    if is_untagged(x) {
+        return bar(store, order, levels);
+    }
     if !shape_ok(order, levels, store.len()) {
         return Answer::Refused(Refusal::BadShape);
     }
@@ -211,6 +225,9 @@ pub fn pop(store: &mut [u32], order: usize, levels: usize) -> Answer
 pub fn replace(store: &mut [u32], order: usize, levels: usize, x: Element) -> Answer
     ensures { λ r. ⌜ outcome r (now (store .exit)) ≡ called order levels (Request.Replace x) (now (store .entry)) ⌝ }
 {
+    if is_untagged(x) {
+        return bar(store, order, levels);
+    }
     if !shape_ok(order, levels, store.len()) {
         return Answer::Refused(Refusal::BadShape);
     }

@@ -17,8 +17,9 @@ use Rattle.laws.specs.Ladder as ladder
 use Rattle.laws.specs.Lists.{All}
 use Rattle.laws.specs.Means.{Means, means-and, means-by, means-leb}
 use Rattle.laws.specs.Tests.{and-left, and-right, or-right}
-use Rattle.promise.specs.Refused.{IsPush, limits, refusal-told, zero-told}
+use Rattle.promise.specs.Refused.{IsPush, limits, refusal-told, Untagged, zero-told}
 use Rattle.promise.specs.Served.{Kind}
+use Rattle.promise.specs.Tagged.{Barred}
 use Rattle.strip.specs.Answers.{countNumber, numberOf, refusalNumber}
 use Rattle.strip.specs.declared.Answer.{Answer}
 use Rattle.strip.specs.declared.Answer.the-variants.{Done, Out, Refused}
@@ -26,7 +27,7 @@ use Rattle.strip.specs.declared.Count.{Count}
 use Rattle.strip.specs.declared.Count.the-variants.{Held, Unknown}
 use Rattle.strip.specs.declared.Element.{Element}
 use Rattle.strip.specs.declared.Refusal.{Refusal}
-use Rattle.strip.specs.declared.Refusal.the-variants.{BadShape, Damaged, Empty, Full}
+use Rattle.strip.specs.declared.Refusal.the-variants.{BadShape, Damaged, Empty, Full, NoTag}
 use Rattle.strip.specs.declared.Request.{Request}
 use Rattle.tree_model.proofs.Nothing.{op-work, work-none}
 use Rattle.tree_model.proofs.Rules.{comes}
@@ -36,7 +37,7 @@ use Rattle.tree_model.specs.Damage.{workOk, hasRoom, hasSome, isBlank, l
 use Rattle.tree_model.specs.Levels.{Level, Levels, stepWork, top, work}
 use Rattle.tree_model.specs.Node.{every, isEmpty, isNothing, low, lowest, slotAt, sumCounts}
 use Rattle.tree_model.specs.Promise.{clearRefusals, Damage, heldRefusals, Lifts, NodeDamaged, PathDamaged, ReadDamaged, refusals, Shape, SlotDamaged, Some, StepDamaged, WorkDamaged}
-use Rattle.tree_model.specs.Rules.{Comes, empty, full, idles, lacks, puts, swaps, takes}
+use Rattle.tree_model.specs.Rules.{Comes, empty, full, idles, lacks, no-tag, puts, swaps, takes}
 use Rattle.tree_model.specs.Words.{applyWords, levelOf, levelsOf, stepWords, under, wipe}
 use Rattle.tree_model.specs.declared.Op.{Op}
 use Rattle.tree_model.specs.declared.Op.the-variants.{Nothing, Put, Swap, Take}
@@ -232,10 +233,11 @@ words-none m (suc k) w b c ws e =
     words-none m k _ (b + c * m) (c * m) _ (ap (λ (v : Work). v .op) (work-none m w (levelOf m ws b c) (top k (under m k ws b c)) e))
     ∙ ap (λ (o : Op). stepWords m k (record { op = o; node = w .node }) b c ws) e
 
--- 5 and 6. What a request comes to at a root with at most c, made to an outcome by o: a ruling's answer is the outcome's, and a refused one
+-- 7, then 5 and 6. What a request comes to at a root with at most c, made to an outcome by o: a ruling's answer is the outcome's, and a refused one
 -- leaves behind what the table says
 module _ {O : Type 0} (answer : O → Answer) (left : Refusal → O) (left-says : (x : Refusal) → answer (left x) ≡ Refused x)
-    (o : Ruling → O) (says : (g : Ruling) → answer (o g) ≡ g .answer) (at-full : o (ruling (Refused Full) Nothing) ≡ left Full) (at-empty : o (ruling (Refused Empty) Nothing) ≡ left Empty) where
+    (o : Ruling → O) (says : (g : Ruling) → answer (o g) ≡ g .answer) (at-no-tag : o (ruling (Refused NoTag) Nothing) ≡ left NoTag)
+    (at-full : o (ruling (Refused Full) Nothing) ≡ left Full) (at-empty : o (ruling (Refused Empty) Nothing) ≡ left Empty) where
   abbrev number : O → ℕ
   number z = numberOf (answer z)
 
@@ -245,16 +247,26 @@ module _ {O : Type 0} (answer : O → Answer) (left : Refusal → O) (left-says 
   accepted : (a : Answer) (w : Op) → numberOf a ≡ 0 → Granted number left (o (ruling a w))
   accepted a w e r q = zero-told r (sym e ∙ ap numberOf (sym (says (ruling a w))) ∙ q ∙ ap numberOf (left-says r))
 
-  comes-exactly : (c : ℕ) (nd : List Slot) (r : Request) (g : Ruling) → Comes c nd r g → (IsPush r → sumCounts nd ≤ c) → Exactly number left (o g) (limits r (sumCounts nd) c ladder.fine)
-  comes-exactly c nd r g idles most = climb-fine number left _ (accepted Done Nothing refl)
-  comes-exactly c nd r g (puts x h) most = climb-stop number left tells Full _ _ ladder.fine (inl ((λ e. omega arith), climb-fine number left _ (accepted Done (Put x) refl)))
-  comes-exactly c nd r g (full x h) most = climb-stop number left tells Full _ _ ladder.fine (inr (omega (arith, most tt), at-full))
-  comes-exactly c nd r g (takes h) most = climb-stop number left tells Empty _ _ ladder.fine (inl ((λ e. omega arith), climb-fine number left _ (accepted (Out (low nd)) Take refl)))
-  comes-exactly c nd r g (empty h) most = climb-stop number left tells Empty _ _ ladder.fine (inr (h, at-empty))
-  comes-exactly c nd r g (swaps x h) most = climb-stop number left tells Empty _ _ ladder.fine (inl ((λ e. omega arith), climb-fine number left _ (accepted (Out (low nd)) (Swap x) refl)))
-  comes-exactly c nd r g (lacks x h) most = climb-stop number left tells Empty _ _ ladder.fine (inr (h, at-empty))
+  -- a request that has its tag, or brings none
+  tagged : (r : Request) (g : Ruling) (l : Ladder Refusal) → (Untagged r → ⊥) → Exactly number left (o g) l → Exactly number left (o g) (stop NoTag (Untagged r) l)
+  tagged r g l n x = climb-stop number left tells NoTag _ _ l (inl (n, x))
 
-  pub limits-exactly : (c : ℕ) (r : Request) (nd : List Slot) → (IsPush r → sumCounts nd ≤ c) → Exactly number left (o (rule c r nd)) (limits r (sumCounts nd) c ladder.fine)
+  comes-exactly : (c : ℕ) (nd : List Slot) (r : Request) (g : Ruling) → Comes c nd r g → (IsPush r → sumCounts nd ≤ c)
+      → Exactly number left (o g) (stop NoTag (Untagged r) (limits r (sumCounts nd) c ladder.fine))
+  comes-exactly c nd r g idles most = tagged r g _ (λ u. u) (climb-fine number left _ (accepted Done Nothing refl))
+  comes-exactly c nd r g (no-tag r′ u) most = climb-stop number left tells NoTag _ _ _ (inr (u, at-no-tag))
+  comes-exactly c nd r g (puts x u h) most =
+      tagged r g _ u (climb-stop number left tells Full _ _ ladder.fine (inl ((λ e. omega arith), climb-fine number left _ (accepted Done (Put x) refl))))
+  comes-exactly c nd r g (full x u h) most = tagged r g _ u (climb-stop number left tells Full _ _ ladder.fine (inr (omega (arith, most tt), at-full)))
+  comes-exactly c nd r g (takes h) most =
+      tagged r g _ (λ u. u) (climb-stop number left tells Empty _ _ ladder.fine (inl ((λ e. omega arith), climb-fine number left _ (accepted (Out (low nd)) Take refl))))
+  comes-exactly c nd r g (empty h) most = tagged r g _ (λ u. u) (climb-stop number left tells Empty _ _ ladder.fine (inr (h, at-empty)))
+  comes-exactly c nd r g (swaps x u h) most =
+      tagged r g _ u (climb-stop number left tells Empty _ _ ladder.fine (inl ((λ e. omega arith), climb-fine number left _ (accepted (Out (low nd)) (Swap x) refl))))
+  comes-exactly c nd r g (lacks x u h) most = tagged r g _ u (climb-stop number left tells Empty _ _ ladder.fine (inr (h, at-empty)))
+
+  pub limits-exactly : (c : ℕ) (r : Request) (nd : List Slot) → (IsPush r → sumCounts nd ≤ c)
+      → Exactly number left (o (rule c r nd)) (stop NoTag (Untagged r) (limits r (sumCounts nd) c ladder.fine))
   limits-exactly c r nd = comes-exactly c nd r _ (comes c r nd)
 
 module _ (m levels : ℕ) (ws : List ℕ) where
@@ -286,15 +298,15 @@ module _ (m levels : ℕ) (ws : List ℕ) where
   exactly r = by-shape _ _ (called-bad m levels r ws) (λ s sh. climb-stop said left refusal-told Damaged _ _ _ (go s sh (rootOk m levels ws) refl (wayOk m levels (ruleAt m levels r ws .op) ws) refl))
     where
       go : shapeOk m levels (length ws) ≡ true → Shape m levels (length ws) → (a : Bool) → rootOk m levels ws ≡ a → (b : Bool) → wayOk m levels (ruleAt m levels r ws .op) ws ≡ b
-          → ((Damage m levels r ws → ⊥) × Exactly said left (called m levels r ws) (limits r (sumCounts (rootOf m ws)) (room m levels) ladder.fine))
+          → ((Damage m levels r ws → ⊥) × Exactly said left (called m levels r ws) (stop NoTag (Untagged r) (limits r (sumCounts (rootOf m ws)) (room m levels) ladder.fine)))
           ⊎ (Damage m levels r ws × (called m levels r ws ≡ left Damaged))
       go s sh false o b w = inr (inl (node-fails (room m (pred levels)) (rootOf m ws) .found o), called-root m levels r ws s o)
       go s sh true o false w = inr (inr (path-fails m levels (work (ruleAt m levels r ws .op) 0) (levelsOf m levels ws 0 1) .found w), called-way m levels r ws s o w)
       go s sh true o true w =
           inl (
             no-damage m levels r ws o w,
-            subst (λ (o : Outcome). Exactly said left o (limits r (sumCounts (rootOf m ws)) (room m levels) ladder.fine)) (sym (called-fine m levels r ws s o w))
-                (limits-exactly (λ (o : Outcome). o .answer) left (λ x. refl) does (λ g. refl) (refused-stays Full) (refused-stays Empty) (room m levels) r (rootOf m ws) (λ p. root-limit m levels ws (sh .some) o)),
+            subst (λ (o : Outcome). Exactly said left o (stop NoTag (Untagged r) (limits r (sumCounts (rootOf m ws)) (room m levels) ladder.fine))) (sym (called-fine m levels r ws s o w))
+                (limits-exactly (λ (o : Outcome). o .answer) left (λ x. refl) does (λ g. refl) (refused-stays NoTag) (refused-stays Full) (refused-stays Empty) (room m levels) r (rootOf m ws) (λ p. root-limit m levels ws (sh .some) o)),
           )
 
   pub stands : (r : Request) (n : Refusal) → said (called m levels r ws) ≡ refusalNumber n → called m levels r ws ≡ left n
@@ -318,22 +330,42 @@ same-unknown {a} {b} e = cc
 -- ---- KIND: of a call that is not refused a push and an idle request answer done, a pop and a replace an element
 pub comes-kind : (c : ℕ) (nd : List Slot) (r : Request) (g : Ruling) → Comes c nd r g → numberOf (g .answer) ≡ 0 → Kind r (g .answer)
 comes-kind c nd r g idles e = refl
-comes-kind c nd r g (puts x h) e = refl
-comes-kind c nd r g (full x h) e = absurd (omega arith)
+comes-kind c nd r g (no-tag r′ u) e = absurd (omega arith)
+comes-kind c nd r g (puts x u h) e = refl
+comes-kind c nd r g (full x u h) e = absurd (omega arith)
 comes-kind c nd r g (takes h) e = tt
 comes-kind c nd r g (empty h) e = absurd (omega arith)
-comes-kind c nd r g (swaps x h) e = tt
-comes-kind c nd r g (lacks x h) e = absurd (omega arith)
+comes-kind c nd r g (swaps x u h) e = tt
+comes-kind c nd r g (lacks x u h) e = absurd (omega arith)
 
--- .. and its number is 0, 5 or 6
-pub comes-number : (c : ℕ) (nd : List Slot) (r : Request) (g : Ruling) → Comes c nd r g → (numberOf (g .answer) ≡ 0) ⊎ (numberOf (g .answer) ≡ 5) ⊎ (numberOf (g .answer) ≡ 6)
+-- .. and its number is 0, 5, 6 or 7
+pub comes-number : (c : ℕ) (nd : List Slot) (r : Request) (g : Ruling) → Comes c nd r g
+    → (numberOf (g .answer) ≡ 0) ⊎ (numberOf (g .answer) ≡ 5) ⊎ (numberOf (g .answer) ≡ 6) ⊎ (numberOf (g .answer) ≡ 7)
 comes-number c nd r g idles = inl refl
-comes-number c nd r g (puts x h) = inl refl
-comes-number c nd r g (full x h) = inr (inl refl)
+comes-number c nd r g (no-tag r′ u) = inr (inr (inr refl))
+comes-number c nd r g (puts x u h) = inl refl
+comes-number c nd r g (full x u h) = inr (inl refl)
 comes-number c nd r g (takes h) = inl refl
-comes-number c nd r g (empty h) = inr (inr refl)
-comes-number c nd r g (swaps x h) = inl refl
-comes-number c nd r g (lacks x h) = inr (inr refl)
+comes-number c nd r g (empty h) = inr (inr (inl refl))
+comes-number c nd r g (swaps x u h) = inl refl
+comes-number c nd r g (lacks x u h) = inr (inr (inl refl))
+
+-- .. and an element without a tag is never let in
+pub comes-barred : (c : ℕ) (nd : List Slot) (r : Request) (g : Ruling) → Comes c nd r g → Barred r (g .answer)
+comes-barred c nd r g idles u e = u
+comes-barred c nd r g (no-tag r′ u) v e = omega arith
+comes-barred c nd r g (puts x u h) v e = u v
+comes-barred c nd r g (full x u h) v e = u v
+comes-barred c nd r g (takes h) u e = u
+comes-barred c nd r g (empty h) u e = u
+comes-barred c nd r g (swaps x u h) v e = u v
+comes-barred c nd r g (lacks x u h) v e = u v
+
+-- BARRED: whatever the words
+pub barred : (m levels : ℕ) (r : Request) (ws : List ℕ) → Barred r (called m levels r ws .answer)
+barred m levels r ws =
+    called-either m levels r ws (λ o. Barred r (o .answer)) (λ x u e. zero-told x (sym e))
+    (λ s o w. comes-barred (room m levels) (rootOf m ws) r (ruleAt m levels r ws) (comes (room m levels) r (rootOf m ws)))
 
 pub kind : (m levels : ℕ) (r : Request) (ws : List ℕ) → numberOf (called m levels r ws .answer) ≡ 0 → Kind r (called m levels r ws .answer)
 kind m levels r ws =

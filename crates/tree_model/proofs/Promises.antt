@@ -12,11 +12,12 @@ use Rattle.laws.specs.Lists.{sumOf}
 use Rattle.laws.specs.Sums.{grid, sum-index, sumTo, to-add, to-append, to-ext, to-zero}
 use Rattle.promise.specs.Queue.{answers, leaves, leaves-keep, pins}
 use Rattle.promise.specs.Served.{all-sum, allBrought, allGiven, always, brought, given, Holds, Least, least-same, same}
+use Rattle.promise.specs.Tagged.{Tagged, tagged-by}
 use Rattle.strip.specs.Answers.{blank, countNumber, countOf, element, numberOf}
 use Rattle.strip.specs.declared.Answer.{Answer}
 use Rattle.strip.specs.declared.Element.{Element}
 use Rattle.strip.specs.declared.Request.{Request}
-use Rattle.tree_model.proofs.Exactly.{called-either, called-fine, cleared-fine, comes-number, counted-is, is-shape, no-damage, order-pos, shape-is}
+use Rattle.tree_model.proofs.Exactly.{barred, called-either, called-fine, cleared-fine, comes-number, counted-is, is-shape, no-damage, order-pos, shape-is}
 use Rattle.tree_model.proofs.Hang.{below-less}
 use Rattle.tree_model.proofs.Path.{node-ok, root-path}
 use Rattle.tree_model.proofs.Rules.{comes}
@@ -227,6 +228,10 @@ module _ (m : ℕ) (ws : List ℕ) (rs : List Request) where
       → stored (room m levels) (after m levels rs ws) (same e) + allGiven rs (said levels) (same e) ≡ allBrought rs (said levels) (same e)
   pairs levels sh e = holds levels sh (same e)
 
+  -- TAGGED: no element of tag 0 is stored, and none has come out
+  pub tagged : (levels : ℕ) → Shape m levels (length ws) → Tagged (stored (room m levels) (after m levels rs ws)) rs (said levels)
+  tagged levels sh = tagged-by (treeQueue m levels) (barred m levels) (stored (room m levels) (after m levels rs ws)) rs (start m levels ws) (holds levels sh)
+
   -- LEAST: what comes out, of a pop or a replace, has the lowest rank of all stored before
   pub least : (levels : ℕ) → Shape m levels (length ws) → (r : Request)
       → Least (stored (room m levels) (after m levels rs ws)) r (called m levels r (after m levels rs ws) .answer)
@@ -251,9 +256,9 @@ module _ (m : ℕ) (ws : List ℕ) (rs : List Request) where
       let kept = leaves-kept m k rs (start m (suc k) ws) (start-kept m k ws sh) in
       no-damage m (suc k) r now (sound-root m k now kept) (sound-way m k now kept r) d
 
-  -- .. so that only 0, 5 and 6 are answered
+  -- .. so that only 0, 5, 6 and 7 are answered
   pub numbers : (levels : ℕ) → Shape m levels (length ws) → (r : Request)
-      → let n = numberOf (called m levels r (after m levels rs ws) .answer) in (n ≡ 0) ⊎ (n ≡ 5) ⊎ (n ≡ 6)
+      → let n = numberOf (called m levels r (after m levels rs ws) .answer) in (n ≡ 0) ⊎ (n ≡ 5) ⊎ (n ≡ 6) ⊎ (n ≡ 7)
   numbers zero sh r = absurd (not-suc-le-zero (sh .some))
   numbers (suc k) sh r =
       let now : List ℕ = after m (suc k) rs ws in

@@ -9,9 +9,11 @@ use mathlib.Core.Path.{_∙_, _≡_, ap, refl, sym}
 use lib.Dec.{eqb}
 use lib.ListN.{length}
 use borrow.Author.Tests.{lt-ltb}
+use Rattle.laws.specs.Means.{means-off}
 use Rattle.promise.specs.Queue.{leaves}
+use Rattle.promise.specs.Refused.{Untagged, untagged-means}
 use Rattle.promise.specs.Served.{always, brought, given, hit, unrefused}
-use Rattle.strip.specs.Answers.{elementOf, numberOf}
+use Rattle.strip.specs.Answers.{elementOf, numberOf, untagged}
 use Rattle.strip.specs.declared.Answer.{Answer}
 use Rattle.strip.specs.declared.Answer.the-variants.{Done, Out, Refused}
 use Rattle.strip.specs.declared.Element.{Element}
@@ -27,19 +29,19 @@ use Rattle.tree_model.specs.Promise.{after, PopThenPush, Shape, start, s
 use Rattle.tree_model.specs.declared.Op.the-variants.{Nothing, Swap, Take}
 use Rattle.tree_model.specs.declared.Slot.{Slot}
 
--- at one root a replace is answered as a pop is
-same-answer : (c : ℕ) (x : Element) (nd : List Slot) → rule c (Replace x) nd .answer ≡ rule c Pop nd .answer
+-- at one root a replace of an element that has a tag is answered as a pop is
+same-answer : (c : ℕ) (x : Element) (nd : List Slot) → untagged x ≡ false → rule c (Replace x) nd .answer ≡ rule c Pop nd .answer
 unfolding rule
-same-answer c x nd = go (eqb (sumCounts nd) 0)
+same-answer c x nd t = rw t (go (eqb (sumCounts nd) 0))
   where
     go : (b : Bool) → cond b (ruling (Refused Empty) Nothing) (ruling (Out (low nd)) (Swap x)) .answer ≡ cond b (ruling (Refused Empty) Nothing) (ruling (Out (low nd)) Take) .answer
     go true = refl
     go false = refl
 
 -- with room a push is done
-push-done : (c : ℕ) (x : Element) (nd : List Slot) → sumCounts nd < c → rule c (Push x) nd .answer ≡ Done
+push-done : (c : ℕ) (x : Element) (nd : List Slot) → untagged x ≡ false → sumCounts nd < c → rule c (Push x) nd .answer ≡ Done
 unfolding rule
-push-done c x nd h = rw (lt-ltb (sumCounts nd) c h)
+push-done c x nd t h = rw (t, lt-ltb (sumCounts nd) c h)
 
 -- what a pop and a replace that are not refused give and bring
 given-out : (a : Answer) → numberOf a ≡ 0 → (f : Element → Bool) → given Pop a f ≡ hit (f (elementOf a))
@@ -49,7 +51,7 @@ brought-in : (x : Element) (a : Answer) → numberOf a ≡ 0 → (f : Element �
 brought-in x a e f = ap (λ (n : ℕ). unrefused n (hit (f x))) e
 
 -- ---- on a kept store
-module _ (m k : ℕ) (x : Element) (ws : List ℕ) (kept : Kept m k ws) where
+module _ (m k : ℕ) (x : Element) (tag : Untagged (Replace x) → ⊥) (ws : List ℕ) (kept : Kept m k ws) where
   -- what the replace is answered, and what the pop leaves
   abbrev a : Answer
   a = called m (suc k) (Replace x) ws .answer
@@ -57,12 +59,15 @@ module _ (m k : ℕ) (x : Element) (ws : List ℕ) (kept : Kept m k ws) where
   abbrev vs : List ℕ
   vs = called m (suc k) Pop ws .words
 
+  has : untagged x ≡ false
+  has = means-off (untagged-means x) tag
+
   popped : Kept m k vs
   popped = called-kept m k Pop ws kept
 
   same : a ≡ called m (suc k) Pop ws .answer
   same =
-      ap (λ (o : Outcome). o .answer) (kept-called m k ws kept (Replace x)) ∙ same-answer (room m (suc k)) x (rootOf m ws) ∙ sym (ap (λ (o : Outcome). o .answer) (kept-called m k ws kept Pop))
+      ap (λ (o : Outcome). o .answer) (kept-called m k ws kept (Replace x)) ∙ same-answer (room m (suc k)) x (rootOf m ws) has ∙ sym (ap (λ (o : Outcome). o .answer) (kept-called m k ws kept Pop))
 
   stand : (numberOf a ≡ 0 → ⊥) → called m (suc k) (Replace x) ws ≡ called m (suc k) Pop ws
   stand h = go a refl
@@ -91,7 +96,7 @@ module _ (m k : ℕ) (x : Element) (ws : List ℕ) (kept : Kept m k ws) where
       )
 
   push-taken : numberOf a ≡ 0 → called m (suc k) (Push x) vs .answer ≡ Done
-  push-taken e = ap (λ (o : Outcome). o .answer) (kept-called m k vs popped (Push x)) ∙ push-done (room m (suc k)) x (rootOf m vs) (less e)
+  push-taken e = ap (λ (o : Outcome). o .answer) (kept-called m k vs popped (Push x)) ∙ push-done (room m (suc k)) x (rootOf m vs) has (less e)
 
   replace-sum : numberOf a ≡ 0 → (f : Element → Bool) → stored (room m (suc k)) (called m (suc k) (Replace x) ws .words) f + hit (f (elementOf a)) ≡ stored (room m (suc k)) ws f + hit (f x)
   replace-sum e f = omega (arith, call-sum m k (Replace x) ws kept f, given-out a e f, brought-in x a e f)
@@ -111,6 +116,7 @@ module _ (m k : ℕ) (x : Element) (ws : List ℕ) (kept : Kept m k ws) where
       }
 
 -- POP-THEN-PUSH: on whatever words a list of requests leaves from a cleared store
-pub pop-then-push : (m : ℕ) (ws : List ℕ) (rs : List Request) (levels : ℕ) → Shape m levels (length ws) → (x : Element) → PopThenPush m levels x (after m levels rs ws)
-pop-then-push m ws rs zero sh x = absurd (not-suc-le-zero (sh .some))
-pop-then-push m ws rs (suc k) sh x = kept-replaces m k x (after m (suc k) rs ws) (leaves-kept m k rs (start m (suc k) ws) (start-kept m k ws sh))
+pub pop-then-push : (m : ℕ) (ws : List ℕ) (rs : List Request) (levels : ℕ) → Shape m levels (length ws) → (x : Element) → (Untagged (Replace x) → ⊥)
+    → PopThenPush m levels x (after m levels rs ws)
+pop-then-push m ws rs zero sh x tag = absurd (not-suc-le-zero (sh .some))
+pop-then-push m ws rs (suc k) sh x tag = kept-replaces m k x tag (after m (suc k) rs ws) (leaves-kept m k rs (start m (suc k) ws) (start-kept m k ws sh))

@@ -13,7 +13,7 @@ use Rattle.tree_model.specs.Calls.{rootOf, Ruling, ruleAt}
 use Rattle.tree_model.specs.Damage.{room}
 use Rattle.tree_model.specs.Node.{sumCounts}
 use Rattle.tree_model.specs.Promise.{Stuck}
-use Rattle.tree_model.specs.Rules.{Comes, empty, full, idles, lacks, puts, swaps, takes}
+use Rattle.tree_model.specs.Rules.{Comes, empty, full, idles, lacks, no-tag, puts, swaps, takes}
 use Rattle.tree_model.specs.declared.Slot.{Slot}
 
 all-same : (c : ℕ) (nd : List Slot) → All (λ s. s .count ≡ c) nd → sumCounts nd ≡ length nd * c
@@ -32,9 +32,10 @@ root-not-stuck m (suc k) r ws h = go r _ (comes (room m (suc k)) r (rootOf m ws)
 
     go : (r : Request) (g : Ruling) → Comes (m * suc (room m k)) (rootOf m ws) r g → Stuck (g .op) (room m k) (rootOf m ws) → ⊥
     go r g idles s = s
-    go r g (puts x h) s = omega (arith, all-same (suc (room m k)) (rootOf m ws) s ∙ ap (λ (n : ℕ). n * suc (room m k)) (node-length m ws 0))
-    go r g (full x h) s = s
+    go r g (no-tag r′ u) s = s
+    go r g (puts x u h) s = omega (arith, all-same (suc (room m k)) (rootOf m ws) s ∙ ap (λ (n : ℕ). n * suc (room m k)) (node-length m ws 0))
+    go r g (full x u h) s = s
     go r g (takes h) s = none h s
     go r g (empty h) s = s
-    go r g (swaps x h) s = none h s
-    go r g (lacks x h) s = s
+    go r g (swaps x u h) s = none h s
+    go r g (lacks x u h) s = s

@@ -6,22 +6,37 @@ use mathlib.Core.List.{[], _∷_, List}
 use mathlib.Core.Path.{_∙_, _≡_, ap, refl, subst, sym}
 use lib.ListN.{getD, getD-replicate, length, length-replicate, replicate}
 use Rattle.laws.specs.Lists.{All, all-replicate, sum-zero}
-use Rattle.promise.specs.Served.{always, brought, given, Least, lower}
+use Rattle.promise.specs.Refused.{zero-told}
+use Rattle.promise.specs.Served.{always, brought, given, hit, Least, lower, unrefused}
+use Rattle.strip.specs.Answers.{blank, refusalNumber}
 use Rattle.strip.specs.declared.Element.{Element}
+use Rattle.strip.specs.declared.Answer.the-variants.{Refused}
+use Rattle.strip.specs.declared.Refusal.{Refusal}
+use Rattle.strip.specs.declared.Refusal.the-variants.{Empty, Full, NoTag}
 use Rattle.strip.specs.declared.Request.{Request}
+use Rattle.strip.specs.declared.Request.the-variants.{Idle, Pop, Push, Replace}
 use Rattle.tree_model.proofs.Acts.{acts}
 use Rattle.tree_model.proofs.Hang.{apply-shaped, below-less, root-commutes, slots-hang}
 use Rattle.tree_model.proofs.Many.{low-least, sum-counts}
 use Rattle.tree_model.proofs.Rules.{comes}
-use Rattle.tree_model.specs.Calls.{Ruling}
+use Rattle.tree_model.specs.Calls.{Ruling, ruling}
 use Rattle.tree_model.specs.Damage.{room}
 use Rattle.tree_model.specs.Levels.{apply, Levels, Shaped, work}
 use Rattle.tree_model.specs.Node.{low, sumCounts, vacant}
-use Rattle.tree_model.specs.Rules.{Comes, empty, full, idles, lacks, puts, swaps, takes}
+use Rattle.tree_model.specs.Rules.{Comes, empty, full, idles, lacks, no-tag, puts, swaps, takes}
 use Rattle.tree_model.specs.Serve.{bareLevels, holding, ruled, serve, Store}
 use Rattle.tree_model.specs.Tree.{Can, gain, hang, held, loss, lowOf, many, nothing, slots, Sound, Tree, treeOf}
 use Rattle.tree_model.specs.declared.Op.{Op}
+use Rattle.tree_model.specs.declared.Op.the-variants.{Nothing}
 use Rattle.tree_model.specs.declared.Slot.{Slot}
+
+-- a refused request counts nothing
+none-refused : (x : Refusal) (n : ℕ) → unrefused (refusalNumber x) n ≡ 0
+none-refused x n = go (refusalNumber x) refl
+  where
+    go : (i : ℕ) → refusalNumber x ≡ i → unrefused i n ≡ 0
+    go zero e = absurd (zero-told x (sym e))
+    go (suc i) e = refl
 
 module _ (m k : ℕ) (some : 0 < m) (ls : Levels (suc k)) (st : Store m k ls) where
   abbrev t : Tree (suc k)
@@ -69,18 +84,27 @@ module _ (m k : ℕ) (some : 0 < m) (ls : Levels (suc k)) (st : Store m k ls) wh
     sum : (f : Element → Bool) → loss (suc k) (g .op) t f + brought r (g .answer) f ≡ gain (g .op) f + given r (g .answer) f
     least : Least (holding m k ls) r (g .answer)
 
+  -- a refused one does nothing
+  no-work : (r : Request) (x : Refusal) → Ruled r (ruling (Refused x) Nothing)
+  no-work Idle x = record { can = tt; sum = λ f. refl; least = tt }
+  no-work (Push y) x = record { can = tt; sum = λ f. omega (arith, none-refused x (hit (f y))); least = tt }
+  no-work Pop x = record { can = tt; sum = λ f. omega (arith, none-refused x (hit (f blank))); least = λ z. absurd (zero-told x (sym z)) }
+  no-work (Replace y) x =
+      record { can = tt; sum = λ f. omega (arith, none-refused x (hit (f y)), none-refused x (hit (f blank))); least = λ z. absurd (zero-told x (sym z)) }
+
   rules : (r : Request) → Ruled r (ruled m k r ls)
   unfolding ruled holding
   rules r = go r _ (comes (room m (suc k)) r root)
     where
       go : (r : Request) (g : Ruling) → Comes (room m (suc k)) root r g → Ruled r g
       go r g idles = record { can = tt; sum = λ f. refl; least = tt }
-      go r g (puts x h) = record { can = omega (arith, root-sum); sum = λ f. omega arith; least = tt }
-      go r g (full x h) = record { can = tt; sum = λ f. refl; least = tt }
+      go r g (no-tag r′ u) = no-work r NoTag
+      go r g (puts x u h) = record { can = omega (arith, root-sum); sum = λ f. omega arith; least = tt }
+      go r g (full x u h) = no-work r Full
       go r g (takes h) = record { can = some-held h; sum = λ f. rw root-low (omega arith); least = λ z. root-least h }
-      go r g (empty h) = record { can = tt; sum = λ f. refl; least = λ z. absurd (omega arith) }
-      go r g (swaps x h) = record { can = some-held h; sum = λ f. rw root-low (omega arith); least = λ z. root-least h }
-      go r g (lacks x h) = record { can = tt; sum = λ f. refl; least = λ z. absurd (omega arith) }
+      go r g (empty h) = no-work r Empty
+      go r g (swaps x u h) = record { can = some-held h; sum = λ f. rw root-low (omega arith); least = λ z. root-least h }
+      go r g (lacks x u h) = no-work r Empty
 
   -- what a request does
   pub record Answered (r : Request) : Type 0 where

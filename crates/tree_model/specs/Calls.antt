@@ -4,9 +4,10 @@ use mathlib.Core.Bool.{Bool, true, false, cond, not, _&&_, _||_}
 use mathlib.Core.List.{List, [], _∷_}
 use lib.Dec.{ltb, leb, eqb}
 use lib.ListN.{length}
+use Rattle.strip.specs.Answers.{untagged}
 use Rattle.strip.specs.declared.Element.{Element}
 use Rattle.strip.specs.declared.Refusal.{Refusal}
-use Rattle.strip.specs.declared.Refusal.the-variants.{BadShape, Damaged, Full, Empty}
+use Rattle.strip.specs.declared.Refusal.the-variants.{BadShape, Damaged, Full, Empty, NoTag}
 use Rattle.strip.specs.declared.Answer.{Answer}
 use Rattle.strip.specs.declared.Answer.the-variants.{Done, Out, Refused}
 use Rattle.strip.specs.declared.Count.{Count}
@@ -42,14 +43,18 @@ pub record Ruling : Type 0 where
 abbrev pub ruling : Answer → Op → Ruling
 ruling a o = record { answer = a; op = o }
 
+-- "Push and replace with tag 0 are to be refused with a new number 7" (02 [1])
+abbrev tagged : Element → Ruling → Ruling
+tagged x g = cond (untagged x) (ruling (Refused NoTag) Nothing) g
+
 -- "Push puts at the root, pop takes there". Replace is a pop and then a push (02 [4]): "an empty queue refuses replace with 6 .., and
 -- otherwise the lowest held element is answered, even if the new rank is lower, and the new one is swapped in by the same swap rule". "full:
--- push, held = capacity"; "empty: pop, held = 0"
+-- push, held = capacity"; "empty: pop, held = 0"; before them 7
 unfoldable pub rule : ℕ → Request → List Slot → Ruling
 rule c Idle nd = ruling Done Nothing
-rule c (Push x) nd = cond (ltb (sumCounts nd) c) (ruling Done (Put x)) (ruling (Refused Full) Nothing)
+rule c (Push x) nd = tagged x (cond (ltb (sumCounts nd) c) (ruling Done (Put x)) (ruling (Refused Full) Nothing))
 rule c Pop nd = cond (eqb (sumCounts nd) 0) (ruling (Refused Empty) Nothing) (ruling (Out (low nd)) Take)
-rule c (Replace x) nd = cond (eqb (sumCounts nd) 0) (ruling (Refused Empty) Nothing) (ruling (Out (low nd)) (Swap x))
+rule c (Replace x) nd = tagged x (cond (eqb (sumCounts nd) 0) (ruling (Refused Empty) Nothing) (ruling (Out (low nd)) (Swap x)))
 
 -- ---- the calls
 pub record Outcome : Type 0 where
@@ -79,7 +84,7 @@ module _ (m levels : ℕ) where
   unfoldable pub carriedOut : Ruling → List ℕ → Outcome
   carriedOut g ws = cond (wayOk (g .op) ws) (outcome (g .answer) (applyWords m levels (work (g .op) 0) 0 1 ws)) (outcome (Refused Damaged) ws)
 
-  -- push, pop and replace: "Order for the tree: 1, 2, 3, then 5 or 6"
+  -- push, pop and replace: "Order for the tree: 1, 2, 3, then 5 or 6"; 7 comes "after 3 in the clocked tree, after 2 in the one-at-a-time tree"
   unfoldable pub called : Request → List ℕ → Outcome
   called r ws =
       cond (shapeOk m levels (length ws))

@@ -10,14 +10,14 @@ use Rattle.laws.specs.Ladder.{fine, Ladder, rung, stop}
 use Rattle.laws.specs.Lists.{All}
 use Rattle.laws.specs.Sums.{sumTo}
 use Rattle.promise.specs.Queue.{leaves, Pins, step, Step}
-use Rattle.promise.specs.Refused.{limits}
+use Rattle.promise.specs.Refused.{limits, Untagged}
 use Rattle.promise.specs.Served.{hit}
 use Rattle.strip.specs.Answers.{element, numberOf}
 use Rattle.strip.specs.declared.Answer.{Answer}
 use Rattle.strip.specs.declared.Answer.the-variants.{Done, Out}
 use Rattle.strip.specs.declared.Element.{Element}
 use Rattle.strip.specs.declared.Refusal.{Refusal}
-use Rattle.strip.specs.declared.Refusal.the-variants.{BadShape, Damaged}
+use Rattle.strip.specs.declared.Refusal.the-variants.{BadShape, Damaged, NoTag}
 use Rattle.strip.specs.declared.Request.{Request}
 use Rattle.strip.specs.declared.Request.the-variants.{Pop, Push, Replace}
 use Rattle.tree_model.specs.Calls.{called, cleared, heldCount, rootOf, ruleAt}
@@ -93,12 +93,14 @@ module _ (m : ℕ) where
   Damage levels r ws =
       NodeDamaged (room m (pred levels)) (rootOf m ws) ⊎ PathDamaged levels (work (ruleAt m levels r ws .op) 0) (levelsOf m levels ws 0 1)
 
--- the table, in order: "Order for the tree: 1, 2, 3, then 5 or 6". 3 is the clocked tree's, and 4 the bucket queue's
+-- the table, in order: "Order for the tree: 1, 2, 3, then 5 or 6", and 7 "after 2 in the one-at-a-time tree". 3 is the clocked tree's, and 4 the
+-- bucket queue's
 abbrev pub refusals : ℕ → ℕ → Request → List ℕ → Ladder Refusal
 refusals m levels r ws =
     rung BadShape (Shape m levels (length ws))
     (stop Damaged (Damage m levels r ws)
-    (limits r (sumCounts (rootOf m ws)) (room m levels) fine))
+    (stop NoTag (Untagged r)
+    (limits r (sumCounts (rootOf m ws)) (room m levels) fine)))
 
 -- .. of clear, and of held: "the call held reads the root alone"
 abbrev pub clearRefusals : ℕ → ℕ → List ℕ → Ladder Refusal
@@ -144,8 +146,8 @@ start m levels ws = cleared m levels ws .words
 abbrev pub after : ℕ → ℕ → List Request → List ℕ → List ℕ
 after m levels rs ws = leaves (treeQueue m levels) rs (start m levels ws)
 
--- REPLACE: "a replace is a pop and then a push" (02 [4]), on the words ws: of the pair the words may lie elsewhere, but what is answered and
--- what is held is the same
+-- REPLACE: "a replace is a pop and then a push" (02 [4]), of an x that has a tag, on the words ws: of the pair the words may lie elsewhere, but
+-- what is answered and what is held is the same
 pub record PopThenPush (m levels : ℕ) (x : Element) (ws : List ℕ) : Type 0 where
   -- it is answered as a pop is there, refusals too ..
   pub answer : called m levels (Replace x) ws .answer ≡ called m levels Pop ws .answer

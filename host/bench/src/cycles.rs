@@ -68,8 +68,8 @@ impl<M: Machine> Contestant<Ask> for Runner<M> {
 /// Pushes with one idle cycle after each, and enough of them to end all work.
 fn fill(rng: &mut Rng, held: usize) -> Vec<Ask> {
     let mut all = Vec::new();
-    for tag in 0..held {
-        all.extend([Ask::Push(rng.below(1 << 20), tag as u32), Ask::Idle]);
+    for n in 0..held {
+        all.extend([Ask::Push(rng.below(1 << 20), n as u32 + 1), Ask::Idle]);
     }
     all.extend([Ask::Idle; 16]);
     all
@@ -77,7 +77,7 @@ fn fill(rng: &mut Rng, held: usize) -> Vec<Ask> {
 
 /// Any of the four requests; pops and replaces that come too soon are refused, as they are on a card.
 fn any(rng: &mut Rng, n: usize) -> Ask {
-    let (rank, tag) = (rng.below(1 << 21), n as u32);
+    let (rank, tag) = (rng.below(1 << 21), n as u32 + 1);
     match rng.below(10) {
         0 | 1 => Ask::Idle,
         2..=4 => Ask::Push(rank, tag),

@@ -65,7 +65,7 @@ fn records(count: usize) -> (Vec<Ask>, Vec<u8>) {
     let mut bytes = vec![b'P', b'F', b'T', 1, 0, ORDER, LEVELS];
     let mut asks = Vec::new();
     for n in 0..count {
-        let (rank, tag) = (rng.below(1 << 20), n as u32);
+        let (rank, tag) = (rng.below(1 << 20), n as u32 + 1);
         let (ask, code, rank, tag) = match rng.below(10) {
             0 | 1 => (Ask::Idle, 0, 0, 0),
             2..=5 => (Ask::Push(rank, tag), 1, rank, tag),

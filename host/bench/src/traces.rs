@@ -15,7 +15,7 @@ const RANKS: u32 = 1 << 20;
 
 /// Pushes at ranks that `rank` chooses.
 fn pushes(held: usize, mut rank: impl FnMut() -> u32) -> Vec<Op> {
-    (0..held).map(|tag| Op::Push(rank(), tag as u32)).collect()
+    (0..held).map(|n| Op::Push(rank(), n as u32 + 1)).collect()
 }
 
 /// Pops, each with a push after it whose rank `rank` chooses from what came out.
@@ -24,7 +24,7 @@ fn refilled(fill: Vec<Op>, operations: usize, mut rank: impl FnMut(u32) -> u32) 
     let mut trace = Vec::new();
     for n in 0..operations / 2 {
         let given = queue.pop().0;
-        let (rank, tag) = (rank(given), n as u32);
+        let (rank, tag) = (rank(given), n as u32 + 1);
         queue.push(rank, tag);
         trace.extend([Op::Pop, Op::Push(rank, tag)]);
     }
@@ -37,7 +37,7 @@ fn replaced(fill: Vec<Op>, operations: usize, mut rank: impl FnMut(u32) -> u32) 
     let mut given = 0;
     let mut trace = Vec::new();
     for n in 0..operations {
-        let (rank, tag) = (rank(given), n as u32);
+        let (rank, tag) = (rank(given), n as u32 + 1);
         given = queue.replace(rank, tag).0;
         trace.push(Op::Replace(rank, tag));
     }

@@ -69,8 +69,8 @@ impl<B: AsRef<[u64]> + AsMut<[u64]>, W: AsRef<[u32]> + AsMut<[u32]>> Bucket<B, W
         refused(calls::bucket_clear(self.bits.as_mut(), self.words.as_mut(), self.nodes))
     }
 
-    /// Takes an element in, behind those of its rank. Refused [`Refusal::BadRank`] above 4,095, [`Refusal::Full`] where no node is
-    /// free.
+    /// Takes an element in, behind those of its rank. Refused [`Refusal::BadRank`] above 4,095, [`Refusal::NoTag`] with tag 0,
+    /// [`Refusal::Full`] where no node is free.
     #[inline]
     pub fn push(&mut self, x: Element) -> Result<(), Refusal> {
         refused(calls::bucket_push(self.bits.as_mut(), self.words.as_mut(), self.nodes, x.rank.0, x.tag.0))
@@ -85,7 +85,8 @@ impl<B: AsRef<[u64]> + AsMut<[u64]>, W: AsRef<[u32]> + AsMut<[u32]>> Bucket<B, W
     }
 
     /// A pop, and then a push of the new element: gives the first element of the lowest rank, even if the new rank is lower. Works
-    /// on a full queue. Refused [`Refusal::BadRank`] above 4,095, [`Refusal::Empty`] where nothing is held.
+    /// on a full queue. Refused [`Refusal::BadRank`] above 4,095, [`Refusal::NoTag`] with tag 0, [`Refusal::Empty`] where nothing is
+    /// held.
     #[inline]
     pub fn replace(&mut self, x: Element) -> Result<Element, Refusal> {
         let (bits, words, mut out) = (self.bits.as_mut(), self.words.as_mut(), [0; 2]);

@@ -126,8 +126,8 @@ impl<W: AsRef<[u32]> + AsMut<[u32]>, R: AsRef<[u32]> + AsMut<[u32]>> Clocked<W, 
         refused(calls::clocked_clear(words, self.order, self.levels, records, &mut self.mark))
     }
 
-    /// Runs one cycle. An idle cycle or a push answers rank 0, tag 0. Refused [`Refusal::TooSoon`], [`Refusal::Full`] or
-    /// [`Refusal::Empty`] it runs as an idle cycle; after any other refusal everything stands.
+    /// Runs one cycle. An idle cycle or a push answers rank 0, tag 0. Refused [`Refusal::TooSoon`], [`Refusal::Full`],
+    /// [`Refusal::Empty`] or [`Refusal::NoTag`] it runs as an idle cycle; after any other refusal everything stands.
     #[inline]
     pub fn cycle(&mut self, request: Request) -> Result<Element, Refusal> {
         let (number, x) = match request {
@@ -151,7 +151,7 @@ impl<W: AsRef<[u32]> + AsMut<[u32]>, R: AsRef<[u32]> + AsMut<[u32]>> Clocked<W, 
         Ok(Element::from(out))
     }
 
-    /// A cycle that takes an element in.
+    /// A cycle that takes an element in. Refused [`Refusal::NoTag`] with tag 0.
     #[inline]
     pub fn push(&mut self, x: Element) -> Result<(), Refusal> {
         self.cycle(Request::Push(x)).map(|_| ())
@@ -164,7 +164,7 @@ impl<W: AsRef<[u32]> + AsMut<[u32]>, R: AsRef<[u32]> + AsMut<[u32]>> Clocked<W, 
     }
 
     /// A cycle that is a pop, and then a push of the new element: gives the element of lowest rank, even if the new rank is lower.
-    /// Refused [`Refusal::Empty`] where nothing is held.
+    /// Refused [`Refusal::NoTag`] with tag 0, [`Refusal::Empty`] where nothing is held.
     #[inline]
     pub fn replace(&mut self, x: Element) -> Result<Element, Refusal> {
         self.cycle(Request::Replace(x))

@@ -105,8 +105,10 @@ pub enum Refusal {
     BadRank = 4,
     /// A push on a full queue. The store stands; a cycle runs as an idle one.
     Full = 5,
-    /// A pop on an empty queue. The store stands; a cycle runs as an idle one.
+    /// A pop or replace on an empty queue. The store stands; a cycle runs as an idle one.
     Empty = 6,
+    /// A push or replace with tag 0, which stands for no strip. The store stands; a cycle runs as an idle one.
+    NoTag = 7,
 }
 
 impl Refusal {
@@ -127,6 +129,7 @@ impl Refusal {
             4 => Refusal::BadRank,
             5 => Refusal::Full,
             6 => Refusal::Empty,
+            7 => Refusal::NoTag,
             _ => return None,
         })
     }
@@ -146,6 +149,7 @@ impl Refusal {
             Refusal::BadRank => "bad rank",
             Refusal::Full => "full",
             Refusal::Empty => "empty",
+            Refusal::NoTag => "no tag",
         }
     }
 }

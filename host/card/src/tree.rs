@@ -64,7 +64,7 @@ impl<W: AsRef<[u32]> + AsMut<[u32]>> Tree<W> {
         refused(calls::tree_clear(self.words.as_mut(), self.order, self.levels))
     }
 
-    /// Takes an element in. Refused [`Refusal::Full`] where there is no room.
+    /// Takes an element in. Refused [`Refusal::NoTag`] with tag 0, [`Refusal::Full`] where there is no room.
     #[inline]
     pub fn push(&mut self, x: Element) -> Result<(), Refusal> {
         refused(calls::tree_push(self.words.as_mut(), self.order, self.levels, x.rank.0, x.tag.0))
@@ -79,7 +79,7 @@ impl<W: AsRef<[u32]> + AsMut<[u32]>> Tree<W> {
     }
 
     /// A pop, and then a push of the new element: gives the element of lowest rank, even if the new rank is lower. Works on a full
-    /// tree. Refused [`Refusal::Empty`] where nothing is held.
+    /// tree. Refused [`Refusal::NoTag`] with tag 0, [`Refusal::Empty`] where nothing is held.
     #[inline]
     pub fn replace(&mut self, x: Element) -> Result<Element, Refusal> {
         let mut out = [0; 2];

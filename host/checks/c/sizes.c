@@ -18,7 +18,7 @@ static uint64_t bits[CARD_BUCKET_BITS];
 static uint32_t words[CARD_BUCKET_WORDS(4096)];
 
 int main(void) {
-    static const char *const names[7] = {"ok", "bad shape", "damaged", "too soon", "bad rank", "full", "empty"};
+    static const char *const names[8] = {"ok", "bad shape", "damaged", "too soon", "bad rank", "full", "empty", "no tag"};
     uint32_t mark[CARD_MARK_WORDS], out[CARD_OUT_WORDS], order, levels, nodes;
     for (order = 2; order <= 8; order *= 2)
         for (levels = 1; card_tree_words(order, levels) != 0; levels++)
@@ -42,11 +42,17 @@ int main(void) {
          card_clocked_cycle(deepest, CARD_TREE_WORDS(2, 11), 2, 11, records, CARD_RECORD_WORDS(11), mark, CARD_MARK_WORDS, CARD_PUSH,
                             5, 50, out, CARD_OUT_WORDS),
          CARD_OK);
+    same("a push with tag 0",
+         card_tree_push(largest, CARD_TREE_WORDS(4, 6), 4, 6, 5, 0), CARD_NO_TAG);
+    same("a push of rank 4096 with tag 0",
+         card_bucket_push(bits, CARD_BUCKET_BITS, words, CARD_BUCKET_WORDS(4096), 4096, 4096, 0), CARD_BAD_RANK);
+    same("a push of rank 7 with tag 0",
+         card_bucket_push(bits, CARD_BUCKET_BITS, words, CARD_BUCKET_WORDS(4096), 4096, 7, 0), CARD_NO_TAG);
     same("few records",
          card_clocked_clear(deepest, CARD_TREE_WORDS(2, 11), 2, 11, records, CARD_RECORD_WORDS(11) - 1, mark, CARD_MARK_WORDS),
          CARD_BAD_SHAPE);
 
-    for (order = 0; order < 7; order++) same(names[order], (unsigned long)strcmp(card_name(order), names[order]), 0);
-    same("a number that there is not", (unsigned long)strcmp(card_name(7), "no such number"), 0);
+    for (order = 0; order < 8; order++) same(names[order], (unsigned long)strcmp(card_name(order), names[order]), 0);
+    same("a number that there is not", (unsigned long)strcmp(card_name(8), "no such number"), 0);
     return failed;
 }

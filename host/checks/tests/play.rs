@@ -45,7 +45,7 @@ fn good(rng: &mut Rng, order: u8, levels: u8, records: u64) -> Vec<u8> {
                 rng.pick(&[(90, 3, 3), (50, 20, 10), (5, 45, 10), (3, 60, 3), (10, 5, 45), (2, 48, 0), (95, 0, 0)]);
         }
         let (push, pop, replace) = weights;
-        let (rank, tag) = (rng.below(ranks) as u32, rng.word());
+        let (rank, tag) = (rng.below(ranks) as u32, if rng.once_in(20) { 0 } else { rng.word() });
         let at = rng.below(100);
         bytes.extend(if at < push {
             record(1, rank, tag)
@@ -150,6 +150,11 @@ fn the_worked_trace_and_records_of_zeros() {
         zeros.extend(record(code, 0, 0));
     }
     same("rank 0, tag 0".into(), zeros);
+    let mut low = header(2, 1);
+    for code in [1, 0, 3, 2, 0, 2, 1, 1, 1, 3, 0, 3, 2] {
+        low.extend(record(code, 0, (code == 1 || code == 3) as u32));
+    }
+    same("rank 0, tag 1".into(), low);
     let mut high = header(8, 1);
     for code in [1, 0, 3, 1, 0, 2, 0] {
         let numbers = if code == 0 || code == 2 { 0 } else { u32::MAX };

@@ -140,7 +140,7 @@ fn case_6<C: Card>(c: &mut C) -> Done {
 
 fn case_7<C: Card>(c: &mut C) -> Done {
     let mut t = Queue::tree(c, 2, 2, 6)?;
-    let got: Vec<u32> = (0..7).map(|i| t.number(Op::TreePush, 9 - i, i)).collect();
+    let got: Vec<u32> = (1..=7).map(|i| t.number(Op::TreePush, 10 - i, i)).collect();
     same("pushes", got, vec![0, 0, 0, 0, 0, 0, 5])
 }
 
@@ -262,6 +262,32 @@ fn empty_machine<C: Card>(c: &mut C) -> Done {
     same("pop", m.pop(), (0, 0, 7))
 }
 
+/// Tag 0 is refused 7 in every queue, and the store stands: after 4 in the bucket queue, after 3 on the clock, before 5 and 6.
+fn untagged<C: Card>(c: &mut C) -> Done {
+    let mut t = Queue::tree(c, 2, 2, 6)?;
+    same("push 5/0", t.number(Op::TreePush, 5, 0), 7)?;
+    same("replace 5/0", t.ask(Op::TreeReplace, 0, 5, 0), (7, 0, 0))?;
+    same("store", t.words(), vec![0; 18])?;
+    same("push 0/1", t.number(Op::TreePush, 0, 1), 0)?;
+    same("replace 0/0", t.ask(Op::TreeReplace, 0, 0, 0), (7, 0, 0))?;
+    same("pop", t.pop(), (0, 0, 1))?;
+    let mut q = Queue::bucket(c, 1)?;
+    same("push 4096/0", q.number(Op::BucketPush, 4096, 0), 4)?;
+    same("push 7/0", q.number(Op::BucketPush, 7, 0), 7)?;
+    same("replace 7/0", q.ask(Op::BucketReplace, 0, 7, 0), (7, 0, 0))?;
+    same("push 0/1", q.number(Op::BucketPush, 0, 1), 0)?;
+    same("push 7/0 on a full queue", q.number(Op::BucketPush, 7, 0), 7)?;
+    same("pop", q.pop(), (0, 0, 1))?;
+    let mut m = Queue::machine(c, 2, 2, 6)?;
+    same("push 5/0", m.push(5, 0), (7, 0, 0))?;
+    same("pop", m.pop(), (6, 0, 0))?;
+    same("push", m.push(5, 50), (0, 0, 0))?;
+    same("replace too soon", m.ask(Op::CycleReplace, 3, 1, 0), (3, 0, 0))?;
+    same("replace 1/0", m.ask(Op::CycleReplace, 3, 1, 0), (7, 0, 0))?;
+    same("push 1/0", m.push(1, 0), (7, 0, 0))?;
+    same("pop", m.pop(), (0, 5, 50))
+}
+
 /// The worked trace, by cycles.
 fn worked<C: Card>(c: &mut C) -> Done {
     let mut m = Queue::machine(c, 2, 2, 6)?;
@@ -290,6 +316,7 @@ pub fn all<C: Card>(c: &mut C) -> Vec<(&'static str, Done)> {
         ("a bucket's replace: a pop and then a push", pop_then_push(c)),
         ("equal ranks in a tree", ties(c)),
         ("a tree's replace, empty and by a lower rank", empty_machine(c)),
+        ("tag 0 in every queue", untagged(c)),
         ("the worked trace by cycles", worked(c)),
     ]
 }

@@ -11,12 +11,13 @@ use models::{shape_cause as s, Causes};
 fn numbers(op: Op) -> &'static [u32] {
     match op {
         Op::TreeClear | Op::BucketClear | Op::ClockedClear => &[0, 1],
-        Op::TreePush | Op::CyclePush => &[0, 1, 2, 5],
-        Op::TreePop | Op::TreeReplace => &[0, 1, 2, 6],
-        Op::BucketPush => &[0, 1, 2, 4, 5],
-        Op::BucketPop => &[0, 1, 2, 6],
-        Op::BucketReplace => &[0, 1, 2, 4, 6],
-        Op::CyclePop | Op::CycleReplace => &[0, 1, 2, 3, 6],
+        Op::TreePush | Op::CyclePush => &[0, 1, 2, 5, 7],
+        Op::TreePop | Op::BucketPop => &[0, 1, 2, 6],
+        Op::TreeReplace => &[0, 1, 2, 6, 7],
+        Op::BucketPush => &[0, 1, 2, 4, 5, 7],
+        Op::BucketReplace => &[0, 1, 2, 4, 6, 7],
+        Op::CyclePop => &[0, 1, 2, 3, 6],
+        Op::CycleReplace => &[0, 1, 2, 3, 6, 7],
         Op::CycleOther => &[1],
         Op::TreeHeld | Op::BucketHeld | Op::CycleIdle | Op::ClockedDrain | Op::ClockedHeld => &[0, 1, 2],
     }
@@ -96,11 +97,11 @@ fn clause(op: Op, bit: u32) -> String {
 /// Prints the counts and gives what was missed.
 pub fn check(tally: &Tally, verbose: bool) -> Vec<String> {
     let mut missed = Vec::new();
-    println!("  calls by refusal number:         0        1        2        3        4        5        6");
+    println!("  calls by refusal number:         0        1        2        3        4        5        6        7");
     for (i, &op) in OPS.iter().enumerate() {
         let row: Vec<String> = tally.numbers[i].iter().map(|n| format!("{n:8}")).collect();
         println!("  {:24} {}", op.name(), row.join(" "));
-        for number in 0..7u32 {
+        for number in 0..8u32 {
             let seen = tally.numbers[i][number as usize];
             let can = numbers(op).contains(&number);
             if can && seen == 0 {

@@ -25,9 +25,13 @@ pub enum Event {
     BucketReplaceSameBucket,
     BucketReplaceLower,
     TreeReplaceFull,
+    BucketUntaggedDamaged,
+    TreeUntaggedDamaged,
+    UntaggedTooSoon,
+    UntaggedFullOrEmpty,
 }
 
-pub const EVENTS: [(Event, &str); 18] = [
+pub const EVENTS: [(Event, &str); 22] = [
     (Event::DrainDamagedAtOnce, "drain refused 2 with no cycle run"),
     (Event::DrainDamagedLater, "drain refused 2 after a cycle or more"),
     (Event::DrainNoBudget, "drain with budget 0 and work pending"),
@@ -41,22 +45,26 @@ pub const EVENTS: [(Event, &str); 18] = [
     (Event::RecordsPast, "cycle that ran with a kind above 3 past the last level"),
     (Event::BoundaryAndShape, "a boundary's fault and a bad shape at once"),
     (Event::DrainRefusedShapeWorkPending, "drain refused 1 with work pending"),
-    (Event::RefusedWorkMoves, "cycle refused 3, 5 or 6 in which pending work moved"),
+    (Event::RefusedWorkMoves, "cycle refused 3, 5, 6 or 7 in which pending work moved"),
     (Event::BucketReplaceFull, "bucket replace on a full queue"),
     (Event::BucketReplaceSameBucket, "bucket replace into the bucket that it popped from"),
     (Event::BucketReplaceLower, "bucket replace of a rank below all held"),
     (Event::TreeReplaceFull, "tree replace on a full queue"),
+    (Event::BucketUntaggedDamaged, "bucket push or replace with tag 0 on a damaged store, refused 7"),
+    (Event::TreeUntaggedDamaged, "tree push or replace with tag 0, called or by a cycle, refused 2"),
+    (Event::UntaggedTooSoon, "cycle replace with tag 0 and the mark on, refused 3"),
+    (Event::UntaggedFullOrEmpty, "push with tag 0 on a full queue or replace with tag 0 on an empty one, refused 7"),
 ];
 
 pub struct Tally {
     /// How often each call gave each number.
-    pub numbers: [[u64; 7]; 18],
+    pub numbers: [[u64; 8]; 18],
     /// How often one clause alone made each call damaged, and how often a clause was among others.
     pub damage: Vec<[u64; 64]>,
     pub damage_any: Vec<[u64; 64]>,
     /// How often one cause alone made each call refuse 1.
     pub shape: [[u64; 9]; 18],
-    pub events: [u64; 18],
+    pub events: [u64; 22],
 }
 
 pub struct Harness<C: Card> {
@@ -78,11 +86,11 @@ impl<C: Card> Harness<C> {
             b: Side::new(0, 0, 0),
             calls: 0,
             tally: Tally {
-                numbers: [[0; 7]; 18],
+                numbers: [[0; 8]; 18],
                 damage: vec![[0; 64]; 18],
                 damage_any: vec![[0; 64]; 18],
                 shape: [[0; 9]; 18],
-                events: [0; 18],
+                events: [0; 22],
             },
             failed: None,
         }
@@ -203,6 +211,17 @@ impl<C: Card> Harness<C> {
         if k.op == Op::TreeReplace && number == 0 && before.full {
             self.event(Event::TreeReplaceFull);
         }
+        let replaces = matches!(k.op, Op::TreeReplace | Op::BucketReplace | Op::CycleReplace);
+        let pushes = matches!(k.op, Op::TreePush | Op::BucketPush | Op::CyclePush);
+        if (replaces || pushes) && k.tag == 0 {
+            match number {
+                2 => self.event(Event::TreeUntaggedDamaged),
+                3 => self.event(Event::UntaggedTooSoon),
+                7 if before.damaged => self.event(Event::BucketUntaggedDamaged),
+                7 if (pushes && before.full) || (replaces && before.empty) => self.event(Event::UntaggedFullOrEmpty),
+                _ => {}
+            }
+        }
         let lower = number == 0 && k.rank < self.b.out[0];
         if lower && (k.op == Op::TreeReplace || k.op == Op::CycleReplace) {
             self.event(Event::TreeReplaceLower);
@@ -218,6 +237,9 @@ struct Before {
     past: bool,
     mark: u32,
     full: bool,
+    empty: bool,
+    /// A bucket queue that fails the tests of the whole queue.
+    damaged: bool,
     /// The words before the call, where they are few enough to be shown.
     shown: Option<(Vec<u32>, Vec<u32>, u32)>,
 }
@@ -231,18 +253,19 @@ impl Before {
             past: false,
             mark: 0,
             full: false,
+            empty: false,
+            damaged: false,
             shown: None,
         };
-        if k.op == Op::BucketReplace && k.nodes <= 4096 && k.words >= bucket::words(k.nodes as u64) as usize {
-            b.full = side.words[bucket::words(k.nodes as u64) as usize - 1] == k.nodes;
-        }
-        if k.op == Op::TreeReplace {
-            if let Some(shape) = tree::Shape::new(k.order, k.levels) {
-                if k.words as u64 >= 3 * shape.capacity() {
-                    let sum: u64 = (0..k.order as usize).map(|j| side.words[3 * j + 2] as u64).sum();
-                    b.full = sum == shape.capacity();
-                }
+        if k.op.is_bucket() {
+            match bucket::held(&side.bits[..k.bits], &side.words[..k.words], k.nodes) {
+                Ok(held) => (b.full, b.empty) = (held == k.nodes, held == 0),
+                Err(no) => b.damaged = matches!(no, No::Damaged(_)),
             }
+        } else if let (Some(shape), Ok(held)) =
+            (tree::Shape::new(k.order, k.levels), tree::held(&side.words[..k.words], k.order, k.levels))
+        {
+            (b.full, b.empty) = (held as u64 == shape.capacity(), held == 0);
         }
         if k.op.is_machine() {
             b.mark = side.mark[0];

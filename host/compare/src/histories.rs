@@ -45,6 +45,14 @@ fn draw_tags(rng: &mut Rng) -> Draw {
     rng.pick(&[Draw::Rising, Draw::Rising, Draw::Below(3), Draw::Any])
 }
 
+/// A tag; now and then 0, which is none.
+fn draw_tag(rng: &mut Rng, how: Draw, n: u64) -> u32 {
+    if rng.once_in(25) {
+        return 0;
+    }
+    draw(rng, how, n).max(1)
+}
+
 /// How often push, pop and replace are asked for, out of a hundred; the rest is held.
 fn mood(rng: &mut Rng) -> (u64, u64, u64) {
     rng.pick(&[(90, 5, 4), (60, 25, 12), (34, 33, 30), (20, 60, 17), (4, 90, 4), (10, 10, 78), (96, 1, 1), (1, 96, 1)])
@@ -81,6 +89,12 @@ fn held_to_list(
 ) -> Result<(), String> {
     let none = element(0, 0);
     match op {
+        Op::TreePush | Op::TreeReplace if x.tag == 0 => {
+            // a push has no words for an answer
+            if number != 7 || (op == Op::TreeReplace && answer != none) {
+                return Err(format!("{} with tag 0 answered {number}, {answer:?}", op.name()));
+            }
+        }
         Op::TreePush => {
             let full = list.held() as u64 == capacity;
             if number != if full { 5 } else { 0 } {
@@ -158,7 +172,7 @@ pub fn tree<C: Card>(h: &mut Harness<C>, rng: &mut Rng, order: u32, levels: u32,
         } else {
             Op::TreeHeld
         };
-        let x = element(draw(rng, ranks, n), draw(rng, tags, n));
+        let x = element(draw(rng, ranks, n), draw_tag(rng, tags, n));
         let number = match h.call(&Call::tree(op, order, levels, words).with(x.rank, x.tag)) {
             Some(number) => number,
             None => return,
@@ -211,15 +225,22 @@ pub fn bucket<C: Card>(h: &mut Harness<C>, rng: &mut Rng, nodes: u32, calls: u64
             weights = [(99, 0, 0), (30, 2, 66), (0, 99, 0)][third as usize];
         }
         let (push, pop, replace) = weights;
-        let mut x = element(rng.pick(&pool), draw(rng, tags, n));
+        let mut x = element(rng.pick(&pool), draw_tag(rng, tags, n));
         if rng.once_in(50) {
             x.rank = rng.pick(&[4096, 4097, 8191, 1 << 16, u32::MAX]);
         }
-        let bad_rank = x.rank > 4095;
+        // what refuses the newcomer, whatever is held
+        let barred = if x.rank > 4095 {
+            4
+        } else if x.tag == 0 {
+            7
+        } else {
+            0
+        };
         let at = rng.below(100);
         let (op, expected) = if at < push {
-            let number = if bad_rank {
-                4
+            let number = if barred != 0 {
+                barred
             } else if list.held() == nodes as usize {
                 5
             } else {
@@ -230,8 +251,8 @@ pub fn bucket<C: Card>(h: &mut Harness<C>, rng: &mut Rng, nodes: u32, calls: u64
         } else if at < push + pop {
             (Op::BucketPop, list.pop().map_or((6, none), |e| (0, e)))
         } else if at < push + pop + replace {
-            let expected = if bad_rank {
-                (4, none)
+            let expected = if barred != 0 {
+                (barred, none)
             } else if let Some(e) = list.pop() {
                 list.push(x);
                 (0, e)
@@ -284,7 +305,7 @@ pub fn clocked<C: Card>(h: &mut Harness<C>, rng: &mut Rng, order: u32, levels: u
             idles = rng.below(60);
         }
         let (push, pop, replace) = weights;
-        let x = element(draw(rng, ranks, n), draw(rng, tags, n));
+        let x = element(draw(rng, ranks, n), draw_tag(rng, tags, n));
         if rng.once_in(25) {
             // a drain: with a small budget, or to the end and then the stores are equal
             let budget = rng.pick(&[0, 1, 2, 3, levels, u32::MAX]);

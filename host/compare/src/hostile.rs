@@ -47,6 +47,15 @@ fn rank(rng: &mut Rng) -> u32 {
     }
 }
 
+/// A tag; now and then 0, which is none.
+fn tag(rng: &mut Rng) -> u32 {
+    if rng.once_in(16) {
+        0
+    } else {
+        rng.word()
+    }
+}
+
 /// A sound store of the one-at-a-time tree, filled to any degree.
 fn sound_tree(rng: &mut Rng, order: u32, levels: u32) -> Vec<u32> {
     let capacity = Shape::new(order, levels).unwrap().capacity();
@@ -267,7 +276,7 @@ pub fn tree<C: Card>(h: &mut Harness<C>, rng: &mut Rng, calls: u64) {
                     16..=27 => Op::TreePop,
                     _ => Op::TreeReplace,
                 };
-                let mut k = Call::tree(op, order, levels, store.len() + longer).with(rank(rng), rng.word());
+                let mut k = Call::tree(op, order, levels, store.len() + longer).with(rank(rng), tag(rng));
                 k.out = 1 + (op != Op::TreeHeld) as usize + rng.below(2) as usize;
                 if rng.once_in(12) {
                     misshape(rng, &mut k, store.len());
@@ -394,7 +403,7 @@ pub fn clocked<C: Card>(h: &mut Harness<C>, rng: &mut Rng, calls: u64) {
                     }
                     _ => Call::cycle(rng.below(4) as u32, order, levels, words, records),
                 };
-                k = k.with(rank(rng), rng.word());
+                k = k.with(rank(rng), tag(rng));
                 k.out = 1 + (k.op != Op::ClockedHeld) as usize + rng.below(2) as usize;
                 if k.op.is_machine() {
                     k.mark = 1 + rng.below(2) as usize;
@@ -581,7 +590,7 @@ pub fn bucket<C: Card>(h: &mut Harness<C>, rng: &mut Rng, calls: u64) {
                     _ => Op::BucketReplace,
                 };
                 let (bits, words) = (65 + rng.below(3) as usize, need + rng.below(3) as usize);
-                let mut k = Call::bucket(op, nodes, bits, words).with(rng.pick(&t.ranks), rng.word());
+                let mut k = Call::bucket(op, nodes, bits, words).with(rng.pick(&t.ranks), tag(rng));
                 k.out = 1 + (op != Op::BucketHeld) as usize + rng.below(2) as usize;
                 match rng.below(60) {
                     0 | 1 => k.rank = rng.pick(&[4096, 4097, 0x1_0000, u32::MAX]),
@@ -624,7 +633,7 @@ pub fn edges<C: Card>(h: &mut Harness<C>, rng: &mut Rng) {
             let lengths = if taken { vec![need - 1, need, need + 1, 0] } else { vec![need, 0] };
             for words in lengths {
                 for op in [Op::TreeClear, Op::TreePush, Op::TreePop, Op::TreeReplace, Op::TreeHeld, Op::ClockedHeld] {
-                    let k = Call::tree(op, o, l, words).with(rng.word(), rng.word());
+                    let k = Call::tree(op, o, l, words).with(rng.word(), tag(rng));
                     let number = match h.call(&k) {
                         Some(number) => number,
                         None => return,
@@ -638,7 +647,7 @@ pub fn edges<C: Card>(h: &mut Harness<C>, rng: &mut Rng) {
                         let mut k = match request {
                             4 => Call::machine(Op::ClockedDrain, o, l, words, records).budget(rng.word()),
                             5 => Call::machine(Op::ClockedClear, o, l, words, records),
-                            _ => Call::cycle(request, o, l, words, records).with(rng.word(), rng.word()),
+                            _ => Call::cycle(request, o, l, words, records).with(rng.word(), tag(rng)),
                         };
                         k.mark = mark;
                         if h.call(&k).is_none() {
@@ -661,7 +670,7 @@ pub fn edges<C: Card>(h: &mut Harness<C>, rng: &mut Rng) {
         for words in [need, need - 1, need + 1, 0, 8194] {
             for bits in [65, 64, 66, 0] {
                 for op in [Op::BucketClear, Op::BucketPush, Op::BucketPop, Op::BucketReplace, Op::BucketHeld] {
-                    let k = Call::bucket(op, n, bits, words).with(rng.below(4100) as u32, rng.word());
+                    let k = Call::bucket(op, n, bits, words).with(rng.below(4100) as u32, tag(rng));
                     let number = match h.call(&k) {
                         Some(number) => number,
                         None => return,
@@ -695,22 +704,26 @@ pub fn small_stores<C: Card>(h: &mut Harness<C>, _: &mut Rng) {
             side.words[3..6].copy_from_slice(b);
             for mark in 0..2 {
                 side.mark[0] = mark;
-                for (op, rank) in [
-                    (Op::TreePush, 1),
-                    (Op::TreePop, 0),
-                    (Op::TreeReplace, 0),
-                    (Op::TreeReplace, 1),
-                    (Op::TreeReplace, 2),
-                    (Op::TreeHeld, 0),
+                for (op, rank, tag) in [
+                    (Op::TreePush, 1, 9),
+                    (Op::TreePush, 1, 0),
+                    (Op::TreePop, 0, 9),
+                    (Op::TreeReplace, 0, 9),
+                    (Op::TreeReplace, 1, 9),
+                    (Op::TreeReplace, 2, 9),
+                    (Op::TreeReplace, 1, 0),
+                    (Op::TreeHeld, 0, 9),
                 ] {
                     h.set(&side);
-                    if h.call(&Call::tree(op, 2, 1, 6).with(rank, 9)).is_none() {
+                    if h.call(&Call::tree(op, 2, 1, 6).with(rank, tag)).is_none() {
                         return;
                     }
                 }
-                for (request, rank) in [(0, 0), (1, 1), (2, 0), (3, 0), (3, 1), (3, 2), (4, 0)] {
+                for (request, rank, tag) in
+                    [(0, 0, 9), (1, 1, 9), (1, 1, 0), (2, 0, 9), (3, 0, 9), (3, 1, 9), (3, 2, 9), (3, 1, 0), (4, 0, 9)]
+                {
                     h.set(&side);
-                    if h.call(&Call::cycle(request, 2, 1, 6, 0).with(rank, 9)).is_none() {
+                    if h.call(&Call::cycle(request, 2, 1, 6, 0).with(rank, tag)).is_none() {
                         return;
                     }
                 }
@@ -743,15 +756,17 @@ pub fn small_stores<C: Card>(h: &mut Harness<C>, _: &mut Rng) {
                         side.words[6..9].copy_from_slice(c);
                         side.words[9..12].copy_from_slice(d);
                         side.words[12..15].copy_from_slice(e);
-                        for (op, rank) in [
-                            (Op::TreePush, 1),
-                            (Op::TreePop, 0),
-                            (Op::TreeReplace, 1),
-                            (Op::TreeReplace, 2),
-                            (Op::TreeReplace, 3),
+                        for (op, rank, tag) in [
+                            (Op::TreePush, 1, 9),
+                            (Op::TreePush, 1, 0),
+                            (Op::TreePop, 0, 9),
+                            (Op::TreeReplace, 1, 9),
+                            (Op::TreeReplace, 2, 9),
+                            (Op::TreeReplace, 3, 9),
+                            (Op::TreeReplace, 1, 0),
                         ] {
                             h.set(&side);
-                            if h.call(&Call::tree(op, 2, 2, 18).with(rank, 9)).is_none() {
+                            if h.call(&Call::tree(op, 2, 2, 18).with(rank, tag)).is_none() {
                                 return;
                             }
                         }
@@ -759,9 +774,11 @@ pub fn small_stores<C: Card>(h: &mut Harness<C>, _: &mut Rng) {
                             side.records[..4].copy_from_slice(record);
                             for mark in 0..2 {
                                 side.mark[0] = mark;
-                                for (request, rank) in [(0, 0), (1, 1), (2, 0), (3, 2)] {
+                                for (request, rank, tag) in
+                                    [(0, 0, 9), (1, 1, 9), (1, 1, 0), (2, 0, 9), (3, 2, 9), (3, 2, 0)]
+                                {
                                     h.set(&side);
-                                    if h.call(&Call::cycle(request, 2, 2, 18, 4).with(rank, 9)).is_none() {
+                                    if h.call(&Call::cycle(request, 2, 2, 18, 4).with(rank, tag)).is_none() {
                                         return;
                                     }
                                 }
@@ -794,18 +811,21 @@ pub fn small_stores<C: Card>(h: &mut Harness<C>, _: &mut Rng) {
         side.words[8192] = 77;
         side.bits[0] = if n & 1 == 1 { 2 } else { 0 };
         side.bits[2] = if n & 2 == 2 { 2 } else { 0 };
-        for (op, rank) in [
-            (Op::BucketPush, 65),
-            (Op::BucketPush, 66),
-            (Op::BucketPop, 0),
-            (Op::BucketReplace, 64),
-            (Op::BucketReplace, 65),
-            (Op::BucketReplace, 66),
-            (Op::BucketReplace, 4096),
-            (Op::BucketHeld, 0),
+        for (op, rank, tag) in [
+            (Op::BucketPush, 65, 9),
+            (Op::BucketPush, 66, 9),
+            (Op::BucketPush, 65, 0),
+            (Op::BucketPush, 4096, 0),
+            (Op::BucketPop, 0, 9),
+            (Op::BucketReplace, 64, 9),
+            (Op::BucketReplace, 65, 9),
+            (Op::BucketReplace, 66, 9),
+            (Op::BucketReplace, 4096, 9),
+            (Op::BucketReplace, 65, 0),
+            (Op::BucketHeld, 0, 9),
         ] {
             h.set(&side);
-            if h.call(&Call::bucket(op, 1, 65, 8196).with(rank, 9)).is_none() {
+            if h.call(&Call::bucket(op, 1, 65, 8196).with(rank, tag)).is_none() {
                 return;
             }
         }

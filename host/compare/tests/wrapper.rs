@@ -17,6 +17,9 @@ fn element(rank: u32, tag: u32) -> Element {
 
 /// What a call on a queue of this room is to answer, by the plain list.
 fn push(list: &mut SortedList, x: models::Element, room: usize) -> Result<(), Refusal> {
+    if x.tag == 0 {
+        return Err(Refusal::NoTag);
+    }
     if list.held() == room {
         return Err(Refusal::Full);
     }
@@ -28,6 +31,16 @@ fn pop(list: &mut SortedList) -> Result<Element, Refusal> {
     list.pop().map(of).ok_or(Refusal::Empty)
 }
 
+/// A pop and then a push.
+fn replace(list: &mut SortedList, x: models::Element) -> Result<Element, Refusal> {
+    if x.tag == 0 {
+        return Err(Refusal::NoTag);
+    }
+    let first = pop(list)?;
+    list.push(x);
+    Ok(first)
+}
+
 #[test]
 fn bucket_queues_beside_the_list() {
     let mut rng = Rng::new(seed(), 500);
@@ -37,7 +50,7 @@ fn bucket_queues_beside_the_list() {
         let mut lent = Bucket::cleared(nodes, &mut bits[..], &mut words[..]).unwrap();
         let mut list = SortedList::new();
         for n in 0..3000 {
-            let x = models::element(rng.below(4098) as u32, n);
+            let x = models::element(rng.below(4098) as u32, if rng.once_in(20) { 0 } else { n + 1 });
             let bad = x.rank > 4095;
             match rng.below(4) {
                 0 | 1 => {
@@ -49,11 +62,7 @@ fn bucket_queues_beside_the_list() {
                     assert_eq!((queue.pop(), lent.pop()), (expected, expected));
                 }
                 _ => {
-                    // a pop and then a push
-                    let expected = if bad { Err(Refusal::BadRank) } else { pop(&mut list) };
-                    if expected.is_ok() {
-                        list.push(x);
-                    }
+                    let expected = if bad { Err(Refusal::BadRank) } else { replace(&mut list, x) };
                     assert_eq!((queue.replace(of(x)), lent.replace(of(x))), (expected, expected));
                 }
             }
@@ -83,7 +92,7 @@ fn trees_beside_the_list() {
         for n in 0..3000 {
             // tags that follow from the rank: then pairs of one rank are all alike
             let rank = rng.below(60) as u32;
-            let x = models::element(rank, 1000 - rank);
+            let x = models::element(rank, if rng.once_in(20) { 0 } else { 1000 - rank });
             match rng.below(4) {
                 0 | 1 => {
                     let expected = push(&mut list, x, tree_slots(order, levels));
@@ -94,11 +103,7 @@ fn trees_beside_the_list() {
                     assert_eq!((queue.pop(), lent.pop()), (expected, expected));
                 }
                 _ => {
-                    // a pop and then a push
-                    let expected = pop(&mut list);
-                    if expected.is_ok() {
-                        list.push(x);
-                    }
+                    let expected = replace(&mut list, x);
                     assert_eq!((queue.replace(of(x)), lent.replace(of(x))), (expected, expected));
                 }
             }
@@ -126,7 +131,7 @@ fn clocked_trees_beside_the_list() {
         let mut list = SortedList::new();
         for n in 0..3000 {
             let rank = rng.below(60) as u32;
-            let x = models::element(rank, 1000 - rank);
+            let x = models::element(rank, if rng.once_in(20) { 0 } else { 1000 - rank });
             let soon = tree.mark();
             match rng.below(6) {
                 0 | 1 => {
@@ -138,11 +143,7 @@ fn clocked_trees_beside_the_list() {
                     assert_eq!((tree.pop(), lent.pop()), (expected, expected));
                 }
                 3 => {
-                    // a pop and then a push
-                    let expected = if soon { Err(Refusal::TooSoon) } else { pop(&mut list) };
-                    if expected.is_ok() {
-                        list.push(x);
-                    }
+                    let expected = if soon { Err(Refusal::TooSoon) } else { replace(&mut list, x) };
                     assert_eq!((tree.replace(of(x)), lent.replace(of(x))), (expected, expected));
                 }
                 4 => assert_eq!((tree.idle(), lent.idle()), (Ok(()), Ok(()))),
@@ -216,12 +217,12 @@ fn sizes_are_the_models_and_the_shapes_that_are_taken() {
 
 #[test]
 fn every_refusal_has_its_number_and_name() {
-    let names = ["bad shape", "damaged", "too soon", "bad rank", "full", "empty"];
+    let names = ["bad shape", "damaged", "too soon", "bad rank", "full", "empty", "no tag"];
     for (i, name) in names.iter().enumerate() {
         let refusal = Refusal::of(i as u32 + 1).unwrap();
         assert_eq!((refusal.number(), refusal.name(), refusal.to_string()), (i as u32 + 1, *name, name.to_string()));
     }
-    assert_eq!((Refusal::of(0), Refusal::of(7), Refusal::of(u32::MAX)), (None, None, None));
+    assert_eq!((Refusal::of(0), Refusal::of(8), Refusal::of(u32::MAX)), (None, None, None));
     let error: Box<dyn std::error::Error> = Box::new(Refusal::Full);
     assert_eq!((error.to_string(), element(1, 2).tag), ("full".into(), Tag(2)));
 }

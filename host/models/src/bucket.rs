@@ -395,6 +395,9 @@ pub fn push(bits: &mut [u64], words: &mut [u32], nodes: u32, x: Element) -> Resu
     if x.rank > 4095 {
         return Err(No::BadRank);
     }
+    if x.tag == 0 {
+        return Err(No::NoTag);
+    }
     let mut p = Pool::new(bits, words, nodes);
     let c = p.whole();
     if c != 0 {
@@ -426,6 +429,9 @@ pub fn replace(bits: &mut [u64], words: &mut [u32], nodes: u32, x: Element) -> R
     shape(bits.len(), words.len(), nodes)?;
     if x.rank > 4095 {
         return Err(No::BadRank);
+    }
+    if x.tag == 0 {
+        return Err(No::NoTag);
     }
     let mut p = Pool::new(bits, words, nodes);
     let c = p.whole();

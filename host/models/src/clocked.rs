@@ -142,14 +142,17 @@ fn pending_step(shape: Shape, store: &[u32], level: u64, work: Work) -> Result<S
     }
 }
 
-/// The asked operation's root step, with its refusals 2, 3, 5 and 6 in this order. An idle cycle
-/// reads no root.
+/// The asked operation's root step, with its refusals 2, 3, 7, and then 5 or 6, in this order. An
+/// idle cycle reads no root.
 fn root_step(shape: Shape, store: &[u32], mark: bool, request: Request) -> Result<Step, No> {
     let damaged = No::Damaged;
     match request {
         Request::Idle => Ok(Step { gives: Element::default(), writes: Writes::new(), loads: Work::Nothing }),
         Request::Push(x) => {
             let n = tree::root(shape, store)?;
+            if x.tag == 0 {
+                return Err(No::NoTag);
+            }
             if n.held() == shape.capacity() {
                 return Err(No::Full);
             }
@@ -169,6 +172,9 @@ fn root_step(shape: Shape, store: &[u32], mark: bool, request: Request) -> Resul
             let n = tree::root(shape, store)?;
             if mark {
                 return Err(No::TooSoon);
+            }
+            if x.tag == 0 {
+                return Err(No::NoTag);
             }
             if n.held() == 0 {
                 return Err(No::Empty);

@@ -42,6 +42,7 @@ pub enum No {
     BadRank,
     Full,
     Empty,
+    NoTag,
 }
 
 impl No {
@@ -54,6 +55,7 @@ impl No {
             No::BadRank => 4,
             No::Full => 5,
             No::Empty => 6,
+            No::NoTag => 7,
         }
     }
 }

@@ -77,6 +77,7 @@ pub fn play(input: &[u8]) -> Vec<u8> {
             (Err(No::TooSoon), _) => Line("too soon".to_string()),
             (Err(No::Full), _) => Line("full".to_string()),
             (Err(No::Empty), _) => Line("empty".to_string()),
+            (Err(No::NoTag), _) => Line("no tag".to_string()),
             (Err(no), _) => panic!("a cleared machine refuses {}", no.number()),
         };
         written.extend_from_slice(format!("{n} {word}\n").as_bytes());

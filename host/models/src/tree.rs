@@ -355,6 +355,9 @@ pub fn clear(store: &mut [u32], order: u32, levels: u32) -> Result<(), No> {
 pub fn push(store: &mut [u32], order: u32, levels: u32, x: Element) -> Result<(), No> {
     let shape = shape(store, order, levels)?;
     let n = root(shape, store)?;
+    if x.tag == 0 {
+        return Err(No::NoTag);
+    }
     if n.held() == shape.capacity() {
         return Err(No::Full);
     }
@@ -376,10 +379,13 @@ pub fn pop(store: &mut [u32], order: u32, levels: u32) -> Result<Element, No> {
     Ok(gives)
 }
 
-/// A pop and then a push: refused like a pop, and the newcomer's rank has no say in what is given.
+/// A pop and then a push: without a tag refused, else refused like a pop, and the newcomer's rank has no say in what is given.
 pub fn replace(store: &mut [u32], order: u32, levels: u32, x: Element) -> Result<Element, No> {
     let shape = shape(store, order, levels)?;
     let n = root(shape, store)?;
+    if x.tag == 0 {
+        return Err(No::NoTag);
+    }
     if n.held() == 0 {
         return Err(No::Empty);
     }

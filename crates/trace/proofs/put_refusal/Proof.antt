@@ -39,11 +39,20 @@ put-bytes-requires-3 c κs = search needs
 enum-told-4 : tie.Need-enum-told-4
 enum-told-4 c = search needs
 
+slice-aggregate-put-bytes-4 : tie.Need-slice-aggregate-put-bytes-4
+slice-aggregate-put-bytes-4 c = search needs
+
+put-bytes-requires-4 : tie.Need-put-bytes-requires-4
+put-bytes-requires-4 c κs = search needs
+
 enum-told-5 : tie.Need-enum-told-5
 enum-told-5 c = search needs
 
 enum-told-6 : tie.Need-enum-told-6
 enum-told-6 c = search needs
+
+enum-told-7 : tie.Need-enum-told-7
+enum-told-7 c = search needs
 
 same-length : tie.Need-same-length
 same-length c = search needs
@@ -66,9 +75,12 @@ returns-3 : tie.Need-returns-3
 unfolding refusalWord
 returns-3 c = laid-same _ _ _ _ _ _ (ap refusalWord (sym (c .before .before .before .before .before .enum-told3 .given .1))) (c .before .before .put-bytes3 .ensures)
 
+same-length-4 : tie.Need-same-length-4
+same-length-4 c = search needs
+
 returns-4 : tie.Need-returns-4
 unfolding refusalWord
-returns-4 c = laid-none _ _ _ (ap refusalWord (c .enum-told4 .given .1))
+returns-4 c = laid-same _ _ _ _ _ _ (ap refusalWord (sym (c .before .before .before .before .before .enum-told4 .given .1))) (c .before .before .put-bytes4 .ensures)
 
 returns-5 : tie.Need-returns-5
 unfolding refusalWord
@@ -77,6 +89,10 @@ returns-5 c = laid-none _ _ _ (ap refusalWord (c .enum-told5 .given .1))
 returns-6 : tie.Need-returns-6
 unfolding refusalWord
 returns-6 c = laid-none _ _ _ (ap refusalWord (c .enum-told6 .given .1))
+
+returns-7 : tie.Need-returns-7
+unfolding refusalWord
+returns-7 c = laid-none _ _ _ (ap refusalWord (c .enum-told7 .given .1))
 
 pub put-refusal-spec : {M : Type 1} → statement M
 put-refusal-spec =
@@ -92,14 +108,19 @@ put-refusal-spec =
     slice-aggregate-put-bytes-3
     put-bytes-requires-3
     enum-told-4
+    slice-aggregate-put-bytes-4
+    put-bytes-requires-4
     enum-told-5
     enum-told-6
+    enum-told-7
     same-length
     returns
     same-length-2
     returns-2
     same-length-3
     returns-3
+    same-length-4
     returns-4
     returns-5
-    returns-6)
+    returns-6
+    returns-7)
