@@ -158,6 +158,42 @@ fn key_or(a: Slot) -> u64
     rank.0 as u64
 }
 
+// A node of four slots: two pairs are compared, then the winners. On a tie the left one stays, so that the leftmost wins.
+fn look_four(s: &[u32], at: usize, room: usize) -> Look
+    requires { ⌜ NodeIn 4 at (now s) × (room ≤ slotLimit) ⌝ }
+    ensures whole { λ r. ⌜ r .ok ≡ nodeOk room (nodeOf 4 (now (s .entry)) at) ⌝ }
+    ensures place { λ r. ⌜ r .place ≡ lowest (nodeOf 4 (now (s .entry)) at) ⌝ }
+    ensures within { λ r. ⌜ r .place ≤ 4 ⌝ }
+{
+    let a = slot_at(s, at);
+    let b = slot_at(s, at + 1);
+    let c = slot_at(s, at + 2);
+    let d = slot_at(s, at + 3);
+    let ok = slot_ok(a, room) & slot_ok(b, room) & slot_ok(c, room) & slot_ok(d, room);
+    let mut best = 0;
+    let mut low = key_or(a);
+    let second = key_or(b);
+    if second < low {
+        best = 1;
+        low = second;
+    }
+    let mut right = 2;
+    let mut high = key_or(c);
+    let fourth = key_or(d);
+    if fourth < high {
+        right = 3;
+        high = fourth;
+    }
+    if high < low {
+        best = right;
+        low = high;
+    }
+    if low == 4294967296 {
+        best = 4;
+    }
+    Look { ok, place: best }
+}
+
 // The place of the occupied slot of lowest rank, leftmost on a tie; the order where all are empty.
 pub fn look_low(s: &[u32], at: usize, order: usize, room: usize) -> Look
     requires { ⌜ NodeIn order at (now s) × (order ≤ 8) × (room ≤ slotLimit) ⌝ }
@@ -165,6 +201,9 @@ pub fn look_low(s: &[u32], at: usize, order: usize, room: usize) -> Look
     ensures place { λ r. ⌜ r .place ≡ lowest (nodeOf order (now (s .entry)) at) ⌝ }
     ensures within { λ r. ⌜ r .place ≤ order ⌝ }
 {
+    if order == 4 {
+        return look_four(s, at, room);
+    }
     let mut ok = true;
     let mut best = order;
     let mut low: u64 = 4294967296;

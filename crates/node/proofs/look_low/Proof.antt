@@ -9,6 +9,7 @@ use Rattle.strip.specs.Answers.{key}
 use Rattle.tree_model.specs.Damage.{slotOk}
 use Rattle.tree_model.specs.Words.{nodeOf}
 use Rattle.node.proofs.Looks.{key-stays, key-taken, low-key-start, low-looked}
+use Rattle.node.proofs.Pairs.{four-asked, four-told}
 use Rattle.node.proofs.Scan.{bestKey, every-next, everyTo, low-start, scanLow}
 use Rattle.node.proofs.look_low.Statement.{statement}
 use Rattle.node.proofs.look_low.Tie as tie
@@ -18,6 +19,12 @@ Inv-loop s at order room ok₀ best₀ low₀ j₀ ok best low j = (j ≤ order)
 
 abbrev μ-loop : tie.MeasureT-loop
 μ-loop s at order room ok₀ best₀ low₀ j₀ ok best low j = order - j
+
+look-four-requires : tie.Need-look-four-requires Inv-loop μ-loop
+look-four-requires c κs = four-asked _ _ _ _ (c .if1 .taken) (search needs) (search needs)
+
+returns : tie.Need-returns Inv-loop μ-loop
+returns c = four-told _ _ _ _ _ (c .before .if1 .taken) (c .look-four .ensures)
 
 loop-holds : tie.Need-loop-holds Inv-loop μ-loop
 unfolding everyTo
@@ -52,16 +59,16 @@ loop-again c =
     ⊎-elim
     (λ w. let p = key-taken _ _ _ _ _ _ _ _ (search needs) (inv .2) (inv .3) (inv .4) read (keyed .0) (keyed .1) (search needs) (w .0 .taken) _ _ (w .1) (w .2) in (omega arith, ok, p .0, p .1, omega arith, omega arith))
     (λ w. let p = key-stays _ _ _ _ _ _ _ _ (search needs) (inv .2) (inv .3) (inv .4) read (keyed .0) (keyed .1) (search needs) (w .0 .left) _ _ (w .1) (w .2) in (omega arith, ok, p .0, p .1, omega arith, omega arith))
-    (c .if2 .came)
-
-returns : tie.Need-returns Inv-loop μ-loop
-returns c =
-    let at-loop = c .before .before in
-    let inv = at-loop .loop .inv in
-    low-looked _ _ _ _ _ _ _ (omega (arith, ltb-false (at-loop .loop .j) 8 (c .if1 .left))) (inv .1) (inv .2) (inv .5)
+    (c .if3 .came)
 
 returns-2 : tie.Need-returns-2 Inv-loop μ-loop
-returns-2 c = let inv = c .before .loop .inv in low-looked _ _ _ _ _ _ _ (omega arith) (inv .1) (inv .2) (inv .5)
+returns-2 c =
+    let at-loop = c .before .before in
+    let inv = at-loop .loop .inv in
+    low-looked _ _ _ _ _ _ _ (omega (arith, ltb-false (at-loop .loop .j) 8 (c .if2 .left))) (inv .1) (inv .2) (inv .5)
+
+returns-3 : tie.Need-returns-3 Inv-loop μ-loop
+returns-3 c = let inv = c .before .loop .inv in low-looked _ _ _ _ _ _ _ (omega arith) (inv .1) (inv .2) (inv .5)
 
 pub look-low-spec : {M : Type 1} → statement M
 look-low-spec =
@@ -69,6 +76,8 @@ look-low-spec =
     (tie.spec
     Inv-loop
     μ-loop
+    look-four-requires
+    returns
     loop-holds
     add-slot-at
     slot-at-requires
@@ -77,5 +86,5 @@ look-low-spec =
     add-j
     loop-less
     loop-again
-    returns
-    returns-2)
+    returns-2
+    returns-3)
