@@ -8,7 +8,7 @@ use Rattle.cases.specs.Table.{Right, table, told}
 use Rattle.clocked_model.proofs.Cases.{case-6, case-empty, case-untagged}
 use Rattle.laws.specs.Lists.{All}
 use Rattle.promise.specs.Queue.{answers, leaves}
-use Rattle.strip.specs.Answers.{blank, key, untagged}
+use Rattle.strip.specs.Answers.{blank, key, untagged, precedes}
 use Rattle.tree_model.specs.Calls.{called, carriedOut, cleared, heldCount, orderOk, rule, shapeOk}
 use Rattle.tree_model.specs.Damage.{workOk, hasRoom, hasSome, isBlank, lifts, nodeOk, pathOk, readOk, room, slotOk, stepOk}
 use Rattle.tree_model.specs.Levels.{levelMove, stepWork, top, work}
@@ -16,8 +16,8 @@ use Rattle.tree_model.specs.Node.{every, firstEmpty, isEmpty, isNothing, keep, 
 use Rattle.tree_model.specs.Words.{applyWords, levelOf, levelsOf, nodeOf, size, slotOf, stepWords, tabulate, wipe, write}
 
 pub cases : All Right table
-unfolding table blank key untagged vacant isEmpty slotAt seek every firstEmpty leastCount lowest low sumCounts keep pass putBy putMove takeBy takeMove swapBy swapMove opMove isNothing top work levelMove stepWork slotOf write wipe tabulate nodeOf size levelOf levelsOf stepWords applyWords room isBlank slotOk nodeOk hasRoom hasSome readOk lifts stepOk workOk pathOk orderOk shapeOk rule carriedOut called cleared heldCount leaves answers
+unfolding table blank key precedes untagged vacant isEmpty slotAt seek every firstEmpty leastCount lowest low sumCounts keep pass putBy putMove takeBy takeMove swapBy swapMove opMove isNothing top work levelMove stepWork slotOf write wipe tabulate nodeOf size levelOf levelsOf stepWords applyWords room isBlank slotOk nodeOk hasRoom hasSome readOk lifts stepOk workOk pathOk orderOk shapeOk rule carriedOut called cleared heldCount leaves answers
 cases = (
   (refl, refl, refl),
-  ((refl, refl, refl), ((refl, refl, refl), ((refl, refl, refl), ((refl, refl, refl), (case-6, ((refl, refl, refl), ((refl, refl, refl), (ap (map told) case-empty, (ap (map told) case8-holds, ((pop-case-bits, pop-case-words), ((replace-case-bits, replace-case-words), ((refl, refl, refl), ((refl, refl, refl), (ap (map told) case-untagged, (ap (map told) tag-case, (ap (map told) spoilt-case, (refl, (refl, tt)))))))))))))))))),
+  ((refl, refl, refl), ((refl, refl, refl), ((refl, refl, refl), ((refl, refl, refl), (case-6, ((refl, refl, refl), ((refl, refl, refl), (ap (map told) case-empty, ((refl, refl, refl), (ap (map told) case8-holds, ((pop-case-bits, pop-case-words), ((replace-case-bits, replace-case-words), ((refl, refl, refl), ((refl, refl, refl), (ap (map told) case-untagged, (ap (map told) tag-case, (ap (map told) spoilt-case, (refl, (refl, tt))))))))))))))))))),
 )

@@ -81,6 +81,8 @@ table =
     ∷ row (Replace (element 5 50) ∷ []) ((6, 0, 0) ∷ []) (replicate 18 0) 0
     -- .. by cycles: as idle, so that a pop just after it is not too soon; and a lower newcomer is taken in
     ∷ cycles (map told caseEmpty) (map told caseEmptySays)
+    -- [12] a node with 5/9 and 5/3 gives 5/3, not the leftmost
+    ∷ row (Push (element 5 9) ∷ Push (element 5 3) ∷ Pop ∷ []) (done 2 ++ ((0, 5, 3) ∷ [])) (5 ∷ 9 ∷ 1 ∷ replicate 15 0) 1
     -- 8. bucket, N = 3: push 7/1, 7/2, 4095/3; push 0/4 refused 5; 4096/4 refused 4; pops 7/1, 7/2, 4095/3, then 6
     ∷ bucket 3 case8 ((0, 0, 0) ∷ (0, 0, 0) ∷ (0, 0, 0) ∷ (5, 0, 0) ∷ (4, 0, 0) ∷ (0, 7, 1) ∷ (0, 7, 2) ∷ (0, 4095, 3) ∷ (6, 0, 0) ∷ [])
     -- the bucket's words that are not 0, with their places, after push 7/1, 7/2, 7/3 and a pop; and after replace 70/5 and replace 3/6

@@ -5,7 +5,7 @@ use Rattle.clocked_model.specs.Cases.{caseEmpty, caseEmptySays, caseSix,
 use Rattle.clocked_model.specs.Cycle.{cycleOk, cycleWords, quiet}
 use Rattle.clocked_model.specs.Records.{landed, recordAt, recordsAfter, worksOf}
 use Rattle.promise.specs.Queue.{answers, leaves}
-use Rattle.strip.specs.Answers.{blank, key, untagged}
+use Rattle.strip.specs.Answers.{blank, key, untagged, precedes}
 use Rattle.tree_model.specs.Calls.{cleared, orderOk, rule, shapeOk}
 use Rattle.tree_model.specs.Damage.{workOk, hasRoom, hasSome, isBlank, lifts, nodeOk, readOk, room, slotOk, stepOk}
 use Rattle.tree_model.specs.Levels.{levelMove, stepWork, top, work}
@@ -13,17 +13,17 @@ use Rattle.tree_model.specs.Node.{every, firstEmpty, isEmpty, isNothing, keep, 
 use Rattle.tree_model.specs.Words.{levelOf, levelsOf, nodeOf, slotOf, stepWords, tabulate, wipe, write}
 
 pub case-6 : caseSix ≡ caseSixSays
-unfolding caseSix clockedA leaves cycled cycleRun drains drainFrom fresh ruleMarked asks popsOrReplaces isRefused marks quiet cycleWords cycleOk recordAt worksOf landed recordsAfter blank key untagged vacant isEmpty seek every firstEmpty leastCount lowest slotAt low keep pass putBy putMove takeBy takeMove swapBy swapMove opMove isNothing sumCounts work top levelMove stepWork room isBlank slotOk nodeOk hasRoom hasSome readOk lifts stepOk workOk slotOf write wipe tabulate nodeOf levelOf levelsOf stepWords orderOk shapeOk rule cleared
+unfolding caseSix clockedA leaves cycled cycleRun drains drainFrom fresh ruleMarked asks popsOrReplaces isRefused marks quiet cycleWords cycleOk recordAt worksOf landed recordsAfter blank key precedes untagged vacant isEmpty seek every firstEmpty leastCount lowest slotAt low keep pass putBy putMove takeBy takeMove swapBy swapMove opMove isNothing sumCounts work top levelMove stepWork room isBlank slotOk nodeOk hasRoom hasSome readOk lifts stepOk workOk slotOf write wipe tabulate nodeOf levelOf levelsOf stepWords orderOk shapeOk rule cleared
 case-6 = refl
 
 pub case-10 : caseTen ≡ caseTenSays
-unfolding caseTen answers cycled cycleRun fresh ruleMarked asks popsOrReplaces isRefused marks cycleWords cycleOk recordAt worksOf landed recordsAfter blank key untagged vacant isEmpty seek every firstEmpty leastCount lowest slotAt low keep pass putBy putMove takeBy takeMove swapBy swapMove opMove isNothing sumCounts work top levelMove stepWork room isBlank slotOk nodeOk hasRoom hasSome readOk lifts stepOk workOk slotOf write wipe tabulate nodeOf levelOf levelsOf stepWords orderOk shapeOk rule cleared
+unfolding caseTen answers cycled cycleRun fresh ruleMarked asks popsOrReplaces isRefused marks cycleWords cycleOk recordAt worksOf landed recordsAfter blank key precedes untagged vacant isEmpty seek every firstEmpty leastCount lowest slotAt low keep pass putBy putMove takeBy takeMove swapBy swapMove opMove isNothing sumCounts work top levelMove stepWork room isBlank slotOk nodeOk hasRoom hasSome readOk lifts stepOk workOk slotOf write wipe tabulate nodeOf levelOf levelsOf stepWords orderOk shapeOk rule cleared
 case-10 = refl
 
 pub case-empty : caseEmpty ≡ caseEmptySays
-unfolding caseEmpty answers cycled cycleRun fresh ruleMarked asks popsOrReplaces isRefused marks cycleWords cycleOk recordAt worksOf landed recordsAfter blank key untagged vacant isEmpty seek every firstEmpty leastCount lowest slotAt low keep pass putBy putMove takeBy takeMove swapBy swapMove opMove isNothing sumCounts work top levelMove stepWork room isBlank slotOk nodeOk hasRoom hasSome readOk lifts stepOk workOk slotOf write wipe tabulate nodeOf levelOf levelsOf stepWords orderOk shapeOk rule cleared
+unfolding caseEmpty answers cycled cycleRun fresh ruleMarked asks popsOrReplaces isRefused marks cycleWords cycleOk recordAt worksOf landed recordsAfter blank key precedes untagged vacant isEmpty seek every firstEmpty leastCount lowest slotAt low keep pass putBy putMove takeBy takeMove swapBy swapMove opMove isNothing sumCounts work top levelMove stepWork room isBlank slotOk nodeOk hasRoom hasSome readOk lifts stepOk workOk slotOf write wipe tabulate nodeOf levelOf levelsOf stepWords orderOk shapeOk rule cleared
 case-empty = refl
 
 pub case-untagged : caseUntagged ≡ caseUntaggedSays
-unfolding caseUntagged answers cycled cycleRun fresh ruleMarked asks popsOrReplaces isRefused marks cycleWords cycleOk recordAt worksOf landed recordsAfter blank key untagged vacant isEmpty seek every firstEmpty leastCount lowest slotAt low keep pass putBy putMove takeBy takeMove swapBy swapMove opMove isNothing sumCounts work top levelMove stepWork room isBlank slotOk nodeOk hasRoom hasSome readOk lifts stepOk workOk slotOf write wipe tabulate nodeOf levelOf levelsOf stepWords orderOk shapeOk rule cleared
+unfolding caseUntagged answers cycled cycleRun fresh ruleMarked asks popsOrReplaces isRefused marks cycleWords cycleOk recordAt worksOf landed recordsAfter blank key precedes untagged vacant isEmpty seek every firstEmpty leastCount lowest slotAt low keep pass putBy putMove takeBy takeMove swapBy swapMove opMove isNothing sumCounts work top levelMove stepWork room isBlank slotOk nodeOk hasRoom hasSome readOk lifts stepOk workOk slotOf write wipe tabulate nodeOf levelOf levelsOf stepWords orderOk shapeOk rule cleared
 case-untagged = refl

@@ -10,3 +10,4 @@ pub mod Cases
 pub mod OneStep
 pub mod Unread
 pub mod Replace
+pub mod Tags

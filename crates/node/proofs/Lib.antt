@@ -1,6 +1,6 @@
 pub mod Scan
 pub mod Looks
-pub mod Pairs
+pub mod Leads
 pub mod Steps
 pub mod Rulings
 pub mod Shapes

@@ -3,18 +3,16 @@ use Prim.Native.Nat.{_*_, _+_, _-_, _/_, _<_, _≤_, suc, zero, ℕ}
 use native.Mathlib.Nat.{add-mul-div-right, div-eq-of-lt, mul-comm, mul-le-mul-right, mul-suc, zero-add}
 use native.Mathlib.Numerals.{add-one}
 use native.Mathlib.Omega.{arith}
-use mathlib.Core.Bool.{_&&_, _||_, Bool, cond, false, not, true}
+use mathlib.Core.Bool.{Bool, cond, false, true}
 use mathlib.Core.List.{List}
 use mathlib.Core.Path.{_∙_, _≡_, ap, ap₂, refl, subst, sym}
-use lib.Dec.{leb, ltb}
-use lib.ListN.{length}
-use borrow.Author.Tests.{le-leb, le-ltb, lt-leb, lt-ltb}
-use Rattle.node.proofs.Scan.{bestKey, everyTo, fewest, low-end, node-ok-end, scan-least, scanLeast, scanLow}
-use Rattle.node.specs.Scan.{beats, keyOr, most, RoomUnder}
-use Rattle.strip.specs.Answers.{key}
-use Rattle.tree_model.proofs.Words.{node-length, node-slot}
+use lib.Dec.{ltb}
+use borrow.Author.Tests.{le-ltb, lt-ltb}
+use Rattle.node.proofs.Scan.{everyTo, fewest, node-ok-end, scan-least, scanLeast}
+use Rattle.node.specs.Scan.{most, RoomUnder}
+use Rattle.tree_model.proofs.Words.{node-slot}
 use Rattle.tree_model.specs.Damage.{nodeOk, room, slotOk}
-use Rattle.tree_model.specs.Node.{isEmpty, leastCount, lowest, slotAt}
+use Rattle.tree_model.specs.Node.{leastCount, slotAt}
 use Rattle.tree_model.specs.Words.{nodeOf, slotOf}
 use Rattle.tree_model.specs.declared.Slot.{Slot}
 
@@ -60,46 +58,6 @@ module _ (m : ℕ) (ws : List ℕ) (i : ℕ) where
         stays-few zero f hx h e = absurd (omega arith)
         stays-few (suc j) f hx h e = e
 
-  -- ---- the lowest
-  module _ (j b l k : ℕ) (x : Slot) (hj : j < m) (eb : b ≡ scanLow nd j) (el : l ≡ bestKey nd b) (hl : l ≤ most) (ex : x ≡ slotOf ws (i + j)) (ek : k ≡ keyOr x) (hk : k ≤ most)
-      (kx : key (x .element) < most) where
-    slot-here : slotAt nd j ≡ x
-    slot-here = node-slot m ws i j hj ∙ sym ex
-
-    -- slot j is the better exactly where its number is below the best
-    beats-by : beats nd j b ≡ ltb k l
-    unfolding beats keyOr bestKey
-    beats-by = rw slot-here (go (isEmpty x) (leb (length nd) b) ek el)
-      where
-        go : (e p : Bool) → k ≡ cond e most (key (x .element)) → l ≡ cond p most (key (slotAt nd b .element))
-            → (not e && (p || ltb (key (x .element)) (key (slotAt nd b .element)))) ≡ ltb k l
-        go true p ek el = sym (le-ltb k l (omega arith))
-        go false true ek el = sym (lt-ltb k l (omega arith))
-        go false false ek el = ap₂ ltb (sym ek) (sym el)
-
-    scanned-low : (t : Bool) → ltb k l ≡ t → scanLow nd (suc j) ≡ cond t j b
-    unfolding scanLow
-    scanned-low t e = ap₂ (λ (t : Bool) (b : ℕ). cond t j b) (ap (beats nd j) (sym eb) ∙ beats-by ∙ e) (sym eb)
-
-    pub key-taken : k < l → (r g : ℕ) → r ≡ j → g ≡ k → (r ≡ scanLow nd (j + 1)) × (g ≡ bestKey nd r)
-    unfolding bestKey keyOr
-    key-taken h r g er eg = (
-      er ∙ sym (scanned-low true (lt-ltb k l h)) ∙ ap (scanLow nd) (sym (add-one j)),
-      eg ∙ go (isEmpty x) ek ∙ ap (λ (s : Slot). key (s .element)) (sym slot-here)
-          ∙ sym (ap (λ (t : Bool). cond t most (key (slotAt nd j .element))) (lt-leb (length nd) j (omega (arith, node-length m ws i)))) ∙ ap (bestKey nd) (sym er),
-    )
-      where
-        go : (e : Bool) → k ≡ cond e most (key (x .element)) → k ≡ key (x .element)
-        go true ek = absurd (omega arith)
-        go false ek = ek
-
-    pub key-stays : l ≤ k → (r g : ℕ) → r ≡ b → g ≡ l → (r ≡ scanLow nd (j + 1)) × (g ≡ bestKey nd r)
-    key-stays h r g er eg = (er ∙ sym (scanned-low false (le-ltb k l h)) ∙ ap (scanLow nd) (sym (add-one j)), eg ∙ el ∙ ap (bestKey nd) (sym er))
-
-  pub low-key-start : most ≡ bestKey nd m
-  unfolding bestKey
-  low-key-start = sym (ap (λ (t : Bool). cond t most (key (slotAt nd m .element))) (le-leb (length nd) m (omega (arith, node-length m ws i))))
-
   -- ---- where the scan has come to the end
   module _ (r j best : ℕ) (ok : Bool) (end : j ≡ m) (tested : ok ≡ everyTo (slotOk r) nd j) where
     pub least-looked : 0 < m → best ≡ scanLeast nd j → (ok ≡ nodeOk r nd) × ((best ≡ leastCount nd) × (best < m))
@@ -107,9 +65,6 @@ module _ (m : ℕ) (ws : List ℕ) (i : ℕ) where
         let p = scan-least m ws i h in
         let b : best ≡ scanLeast nd m = e ∙ ap (scanLeast nd) end in
         (node-ok-end m ws i r j ok end tested, (b ∙ p .0, omega (arith, p .1)))
-
-    pub low-looked : best ≡ scanLow nd j → best ≤ m → (ok ≡ nodeOk r nd) × ((best ≡ lowest nd) × (best ≤ m))
-    low-looked e h = (node-ok-end m ws i r j ok end tested, (low-end m ws i j best end e, h))
 
 -- ---- the room below the next level's slots
 pub under-div : (m r q : ℕ) → 0 < m → r ≡ m * suc q → (r - 1) / m ≡ q

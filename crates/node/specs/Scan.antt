@@ -1,15 +1,15 @@
 -- What a node's functions ask of the words. Assumes nothing: these are definitions.
 use Prim.Native.Nat.{_*_, _+_, _<_, _≤_, pred, suc, zero, ℕ}
-use mathlib.Core.Bool.{_&&_, _||_, Bool, cond, not}
+use mathlib.Core.Bool.{Bool, cond}
 use mathlib.Core.List.{List}
 use mathlib.Core.Path.{_≡_}
-use lib.Dec.{leb, ltb}
+use lib.Dec.{leb}
 use lib.ListN.{length}
-use Rattle.strip.specs.Answers.{key}
+use Rattle.strip.specs.Answers.{turn}
 use Rattle.strip.specs.declared.Element.{Element}
 use Rattle.tree_model.specs.Calls.{slotLimit}
 use Rattle.tree_model.specs.Damage.{room, stepOk}
-use Rattle.tree_model.specs.Node.{isEmpty, low, slotAt}
+use Rattle.tree_model.specs.Node.{isEmpty, low, lowest, slotAt}
 use Rattle.tree_model.specs.Words.{nodeOf, slotWords}
 use Rattle.tree_model.specs.declared.Op.the-variants.{Take}
 use Rattle.tree_model.specs.declared.Slot.{Slot}
@@ -55,13 +55,24 @@ pub record Capacity (m levels r : ℕ) : Type 0 where
 abbrev pub RoomUnder : ℕ → ℕ → ℕ → Type 0
 RoomUnder m r u = (k : ℕ) → r ≡ room m k → u ≡ room m (pred k)
 
--- ---- slot j is occupied, and there is no best yet or its rank is lower
-unfoldable pub beats : List Slot → ℕ → ℕ → Bool
-beats nd j b = not (isEmpty (slotAt nd j)) && (leb (length nd) b || ltb (key (slotAt nd j .element)) (key (slotAt nd b .element)))
-
--- ---- the rank of an occupied slot; for an empty one a number above every rank
+-- ---- above every count
 abbrev pub most : ℕ
 most = 4294967296
 
-unfoldable pub keyOr : Slot → ℕ
-keyOr s = cond (isEmpty s) most (key (s .element))
+-- ---- the turn of an occupied slot's element; for an empty one the highest number, which is the turn of rank and tag 4,294,967,295 too
+abbrev pub highest : ℕ
+highest = 18446744073709551615
+
+unfoldable pub turnOr : Slot → ℕ
+turnOr s = cond (isEmpty s) highest (turn (s .element))
+
+-- what a scan by turns says: a place of the node is the lowest; the order stands for it that no turn is below the highest
+pub record Led (nd : List Slot) (p : ℕ) : Type 0 where
+  pub found : p < length nd → p ≡ lowest nd
+  pub none : length nd ≤ p → (a : ℕ) → a < length nd → 0 < slotAt nd a .count → (slotAt nd a .element .rank .0 ≡ 4294967295) × (slotAt nd a .element .tag .0 ≡ 4294967295)
+
+-- the first occupied place, the order where there is none
+pub record FirstFilled (nd : List Slot) (p : ℕ) : Type 0 where
+  pub within : p ≤ length nd
+  pub here : p < length nd → 0 < slotAt nd p .count
+  pub left : (a : ℕ) → a < p → slotAt nd a .count ≡ 0

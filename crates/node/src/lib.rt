@@ -10,7 +10,7 @@ ghost use Rattle.tree_model.specs.Node.{leastCount, lowest, sumCounts, keep, pa
 ghost use Rattle.tree_model.specs.Words.{slotWords, slotOf, write, nodeOf};
 ghost use Rattle.tree_model.specs.Damage.{slotOk, nodeOk};
 ghost use Rattle.tree_model.specs.Calls.{slotLimit, orderOk, shapeOk};
-ghost use Rattle.node.specs.Scan.{keyOr, NodeIn, Capacity, RoomUnder, slotsCounted};
+ghost use Rattle.node.specs.Scan.{turnOr, Led, FirstFilled, NodeIn, Capacity, RoomUnder, slotsCounted};
 
 pub mod shape;
 
@@ -145,24 +145,50 @@ pub fn look_least(s: &[u32], at: usize, order: usize, room: usize) -> Look
     Look { ok, place: best }
 }
 
-// The rank of an occupied slot; for an empty one a number above every rank.
-fn key_or(a: Slot) -> u64
-    ensures key { λ r. ⌜ r ≡ keyOr a ⌝ }
-    ensures most { λ r. ⌜ r ≤ 4294967296 ⌝ }
+// When an occupied slot's element leaves, by rank and then by tag, as one number; for an empty slot the highest number.
+fn turn_or(a: Slot) -> u64
+    ensures { λ r. ⌜ r ≡ turnOr a ⌝ }
 {
     if a.count == 0 {
-        return 4294967296;
+        return 18446744073709551615;
     }
     let element = a.element;
     let rank = element.rank;
-    rank.0 as u64
+    let tag = element.tag;
+    let high = rank.0 as u64;
+    let low = tag.0 as u64;
+    high * 4294967296 + low
 }
 
-// A node of four slots: two pairs are compared, then the winners. On a tie the left one stays, so that the leftmost wins.
+// The place of the lowest turn, leftmost on a tie; the order where no turn is below the highest.
+fn look_each(s: &[u32], at: usize, order: usize, room: usize) -> Look
+    requires { ⌜ NodeIn order at (now s) × (order ≤ 8) × (room ≤ slotLimit) ⌝ }
+    ensures whole { λ r. ⌜ r .ok ≡ nodeOk room (nodeOf order (now (s .entry)) at) ⌝ }
+    ensures led { λ r. ⌜ Led (nodeOf order (now (s .entry)) at) (r .place) ⌝ }
+    ensures within { λ r. ⌜ r .place ≤ order ⌝ }
+{
+    let mut ok = true;
+    let mut best = order;
+    let mut low: u64 = 18446744073709551615;
+    let mut j = 0;
+    while j < order && j < ORDER_LIMIT {
+        let a = slot_at(s, at + j);
+        ok = ok & slot_ok(a, room);
+        let k = turn_or(a);
+        if k < low {
+            best = j;
+            low = k;
+        }
+        j += 1;
+    }
+    Look { ok, place: best }
+}
+
+// .. in a node of four slots: two pairs are compared, then the winners. On a tie the left one stays, so that the leftmost wins.
 fn look_four(s: &[u32], at: usize, room: usize) -> Look
     requires { ⌜ NodeIn 4 at (now s) × (room ≤ slotLimit) ⌝ }
     ensures whole { λ r. ⌜ r .ok ≡ nodeOk room (nodeOf 4 (now (s .entry)) at) ⌝ }
-    ensures place { λ r. ⌜ r .place ≡ lowest (nodeOf 4 (now (s .entry)) at) ⌝ }
+    ensures led { λ r. ⌜ Led (nodeOf 4 (now (s .entry)) at) (r .place) ⌝ }
     ensures within { λ r. ⌜ r .place ≤ 4 ⌝ }
 {
     let a = slot_at(s, at);
@@ -171,15 +197,15 @@ fn look_four(s: &[u32], at: usize, room: usize) -> Look
     let d = slot_at(s, at + 3);
     let ok = slot_ok(a, room) & slot_ok(b, room) & slot_ok(c, room) & slot_ok(d, room);
     let mut best = 0;
-    let mut low = key_or(a);
-    let second = key_or(b);
+    let mut low = turn_or(a);
+    let second = turn_or(b);
     if second < low {
         best = 1;
         low = second;
     }
     let mut right = 2;
-    let mut high = key_or(c);
-    let fourth = key_or(d);
+    let mut high = turn_or(c);
+    let fourth = turn_or(d);
     if fourth < high {
         right = 3;
         high = fourth;
@@ -188,37 +214,58 @@ fn look_four(s: &[u32], at: usize, room: usize) -> Look
         best = right;
         low = high;
     }
-    if low == 4294967296 {
+    if low == 18446744073709551615 {
         best = 4;
     }
     Look { ok, place: best }
 }
 
-// The place of the occupied slot of lowest rank, leftmost on a tie; the order where all are empty.
+// .. by the order
+fn look_turns(s: &[u32], at: usize, order: usize, room: usize) -> Look
+    requires { ⌜ NodeIn order at (now s) × (order ≤ 8) × (room ≤ slotLimit) ⌝ }
+    ensures whole { λ r. ⌜ r .ok ≡ nodeOk room (nodeOf order (now (s .entry)) at) ⌝ }
+    ensures led { λ r. ⌜ Led (nodeOf order (now (s .entry)) at) (r .place) ⌝ }
+    ensures within { λ r. ⌜ r .place ≤ order ⌝ }
+{
+    if order == 4 {
+        return look_four(s, at, room);
+    }
+    look_each(s, at, order, room)
+}
+
+// The first occupied place; the order where all are empty.
+fn first_filled(s: &[u32], at: usize, order: usize) -> usize
+    requires { ⌜ NodeIn order at (now s) ⌝ }
+    ensures { λ r. ⌜ FirstFilled (nodeOf order (now (s .entry)) at) r ⌝ }
+{
+    let mut j = 0;
+    while j < order {
+        let a = slot_at(s, at + j);
+        if a.count != 0 {
+            return j;
+        }
+        j += 1;
+    }
+    order
+}
+
+// The place of the occupied slot of lowest rank, of those of that rank the one of lowest tag, leftmost on a tie of both; the order where
+// all are empty.
 pub fn look_low(s: &[u32], at: usize, order: usize, room: usize) -> Look
     requires { ⌜ NodeIn order at (now s) × (order ≤ 8) × (room ≤ slotLimit) ⌝ }
     ensures whole { λ r. ⌜ r .ok ≡ nodeOk room (nodeOf order (now (s .entry)) at) ⌝ }
     ensures place { λ r. ⌜ r .place ≡ lowest (nodeOf order (now (s .entry)) at) ⌝ }
     ensures within { λ r. ⌜ r .place ≤ order ⌝ }
 {
-    if order == 4 {
-        return look_four(s, at, room);
+    let v = look_turns(s, at, order, room);
+    let place = v.place;
+    let ok = v.ok;
+    if place == order {
+        // nothing is here, or an element of the highest turn, which an empty slot has too
+        let first = first_filled(s, at, order);
+        return Look { ok, place: first };
     }
-    let mut ok = true;
-    let mut best = order;
-    let mut low: u64 = 4294967296;
-    let mut j = 0;
-    while j < order && j < ORDER_LIMIT {
-        let a = slot_at(s, at + j);
-        ok = ok & slot_ok(a, room);
-        let k = key_or(a);
-        if k < low {
-            best = j;
-            low = k;
-        }
-        j += 1;
-    }
-    Look { ok, place: best }
+    Look { ok, place }
 }
 
 // Whether no slot of a node is damaged, with room for so many below each.

@@ -1,7 +1,7 @@
 -- The paper's number, rank and tag of each answer.
-use Prim.Native.Nat.{ℕ}
-use mathlib.Core.Bool.{Bool}
-use lib.Dec.{eqb}
+use Prim.Native.Nat.{ℕ, _*_, _+_}
+use mathlib.Core.Bool.{Bool, true, false, _&&_, _||_}
+use lib.Dec.{eqb, ltb}
 use Rattle.strip.specs.declared.Element.{Element}
 use Rattle.strip.specs.declared.Refusal.{Refusal}
 use Rattle.strip.specs.declared.Refusal.the-variants.{BadShape, Damaged, TooSoon, BadRank, Full, Empty, NoTag}
@@ -18,13 +18,21 @@ element r t = record { rank = record { 0 = r }; tag = record { 0 = t } }
 unfoldable pub blank : Element
 blank = element 0 0
 
--- what the order goes by: "Lower rank leaves first"
+-- what the order goes by: "Lower rank leaves first". Comparisons with a carried element are by this alone
 unfoldable pub key : Element → ℕ
 key e = e .rank .0
 
 -- an element without a tag: "Our lenders use tag 0 for "no strip"" (02 [1])
 unfoldable pub untagged : Element → Bool
 untagged e = eqb (e .tag .0) 0
+
+-- what the choice of a node's lowest goes by: "equal ranks within one node .. leave by lower tag"
+unfoldable pub precedes : Element → Element → Bool
+precedes a b = ltb (key a) (key b) || (eqb (key a) (key b) && ltb (a .tag .0) (b .tag .0))
+
+-- .. as one number: of rank and tag that are words, the lower precedes
+abbrev pub turn : Element → ℕ
+turn e = e .rank .0 * 4294967296 + e .tag .0
 
 -- column "No." of the table of refusals
 abbrev pub refusalNumber : Refusal → ℕ

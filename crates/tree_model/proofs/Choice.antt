@@ -4,13 +4,15 @@ use native.Mathlib.Nat.{le-of-lt, le-of-suc-le-suc, not-suc-le-zero}
 use native.Mathlib.Omega.{arith}
 use mathlib.Core.Bool.{_&&_, _||_, Bool, cond, false, not, true, true≢false}
 use mathlib.Core.List.{[], _∷_, List}
-use mathlib.Core.Path.{_≡_, ap, refl, subst}
+use mathlib.Core.Path.{_≡_, ap, refl, subst, sym}
 use lib.Dec.{leb, ltb}
 use lib.ListN.{getD, length}
 use borrow.Author.Tests.{eqb-false, eqb-true, leb-false, leb-true, ltb-false, ltb-true, ne-eqb}
 use Rattle.laws.specs.Lists.{All, all-at, all-map}
 use Rattle.laws.specs.Tests.{and-left, and-right}
-use Rattle.strip.specs.Answers.{key}
+use Rattle.strip.proofs.Order.{Before, before-not, before-upto, UpTo, upto-before, upto-rank, upto-self}
+use Rattle.strip.specs.Answers.{precedes}
+use Rattle.strip.specs.declared.Element.{Element}
 use Rattle.tree_model.specs.Node.{every, firstEmpty, isEmpty, leastCount, lowest, seek, slotAt, sumCounts, vacant}
 use Rattle.tree_model.specs.declared.Slot.{Slot}
 
@@ -86,15 +88,15 @@ least-in nd = leftmost nd .0
 pub least-le : (nd : List Slot) → All (λ u. slotAt nd (leastCount nd) .count ≤ u .count) nd
 least-le nd = leftmost nd .1
 
--- ---- the lowest key
+-- ---- the lowest: no occupied slot leaves before it
 pub record IsLowest (nd : List Slot) (j : ℕ) : Type 0 where
   pub inside : j < length nd
   pub occupied : 0 < slotAt nd j .count
-  pub least : All (λ u. 0 < u .count → key (slotAt nd j .element) ≤ key (u .element)) nd
+  pub least : All (λ u. 0 < u .count → UpTo (slotAt nd j .element) (u .element)) nd
 
--- u is no rival of an element of key r
-abbrev rival : ℕ → Slot → Bool
-rival r u = isEmpty u || leb r (key (u .element))
+-- u is no rival of the element e
+abbrev rival : Element → Slot → Bool
+rival e u = isEmpty u || not (precedes (u .element) e)
 
 pos : (n : ℕ) → (n ≡ 0 → ⊥) → 0 < n
 pos zero h = absurd (h refl)
@@ -108,40 +110,50 @@ pub void : (s : Slot) → isEmpty s ≡ true → s .count ≡ 0
 unfolding isEmpty
 void s e = eqb-true (s .count) 0 e
 
-no-rival : (r : ℕ) (u : Slot) → rival r u ≡ true → 0 < u .count → r ≤ key (u .element)
-no-rival r u e h = go (isEmpty u) refl e
+no-rival : (e : Element) (u : Slot) → rival e u ≡ true → 0 < u .count → UpTo e (u .element)
+no-rival e u t h = go (isEmpty u) refl (precedes (u .element) e) refl t
   where
-    go : (b : Bool) → isEmpty u ≡ b → (b || leb r (key (u .element))) ≡ true → r ≤ key (u .element)
-    go true p e = absurd (not-suc-le-zero (subst (λ (n : ℕ). 0 < n) (void u p) h))
-    go false p e = leb-true r (key (u .element)) e
+    go : (b : Bool) → isEmpty u ≡ b → (p : Bool) → precedes (u .element) e ≡ p → (b || not p) ≡ true → precedes (u .element) e ≡ false
+    go true q p f t = absurd (not-suc-le-zero (subst (λ (n : ℕ). 0 < n) (void u q) h))
+    go false q true f t = absurd (true≢false (sym t))
+    go false q false f t = f
 
--- where there is a rival, one slot is occupied by a lower key
-beaten : (r c : ℕ) (ss : List Slot) → every (rival r) ss ≡ false → (0 < sumCounts ss) × (All (λ u. 0 < u .count → c ≤ key (u .element)) ss → c < r)
+-- where there is a rival, one slot is occupied by an element that leaves earlier
+beaten : (e c : Element) (ss : List Slot) → every (rival e) ss ≡ false → (0 < sumCounts ss) × (All (λ u. 0 < u .count → UpTo c (u .element)) ss → Before c e)
 unfolding every sumCounts
-beaten r c [] e = absurd (true≢false e)
-beaten r c (u ∷ ss) e = go (isEmpty u) refl (leb r (key (u .element))) refl e (λ e. beaten r c ss e)
+beaten e c [] t = absurd (true≢false t)
+beaten e c (u ∷ ss) t = go (isEmpty u) refl (precedes (u .element) e) refl t (λ t. beaten e c ss t)
   where
-    go : (a : Bool) → isEmpty u ≡ a → (b : Bool) → leb r (key (u .element)) ≡ b → ((a || b) && every (rival r) ss) ≡ false
-        → (every (rival r) ss ≡ false → (0 < sumCounts ss) × (All (λ u. 0 < u .count → c ≤ key (u .element)) ss → c < r))
-        → (0 < u .count + sumCounts ss) × ((0 < u .count → c ≤ key (u .element)) × All (λ u. 0 < u .count → c ≤ key (u .element)) ss → c < r)
-    go true p b q e ih = (omega (arith, ih e .0), λ h. ih e .1 (h .1))
-    go false p true q e ih = (omega (arith, ih e .0), λ h. ih e .1 (h .1))
-    go false p false q e ih = (omega (arith, filled u p), λ h. omega (arith, h .0 (filled u p), leb-false r (key (u .element)) q))
+    go : (a : Bool) → isEmpty u ≡ a → (b : Bool) → precedes (u .element) e ≡ b → ((a || not b) && every (rival e) ss) ≡ false
+        → (every (rival e) ss ≡ false → (0 < sumCounts ss) × (All (λ u. 0 < u .count → UpTo c (u .element)) ss → Before c e))
+        → (0 < u .count + sumCounts ss) × ((0 < u .count → UpTo c (u .element)) × All (λ u. 0 < u .count → UpTo c (u .element)) ss → Before c e)
+    go true p b q t ih = (omega (arith, ih t .0), λ h. ih t .1 (h .1))
+    go false p false q t ih = (omega (arith, ih t .0), λ h. ih t .1 (h .1))
+    go false p true q t ih = (omega (arith, filled u p), λ h. upto-before c (u .element) e (h .0 (filled u p)) q)
 
 pub lowest-is : (nd : List Slot) → 0 < sumCounts nd → IsLowest nd (lowest nd)
 unfolding lowest seek slotAt sumCounts
 lowest-is [] h = absurd (not-suc-le-zero h)
-lowest-is (s ∷ ss) h = go (isEmpty s) refl (every (rival (key (s .element))) ss) refl (lowest-is ss)
+lowest-is (s ∷ ss) h = go (isEmpty s) refl (every (rival (s .element)) ss) refl (lowest-is ss)
   where
-    go : (a : Bool) → isEmpty s ≡ a → (b : Bool) → every (rival (key (s .element))) ss ≡ b → (0 < sumCounts ss → IsLowest ss (lowest ss))
+    go : (a : Bool) → isEmpty s ≡ a → (b : Bool) → every (rival (s .element)) ss ≡ b → (0 < sumCounts ss → IsLowest ss (lowest ss))
         → IsLowest (s ∷ ss) (cond (not a && b) 0 (suc (lowest ss)))
     go true p b q ih =
         let i = ih (omega (arith, void s p)) in
-        record { inside = omega (arith, i .inside); occupied = i .occupied; least = (λ h. omega (arith, void s p), i .least) }
-    go false p true q ih = record { inside = omega arith; occupied = filled s p; least = (λ h. omega arith, all-map _ _ (no-rival (key (s .element))) ss (every-all _ ss q)) }
+        record { inside = omega (arith, i .inside); occupied = i .occupied; least = (λ h. absurd (not-suc-le-zero (subst (λ (n : ℕ). 0 < n) (void s p) h)), i .least) }
+    go false p true q ih =
+        record { inside = omega arith; occupied = filled s p; least = (λ h. upto-self (s .element), all-map _ _ (no-rival (s .element)) ss (every-all _ ss q)) }
     go false p false q ih =
-        let i = ih (beaten (key (s .element)) 0 ss q .0) in
-        record { inside = omega (arith, i .inside); occupied = i .occupied; least = (λ h. le-of-lt (beaten (key (s .element)) _ ss q .1 (i .least)), i .least) }
+        let i = ih (beaten (s .element) (s .element) ss q .0) in
+        record {
+          inside = omega (arith, i .inside);
+          occupied = i .occupied;
+          least = (λ h. before-upto _ (s .element) (beaten (s .element) _ ss q .1 (i .least)), i .least);
+        }
+
+-- no occupied slot has a lower rank
+pub lowest-ranks : (nd : List Slot) (j : ℕ) → IsLowest nd j → All (λ u. 0 < u .count → slotAt nd j .element .rank .0 ≤ u .element .rank .0) nd
+lowest-ranks nd j i = all-map _ _ (λ u f h. upto-rank (slotAt nd j .element) (u .element) (f h)) nd (i .least)
 
 -- a bound on all counts bounds their sum
 pub counts-lower : (c : ℕ) (nd : List Slot) → All (λ u. c ≤ u .count) nd → length nd * c ≤ sumCounts nd
@@ -167,19 +179,19 @@ least-unique nd j inside le left =
     let r : ¬ (j < b) = λ h. omega (arith, least-left nd j h, le b b-in) in
     omega arith
 
-pub lowest-left : (nd : List Slot) → 0 < sumCounts nd → (i : ℕ) → i < lowest nd → 0 < slotAt nd i .count → key (slotAt nd (lowest nd) .element) < key (slotAt nd i .element)
+pub lowest-left : (nd : List Slot) → 0 < sumCounts nd → (i : ℕ) → i < lowest nd → 0 < slotAt nd i .count → Before (slotAt nd (lowest nd) .element) (slotAt nd i .element)
 unfolding lowest seek slotAt sumCounts
 lowest-left [] h i l o = absurd (not-suc-le-zero h)
-lowest-left (s ∷ ss) h i l o = go (isEmpty s) refl (every (rival (key (s .element))) ss) refl i l o (lowest-left ss)
+lowest-left (s ∷ ss) h i l o = go (isEmpty s) refl (every (rival (s .element)) ss) refl i l o (lowest-left ss)
   where
-    go : (a : Bool) → isEmpty s ≡ a → (b : Bool) → every (rival (key (s .element))) ss ≡ b → (i : ℕ) → i < cond (not a && b) 0 (suc (lowest ss)) → 0 < getD (s ∷ ss) i vacant .count
-        → (0 < sumCounts ss → (i : ℕ) → i < lowest ss → 0 < slotAt ss i .count → key (slotAt ss (lowest ss) .element) < key (slotAt ss i .element))
-        → key (getD (s ∷ ss) (cond (not a && b) 0 (suc (lowest ss))) vacant .element) < key (getD (s ∷ ss) i vacant .element)
+    go : (a : Bool) → isEmpty s ≡ a → (b : Bool) → every (rival (s .element)) ss ≡ b → (i : ℕ) → i < cond (not a && b) 0 (suc (lowest ss)) → 0 < getD (s ∷ ss) i vacant .count
+        → (0 < sumCounts ss → (i : ℕ) → i < lowest ss → 0 < slotAt ss i .count → Before (slotAt ss (lowest ss) .element) (slotAt ss i .element))
+        → Before (getD (s ∷ ss) (cond (not a && b) 0 (suc (lowest ss))) vacant .element) (getD (s ∷ ss) i vacant .element)
     go true p b q zero l o ih = absurd (not-suc-le-zero (subst (λ (n : ℕ). 0 < n) (void s p) o))
     go true p b q (suc i) l o ih = ih (omega (arith, void s p)) i (le-of-suc-le-suc l) o
     go false p true q i l o ih = absurd (not-suc-le-zero l)
-    go false p false q zero l o ih = beaten (key (s .element)) _ ss q .1 (lowest-is ss (beaten (key (s .element)) 0 ss q .0) .least)
-    go false p false q (suc i) l o ih = ih (beaten (key (s .element)) 0 ss q .0) i (le-of-suc-le-suc l) o
+    go false p false q zero l o ih = beaten (s .element) _ ss q .1 (lowest-is ss (beaten (s .element) (s .element) ss q .0) .least)
+    go false p false q (suc i) l o ih = ih (beaten (s .element) (s .element) ss q .0) i (le-of-suc-le-suc l) o
 
 -- some slot is occupied
 counts-pos : (nd : List Slot) (j : ℕ) → 0 < slotAt nd j .count → 0 < sumCounts nd
@@ -189,15 +201,15 @@ counts-pos (s ∷ ss) zero h = omega arith
 counts-pos (s ∷ ss) (suc j) h = omega (arith, counts-pos ss j h)
 
 pub lowest-unique : (nd : List Slot) (j : ℕ) → j < length nd → 0 < slotAt nd j .count
-    → ((i : ℕ) → i < length nd → 0 < slotAt nd i .count → key (slotAt nd j .element) ≤ key (slotAt nd i .element))
-    → ((i : ℕ) → i < j → 0 < slotAt nd i .count → key (slotAt nd j .element) < key (slotAt nd i .element)) → lowest nd ≡ j
+    → ((i : ℕ) → i < length nd → 0 < slotAt nd i .count → UpTo (slotAt nd j .element) (slotAt nd i .element))
+    → ((i : ℕ) → i < j → 0 < slotAt nd i .count → Before (slotAt nd j .element) (slotAt nd i .element)) → lowest nd ≡ j
 lowest-unique nd j inside occ le left =
     let b : ℕ = lowest nd in
     let some : 0 < sumCounts nd = counts-pos nd j occ in
     let i = lowest-is nd some in
-    let b-le : key (slotAt nd b .element) ≤ key (slotAt nd j .element) = all-slotAt (λ u. 0 < u .count → key (slotAt nd b .element) ≤ key (u .element)) nd j (i .least) inside occ in
-    let l : ¬ (b < j) = λ h. omega (arith, left b h (i .occupied)) in
-    let r : ¬ (j < b) = λ h. omega (arith, lowest-left nd some j h occ, le b (i .inside) (i .occupied)) in
+    let b-le : UpTo (slotAt nd b .element) (slotAt nd j .element) = all-slotAt (λ u. 0 < u .count → UpTo (slotAt nd b .element) (u .element)) nd j (i .least) inside occ in
+    let l : ¬ (b < j) = λ h. before-not (slotAt nd j .element) (slotAt nd b .element) (left b h (i .occupied)) b-le in
+    let r : ¬ (j < b) = λ h. before-not (slotAt nd b .element) (slotAt nd j .element) (lowest-left nd some j h occ) (le b (i .inside) (i .occupied)) in
     omega arith
 
 -- where all are empty there is none, and the length stands for it

@@ -15,3 +15,4 @@ pub mod Slice
 pub mod Agreement
 pub mod Unread
 pub mod Replace
+pub mod Tags

@@ -11,7 +11,7 @@ use Rattle.laws.specs.Lists.{All, all-any, all-both, all-map, all-of-map, sum-l
 use Rattle.promise.specs.Served.{always, hit, lower}
 use Rattle.strip.specs.Answers.{key}
 use Rattle.strip.specs.declared.Element.{Element}
-use Rattle.tree_model.proofs.Choice.{lowest-is}
+use Rattle.tree_model.proofs.Choice.{lowest-is, lowest-ranks}
 use Rattle.tree_model.specs.Damage.{room}
 use Rattle.tree_model.specs.Node.{low, slotAt, sumCounts, vacant}
 use Rattle.tree_model.specs.Tree.{at, bare, Fit, held, lowOf, many, nothing, own, ownBy, slots, something, Sound, Tree}
@@ -102,4 +102,4 @@ low-least m zero t s h = refl
 low-least m (suc k) t s h =
     let i = lowest-is (slots k t) (subst (λ (n : ℕ). 0 < n) (sym (sum-counts m k t (s .1))) h) in
     sum-zero _ t (all-map _ _ (λ z p. fit-lower k (low (slots k t) .rank .0) (z .0) (z .1) (p .0 .1) (p .1)) t
-    (all-both _ _ t (s .1) (all-slots k (λ u. 0 < u .count → low (slots k t) .rank .0 ≤ u .element .rank .0) t (i .least))))
+    (all-both _ _ t (s .1) (all-slots k (λ u. 0 < u .count → low (slots k t) .rank .0 ≤ u .element .rank .0) t (lowest-ranks (slots k t) _ i))))

@@ -12,13 +12,14 @@ use Rattle.laws.specs.Means.{means-no}
 use Rattle.laws.specs.Tests.{cond-both}
 use Rattle.promise.specs.Refused.{untagged-means}
 use Rattle.strip.specs.Answers.{blank, key, untagged}
+use Rattle.strip.proofs.Order.{before-says, UpTo, upto-rank, upto-says, upto-tag}
 use Rattle.strip.specs.declared.Element.{Element}
 use Rattle.strip.specs.declared.Request.{Request}
 use Rattle.strip.specs.declared.Request.the-variants.{Idle, Pop, Push, Replace}
 use Rattle.tree_model.proofs.Choice.{all-slotAt, least-in, least-le, least-left, lowest-is, lowest-left}
 use Rattle.tree_model.specs.Calls.{rule}
-use Rattle.tree_model.specs.Node.{firstEmpty, keep, leastCount, lowest, move, pass, putBy, putMove, slotAt, sumCounts, swapBy, swapMove, takeBy, takeMove}
-use Rattle.tree_model.specs.Rules.{clears, Comes, empty, ends, exchanges, full, goes, idles, IsLeast, IsLowest, lacks, no-tag, passes, puts, Puts, receives, stays, swaps, Swaps, takes, Takes}
+use Rattle.tree_model.specs.Node.{firstEmpty, keep, leastCount, lowest, move, pass, putBy, putMove, slotAt, sumCounts, swapBy, swapMove, takeBy, takeMove, low}
+use Rattle.tree_model.specs.Rules.{clears, Comes, empty, ends, exchanges, full, goes, idles, IsLeast, IsLowest, lacks, no-tag, passes, puts, Puts, receives, stays, swaps, Swaps, takes, Takes, LowerTag}
 use Rattle.tree_model.specs.declared.Op.the-variants.{Put}
 use Rattle.tree_model.specs.declared.Slot.{Slot}
 
@@ -26,15 +27,31 @@ use Rattle.tree_model.specs.declared.Slot.{Slot}
 pub least-is : (nd : List Slot) → 0 < length nd → IsLeast nd (leastCount nd)
 least-is nd h = record { inside = least-in nd h; smallest = λ i l. all-slotAt (λ u. slotAt nd (leastCount nd) .count ≤ u .count) nd i (least-le nd) l; leftmost = least-left nd }
 
+no-earlier : (nd : List Slot) → 0 < sumCounts nd → (j : ℕ) → j < length nd → 0 < slotAt nd j .count → UpTo (slotAt nd (lowest nd) .element) (slotAt nd j .element)
+no-earlier nd h j l o = all-slotAt (λ u. 0 < u .count → UpTo (slotAt nd (lowest nd) .element) (u .element)) nd j (lowest-is nd h .least) l o
+
 pub lowest-rank : (nd : List Slot) → 0 < sumCounts nd → IsLowest nd (lowest nd)
-unfolding key
 lowest-rank nd h =
     let i = lowest-is nd h in
     record {
       inside = i .inside;
       occupied = i .occupied;
-      least = λ j l o. all-slotAt (λ u. 0 < u .count → slotAt nd (lowest nd) .element .rank .0 ≤ u .element .rank .0) nd j (i .least) l o;
-      leftmost = lowest-left nd h;
+      least = λ j l o. upto-says (slotAt nd (lowest nd) .element) (slotAt nd j .element) (no-earlier nd h j l o);
+      leftmost = λ j l o. before-says (slotAt nd (lowest nd) .element) (slotAt nd j .element) (lowest-left nd h j l o);
+    }
+
+-- "equal ranks within one node .. leave by lower tag": what a take or a swap gives at a node, and what is lifted from one
+pub lower-tag : (nd : List Slot) → 0 < sumCounts nd → LowerTag nd (low nd)
+unfolding low
+lower-tag nd h =
+    let i = lowest-is nd h in
+    record {
+      place = lowest nd;
+      inside = i .inside;
+      occupied = i .occupied;
+      stands = refl;
+      rank = λ j l o. upto-rank (slotAt nd (lowest nd) .element) (slotAt nd j .element) (no-earlier nd h j l o);
+      tag = λ j l o e. upto-tag (slotAt nd (lowest nd) .element) (slotAt nd j .element) (no-earlier nd h j l o) e;
     }
 
 -- ---- the steps

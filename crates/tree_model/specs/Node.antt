@@ -5,7 +5,7 @@ use mathlib.Core.List.{List, [], _∷_}
 use lib.Dec.{ltb, leb, eqb}
 use lib.ListN.{length, getD}
 use Rattle.strip.specs.declared.Element.{Element}
-use Rattle.strip.specs.Answers.{blank, key}
+use Rattle.strip.specs.Answers.{blank, key, precedes}
 use Rattle.tree_model.specs.declared.Slot.{Slot}
 use Rattle.tree_model.specs.declared.Op.{Op}
 use Rattle.tree_model.specs.declared.Op.the-variants.{Nothing, Put, Take, Swap}
@@ -40,9 +40,10 @@ firstEmpty = seek (λ s ss. isEmpty s)
 unfoldable pub leastCount : List Slot → ℕ
 leastCount = seek (λ s ss. every (λ u. leb (s .count) (u .count)) ss)
 
--- "the occupied slot of lowest rank, leftmost on a tie"
+-- "the occupied slot of lowest rank"; "equal ranks within one node .. leave by lower tag, not by leftmost slot; leftmost remains for equal
+-- rank and tag"
 unfoldable pub lowest : List Slot → ℕ
-lowest = seek (λ s ss. not (isEmpty s) && every (λ u. isEmpty u || leb (key (s .element)) (key (u .element))) ss)
+lowest = seek (λ s ss. not (isEmpty s) && every (λ u. isEmpty u || not (precedes (u .element) (s .element))) ss)
 
 -- the element that a take gives
 unfoldable pub low : List Slot → Element

@@ -24,12 +24,24 @@ pub record IsLeast (nd : List Slot) (j : ℕ) : Type 0 where
   pub smallest : (i : ℕ) → i < length nd → slotAt nd j .count ≤ slotAt nd i .count
   pub leftmost : (i : ℕ) → i < j → slotAt nd j .count < slotAt nd i .count
 
--- "the occupied slot of lowest rank, leftmost on a tie"
+-- "the occupied slot of lowest rank"; "equal ranks within one node .. leave by lower tag, not by leftmost slot; leftmost remains for equal
+-- rank and tag"
 pub record IsLowest (nd : List Slot) (j : ℕ) : Type 0 where
   pub inside : j < length nd
   pub occupied : 0 < slotAt nd j .count
-  pub least : (i : ℕ) → i < length nd → 0 < slotAt nd i .count → slotAt nd j .element .rank .0 ≤ slotAt nd i .element .rank .0
-  pub leftmost : (i : ℕ) → i < j → 0 < slotAt nd i .count → slotAt nd j .element .rank .0 < slotAt nd i .element .rank .0
+  pub least : (i : ℕ) → i < length nd → 0 < slotAt nd i .count
+      → (slotAt nd j .element .rank .0 < slotAt nd i .element .rank .0) ⊎ ((slotAt nd j .element .rank .0 ≡ slotAt nd i .element .rank .0) × (slotAt nd j .element .tag .0 ≤ slotAt nd i .element .tag .0))
+  pub leftmost : (i : ℕ) → i < j → 0 < slotAt nd i .count
+      → (slotAt nd j .element .rank .0 < slotAt nd i .element .rank .0) ⊎ ((slotAt nd j .element .rank .0 ≡ slotAt nd i .element .rank .0) × (slotAt nd j .element .tag .0 < slotAt nd i .element .tag .0))
+
+-- an element that stands in an occupied slot of the node, of the lowest rank there, and of the slots of that rank with the lowest tag
+pub record LowerTag (nd : List Slot) (e : Element) : Type 0 where
+  pub place : ℕ
+  pub inside : place < length nd
+  pub occupied : 0 < slotAt nd place .count
+  pub stands : slotAt nd place .element ≡ e
+  pub rank : (i : ℕ) → i < length nd → 0 < slotAt nd i .count → e .rank .0 ≤ slotAt nd i .element .rank .0
+  pub tag : (i : ℕ) → i < length nd → 0 < slotAt nd i .count → slotAt nd i .element .rank .0 ≡ e .rank .0 → e .tag .0 ≤ slotAt nd i .element .tag .0
 
 -- "Put x: with an empty slot, the first one becomes x with count 1, and that ends it. Otherwise the slot with the smallest count .. has its count
 -- raised by one; if x's rank is strictly lower, x and the slot's element change places; what is left over is put into the node below"

@@ -52,13 +52,14 @@ impl Plain {
         self.slots[..self.order].iter().map(|s| s.count).sum()
     }
 
-    /// The occupied slot of lowest rank, leftmost on a tie.
+    /// The occupied slot of lowest rank; of equal ranks the one of lower tag, leftmost where the tags are equal too.
     #[inline]
     fn lowest(&self, first: usize) -> usize {
-        let (mut best, mut rank) = (first, u64::MAX);
+        let (mut best, mut low) = (first, u128::MAX);
         for (j, slot) in self.slots[first..first + self.order].iter().enumerate() {
-            if slot.count != 0 && (slot.rank as u64) < rank {
-                rank = slot.rank as u64;
+            let turn = (slot.rank as u128) << 32 | slot.tag as u128;
+            if slot.count != 0 && turn < low {
+                low = turn;
                 best = first + j;
             }
         }

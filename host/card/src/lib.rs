@@ -4,9 +4,9 @@
 //!
 //! | queue | ranks | ties | over lent words or arrays | with a store of its own (feature `std`) |
 //! |---|---|---|---|---|
-//! | multi-way tree | any | in its own order | [`Tree`] | `TreeQueue` |
+//! | multi-way tree | any | in a node the lower tag, else its own order | [`Tree`] | `TreeQueue` |
 //! | bucket queue | 0 to 4,095 | first in, first out | [`Bucket`] | `BucketQueue` |
-//! | multi-way tree by clock cycles | any | in its own order | [`Clocked`] | `ClockedTree` |
+//! | multi-way tree by clock cycles | any | in a node the lower tag, else its own order | [`Clocked`] | `ClockedTree` |
 //!
 //! A call that is refused says so by a [`Refusal`] and leaves behind what the paper's table says. No store's content makes a call
 //! unsafe, endless or a panic. The crate is `no_std` and allocates nothing; feature `std`, which is on unless it is switched off,

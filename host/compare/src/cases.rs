@@ -288,6 +288,42 @@ fn untagged<C: Card>(c: &mut C) -> Done {
     same("pop", m.pop(), (0, 5, 50))
 }
 
+/// Equal ranks in one node leave by lower tag; in different nodes in no promised order.
+fn lower_tag<C: Card>(c: &mut C) -> Done {
+    let mut t = Queue::tree(c, 2, 2, 6)?;
+    for tag in [9, 3] {
+        same("push", t.number(Op::TreePush, 5, tag), 0)?;
+    }
+    same("pop of 5/9 and 5/3", t.pop(), (0, 5, 3))?;
+    let mut t = Queue::tree(c, 2, 2, 6)?;
+    for tag in [9, 8, 1] {
+        same("push", t.number(Op::TreePush, 5, tag), 0)?;
+    }
+    for tag in [8, 9, 1] {
+        same("pop with 5/1 a level deeper", t.pop(), (0, 5, tag))?;
+    }
+    let mut m = Queue::machine(c, 2, 2, 6)?;
+    for tag in [9, 3] {
+        same("push", m.push(5, tag), (0, 0, 0))?;
+    }
+    same("pop just after a push", m.pop(), (3, 0, 0))?;
+    same("pop by a cycle", m.pop(), (0, 5, 3))
+}
+
+/// The highest rank with the highest tag is no empty slot, also where an empty one stands to its left.
+fn highest<C: Card>(c: &mut C) -> Done {
+    for order in [2, 4, 8] {
+        let mut t = Queue::tree(c, order, 1, order as usize)?;
+        for x in [1, u32::MAX] {
+            same("push", t.number(Op::TreePush, x, x), 0)?;
+        }
+        same("pop", t.pop(), (0, 1, 1))?;
+        same("pop of the highest", t.pop(), (0, u32::MAX, u32::MAX))?;
+        same("pop of nothing", t.pop(), (6, 0, 0))?;
+    }
+    Ok(())
+}
+
 /// The worked trace, by cycles.
 fn worked<C: Card>(c: &mut C) -> Done {
     let mut m = Queue::machine(c, 2, 2, 6)?;
@@ -317,6 +353,8 @@ pub fn all<C: Card>(c: &mut C) -> Vec<(&'static str, Done)> {
         ("equal ranks in a tree", ties(c)),
         ("a tree's replace, empty and by a lower rank", empty_machine(c)),
         ("tag 0 in every queue", untagged(c)),
+        ("equal ranks in a node: the lower tag", lower_tag(c)),
+        ("the highest rank and tag", highest(c)),
         ("the worked trace by cycles", worked(c)),
     ]
 }

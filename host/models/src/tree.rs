@@ -207,7 +207,7 @@ impl Node {
         best
     }
 
-    /// The occupied slot of lowest rank, leftmost on a tie.
+    /// The occupied slot of lowest rank; of equal ranks the one of lower tag, leftmost where the tags are equal too.
     pub fn lowest(&self) -> Option<usize> {
         let mut best: Option<usize> = None;
         for j in 0..self.order {
@@ -215,7 +215,8 @@ impl Node {
                 continue;
             }
             match best {
-                Some(b) if self.slots[j].rank >= self.slots[b].rank => {}
+                Some(b) if self.slots[j].rank > self.slots[b].rank => {}
+                Some(b) if self.slots[j].rank == self.slots[b].rank && self.slots[j].tag >= self.slots[b].tag => {}
                 _ => best = Some(j),
             }
         }

@@ -1,5 +1,4 @@
 -- `node::look_four` meets its contract. Assumes nothing.
-use Prim.Native.Nat.{_<_}
 use native.Mathlib.Omega.{arith}
 use mathlib.Core.Bool.{_&&_}
 use mathlib.Core.List.{List}
@@ -7,12 +6,10 @@ use mathlib.Core.Logic.{⊎-elim}
 use mathlib.Core.Path.{_≡_, refl}
 use borrow.Author.Needs.{needs}
 use denote.Ref.{now}
-use Rattle.node.specs.Scan.{most}
-use Rattle.strip.specs.Answers.{key}
 use Rattle.tree_model.specs.Damage.{nodeOk}
 use Rattle.tree_model.specs.Words.{nodeOf}
 use Rattle.tree_model.specs.declared.Slot.{Slot}
-use Rattle.node.proofs.Pairs.{Leads, four-lowest, four-none, four-ok, left-leads, one-leads, right-leads}
+use Rattle.node.proofs.Leads.{four-led, four-none, four-ok, IsWords, Leads, left-leads, one-leads, right-leads}
 use Rattle.node.proofs.look_four.Statement.{statement}
 use Rattle.node.proofs.look_four.Tie as tie
 
@@ -49,51 +46,47 @@ slot-ok-requires-3 c κs = search needs
 slot-ok-requires-4 : tie.Need-slot-ok-requires-4
 slot-ok-requires-4 c κs = search needs
 
-key-or-requires : tie.Need-key-or-requires
-key-or-requires c κs = search needs
+turn-or-requires : tie.Need-turn-or-requires
+turn-or-requires c κs = search needs
 
-key-or-requires-2 : tie.Need-key-or-requires-2
-key-or-requires-2 c κs = search needs
+turn-or-requires-2 : tie.Need-turn-or-requires-2
+turn-or-requires-2 c κs = search needs
 
-key-or-requires-3 : tie.Need-key-or-requires-3
-key-or-requires-3 c κs = search needs
+turn-or-requires-3 : tie.Need-turn-or-requires-3
+turn-or-requires-3 c κs = search needs
 
-key-or-requires-4 : tie.Need-key-or-requires-4
-key-or-requires-4 c κs = search needs
+turn-or-requires-4 : tie.Need-turn-or-requires-4
+turn-or-requires-4 c κs = search needs
 
 -- the node, once its slots are read
 abbrev read : tie.After-slot-at4 → List Slot
 read c = nodeOf 4 (now (c .before .before .before .before .before .args .s)) (c .before .before .before .before .before .args .at)
 
--- a rank that was read is a word
-small : (c : tie.After-slot-at) → key (c .slot-at .result .element) < most
-unfolding key
-small c = omega (arith, c .slot-at .ok)
+-- rank and tag that were read are words
+small : (c : tie.After-slot-at) → IsWords (c .slot-at .result .element)
+small c = (omega (arith, c .slot-at .ok), omega (arith, c .slot-at .ok))
 
-small2 : (c : tie.After-slot-at2) → key (c .slot-at2 .result .element) < most
-unfolding key
-small2 c = omega (arith, c .slot-at2 .ok)
+small2 : (c : tie.After-slot-at2) → IsWords (c .slot-at2 .result .element)
+small2 c = (omega (arith, c .slot-at2 .ok), omega (arith, c .slot-at2 .ok))
 
-small3 : (c : tie.After-slot-at3) → key (c .slot-at3 .result .element) < most
-unfolding key
-small3 c = omega (arith, c .slot-at3 .ok)
+small3 : (c : tie.After-slot-at3) → IsWords (c .slot-at3 .result .element)
+small3 c = (omega (arith, c .slot-at3 .ok), omega (arith, c .slot-at3 .ok))
 
-small4 : (c : tie.After-slot-at4) → key (c .slot-at4 .result .element) < most
-unfolding key
-small4 c = omega (arith, c .slot-at4 .ok)
+small4 : (c : tie.After-slot-at4) → IsWords (c .slot-at4 .result .element)
+small4 c = (omega (arith, c .slot-at4 .ok), omega (arith, c .slot-at4 .ok))
 
 -- each slot leads its own place
-lead : (c : tie.After-key-or) → Leads (read (c .before .before .before .before .before)) 0 1 0 (c .key-or .result)
-lead c = one-leads _ _ 0 (c .before .before .before .before .before .before .before .before .before .before .args .at) _ _ (omega arith) (omega arith) (c .before .before .before .before .before .before .before .before .slot-at .ensures) (c .key-or .ensures .0) (small (c .before .before .before .before .before .before .before .before))
+lead : (c : tie.After-turn-or) → Leads (read (c .before .before .before .before .before)) 0 1 0 (c .turn-or .result)
+lead c = one-leads _ _ 0 (c .before .before .before .before .before .before .before .before .before .before .args .at) _ _ (omega arith) (omega arith) (c .before .before .before .before .before .before .before .before .slot-at .ensures) (c .turn-or .ensures) (small (c .before .before .before .before .before .before .before .before))
 
-lead2 : (c : tie.After-key-or2) → Leads (read (c .before .before .before .before .before .before)) 1 2 1 (c .key-or2 .result)
-lead2 c = one-leads _ _ 1 _ _ _ (omega arith) refl (c .before .before .before .before .before .before .before .before .slot-at2 .ensures) (c .key-or2 .ensures .0) (small2 (c .before .before .before .before .before .before .before .before))
+lead2 : (c : tie.After-turn-or2) → Leads (read (c .before .before .before .before .before .before)) 1 2 1 (c .turn-or2 .result)
+lead2 c = one-leads _ _ 1 _ _ _ (omega arith) refl (c .before .before .before .before .before .before .before .before .slot-at2 .ensures) (c .turn-or2 .ensures) (small2 (c .before .before .before .before .before .before .before .before))
 
-lead3 : (c : tie.After-key-or3) → Leads (read (c .before .before .before .before .before .before .before .before)) 2 3 2 (c .key-or3 .result)
-lead3 c = one-leads _ _ 2 _ _ _ (omega arith) refl (c .before .before .before .before .before .before .before .before .before .slot-at3 .ensures) (c .key-or3 .ensures .0) (small3 (c .before .before .before .before .before .before .before .before .before))
+lead3 : (c : tie.After-turn-or3) → Leads (read (c .before .before .before .before .before .before .before .before)) 2 3 2 (c .turn-or3 .result)
+lead3 c = one-leads _ _ 2 _ _ _ (omega arith) refl (c .before .before .before .before .before .before .before .before .before .slot-at3 .ensures) (c .turn-or3 .ensures) (small3 (c .before .before .before .before .before .before .before .before .before))
 
-lead4 : (c : tie.After-key-or4) → Leads (read (c .before .before .before .before .before .before .before .before .before)) 3 4 3 (c .key-or4 .result)
-lead4 c = one-leads _ _ 3 _ _ _ (omega arith) refl (c .before .before .before .before .before .before .before .before .before .slot-at4 .ensures) (c .key-or4 .ensures .0) (small4 (c .before .before .before .before .before .before .before .before .before))
+lead4 : (c : tie.After-turn-or4) → Leads (read (c .before .before .before .before .before .before .before .before .before)) 3 4 3 (c .turn-or4 .result)
+lead4 c = one-leads _ _ 3 _ _ _ (omega arith) refl (c .before .before .before .before .before .before .before .before .before .slot-at4 .ensures) (c .turn-or4 .ensures) (small4 (c .before .before .before .before .before .before .before .before .before))
 
 -- two pairs
 left : (c : tie.Joined1) → Leads (read (c .before .before .before .before .before .before .before)) 0 2 (c .if1 .best) (c .if1 .low)
@@ -121,7 +114,7 @@ returns : tie.Need-returns
 returns c = (whole (c .before .before .before .before .before .before .before .before), four-none _ _ _ _ (won (c .before)) (c .if4 .taken))
 
 returns-2 : tie.Need-returns-2
-returns-2 c = (whole (c .before .before .before .before .before .before .before .before), four-lowest _ _ _ _ (won (c .before)) (c .if4 .left))
+returns-2 c = (whole (c .before .before .before .before .before .before .before .before), four-led _ _ _ _ (won (c .before)) (c .if4 .left))
 
 pub look-four-spec : {M : Type 1} → statement M
 look-four-spec =
@@ -138,9 +131,9 @@ look-four-spec =
     slot-ok-requires-2
     slot-ok-requires-3
     slot-ok-requires-4
-    key-or-requires
-    key-or-requires-2
-    key-or-requires-3
-    key-or-requires-4
+    turn-or-requires
+    turn-or-requires-2
+    turn-or-requires-3
+    turn-or-requires-4
     returns
     returns-2)
