@@ -3,10 +3,10 @@
  *
  * Every call but the sizes answers a number: 0 where it is not refused, else
  *
- *   1 bad shape   order, levels, nodes or a slice's length outside the rules
+ *   1 bad shape   order, levels, storeys, nodes or a slice's length outside the rules
  *   2 damaged     a store or a pending record does not hold together
  *   3 too soon    a clocked pop or replace just after an answered operation
- *   4 bad rank    a bucket rank above 4095
+ *   4 bad rank    a bucket rank above its last: 4095, or 262143 with three storeys
  *   5 full        a push on a full queue
  *   6 empty       a pop or replace on an empty queue
  *   7 no tag      a push or replace with tag 0, which stands for no strip
@@ -63,17 +63,17 @@ static inline const char *card_name(uint32_t number) {
 uint32_t card_tree_words(uint32_t order, uint32_t levels);
 
 /* A bucket queue's words of 64 bits. */
-uint32_t card_bucket_bits(void);
+uint32_t card_bucket_bits(uint32_t storeys);
 
 /* A bucket queue's words of 32 bits. */
-uint32_t card_bucket_words(uint32_t nodes);
+uint32_t card_bucket_words(uint32_t storeys, uint32_t nodes);
 
 /*
- * The same as constants, for arrays. They test nothing: order, levels and nodes must be good.
+ * The same as constants, for arrays. They test nothing: order, levels, storeys and nodes must be good.
  */
 #define CARD_TREE_WORDS(order, levels) (3u * ((((order) << (CARD_SHIFT(order) * (levels))) - (order)) / ((order)-1u)))
-#define CARD_BUCKET_BITS 65u
-#define CARD_BUCKET_WORDS(nodes) (8194u + 2u * (nodes))
+#define CARD_BUCKET_BITS(storeys) ((storeys) == 3u ? 4161u : 65u)
+#define CARD_BUCKET_WORDS(storeys, nodes) ((2u << (6u * (storeys))) + 2u * (nodes) + 2u)
 /* The records of a clocked tree, four words for each level from 2: none where there is one level. */
 #define CARD_RECORD_WORDS(levels) (4u * ((levels)-1u))
 #define CARD_MARK_WORDS 1u
@@ -83,8 +83,9 @@ uint32_t card_bucket_words(uint32_t nodes);
 
 /*
  * The multi-way tree, one operation at a time. Order M is 2, 4 or 8, levels L at least 1, and the
- * capacity M + M^2 + ... + M^L at most 5460. The store has three words for each slot: rank, tag,
- * count (card_tree_words in all); it must be cleared before its first use.
+ * capacity M + M^2 + ... + M^L at most 87380: up to 15 levels of order 2, 8 of order 4, 5 of order
+ * 8. The store has three words for each slot: rank, tag, count (card_tree_words in all); it must be
+ * cleared before its first use.
  */
 
 /* Empties the tree: 3 * capacity words of zero. Never refused 2. */
@@ -109,35 +110,38 @@ uint32_t card_tree_held(const uint32_t *store, size_t store_len, uint32_t order,
                         uint32_t *out, size_t out_len);
 
 /*
- * The bucket queue: ranks 0 to 4095, first in first out within a rank, a pool of 1 to 4096 nodes.
- * The store is 65 words of 64 bits (bits) and 8192 + 2 * nodes + 2 words of 32 bits (words), as
- * card_bucket_bits and card_bucket_words say; it must be cleared before its first use.
+ * The bucket queue: first in first out within a rank, a pool of 1 to 65536 nodes. With two storeys
+ * of bits it has ranks 0 to 4095, with three 0 to 262143; there is no other depth. The store is 65
+ * or 4161 words of 64 bits (bits: top, middle, lowest) and a head and a tail for each rank, two
+ * words for each node and two more of 32 bits (words), as card_bucket_bits and card_bucket_words
+ * say; it must be cleared before its first use, and storeys and nodes are the same in every call.
  */
 
 /* Empties the queue and makes the chain of free nodes. Never refused 2. */
 uint32_t card_bucket_clear(uint64_t *bits, size_t bits_len, uint32_t *words, size_t words_len,
-                           uint32_t nodes);
+                           uint32_t storeys, uint32_t nodes);
 
-/* Takes an element in, behind those of its rank. Refused 4 above rank 4095, 7 with tag 0, 5 where
-   no node is free. */
+/* Takes an element in, behind those of its rank. Refused 4 above the last rank, 7 with tag 0, 5
+   where no node is free. */
 uint32_t card_bucket_push(uint64_t *bits, size_t bits_len, uint32_t *words, size_t words_len,
-                          uint32_t nodes, uint32_t rank, uint32_t tag);
+                          uint32_t storeys, uint32_t nodes, uint32_t rank, uint32_t tag);
 
 /* Gives the first element of the lowest rank in out[0] and out[1]. Refused 6 where nothing is
    held. */
 uint32_t card_bucket_pop(uint64_t *bits, size_t bits_len, uint32_t *words, size_t words_len,
-                         uint32_t nodes, uint32_t *out, size_t out_len);
+                         uint32_t storeys, uint32_t nodes, uint32_t *out, size_t out_len);
 
 /* A pop, and then a push of the new element: gives the first element of the lowest rank in out[0]
-   and out[1], even if the new rank is lower. Works on a full queue. Refused 4 above rank 4095, 7
-   with tag 0, 6 where nothing is held. */
+   and out[1], even if the new rank is lower. Works on a full queue. Refused 4 above the last rank,
+   7 with tag 0, 6 where nothing is held. */
 uint32_t card_bucket_replace(uint64_t *bits, size_t bits_len, uint32_t *words, size_t words_len,
-                             uint32_t nodes, uint32_t rank, uint32_t tag, uint32_t *out,
-                             size_t out_len);
+                             uint32_t storeys, uint32_t nodes, uint32_t rank, uint32_t tag,
+                             uint32_t *out, size_t out_len);
 
 /* Gives the number of held elements in out[0]. */
 uint32_t card_bucket_held(const uint64_t *bits, size_t bits_len, const uint32_t *words,
-                          size_t words_len, uint32_t nodes, uint32_t *out, size_t out_len);
+                          size_t words_len, uint32_t storeys, uint32_t nodes, uint32_t *out,
+                          size_t out_len);
 
 /*
  * The same tree, worked by clock cycles. Beside the store there are four words of records for each

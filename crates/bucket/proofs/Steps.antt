@@ -2,7 +2,7 @@
 use mathlib.Core.Path.{_≡_, sym, ap, subst, _∙_}
 use mathlib.Core.Bool.{Bool, true, false, cond, not, _&&_}
 use mathlib.Core.List.{List}
-use Prim.Native.Nat.{ℕ, _<_}
+use Prim.Native.Nat.{ℕ, _≤_, _<_}
 use native.Mathlib.Omega.{arith}
 use borrow.Author.Tests.{eqb-true, eqb-false}
 use lib.Dec.{eqb, lit≤}
@@ -13,25 +13,28 @@ use Rattle.strip.specs.declared.Element.{Element}
 use Rattle.bucket_model.specs.declared.Lay.{Lay}
 use Rattle.bucket_model.specs.declared.Lowest.{Lowest}
 use Rattle.bucket_model.specs.declared.Room.{Room}
-use Rattle.bucket_model.specs.Layout.{queue, word, headAt, tailAt}
+use Rattle.bucket_model.specs.Layout.{queue, leastStoreys, mostStoreys, wordsOf, bitWords, word, headAt, tailAt}
 use Rattle.bucket_model.specs.Storeys.{storeysAt, edit, marked, lowestRank}
 use Rattle.bucket_model.specs.Checks.{nextOf}
 use Rattle.bucket_model.specs.Calls.{isShaped, isWhole, lowestOf, takenBits, takenWords, roomOf, roomAfter, joinedBits}
 use Rattle.bucket_model.specs.Causes.{Whole, PushFit}
 use Rattle.bucket_model.proofs.Facts.{shape-means, whole-means, pop-means, pop-way, low-is, push-means, room-means}
 use Rattle.bucket_model.proofs.Taken.{free-after, next-own}
-use Rattle.bucket_model.proofs.Queue.{shaped-after}
+use Rattle.bucket_model.proofs.Queue.{laid-of, shaped-after}
 use Rattle.bucket_model.proofs.Pop.{taken-length, taken-bits-length}
-use Rattle.bucket_model.proofs.Promises.{queue-laid}
 use Rattle.bucket_bits.specs.Climbs.{Tall, Turnable, Marking}
+use Rattle.bucket_bits.proofs.Numbers.{words-le}
 use Rattle.bucket_bits.proofs.Up.{agreed-turnable, agreed-stays, turnable-stays}
 use Rattle.bucket_nodes.specs.Places.{Fits}
 use Rattle.bucket_tests.specs.Stores.{Stands, Roomy, FoundLow, FoundRoom, Freeing}
 use Rattle.bucket.specs.Stores.{Placed, Joining, Swapping}
 
--- 01's queue
-pub queue-placed : (n : ℕ) (k : Lay) → k ≡ queue n → Placed k
-queue-placed n k e = subst Placed (sym e) (record { laid = queue-laid n; small = lit≤ tt })
+-- a queue of either depth: few words of bits
+few-bits : (d n : ℕ) → leastStoreys ≤ d → d ≤ mostStoreys → bitWords (queue d n) ≤ 4294967296
+few-bits d n l h = let a = words-le d mostStoreys h in let b : wordsOf mostStoreys ≤ 4161 = lit≤ tt in omega arith
+
+pub queue-placed : (d n : ℕ) (k : Lay) → leastStoreys ≤ d → d ≤ mostStoreys → k ≡ queue d n → Placed k
+queue-placed d n k l h e = subst Placed (sym e) (record { laid = laid-of d n (omega arith); small = few-bits d n l h })
 
 module _ (k : Lay) (b w : List ℕ) where
   pub stands : Placed k → isShaped k b w ≡ true → Stands k b w

@@ -2,13 +2,18 @@
 //
 // Each call reads everything first, tests once, and writes last, so that a refusal leaves every word as it
 // was. Every contract is one equation: the answer and all words of both slices afterwards are what the
-// definition says of the words before, whatever they were. The public calls are those of 01's queue of n nodes;
-// under each is the same call for any layout.
+// definition says of the words before, whatever they were. The public calls are those of a queue of n nodes, two storeys
+// deep or three; under each is the same call for any layout.
+//
+// Push and pop go through the depths one by one, and do their call at the one that is asked for: the compiler unrolls such a
+// loop, so that each depth has code of its own with its numbers in it. Replace is too long for that.
 use bucket_bits::mark;
 use bucket_bits::wipe;
 use bucket_model::Lay;
 use bucket_model::Lowest;
 use bucket_model::Room;
+use bucket_nodes::LEAST_STOREYS;
+use bucket_nodes::MOST_STOREYS;
 use bucket_nodes::element_of;
 use bucket_nodes::held_count;
 use bucket_nodes::join_words;
@@ -20,56 +25,83 @@ use bucket_tests::find_lowest;
 use bucket_tests::find_room;
 use bucket_tests::has_room;
 use bucket_tests::has_some;
+use bucket_tests::is_deep;
 use bucket_tests::is_shaped;
 use bucket_tests::is_whole;
 use bucket_tests::limit_or_damage;
+use bucket_tests::may_come;
+use bucket_tests::rank_or_tag;
 use bucket_tests::room_after;
 use strip::Answer;
 use strip::Count;
 use strip::Element;
 use strip::Refusal;
-use strip::is_untagged;
 ghost use mathlib.Core.Path.{_≡_};
 ghost use Rattle.bucket_model.specs.Layout.{queue};
 ghost use Rattle.bucket_model.specs.Calls.{outcome, cleared, pushed, popped, replaced, heldCount, takenBits, takenWords, joinedBits, joinedWords};
 ghost use Rattle.bucket_tests.specs.Stores.{Freeing};
 ghost use Rattle.bucket.specs.Stores.{Placed, Joining, Swapping};
 
-// ---- 01's queue of n nodes
+// ---- a queue of n nodes, of either depth
 
 // An empty queue, whatever the slices held before.
-pub fn clear(bits: &mut [u64], words: &mut [u32], n: u32) -> Answer
-    ensures { λ r. ⌜ outcome r (now (bits .exit)) (now (words .exit)) ≡ cleared (queue n) (now (bits .entry)) (now (words .entry)) ⌝ }
+pub fn clear(bits: &mut [u64], words: &mut [u32], storeys: usize, n: u32) -> Answer
+    ensures { λ r. ⌜ outcome r (now (bits .exit)) (now (words .exit)) ≡ cleared (queue storeys n) (now (bits .entry)) (now (words .entry)) ⌝ }
 {
-    clear_laid(bits, words, queue_of(n))
+    if !is_deep(storeys) {
+        return Answer::Refused(Refusal::BadShape);
+    }
+    clear_laid(bits, words, queue_of(storeys, n))
 }
 
 // How many are held.
-pub fn held(bits: &[u64], words: &[u32], n: u32) -> Count
-    ensures { λ r. ⌜ r ≡ heldCount (queue n) (now (bits .entry)) (now (words .entry)) ⌝ }
+pub fn held(bits: &[u64], words: &[u32], storeys: usize, n: u32) -> Count
+    ensures { λ r. ⌜ r ≡ heldCount (queue storeys n) (now (bits .entry)) (now (words .entry)) ⌝ }
 {
-    held_laid(bits, words, queue_of(n))
+    if !is_deep(storeys) {
+        return Count::Unknown(Refusal::BadShape);
+    }
+    held_laid(bits, words, queue_of(storeys, n))
 }
 
 // The first element of the lowest rank.
-pub fn pop(bits: &mut [u64], words: &mut [u32], n: u32) -> Answer
-    ensures { λ r. ⌜ outcome r (now (bits .exit)) (now (words .exit)) ≡ popped (queue n) (now (bits .entry)) (now (words .entry)) ⌝ }
+pub fn pop(bits: &mut [u64], words: &mut [u32], storeys: usize, n: u32) -> Answer
+    ensures { λ r. ⌜ outcome r (now (bits .exit)) (now (words .exit)) ≡ popped (queue storeys n) (now (bits .entry)) (now (words .entry)) ⌝ }
 {
-    pop_laid(bits, words, queue_of(n))
+    let mut answer = Answer::Refused(Refusal::BadShape);
+    let mut d = LEAST_STOREYS;
+    while d <= MOST_STOREYS {
+        if d == storeys {
+            answer = pop_laid(bits, words, queue_of(d, n));
+        }
+        d += 1;
+    }
+    answer
 }
 
 // A newcomer behind all of its rank.
-pub fn push(bits: &mut [u64], words: &mut [u32], n: u32, e: Element) -> Answer
-    ensures { λ r. ⌜ outcome r (now (bits .exit)) (now (words .exit)) ≡ pushed (queue n) (now (bits .entry)) (now (words .entry)) e ⌝ }
+pub fn push(bits: &mut [u64], words: &mut [u32], storeys: usize, n: u32, e: Element) -> Answer
+    ensures { λ r. ⌜ outcome r (now (bits .exit)) (now (words .exit)) ≡ pushed (queue storeys n) (now (bits .entry)) (now (words .entry)) e ⌝ }
 {
-    push_laid(bits, words, queue_of(n), e)
+    let mut answer = Answer::Refused(Refusal::BadShape);
+    let mut d = LEAST_STOREYS;
+    while d <= MOST_STOREYS {
+        if d == storeys {
+            answer = push_laid(bits, words, queue_of(d, n), e);
+        }
+        d += 1;
+    }
+    answer
 }
 
 // A pop, and then a push of the newcomer: the first element of the lowest rank, even if the newcomer's rank is lower.
-pub fn replace(bits: &mut [u64], words: &mut [u32], n: u32, e: Element) -> Answer
-    ensures { λ r. ⌜ outcome r (now (bits .exit)) (now (words .exit)) ≡ replaced (queue n) (now (bits .entry)) (now (words .entry)) e ⌝ }
+pub fn replace(bits: &mut [u64], words: &mut [u32], storeys: usize, n: u32, e: Element) -> Answer
+    ensures { λ r. ⌜ outcome r (now (bits .exit)) (now (words .exit)) ≡ replaced (queue storeys n) (now (bits .entry)) (now (words .entry)) e ⌝ }
 {
-    replace_laid(bits, words, queue_of(n), e)
+    if !is_deep(storeys) {
+        return Answer::Refused(Refusal::BadShape);
+    }
+    replace_laid(bits, words, queue_of(storeys, n), e)
 }
 
 // ---- any layout
@@ -172,11 +204,8 @@ fn push_laid(bits: &mut [u64], words: &mut [u32], k: Lay, e: Element) -> Answer
         return Answer::Refused(Refusal::BadShape);
     }
     let rank = e.rank;
-    if k.ranks <= rank.0 {
-        return Answer::Refused(Refusal::BadRank);
-    }
-    if is_untagged(e) {
-        return Answer::Refused(Refusal::NoTag);
+    if !may_come(k, e) {
+        return Answer::Refused(rank_or_tag(k, e));
     }
     if !has_room(bits, words, k) {
         return Answer::Refused(limit_or_damage(bits, words, k, Refusal::Full));
@@ -197,11 +226,8 @@ fn replace_laid(bits: &mut [u64], words: &mut [u32], k: Lay, e: Element) -> Answ
         return Answer::Refused(Refusal::BadShape);
     }
     let rank = e.rank;
-    if k.ranks <= rank.0 {
-        return Answer::Refused(Refusal::BadRank);
-    }
-    if is_untagged(e) {
-        return Answer::Refused(Refusal::NoTag);
+    if !may_come(k, e) {
+        return Answer::Refused(rank_or_tag(k, e));
     }
     if !has_some(bits, words, k) {
         return Answer::Refused(limit_or_damage(bits, words, k, Refusal::Empty));

@@ -10,10 +10,10 @@ use Rattle.bucket_model.specs.Checks.{shapeOk, wholeOk, nextOf, popOk, p
 use Rattle.bucket_model.specs.Calls.{fill, blankWord, cleared, lowestOf, tailLeft, takenWords, takenBits, popFound, popped, roomOf, linkAt, joinedWords, joinedBits, pushFound, pushed, roomAfter, replaceFound, replaceJoined, replaced}
 use Rattle.bucket_model.specs.Plain.{asked, answersFrom, bucketAnswers}
 
-pub tag-case : bucketAnswers (queue 3) tagCase ≡ tagCaseAnswers
+pub tag-case : bucketAnswers (queue 2 3) tagCase ≡ tagCaseAnswers
 unfolding bucketAnswers answersFrom asked marked lowestRank lowestOpen rankAgrees shapeOk wholeOk nextOf popOk pushOk fill blankWord cleared lowestOf tailLeft takenWords takenBits popFound popped roomOf linkAt joinedWords joinedBits pushFound pushed roomAfter replaceFound replaceJoined replaced untagged bitAt trailingZeros
 tag-case = refl
 
-pub spoilt-case : answersFrom (queue 3) spoiltCase spoilt ≡ spoiltCaseAnswers
+pub spoilt-case : answersFrom (queue 2 3) spoiltCase spoilt ≡ spoiltCaseAnswers
 unfolding answersFrom asked marked lowestRank lowestOpen rankAgrees shapeOk wholeOk nextOf popOk pushOk fill blankWord cleared lowestOf tailLeft takenWords takenBits popFound popped roomOf linkAt joinedWords joinedBits pushFound pushed roomAfter replaceFound replaceJoined replaced untagged bitAt trailingZeros
 spoilt-case = refl

@@ -8,7 +8,7 @@ use lib.Dec.{eqb}
 use lib.ListN.{length}
 use Rattle.laws.specs.Means.{Means, means-leb, means-ltb, means-eqb, means-not, means-and, means-beq, means-differ, means-by}
 use Rattle.bitmap.specs.Bits.{bit-lt}
-use Rattle.bucket_model.specs.Layout.{Lay, pool, bitWords, word, headAt, tailAt}
+use Rattle.bucket_model.specs.Layout.{Lay, pool, leastStoreys, mostStoreys, bitWords, word, headAt, tailAt}
 use Rattle.bucket_model.specs.Storeys.{Storey, storeysAt, wordOf, bitOf, find, opens, agree, lowestOpen, lowestRank, rankAgrees}
 use Rattle.bucket_model.specs.Checks.{shapeOk, wholeOk, nextOf, popOk, pushOk}
 use Rattle.bucket_model.specs.Calls.{isShaped, isWhole, Lowest, lowestOf, lowestIn, noLowest, roomOf, roomAfter}
@@ -22,9 +22,10 @@ module _ (k : Lay) (b w : List ℕ) where
   pub shape-means : Means (isShaped k b w) (Shaped k b w)
   unfolding shapeOk
   shape-means =
-      means-by (means-and (means-and (means-and (means-leb 1 (k .nodes)) (means-leb (k .nodes) pool)) (means-leb (bitWords k) (length b))) (means-ltb (k .held) (length w)))
-      (λ x. record { low = x .0 .0 .0; high = x .0 .0 .1; bits = x .0 .1; words = omega (arith, x .1) })
-      (λ h. (((h .low, h .high), h .bits), omega (arith, h .words)))
+      means-by
+      (means-and (means-and (means-and (means-and (means-and (means-leb leastStoreys (k .storeys)) (means-leb (k .storeys) mostStoreys)) (means-leb 1 (k .nodes))) (means-leb (k .nodes) pool)) (means-leb (bitWords k) (length b))) (means-ltb (k .held) (length w)))
+      (λ x. record { two = x .0 .0 .0 .0 .0; three = x .0 .0 .0 .0 .1; low = x .0 .0 .0 .1; high = x .0 .0 .1; bits = x .0 .1; words = omega (arith, x .1) })
+      (λ h. (((((h .two, h .three), h .low), h .high), h .bits), omega (arith, h .words)))
 
   pub whole-means : Means (isWhole k b w) (Whole k b w)
   unfolding wholeOk

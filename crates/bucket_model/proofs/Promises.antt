@@ -28,9 +28,9 @@ use Rattle.bucket_model.proofs.Push.{pushes}
 use Rattle.bucket_model.proofs.Clear.{clear-holds, clear-done}
 use Rattle.bucket_model.proofs.Runs.{stored-is, empty-list, calls, says-alike, after-holds, pop-is, push-is, room-again}
 
--- 01's queue is laid out as every law here counts on
-pub queue-laid : (n : ℕ) → Laid (queue n)
-queue-laid n = laid-of 2 n (omega arith)
+-- a queue of its own store is laid out as every law here counts on, whatever its depth and its nodes: what is promised below is promised of `queue d n` wherever it is shaped
+pub queue-laid : (d n : ℕ) (b w : List ℕ) → Shaped (queue d n) b w → Laid (queue d n)
+queue-laid d n b w h = laid-of d n (omega (arith, h .two))
 
 -- ---- the plain list is never damaged
 

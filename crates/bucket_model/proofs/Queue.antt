@@ -11,7 +11,7 @@ use Rattle.laws.specs.Lists.{All}
 use Rattle.laws.specs.Means.{Iff}
 use Rattle.laws.specs.Updates.{upd, is-upd}
 use Rattle.strip.specs.declared.Element.{Element}
-use Rattle.bucket_model.specs.Layout.{Lay, Laid, layOf, word, headAt, Load, noLoad}
+use Rattle.bucket_model.specs.Layout.{Lay, Laid, queue, word, headAt, Load, noLoad}
 use Rattle.bucket_model.specs.Storeys.{lowestRank}
 use Rattle.bucket_model.specs.Causes.{Shaped, Whole}
 use Rattle.bucket_model.specs.Plain.{inOrder}
@@ -166,7 +166,7 @@ module _ (k : Lay) (laid : Laid k) where
                 ∙ ap (upd (λ j. f (h .q (headAt k j))) r (f ys)) (sym e)
 
 pub shaped-after : (k : Lay) (b w b′ w′ : List ℕ) → length b′ ≡ length b → length w′ ≡ length w → Shaped k b w → Shaped k b′ w′
-shaped-after k b w b′ w′ p q h = record { low = h .low; high = h .high; bits = omega (arith, h .bits); words = omega (arith, h .words) }
+shaped-after k b w b′ w′ p q h = record { two = h .two; three = h .three; low = h .low; high = h .high; bits = omega (arith, h .bits); words = omega (arith, h .words) }
 
 pub pow-pos64 : (d : ℕ) → 1 ≤ 64 ^ d
 pow-pos64 zero = omega arith
@@ -174,7 +174,7 @@ pow-pos64 (suc d) = omega (arith, pow-pos64 d, pow-suc 64 d)
 
 -- ---- a queue of its own store is laid so, whatever its storeys and nodes
 
-pub laid-of : (d n : ℕ) → 1 ≤ d → Laid (layOf d n)
+pub laid-of : (d n : ℕ) → 1 ≤ d → Laid (queue d n)
 laid-of zero n h = absurd (omega arith)
 laid-of (suc d) n h =
     let p : 1 ≤ 64 ^ d = pow-pos64 d in

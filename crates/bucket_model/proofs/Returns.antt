@@ -3,7 +3,7 @@ use mathlib.Core.Path.{_≡_, sym, ap}
 use mathlib.Core.Bool.{Bool, true, false, cond, not, _&&_, false≢true}
 use mathlib.Core.List.{List}
 use Prim.Native.Nat.{ℕ, _≤_, _<_}
-use lib.Dec.{eqb}
+use lib.Dec.{ltb, eqb}
 use borrow.Author.Tests.{eq-eqb, ne-eqb, lt-ltb, le-ltb}
 use Rattle.strip.specs.Answers.{untagged}
 use Rattle.strip.specs.declared.Element.{Element}
@@ -14,11 +14,11 @@ use Rattle.strip.specs.declared.Count.the-variants.{Held, Unknown}
 use Rattle.bucket_model.specs.Layout.{Lay, bitWords, storeWords, word}
 use Rattle.bucket_model.specs.Calls.{Outcome, outcome, refused, isShaped, isWhole, fill, blankWord, cleared, heldCount, Lowest, Room, lowestOf, takenBits, takenWords, given, popFound, popped, roomOf, joinedBits, joinedWords, pushFound, pushed, roomAfter, replaceFound, replaceJoined, replaced}
 
--- a limit that is met on a whole queue, or a queue that is not whole
-limit : (b w : List ℕ) (whole ok : Bool) (x y : Refusal) (o : Outcome) → (whole && ok) ≡ false → x ≡ cond whole y Damaged → refused x b w ≡ cond whole (cond ok o (refused y b w)) (refused Damaged b w)
-limit b w true true x y o e p = absurd (false≢true (sym e))
-limit b w true false x y o e p = ap (λ (r : Refusal). refused r b w) p
-limit b w false ok x y o e p = ap (λ (r : Refusal). refused r b w) p
+-- two tests in turn, each with its refusal, that are asked as one
+either : (b w : List ℕ) (first second : Bool) (x y z : Refusal) (o : Outcome) → (first && second) ≡ false → x ≡ cond first y z → refused x b w ≡ cond first (cond second o (refused y b w)) (refused z b w)
+either b w true true x y z o e p = absurd (false≢true (sym e))
+either b w true false x y z o e p = ap (λ (r : Refusal). refused r b w) p
+either b w false second x y z o e p = ap (λ (r : Refusal). refused r b w) p
 
 module _ (k : Lay) (b w : List ℕ) where
   -- ---- clear
@@ -54,7 +54,7 @@ module _ (k : Lay) (b w : List ℕ) where
   module _ (s : isShaped k b w ≡ true) where
     pub pop-limit : (x : Refusal) → (isWhole k b w && not (eqb (word w (k .held)) 0)) ≡ false → x ≡ cond (isWhole k b w) Empty Damaged → refused x b w ≡ popped k b w
     unfolding popped
-    pop-limit x e p = rw s (limit b w (isWhole k b w) (not (eqb (word w (k .held)) 0)) x Empty _ e p)
+    pop-limit x e p = rw s (either b w (isWhole k b w) (not (eqb (word w (k .held)) 0)) x Empty Damaged _ e p)
 
     module _ (j : isWhole k b w ≡ true) where
       pub pop-none : word w (k .held) ≡ 0 → refused Empty b w ≡ popped k b w
@@ -79,6 +79,10 @@ module _ (k : Lay) (b w : List ℕ) where
     push-bad s = simp s
 
     module _ (s : isShaped k b w ≡ true) where
+      pub push-newcomer : (y : Refusal) → (ltb (x .rank .0) (k .ranks) && not (untagged x)) ≡ false → y ≡ cond (ltb (x .rank .0) (k .ranks)) NoTag BadRank → refused y b w ≡ pushed k b w x
+      unfolding pushed
+      push-newcomer y e p = rw s (either b w (ltb (x .rank .0) (k .ranks)) (not (untagged x)) y NoTag BadRank _ e p)
+
       pub push-high : k .ranks ≤ x .rank .0 → refused BadRank b w ≡ pushed k b w x
       unfolding pushed
       push-high l = simp (s, le-ltb _ _ l)
@@ -91,7 +95,7 @@ module _ (k : Lay) (b w : List ℕ) where
         module _ (t : untagged x ≡ false) where
           pub push-limit : (y : Refusal) → (isWhole k b w && not (eqb (word w (k .held)) (k .nodes))) ≡ false → y ≡ cond (isWhole k b w) Full Damaged → refused y b w ≡ pushed k b w x
           unfolding pushed
-          push-limit y e p = rw (s, lt-ltb (x .rank .0) (k .ranks) l, t) (limit b w (isWhole k b w) (not (eqb (word w (k .held)) (k .nodes))) y Full _ e p)
+          push-limit y e p = rw (s, lt-ltb (x .rank .0) (k .ranks) l, t) (either b w (isWhole k b w) (not (eqb (word w (k .held)) (k .nodes))) y Full Damaged _ e p)
 
           module _ (j : isWhole k b w ≡ true) where
             pub push-full : word w (k .held) ≡ k .nodes → refused Full b w ≡ pushed k b w x
@@ -115,6 +119,10 @@ module _ (k : Lay) (b w : List ℕ) where
     replace-bad s = simp s
 
     module _ (s : isShaped k b w ≡ true) where
+      pub replace-newcomer : (y : Refusal) → (ltb (x .rank .0) (k .ranks) && not (untagged x)) ≡ false → y ≡ cond (ltb (x .rank .0) (k .ranks)) NoTag BadRank → refused y b w ≡ replaced k b w x
+      unfolding replaced
+      replace-newcomer y e p = rw s (either b w (ltb (x .rank .0) (k .ranks)) (not (untagged x)) y NoTag BadRank _ e p)
+
       pub replace-high : k .ranks ≤ x .rank .0 → refused BadRank b w ≡ replaced k b w x
       unfolding replaced
       replace-high l = simp (s, le-ltb _ _ l)
@@ -127,7 +135,7 @@ module _ (k : Lay) (b w : List ℕ) where
         module _ (t : untagged x ≡ false) where
           pub replace-limit : (y : Refusal) → (isWhole k b w && not (eqb (word w (k .held)) 0)) ≡ false → y ≡ cond (isWhole k b w) Empty Damaged → refused y b w ≡ replaced k b w x
           unfolding replaced
-          replace-limit y e p = rw (s, lt-ltb (x .rank .0) (k .ranks) l, t) (limit b w (isWhole k b w) (not (eqb (word w (k .held)) 0)) y Empty _ e p)
+          replace-limit y e p = rw (s, lt-ltb (x .rank .0) (k .ranks) l, t) (either b w (isWhole k b w) (not (eqb (word w (k .held)) 0)) y Empty Damaged _ e p)
 
           module _ (j : isWhole k b w ≡ true) where
             pub replace-none : word w (k .held) ≡ 0 → refused Empty b w ≡ replaced k b w x

@@ -1,7 +1,7 @@
 -- "A bit is set exactly if something is held below it": on a store that the queue's own calls lead to, storey by storey.
 use mathlib.Core.Path.{_≡_, refl, sym, ap, subst, _∙_}
 use mathlib.Core.List.{List, [], _∷_}
-use Prim.Native.Nat.{ℕ, suc, _+_, _*_, _/_, _%_, _^_, _≤_, _<_, zero}
+use Prim.Native.Nat.{ℕ, suc, _+_, _-_, _*_, _/_, _%_, _^_, _≤_, _<_, zero}
 use native.Mathlib.Decide.{ℕ-discrete}
 use native.Mathlib.Nat.{pow-suc}
 use native.Mathlib.Omega.{arith}
@@ -13,13 +13,13 @@ use Rattle.strip.specs.declared.Element.{Element}
 use Rattle.bucket_model.specs.Layout.{Lay, Laid, queue, word, headAt, Load}
 use Rattle.bucket_model.specs.Storeys.{Storey, storeysFrom, storeysAt}
 use Rattle.bucket_model.specs.Plain.{Store, Reached}
-use Rattle.bucket_model.specs.Promise.{Occupied, Shows, BitsTell}
+use Rattle.bucket_model.specs.Promise.{Occupied, Shows, Grouped, BitsTell, BitsTellThree}
 use Rattle.bucket_model.proofs.Tells.{Tells, nz, nz-one, up, storey-down, storey-none}
 use Rattle.bucket_model.proofs.Tower.{Tower, Bits, Shape, shape-from}
 use Rattle.bucket_model.proofs.Chain.{Node}
-use Rattle.bucket_model.proofs.Queue.{Holds, flag, loads}
+use Rattle.bucket_model.proofs.Queue.{Holds, flag, loads, laid-of}
 use Rattle.bucket_model.proofs.Runs.{lane-is}
-use Rattle.bucket_model.proofs.Promises.{queue-laid, reached-holds}
+use Rattle.bucket_model.proofs.Promises.{reached-holds}
 
 -- a word is not 0 exactly if one of its bits is set
 word-tells : (b : List ℕ) (base m : ℕ) (f : ℕ → ℕ) (P : ℕ → Type 0) → Tells b base m f → ((j : ℕ) → j < 64 * m → Iff (f j ≡ 1) (P j)) → (g : ℕ) → g < m
@@ -76,23 +76,47 @@ module _ (k : Lay) (laid : Laid k) where
           within zero a e j i = absurd (omega arith)
           within (suc d) a e j i = omega (arith, pow-suc 64 d)
 
--- .. of 01's queue
-pub bits-tell : (n : ℕ) (s : Store) → Reached (queue n) s → BitsTell n s
+-- ---- .. in 01's and 02's own numbers
+
+module _ (k : Lay) (w : List ℕ) where
+  -- the 64 ranks of a word, and the 64 words of a word above
+  one-word : (g : ℕ) → Iff ((u : ℕ) × (u < 64) × Occupied k w (64 * g + u)) (Grouped k w 64 g)
+  one-word g =
+      record {
+        to = λ x. (64 * g + x .0, omega arith, omega (arith, x .1), x .2);
+        from = λ x. (x .0 - 64 * g, omega (arith, x .1, x .2), subst (Occupied k w) (omega (arith, x .1)) (x .3));
+      }
+
+  two-words : (g : ℕ) → Iff ((v : ℕ) × (v < 64) × ((u : ℕ) × (u < 64) × Occupied k w (64 * (64 * g + v) + u))) (Grouped k w 4096 g)
+  two-words g =
+      record {
+        to = λ x. (64 * (64 * g + x .0) + x .2 .0, omega arith, omega (arith, x .1, x .2 .1), x .2 .2);
+        from = λ x. ((x .0 - 4096 * g) / 64, omega (arith, x .1, x .2), ((x .0 - 4096 * g) % 64, omega arith, subst (Occupied k w) (omega (arith, x .1)) (x .3)));
+      }
+
+-- the top word has one word's bits
+top-bit : (b : List ℕ) (g : ℕ) (P : Type 0) → g < 64 → Iff (bitAt (word b (0 + g / 64)) (g % 64) ≡ 1) P → Iff (bitAt (word b 0) g ≡ 1) P
+top-bit b g P l i =
+    let a : g / 64 ≡ 0 = omega arith in
+    let c : g % 64 ≡ g = omega arith in
+    rw (a, c) at i
+
+and-then : {A B C : Type 0} → Iff A B → Iff B C → Iff A C
+and-then p q = record { to = λ a. q .to (p .to a); from = λ c. p .from (q .from c) }
+
+pub bits-tell : (n : ℕ) (s : Store) → Reached (queue 2 n) s → BitsTell n s
 bits-tell n s r =
-    let z = shown (queue n) (queue-laid n) s r in
+    let z = shown (queue 2 n) (laid-of 2 n (omega arith)) s r in
     record {
       rank = λ r l. z .0 r (omega arith);
-      group = λ g l. record {
-        to = λ e. to g (z .1 .0 g (omega arith) .to (rank-bit g l e));
-        from = λ x. bit-rank g l (z .1 .0 g (omega arith) .from (x .0 % 64, omega arith, subst (Occupied (queue n) (s .words)) (omega (arith, x .1)) (x .2)));
-      };
+      group = λ g l. top-bit (s .bits) g _ l (and-then (z .1 .0 g (omega arith)) (one-word (queue 2 n) (s .words) g));
     }
-  where
-    rank-bit : (g : ℕ) → g < 64 → bitAt (word (s .bits) 0) g ≡ 1 → bitAt (word (s .bits) (0 + g / 64)) (g % 64) ≡ 1
-    rank-bit g l e = let a : g / 64 ≡ 0 = omega arith in let c : g % 64 ≡ g = omega arith in rw (a, c) e
 
-    bit-rank : (g : ℕ) → g < 64 → bitAt (word (s .bits) (0 + g / 64)) (g % 64) ≡ 1 → bitAt (word (s .bits) 0) g ≡ 1
-    bit-rank g l e = let a : g / 64 ≡ 0 = omega arith in let c : g % 64 ≡ g = omega arith in rw (a, c) at e
-
-    to : (g : ℕ) → (u : ℕ) × (u < 64) × Occupied (queue n) (s .words) (64 * g + u) → (r : ℕ) × (r / 64 ≡ g) × Occupied (queue n) (s .words) r
-    to g x = (64 * g + x .0, omega (arith, x .1), x .2)
+pub bits-tell-three : (n : ℕ) (s : Store) → Reached (queue 3 n) s → BitsTellThree n s
+bits-tell-three n s r =
+    let z = shown (queue 3 n) (laid-of 3 n (omega arith)) s r in
+    record {
+      rank = λ r l. z .0 r (omega arith);
+      middle = λ g l. and-then (z .1 .0 g (omega arith)) (one-word (queue 3 n) (s .words) g);
+      top = λ g l. top-bit (s .bits) g _ l (and-then (z .1 .1 .0 g (omega arith)) (two-words (queue 3 n) (s .words) g));
+    }

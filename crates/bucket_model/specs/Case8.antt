@@ -17,3 +17,14 @@ abbrev pub case8Answers : List Answer
 case8Answers =
     Done ∷ Done ∷ Done ∷ Refused Full ∷ Refused BadRank
     ∷ Out (element 7 1) ∷ Out (element 7 2) ∷ Out (element 4095 3) ∷ Refused Empty ∷ []
+
+-- .. and at three storeys, where 262,143 is the last rank (02 [7])
+abbrev pub case8Three : List Request
+case8Three =
+    Push (element 7 1) ∷ Push (element 7 2) ∷ Push (element 262143 3) ∷ Push (element 0 4) ∷ Push (element 262144 4)
+    ∷ Pop ∷ Pop ∷ Pop ∷ Pop ∷ []
+
+abbrev pub case8ThreeAnswers : List Answer
+case8ThreeAnswers =
+    Done ∷ Done ∷ Done ∷ Refused Full ∷ Refused BadRank
+    ∷ Out (element 7 1) ∷ Out (element 7 2) ∷ Out (element 262143 3) ∷ Refused Empty ∷ []

@@ -17,7 +17,7 @@ filled i (x ∷ xs) = cond (eqb x 0) (filled (suc i) xs) ((i, x) ∷ filled (suc
 
 -- what requests leave of slices of nines, each one word longer than it need be, that were cleared for n nodes
 abbrev pub leftBy : ℕ → List Request → Store
-leftBy n rs = after (queue n) (map ask rs) (start (queue n) (replicate 66 9) (replicate (8195 + 2 * n) 9))
+leftBy n rs = after (queue 2 n) (map ask rs) (start (queue 2 n) (replicate 66 9) (replicate (8195 + 2 * n) 9))
 
 -- N = 4: push 7/1, 7/2, 7/3; a pop gives 7/1
 abbrev pub popCase : List Request

@@ -16,14 +16,16 @@ use Rattle.strip.specs.declared.Request.{Request}
 use Rattle.strip.specs.declared.Request.the-variants.{Push, Replace}
 use Rattle.strip.specs.declared.Count.{Count}
 use Rattle.strip.specs.declared.Count.the-variants.{Unknown}
-use Rattle.bucket_model.specs.Layout.{Lay, pool, bitWords, storeWords, word, headAt, tailAt}
+use Rattle.bucket_model.specs.Layout.{Lay, pool, leastStoreys, mostStoreys, bitWords, storeWords, word, headAt, tailAt}
 use Rattle.bucket_model.specs.Storeys.{Storey, storeysAt, wordOf, find, lowestRank}
 use Rattle.bucket_model.specs.Checks.{nextOf}
 use Rattle.bucket_model.specs.Calls.{Outcome, refused, lowestOf, takenBits, takenWords}
 
--- ---- 1, bad shape: "N or a slice length outside the above"
+-- ---- 1, bad shape: "N or a slice length outside the above", or another depth than "both"
 
 pub record Shaped (k : Lay) (b w : List ℕ) : Type 0 where
+  pub two : leastStoreys ≤ k .storeys
+  pub three : k .storeys ≤ mostStoreys
   pub low : 1 ≤ k .nodes
   pub high : k .nodes ≤ pool
   pub bits : bitWords k ≤ length b

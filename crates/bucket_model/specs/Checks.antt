@@ -3,12 +3,16 @@ use mathlib.Core.Bool.{Bool, cond, not, _&&_, Bool·beq}
 use mathlib.Core.List.{List}
 use Prim.Native.Nat.{ℕ, _+_}
 use lib.Dec.{leb, ltb, eqb}
-use Rattle.bucket_model.specs.Layout.{Lay, pool, bitWords, word, nextAt}
+use Rattle.bucket_model.specs.Layout.{Lay, pool, leastStoreys, mostStoreys, bitWords, word, nextAt}
 pub use Rattle.bucket_model.specs.declared.Reads.{Reads}
 
--- "N or a slice length outside the above"
+-- two storeys, or three
+abbrev pub depthOk : ℕ → Bool
+depthOk d = leb leastStoreys d && leb d mostStoreys
+
+-- "N or a slice length outside the above", or another depth
 unfoldable pub shapeOk : Lay → ℕ → ℕ → Bool
-shapeOk k bits words = leb 1 (k .nodes) && leb (k .nodes) pool && leb (bitWords k) bits && ltb (k .held) words
+shapeOk k bits words = depthOk (k .storeys) && leb 1 (k .nodes) && leb (k .nodes) pool && leb (bitWords k) bits && ltb (k .held) words
 
 -- "held or the free link exceeds N, or one of a pair holds without the other: free link 0 and held = N; top word 0 and held 0"
 unfoldable pub wholeOk : ℕ → ℕ → ℕ → ℕ → Bool

@@ -1,4 +1,4 @@
--- Where a bucket queue's words stand, as a value; what a node carries; and 01's queue as one value of it. These are definitions.
+-- Where a bucket queue's words stand, as a value; what a node carries; and the queue of a store of its own, two storeys deep or three. These are definitions.
 use mathlib.Core.List.{List, [], _∷_}
 use mathlib.Core.Path.{_≡_}
 use Prim.Native.Nat.{ℕ, zero, suc, _+_, _-_, _*_, _^_, _≤_, _<_}
@@ -18,9 +18,16 @@ write w (p ∷ ps) = write (set w (p .0) (p .1)) ps
 
 -- ---- limits
 
--- "Pool of N nodes, 1 to 4,096"
+-- "N up to 65,536 at either depth" (02 [7])
 abbrev pub pool : ℕ
-pool = 4096
+pool = 65536
+
+-- "Both depths stay available": two storeys, or "a third"
+abbrev pub leastStoreys : ℕ
+leastStoreys = 2
+
+abbrev pub mostStoreys : ℕ
+mostStoreys = 3
 
 -- ---- a node: "A node is a tag and a next". Beside its next it carries a load
 
@@ -93,21 +100,21 @@ pub record Laid (k : Lay) : Type 0 where
 
 -- ---- one queue in a store of its own
 
--- d storeys, n nodes: "4,096 heads, 4,096 tails, N pairs of tag and next, free link, held"
-abbrev pub layOf : ℕ → ℕ → Lay
-layOf d n =
+-- so many storeys, words of bits, ranks and nodes: as many heads as ranks, as many tails, "N pairs of tag and next, free link, held"
+abbrev pub layOf : (storeys tower ranks nodes : ℕ) → Lay
+layOf d tower ranks n =
     record {
       storeys = d;
-      tower = wordsOf d;
+      tower = tower;
       bits = 0;
-      ranks = 64 ^ d;
+      ranks = ranks;
       heads = 0;
-      stem = 2 * 64 ^ d - nodeWords;
+      stem = 2 * ranks - nodeWords;
       nodes = n;
-      free = 2 * 64 ^ d + nodeWords * n;
-      held = 2 * 64 ^ d + nodeWords * n + 1;
+      free = 2 * ranks + nodeWords * n;
+      held = 2 * ranks + nodeWords * n + 1;
     }
 
--- "Ranks 0 to 4,095", two storeys
-abbrev pub queue : ℕ → Lay
-queue n = layOf 2 n
+-- d storeys, n nodes: 64 × 64 ranks at two storeys, "64 × 64 × 64 = 262,144" at three
+abbrev pub queue : ℕ → ℕ → Lay
+queue d n = layOf d (wordsOf d) (64 ^ d) n

@@ -28,45 +28,66 @@ pub record Pinned (k : Lay) (b w : List ℕ) : Type 0 where
   pub replace : (e : Element) → Pins (replaced k b w e)
   pub held : Pins (heldCount k b w)
 
--- ---- the layout in 01's own numbers
+-- ---- the layout in 01's and 02's own numbers, at either depth
 
--- N and the lengths of the slices
-pub record Shape (n bitsLong wordsLong : ℕ) : Type 0 where
+-- the numbers of a depth: how many ranks there are; its storeys, from the lowest up; how many words these have
+pub record Depth : Type 0 where
+  pub storeys : ℕ
+  pub ranks : ℕ
+  pub places : List Storey
+  pub bits : ℕ
+
+-- "Ranks 0 to 4,095, as 64 groups of 64": "65 words of 64 bits (top first)"
+abbrev pub twoStoreys : Depth
+twoStoreys = record { storeys = 2; ranks = 4096; places = record { base = 1; words = 64 } ∷ record { base = 0; words = 1 } ∷ []; bits = 65 }
+
+-- "a third storey: 64 × 64 × 64 = 262,144 ranks, .. words in the order top, middle, lowest"
+abbrev pub threeStoreys : Depth
+threeStoreys =
+    record {
+      storeys = 3;
+      ranks = 262144;
+      places = record { base = 65; words = 4096 } ∷ record { base = 1; words = 64 } ∷ record { base = 0; words = 1 } ∷ [];
+      bits = 4161;
+    }
+
+-- N, "up to 65,536 at either depth", and the lengths of the slices
+pub record Shape (d : Depth) (n bitsLong wordsLong : ℕ) : Type 0 where
   pub low : 1 ≤ n
-  pub high : n ≤ 4096
-  pub bits : 65 ≤ bitsLong
-  pub words : 8194 + 2 * n ≤ wordsLong
+  pub high : n ≤ 65536
+  pub bits : d .bits ≤ bitsLong
+  pub words : 2 * d .ranks + 2 * n + 2 ≤ wordsLong
 
--- "Ranks 0 to 4,095"; the top word first, then a word for each group; "4,096 heads, 4,096 tails, N pairs of tag and next, free link, held"; "Links are node number plus one"
-pub record Lies (n : ℕ) : Type 0 where
-  pub ranks : queue n .ranks ≡ 4096
-  pub nodes : queue n .nodes ≡ n
-  pub storeys : storeysAt (queue n) ≡ record { base = 1; words = 64 } ∷ record { base = 0; words = 1 } ∷ []
-  pub bits : bitWords (queue n) ≡ 65
-  pub head : (r : ℕ) → headAt (queue n) r ≡ r
-  pub tail : (r : ℕ) → tailAt (queue n) r ≡ 4096 + r
-  pub tag : (w : List ℕ) (l : ℕ) → loadIn (queue n .stem) w l .tag ≡ word w (8190 + 2 * l)
-  pub next : (l : ℕ) → nextAt (queue n) l ≡ 8191 + 2 * l
-  pub free : queue n .free ≡ 8192 + 2 * n
-  pub held : queue n .held ≡ 8193 + 2 * n
-  pub words : storeWords (queue n) ≡ 8194 + 2 * n
-  pub shaped : (b w : List ℕ) → Iff (Shaped (queue n) b w) (Shape n (length b) (length w))
+-- the storeys' words; "4,096 heads, 4,096 tails, N pairs of tag and next, free link, held", with as many heads and tails as ranks; "Links are node number plus one": node i has link i + 1
+pub record Lies (d : Depth) (n : ℕ) : Type 0 where
+  pub ranks : queue (d .storeys) n .ranks ≡ d .ranks
+  pub nodes : queue (d .storeys) n .nodes ≡ n
+  pub storeys : storeysAt (queue (d .storeys) n) ≡ d .places
+  pub bits : bitWords (queue (d .storeys) n) ≡ d .bits
+  pub head : (r : ℕ) → headAt (queue (d .storeys) n) r ≡ r
+  pub tail : (r : ℕ) → tailAt (queue (d .storeys) n) r ≡ d .ranks + r
+  pub tag : (w : List ℕ) (i : ℕ) → loadIn (queue (d .storeys) n .stem) w (i + 1) .tag ≡ word w (2 * d .ranks + 2 * i)
+  pub next : (i : ℕ) → nextAt (queue (d .storeys) n) (i + 1) ≡ 2 * d .ranks + 2 * i + 1
+  pub free : queue (d .storeys) n .free ≡ 2 * d .ranks + 2 * n
+  pub held : queue (d .storeys) n .held ≡ 2 * d .ranks + 2 * n + 1
+  pub words : storeWords (queue (d .storeys) n) ≡ 2 * d .ranks + 2 * n + 2
+  pub shaped : (b w : List ℕ) → Iff (Shaped (queue (d .storeys) n) b w) (Shape d n (length b) (length w))
 
 -- ---- clear, word by word
 
 -- bits 0; heads and tails 0; each node's tag 0, its next the link of the node after it, the last none; free link 1; held 0. Behind the shape every word is as before, and no slice is longer or shorter
-pub record Blank (n : ℕ) (b w : List ℕ) (o : Outcome) : Type 0 where
+pub record Blank (d : Depth) (n : ℕ) (b w : List ℕ) (o : Outcome) : Type 0 where
   pub answer : o .answer ≡ Done
-  pub bits : (i : ℕ) → i < 65 → word (o .bits) i ≡ 0
-  pub head : (r : ℕ) → r < 4096 → word (o .words) r ≡ 0
-  pub tail : (r : ℕ) → r < 4096 → word (o .words) (4096 + r) ≡ 0
-  pub tag : (i : ℕ) → i < n → word (o .words) (8192 + 2 * i) ≡ 0
-  pub next : (i : ℕ) → i + 1 < n → word (o .words) (8193 + 2 * i) ≡ i + 2
-  pub last : (i : ℕ) → i + 1 ≡ n → word (o .words) (8193 + 2 * i) ≡ 0
-  pub free : word (o .words) (8192 + 2 * n) ≡ 1
-  pub held : word (o .words) (8193 + 2 * n) ≡ 0
-  pub bits-rest : (i : ℕ) → 65 ≤ i → word (o .bits) i ≡ word b i
-  pub words-rest : (i : ℕ) → 8194 + 2 * n ≤ i → word (o .words) i ≡ word w i
+  pub bits : (i : ℕ) → i < d .bits → word (o .bits) i ≡ 0
+  pub head : (r : ℕ) → r < d .ranks → word (o .words) r ≡ 0
+  pub tail : (r : ℕ) → r < d .ranks → word (o .words) (d .ranks + r) ≡ 0
+  pub tag : (i : ℕ) → i < n → word (o .words) (2 * d .ranks + 2 * i) ≡ 0
+  pub next : (i : ℕ) → i + 1 < n → word (o .words) (2 * d .ranks + 2 * i + 1) ≡ i + 2
+  pub last : (i : ℕ) → i + 1 ≡ n → word (o .words) (2 * d .ranks + 2 * i + 1) ≡ 0
+  pub free : word (o .words) (2 * d .ranks + 2 * n) ≡ 1
+  pub held : word (o .words) (2 * d .ranks + 2 * n + 1) ≡ 0
+  pub bits-rest : (i : ℕ) → d .bits ≤ i → word (o .bits) i ≡ word b i
+  pub words-rest : (i : ℕ) → 2 * d .ranks + 2 * n + 2 ≤ i → word (o .words) i ≡ word w i
   pub bits-long : length (o .bits) ≡ length b
   pub words-long : length (o .words) ≡ length w
 
@@ -92,10 +113,20 @@ abbrev pub Shows : List ℕ → List Storey → (ℕ → Type 0) → Type 0
 Shows b [] P = Unit {0}
 Shows b (p ∷ ps) P = ((j : ℕ) → j < 64 * p .words → Iff (bitNo b p j ≡ 1) (P j)) × Shows b ps (λ g. (u : ℕ) × (u < 64) × P (64 * g + u))
 
--- .. in 01's own numbers: a rank's bit, and a group's
+-- something is held of a rank of group g, where a group is so many ranks
+abbrev pub Grouped : Lay → List ℕ → ℕ → ℕ → Type 0
+Grouped k w size g = (r : ℕ) × (g * size ≤ r) × (r < g * size + size) × Occupied k w r
+
+-- .. in 01's own numbers, at two storeys: a rank's bit, and a group's
 pub record BitsTell (n : ℕ) (s : Store) : Type 0 where
-  pub rank : (r : ℕ) → r < 4096 → Iff (bitAt (word (s .bits) (1 + r / 64)) (r % 64) ≡ 1) (Occupied (queue n) (s .words) r)
-  pub group : (g : ℕ) → g < 64 → Iff (bitAt (word (s .bits) 0) g ≡ 1) ((r : ℕ) × (r / 64 ≡ g) × Occupied (queue n) (s .words) r)
+  pub rank : (r : ℕ) → r < 4096 → Iff (bitAt (word (s .bits) (1 + r / 64)) (r % 64) ≡ 1) (Occupied (queue 2 n) (s .words) r)
+  pub group : (g : ℕ) → g < 64 → Iff (bitAt (word (s .bits) 0) g ≡ 1) (Grouped (queue 2 n) (s .words) 64 g)
+
+-- .. and at three: the lowest storey, the middle, the top
+pub record BitsTellThree (n : ℕ) (s : Store) : Type 0 where
+  pub rank : (r : ℕ) → r < 262144 → Iff (bitAt (word (s .bits) (65 + r / 64)) (r % 64) ≡ 1) (Occupied (queue 3 n) (s .words) r)
+  pub middle : (g : ℕ) → g < 4096 → Iff (bitAt (word (s .bits) (1 + g / 64)) (g % 64) ≡ 1) (Grouped (queue 3 n) (s .words) 64 g)
+  pub top : (g : ℕ) → g < 64 → Iff (bitAt (word (s .bits) 0) g ≡ 1) (Grouped (queue 3 n) (s .words) 4096 g)
 
 -- ---- the free chain
 

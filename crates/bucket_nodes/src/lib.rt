@@ -15,15 +15,19 @@ ghost use Rattle.bucket_model.specs.Checks.{nextOf};
 ghost use Rattle.bucket_model.specs.Calls.{fill, blankWord, tailLeft, takenWords, linkAt, joinedWords, blankCell};
 ghost use Rattle.bucket_nodes.specs.Places.{Fits, NodeOf, Takable, Linkable, Joinable, Swappable};
 
-// How many storeys of bits a queue has, how many words these have, and how many ranks they tell of.
-const STOREYS: usize = 2;
+// How many storeys of bits a queue has: two, or three.
+pub const LEAST_STOREYS: usize = 2;
 
-const TOWER: usize = 65;
+pub const MOST_STOREYS: usize = 3;
 
-const RANKS: u32 = 4096;
+// How many words the bits have, and how many ranks they tell of: at two storeys, and at three.
+const TOWER: usize = 1 + 64;
 
-// A head and a tail for each rank.
-const LISTS: usize = 8192;
+const RANKS: u32 = 64 * 64;
+
+const TOWER_DEEP: usize = 1 + 64 * TOWER;
+
+const RANKS_DEEP: u32 = 64 * RANKS;
 
 // The words of a node, and which of them is its tag and which its next.
 const NODE: usize = 2;
@@ -32,22 +36,35 @@ const TAG: usize = 0;
 
 const NEXT: usize = 1;
 
-// Where the words of a queue of n nodes stand.
-pub fn queue_of(n: u32) -> Lay
-    ensures { λ r. ⌜ r ≡ layout.queue n ⌝ }
+// Where the words of a queue stand that has so many storeys, words of bits, ranks and nodes.
+fn lay_of(storeys: usize, tower: usize, ranks: u32, n: u32) -> Lay
+    requires { ⌜ 1 ≤ ranks ⌝ }
+    ensures { λ r. ⌜ r ≡ layout.layOf storeys tower ranks n ⌝ }
 {
-    let free = LISTS + NODE * (n as usize);
+    let lists = 2 * (ranks as usize);
+    let free = lists + NODE * (n as usize);
     Lay {
-        storeys: STOREYS,
-        tower: TOWER,
+        storeys,
+        tower,
         bits: 0,
-        ranks: RANKS,
+        ranks,
         heads: 0,
-        stem: LISTS - NODE,
+        stem: lists - NODE,
         nodes: n,
         free,
         held: free + 1,
     }
+}
+
+// .. of a depth that there is: every number but n is then known where the depth is.
+pub fn queue_of(storeys: usize, n: u32) -> Lay
+    requires { ⌜ layout.leastStoreys ≤ storeys ⌝ ∗ ⌜ storeys ≤ layout.mostStoreys ⌝ }
+    ensures { λ r. ⌜ r ≡ layout.queue storeys n ⌝ }
+{
+    if storeys == LEAST_STOREYS {
+        return lay_of(LEAST_STOREYS, TOWER, RANKS, n);
+    }
+    lay_of(MOST_STOREYS, TOWER_DEEP, RANKS_DEEP, n)
 }
 
 // ---- reading

@@ -4,36 +4,52 @@ use bucket_bits::lowest_rank;
 use bucket_model::Lay;
 use bucket_model::Lowest;
 use bucket_model::Room;
+use bucket_nodes::LEAST_STOREYS;
+use bucket_nodes::MOST_STOREYS;
 use bucket_nodes::free_link;
 use bucket_nodes::head_of;
 use bucket_nodes::held_count;
 use bucket_nodes::next_of;
 use bucket_nodes::tail_left;
 use bucket_nodes::tail_of;
+use strip::Element;
 use strip::Refusal;
+use strip::is_untagged;
 ghost use mathlib.Core.Path.{_≡_};
 ghost use mathlib.Core.Bool.{false, cond, not, _&&_};
 ghost use Prim.Native.Nat.{_≤_, _<_};
-ghost use lib.Dec.{leb, eqb};
-ghost use Rattle.strip.specs.declared.Refusal.the-variants.{Damaged};
+ghost use lib.Dec.{leb, ltb, eqb};
+ghost use Rattle.strip.specs.Answers.{untagged};
+ghost use Rattle.strip.specs.declared.Refusal.the-variants.{Damaged, BadRank, NoTag};
 ghost use Rattle.bucket_model.specs.Layout.{bitWords, word, headAt, tailAt};
-ghost use Rattle.bucket_model.specs.Checks.{wholeOk, nextOf};
+ghost use Rattle.bucket_model.specs.Checks.{depthOk, wholeOk, nextOf};
 ghost use Rattle.bucket_model.specs.Calls.{isShaped, isWhole, noLowest, takenWords, takenBits, roomOf, roomAfter};
 ghost use Rattle.bucket_model.specs.Causes.{Whole};
 ghost use Rattle.bucket_nodes.specs.Places.{Fits, Takable};
 ghost use Rattle.bucket_tests.specs.Stores.{Stands, Roomy, Freeing, FoundLow, FoundRoom, endsOk, nodeOk, linksOk};
 
 // The most nodes that a pool may have.
-const POOL: u32 = 4096;
+pub const POOL: u32 = 65536;
 
 // ---- the whole queue
 
-// Whether the slices are long enough for the layout, and it has a number of nodes that there may be.
+// Whether there are queues so deep: two storeys, or three.
+pub fn is_deep(storeys: usize) -> bool
+    ensures { λ r. ⌜ r ≡ depthOk storeys ⌝ }
+{
+    (LEAST_STOREYS <= storeys) & (storeys <= MOST_STOREYS)
+}
+
+// Whether the slices are long enough for the layout, and it has a depth and a number of nodes that there may be.
 pub fn is_shaped(bits: &[u64], words: &[u32], k: Lay) -> bool
     requires { ⌜ bitWords k ≤ 4294967296 ⌝ }
     ensures { λ r. ⌜ r ≡ isShaped k (now (bits .entry)) (now (words .entry)) ⌝ }
 {
-    (1 <= k.nodes) & (k.nodes <= POOL) & (k.bits + k.tower <= bits.len()) & (k.held < words.len())
+    is_deep(k.storeys)
+        & (1 <= k.nodes)
+        & (k.nodes <= POOL)
+        & (k.bits + k.tower <= bits.len())
+        & (k.held < words.len())
 }
 
 // What every call but clear tests.
@@ -96,6 +112,27 @@ pub fn limit_or_damage(bits: &[u64], words: &[u32], k: Lay, limit: Refusal) -> R
         return limit;
     }
     Refusal::Damaged
+}
+
+// ---- a newcomer
+
+// Whether it has a rank that there is, and a tag.
+pub fn may_come(k: Lay, e: Element) -> bool
+    ensures { λ r. ⌜ r ≡ (ltb (e .rank .0) (k .ranks) && not (untagged e)) ⌝ }
+{
+    let rank = e.rank;
+    (rank.0 < k.ranks) & !is_untagged(e)
+}
+
+// Why it may not: its rank, and otherwise its tag. It is asked only then, so that a call has one way out for both.
+pub fn rank_or_tag(k: Lay, e: Element) -> Refusal
+    ensures { λ r. ⌜ r ≡ cond (ltb (e .rank .0) (k .ranks)) NoTag BadRank ⌝ }
+{
+    let rank = e.rank;
+    if rank.0 < k.ranks {
+        return Refusal::NoTag;
+    }
+    Refusal::BadRank
 }
 
 // ---- the bucket that a pop takes from

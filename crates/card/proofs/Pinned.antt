@@ -68,26 +68,26 @@ pub pinned-tree-held : (m levels : ℕ) (ws out : List ℕ) (n k : ℕ) (x y : L
 pinned-tree-held m levels ws out n k x y p q = count (treeHeld m levels ws out) n k x y p q
 
 -- ---- the bucket queue; a and b are two slices of bits
-module _ (bits words : List ℕ) (nodes : ℕ) (n k : ℕ) (a b v w : List ℕ) where
-  pub pinned-bucket-clear : bucketAfter n a v ≡ bucketClear bits words nodes → bucketAfter k b w ≡ bucketClear bits words nodes → (n ≡ k) × (a ≡ b) × (v ≡ w)
-  pinned-bucket-clear p q = bucket (bucketClear bits words nodes) n k a b v w p q
+module _ (bits words : List ℕ) (storeys nodes : ℕ) (n k : ℕ) (a b v w : List ℕ) where
+  pub pinned-bucket-clear : bucketAfter n a v ≡ bucketClear bits words storeys nodes → bucketAfter k b w ≡ bucketClear bits words storeys nodes → (n ≡ k) × (a ≡ b) × (v ≡ w)
+  pinned-bucket-clear p q = bucket (bucketClear bits words storeys nodes) n k a b v w p q
 
-  pub pinned-bucket-push : (rank tag : ℕ) → bucketAfter n a v ≡ bucketPush bits words nodes rank tag → bucketAfter k b w ≡ bucketPush bits words nodes rank tag
+  pub pinned-bucket-push : (rank tag : ℕ) → bucketAfter n a v ≡ bucketPush bits words storeys nodes rank tag → bucketAfter k b w ≡ bucketPush bits words storeys nodes rank tag
       → (n ≡ k) × (a ≡ b) × (v ≡ w)
-  pinned-bucket-push rank tag p q = bucket (bucketPush bits words nodes rank tag) n k a b v w p q
+  pinned-bucket-push rank tag p q = bucket (bucketPush bits words storeys nodes rank tag) n k a b v w p q
 
   module _ (out x y : List ℕ) where
-    pub pinned-bucket-pop : bucketAfterOut n a v x ≡ bucketPop bits words nodes out → bucketAfterOut k b w y ≡ bucketPop bits words nodes out
+    pub pinned-bucket-pop : bucketAfterOut n a v x ≡ bucketPop bits words storeys nodes out → bucketAfterOut k b w y ≡ bucketPop bits words storeys nodes out
         → (n ≡ k) × (a ≡ b) × (v ≡ w) × (x ≡ y)
-    pinned-bucket-pop p q = bucket-out (bucketPop bits words nodes out) n k a b v w x y p q
+    pinned-bucket-pop p q = bucket-out (bucketPop bits words storeys nodes out) n k a b v w x y p q
 
-    pub pinned-bucket-replace : (rank tag : ℕ) → bucketAfterOut n a v x ≡ bucketReplace bits words nodes rank tag out → bucketAfterOut k b w y ≡ bucketReplace bits words nodes rank tag out
+    pub pinned-bucket-replace : (rank tag : ℕ) → bucketAfterOut n a v x ≡ bucketReplace bits words storeys nodes rank tag out → bucketAfterOut k b w y ≡ bucketReplace bits words storeys nodes rank tag out
         → (n ≡ k) × (a ≡ b) × (v ≡ w) × (x ≡ y)
-    pinned-bucket-replace rank tag p q = bucket-out (bucketReplace bits words nodes rank tag out) n k a b v w x y p q
+    pinned-bucket-replace rank tag p q = bucket-out (bucketReplace bits words storeys nodes rank tag out) n k a b v w x y p q
 
-pub pinned-bucket-held : (bits words : List ℕ) (nodes : ℕ) (out : List ℕ) (n k : ℕ) (x y : List ℕ) → countAfter n x ≡ bucketHeld bits words nodes out
-    → countAfter k y ≡ bucketHeld bits words nodes out → (n ≡ k) × (x ≡ y)
-pinned-bucket-held bits words nodes out n k x y p q = count (bucketHeld bits words nodes out) n k x y p q
+pub pinned-bucket-held : (bits words : List ℕ) (storeys nodes : ℕ) (out : List ℕ) (n k : ℕ) (x y : List ℕ) → countAfter n x ≡ bucketHeld bits words storeys nodes out
+    → countAfter k y ≡ bucketHeld bits words storeys nodes out → (n ≡ k) × (x ≡ y)
+pinned-bucket-held bits words storeys nodes out n k x y p q = count (bucketHeld bits words storeys nodes out) n k x y p q
 
 -- ---- the clocked tree; r and s are two slices of records, a and b two marks
 module _ (m levels : ℕ) (ws rs mark : List ℕ) (n k : ℕ) (v w r s a b : List ℕ) where

@@ -1,14 +1,17 @@
 -- The sizes are the calls' own: a shape is taken exactly if its size is not 0 and the slices are as long. Assumes nothing.
-use Prim.Native.Nat.{_*_, _+_, _<_, _≤_, suc, zero, ℕ}
+use Prim.Native.Nat.{_*_, _+_, _<_, _^_, _≤_, suc, zero, ℕ}
+use native.Mathlib.Decide.{ℕ-discrete}
 use native.Mathlib.Nat.{mul-le-mul-right}
 use native.Mathlib.Omega.{arith}
 use mathlib.Core.Bool.{_&&_, Bool, cond, false, false≢true, not, true}
 use mathlib.Core.Path.{_∙_, _≡_, ap, refl, sym}
-use lib.Dec.{eqb, leb, ltb}
+use lib.Dec.{eqb, leb, lit≤, ltb}
 use borrow.Author.Tests.{le-leb, leb-false, leb-true, lt-leb, lt-ltb, ltb-false, ltb-true, ne-eqb, not-false, not-true}
 use Rattle.bucket_model.specs.Checks as bucket
-use Rattle.bucket_model.specs.Layout.{pool, queue, storeWords}
+use Rattle.bucket_model.specs.declared.Lay.{Lay}
+use Rattle.bucket_model.specs.Layout.{bitWords, leastStoreys, mostStoreys, pool, queue, storeWords}
 use Rattle.card.specs.Sizes.{bucketBits, bucketWords, treeWords}
+use Rattle.laws.specs.Means.{means-and, means-leb}
 use Rattle.laws.specs.Tests.{and-left, and-right}
 use Rattle.node.proofs.Steps.{order-range}
 use Rattle.node.specs.Scan.{Capacity}
@@ -83,36 +86,79 @@ last-word x len = go (ltb x len) refl
     go true e = sym (le-leb (x + 1) len (omega (arith, ltb-true x len e)))
     go false e = sym (lt-leb (x + 1) len (omega (arith, ltb-false x len e)))
 
-module _ (n : ℕ) where
+-- a store has few words, whatever its depth and its nodes
+module _ (d : ℕ) (l : leastStoreys ≤ d) (h : d ≤ mostStoreys) where
+  few-ranks : 64 ^ d ≤ 262144
+  few-ranks = elim (ℕ-discrete d 2) [
+    | yes e ↦ rw e (lit≤ tt)
+    | no n ↦ let e : d ≡ 3 = omega arith in rw e (lit≤ tt)
+  ]
+
+  pub few-bits : (n : ℕ) (k : Lay) → k ≡ queue d n → k .tower ≤ 4161
+  few-bits n k e = elim (ℕ-discrete d 2) [
+    | yes two ↦ rw (e, two) (lit≤ tt)
+    | no m ↦ let three : d ≡ 3 = omega arith in rw (e, three) (lit≤ tt)
+  ]
+
+  pub few-words : (n : ℕ) (k : Lay) → k ≡ queue d n → n ≤ pool → k .held ≤ 655361
+  few-words n k e m = let q : k .held ≡ queue d n .held = ap (λ (k : Lay). k .held) e in omega (arith, few-ranks)
+
+module _ (d n : ℕ) (ok : Bool) (deep : ok ≡ bucket.depthOk d) where
   abbrev words : ℕ
-  words = storeWords (queue n)
+  words = storeWords (queue d n)
 
-  pub bucket-none : n < 1 → 0 ≡ bucketWords n
+  pub bits-none : not ok ≡ true → 0 ≡ bucketBits d
+  unfolding bucketBits
+  bits-none e = rw (← deep, not-true ok e)
+
+  pub bits-some : not ok ≡ false → (k : Lay) → k ≡ queue d 0 → k .tower ≡ bucketBits d
+  unfolding bucketBits
+  bits-some e k q = rw (← deep, not-false ok e) (ap (λ (k : Lay). k .tower) q ∙ omega arith)
+
+  pub bucket-undeep : not ok ≡ true → 0 ≡ bucketWords d n
   unfolding bucketWords bucket.shapeOk
-  bucket-none h = rw (lt-leb 1 n h)
+  bucket-undeep e = rw (← deep, not-true ok e)
 
-  pub bucket-above : pool < n → 0 ≡ bucketWords n
-  unfolding bucketWords bucket.shapeOk
-  bucket-above h = rw (lt-leb n pool h) (go (leb 1 n))
-    where
-      go : (b : Bool) → 0 ≡ cond (((b && false) && leb bucketBits bucketBits) && ltb (queue n .held) words) words 0
-      go true = refl
-      go false = refl
+  module _ (e : not ok ≡ false) where
+    is-deep : bucket.depthOk d ≡ true
+    is-deep = sym deep ∙ not-false ok e
 
-  pub bucket-some : 1 ≤ n → n ≤ pool → 8194 + 2 * n ≡ bucketWords n
-  unfolding bucketWords bucket.shapeOk
-  bucket-some h k = rw (le-leb 1 n h, le-leb n pool k, lt-ltb (queue n .held) words (omega arith)) (omega arith)
+    pub depths : (leastStoreys ≤ d) × (d ≤ mostStoreys)
+    depths = means-and (means-leb leastStoreys d) (means-leb d mostStoreys) .says is-deep
 
-pub bucket-size : (bits words n : ℕ) → bucket.shapeOk (queue n) bits words ≡ ((not (eqb (bucketWords n) 0) && leb bucketBits bits) && leb (bucketWords n) words)
-unfolding bucketWords bucket.shapeOk
-bucket-size bits words n = go (leb 1 n) (leb n pool)
+    pub bucket-none : n < 1 → 0 ≡ bucketWords d n
+    unfolding bucketWords bucket.shapeOk
+    bucket-none h = rw (is-deep, lt-leb 1 n h)
+
+    pub bucket-above : pool < n → 0 ≡ bucketWords d n
+    unfolding bucketWords bucket.shapeOk
+    bucket-above h = rw (is-deep, lt-leb n pool h) (go (leb 1 n))
+      where
+        go : (b : Bool) → 0 ≡ cond (((b && false) && leb (bitWords (queue d n)) (bitWords (queue d n))) && ltb (queue d n .held) words) words 0
+        go true = refl
+        go false = refl
+
+    pub bucket-some : 1 ≤ n → n ≤ pool → (k : Lay) → k ≡ queue d n → k .held + 1 ≡ bucketWords d n
+    unfolding bucketWords bucket.shapeOk
+    bucket-some h m k q =
+        rw (is-deep, le-leb 1 n h, le-leb n pool m, le-leb (bitWords (queue d n)) (bitWords (queue d n)) (omega arith), lt-ltb (queue d n .held) words (omega arith)) (ap (λ (k : Lay). k .held + 1) q)
+
+-- a call takes the shape exactly if the size is not 0 and the slices are as long
+pub bucket-size : (bits words d n : ℕ) → bucket.shapeOk (queue d n) bits words ≡ ((not (eqb (bucketWords d n) 0) && leb (bucketBits d) bits) && leb (bucketWords d n) words)
+unfolding bucketBits bucketWords bucket.shapeOk
+bucket-size bits words d n = go (bucket.depthOk d) (leb 1 n) (leb n pool)
   where
     size : ℕ
-    size = storeWords (queue n)
+    size = storeWords (queue d n)
 
-    go : (a b : Bool) → (((a && b) && leb bucketBits bits) && ltb (queue n .held) words) ≡ ((not (eqb (cond (((a && b) && leb bucketBits bucketBits) && ltb (queue n .held) size) size 0) 0) && leb bucketBits bits) && leb (cond (((a && b) && leb bucketBits bucketBits) && ltb (queue n .held) size) size 0) words)
-    go true true =
+    tower : ℕ
+    tower = bitWords (queue d n)
+
+    go : (t a b : Bool) → ((((t && a) && b) && leb tower bits) && ltb (queue d n .held) words)
+        ≡ ((not (eqb (cond ((((t && a) && b) && leb tower tower) && ltb (queue d n .held) size) size 0) 0) && leb (cond t tower 0) bits) && leb (cond ((((t && a) && b) && leb tower tower) && ltb (queue d n .held) size) size 0) words)
+    go true true true =
         let more : size ≡ 0 → ⊥ = λ z. omega arith in
-        rw (lt-ltb (queue n .held) size (omega arith), ne-eqb size 0 more) (ap (λ (t : Bool). leb bucketBits bits && t) (last-word (queue n .held) words))
-    go true false = refl
-    go false b = refl
+        rw (le-leb tower tower (omega arith), lt-ltb (queue d n .held) size (omega arith), ne-eqb size 0 more) (ap (λ (t : Bool). leb tower bits && t) (last-word (queue d n .held) words))
+    go true true false = refl
+    go true false b = refl
+    go false a b = refl

@@ -61,11 +61,11 @@ module _ (m levels : ℕ) (ws : List ℕ) where
   pub zeros-tree-replace : (rank tag : ℕ) (out : List ℕ) → (treeReplace m levels ws rank tag out .number ≡ 0 → ⊥) → treeReplace m levels ws rank tag out .out ≡ refusedOut out
   zeros-tree-replace rank tag out h = tree-zeros _ ws out h
 
-module _ (b w : List ℕ) (n : ℕ) where
-  pub zeros-bucket-pop : (out : List ℕ) → (bucketPop b w n out .number ≡ 0 → ⊥) → bucketPop b w n out .out ≡ refusedOut out
+module _ (b w : List ℕ) (storeys n : ℕ) where
+  pub zeros-bucket-pop : (out : List ℕ) → (bucketPop b w storeys n out .number ≡ 0 → ⊥) → bucketPop b w storeys n out .out ≡ refusedOut out
   zeros-bucket-pop out h = bucket-zeros _ b w out h
 
-  pub zeros-bucket-replace : (rank tag : ℕ) (out : List ℕ) → (bucketReplace b w n rank tag out .number ≡ 0 → ⊥) → bucketReplace b w n rank tag out .out ≡ refusedOut out
+  pub zeros-bucket-replace : (rank tag : ℕ) (out : List ℕ) → (bucketReplace b w storeys n rank tag out .number ≡ 0 → ⊥) → bucketReplace b w storeys n rank tag out .out ≡ refusedOut out
   zeros-bucket-replace rank tag out h = bucket-zeros _ b w out h
 
 module _ (m levels : ℕ) (ws rs mark out : List ℕ) where

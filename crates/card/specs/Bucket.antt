@@ -37,18 +37,18 @@ unfoldable pub bucketAnswered : Outcome → List ℕ → List ℕ → List ℕ �
 bucketAnswered o b w out = cond (leb 2 (length out)) (bucketAfterOut (numberOf (o .answer)) (o .bits) (o .words) (answerOut (o .answer) out)) (bucketAfterOut badShape b w out)
 
 -- ---- the calls
-module _ (b w : List ℕ) (n : ℕ) where
+module _ (b w : List ℕ) (storeys n : ℕ) where
   abbrev pub bucketClear : BucketAfter
-  bucketClear = bucketDone (cleared (queue n) b w)
+  bucketClear = bucketDone (cleared (queue storeys n) b w)
 
   abbrev pub bucketPush : ℕ → ℕ → BucketAfter
-  bucketPush rank tag = bucketDone (pushed (queue n) b w (element rank tag))
+  bucketPush rank tag = bucketDone (pushed (queue storeys n) b w (element rank tag))
 
   abbrev pub bucketPop : List ℕ → BucketAfterOut
-  bucketPop out = bucketAnswered (popped (queue n) b w) b w out
+  bucketPop out = bucketAnswered (popped (queue storeys n) b w) b w out
 
   abbrev pub bucketReplace : ℕ → ℕ → List ℕ → BucketAfterOut
-  bucketReplace rank tag out = bucketAnswered (replaced (queue n) b w (element rank tag)) b w out
+  bucketReplace rank tag out = bucketAnswered (replaced (queue storeys n) b w (element rank tag)) b w out
 
   abbrev pub bucketHeld : List ℕ → CountAfter
-  bucketHeld out = countAnswered (heldCount (queue n) b w) out
+  bucketHeld out = countAnswered (heldCount (queue storeys n) b w) out

@@ -12,9 +12,9 @@ use Rattle.tree_model.specs.Words.{slotWords}
 unfoldable pub treeWords : ℕ → ℕ → ℕ
 treeWords m levels = cond (tree.shapeOk m levels (slotWords * room m levels)) (slotWords * room m levels) 0
 
--- a bucket queue: its words of 64 bits, as many whatever the nodes, and its words of 32 bits for n nodes
-abbrev pub bucketBits : ℕ
-bucketBits = bitWords (queue 0)
+-- a bucket queue of d storeys: its words of 64 bits, as many whatever the nodes, and its words of 32 bits for n nodes
+unfoldable pub bucketBits : ℕ → ℕ
+bucketBits d = cond (bucket.depthOk d) (bitWords (queue d 0)) 0
 
-unfoldable pub bucketWords : ℕ → ℕ
-bucketWords n = cond (bucket.shapeOk (queue n) bucketBits (storeWords (queue n))) (storeWords (queue n)) 0
+unfoldable pub bucketWords : ℕ → ℕ → ℕ
+bucketWords d n = cond (bucket.shapeOk (queue d n) (bitWords (queue d n)) (storeWords (queue d n))) (storeWords (queue d n)) 0

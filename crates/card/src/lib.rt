@@ -11,6 +11,9 @@ ghost use Rattle.card.specs.Tree.{treeAfter, treeAfterOut, treeClear, tr
 ghost use Rattle.card.specs.Bucket.{bucketAfter, bucketAfterOut, bucketClear, bucketPush, bucketPop, bucketReplace, bucketHeld};
 ghost use Rattle.card.specs.Clocked.{clockedAfter, clockedAfterOut, requestOf, ran, taken, drainOut, clockedClear, clockedCycle, clockedDrain, clockedHeld};
 ghost use Rattle.card.specs.Sizes.{treeWords, bucketBits, bucketWords};
+use bucket_nodes::queue_of;
+use bucket_tests::POOL;
+use bucket_tests::is_deep;
 use card_records::bit;
 use card_records::hand_back;
 use card_records::is_readable;
@@ -137,42 +140,49 @@ pub extern "C" fn card_tree_held(store: &[u32], order: u32, levels: u32, out: &m
 // ---- the bucket queue
 
 #[no_mangle]
-pub extern "C" fn card_bucket_clear(bits: &mut [u64], words: &mut [u32], nodes: u32) -> u32
-    ensures { λ r. ⌜ bucketAfter r (now (bits .exit)) (now (words .exit)) ≡ bucketClear (now (bits .entry)) (now (words .entry)) nodes ⌝ }
+pub extern "C" fn card_bucket_clear(
+    bits: &mut [u64],
+    words: &mut [u32],
+    storeys: u32,
+    nodes: u32,
+) -> u32
+    ensures { λ r. ⌜ bucketAfter r (now (bits .exit)) (now (words .exit)) ≡ bucketClear (now (bits .entry)) (now (words .entry)) storeys nodes ⌝ }
 {
-    number(bucket::clear(bits, words, nodes))
+    number(bucket::clear(bits, words, storeys as usize, nodes))
 }
 
 #[no_mangle]
 pub extern "C" fn card_bucket_push(
     bits: &mut [u64],
     words: &mut [u32],
+    storeys: u32,
     nodes: u32,
     rank: u32,
     tag: u32,
 ) -> u32
-    ensures { λ r. ⌜ bucketAfter r (now (bits .exit)) (now (words .exit)) ≡ bucketPush (now (bits .entry)) (now (words .entry)) nodes rank tag ⌝ }
+    ensures { λ r. ⌜ bucketAfter r (now (bits .exit)) (now (words .exit)) ≡ bucketPush (now (bits .entry)) (now (words .entry)) storeys nodes rank tag ⌝ }
 {
     let e = Element {
         rank: Rank(rank),
         tag: Tag(tag),
     };
-    number(bucket::push(bits, words, nodes, e))
+    number(bucket::push(bits, words, storeys as usize, nodes, e))
 }
 
 #[no_mangle]
 pub extern "C" fn card_bucket_pop(
     bits: &mut [u64],
     words: &mut [u32],
+    storeys: u32,
     nodes: u32,
     out: &mut [u32],
 ) -> u32
-    ensures { λ r. ⌜ bucketAfterOut r (now (bits .exit)) (now (words .exit)) (now (out .exit)) ≡ bucketPop (now (bits .entry)) (now (words .entry)) nodes (now (out .entry)) ⌝ }
+    ensures { λ r. ⌜ bucketAfterOut r (now (bits .exit)) (now (words .exit)) (now (out .exit)) ≡ bucketPop (now (bits .entry)) (now (words .entry)) storeys nodes (now (out .entry)) ⌝ }
 {
     if out.len() < OUT {
         return 1;
     }
-    let answer = bucket::pop(bits, words, nodes);
+    let answer = bucket::pop(bits, words, storeys as usize, nodes);
     tell(out, answer)
 }
 
@@ -180,12 +190,13 @@ pub extern "C" fn card_bucket_pop(
 pub extern "C" fn card_bucket_replace(
     bits: &mut [u64],
     words: &mut [u32],
+    storeys: u32,
     nodes: u32,
     rank: u32,
     tag: u32,
     out: &mut [u32],
 ) -> u32
-    ensures { λ r. ⌜ bucketAfterOut r (now (bits .exit)) (now (words .exit)) (now (out .exit)) ≡ bucketReplace (now (bits .entry)) (now (words .entry)) nodes rank tag (now (out .entry)) ⌝ }
+    ensures { λ r. ⌜ bucketAfterOut r (now (bits .exit)) (now (words .exit)) (now (out .exit)) ≡ bucketReplace (now (bits .entry)) (now (words .entry)) storeys nodes rank tag (now (out .entry)) ⌝ }
 {
     if out.len() < OUT {
         return 1;
@@ -194,18 +205,24 @@ pub extern "C" fn card_bucket_replace(
         rank: Rank(rank),
         tag: Tag(tag),
     };
-    let answer = bucket::replace(bits, words, nodes, e);
+    let answer = bucket::replace(bits, words, storeys as usize, nodes, e);
     tell(out, answer)
 }
 
 #[no_mangle]
-pub extern "C" fn card_bucket_held(bits: &[u64], words: &[u32], nodes: u32, out: &mut [u32]) -> u32
-    ensures { λ r. ⌜ countAfter r (now (out .exit)) ≡ bucketHeld (now (bits .entry)) (now (words .entry)) nodes (now (out .entry)) ⌝ }
+pub extern "C" fn card_bucket_held(
+    bits: &[u64],
+    words: &[u32],
+    storeys: u32,
+    nodes: u32,
+    out: &mut [u32],
+) -> u32
+    ensures { λ r. ⌜ countAfter r (now (out .exit)) ≡ bucketHeld (now (bits .entry)) (now (words .entry)) storeys nodes (now (out .entry)) ⌝ }
 {
     if out.len() < 1 {
         return 1;
     }
-    let count = bucket::held(bits, words, nodes);
+    let count = bucket::held(bits, words, storeys as usize, nodes);
     tell_count(out, count)
 }
 
@@ -370,22 +387,33 @@ pub extern "C" fn card_tree_words(order: u32, levels: u32) -> u32
 
 // The words of 64 bits.
 #[no_mangle]
-pub extern "C" fn card_bucket_bits() -> u32
-    ensures { λ r. ⌜ r ≡ bucketBits ⌝ }
+pub extern "C" fn card_bucket_bits(storeys: u32) -> u32
+    ensures { λ r. ⌜ r ≡ bucketBits storeys ⌝ }
 {
-    65
+    let d = storeys as usize;
+    if !is_deep(d) {
+        return 0;
+    }
+    let k = queue_of(d, 0);
+    k.tower as u32
 }
 
 // The words of 32 bits.
 #[no_mangle]
-pub extern "C" fn card_bucket_words(nodes: u32) -> u32
-    ensures { λ r. ⌜ r ≡ bucketWords nodes ⌝ }
+pub extern "C" fn card_bucket_words(storeys: u32, nodes: u32) -> u32
+    ensures { λ r. ⌜ r ≡ bucketWords storeys nodes ⌝ }
 {
+    let d = storeys as usize;
+    if !is_deep(d) {
+        return 0;
+    }
     if nodes < 1 {
         return 0;
     }
-    if 4096 < nodes {
+    if POOL < nodes {
         return 0;
     }
-    8194 + 2 * nodes
+    let k = queue_of(d, nodes);
+    let last = k.held;
+    (last + 1) as u32
 }

@@ -1,7 +1,7 @@
 -- The one claim over the table of worked cases, proved by computing the definitions.
 use mathlib.Core.List.{map}
 use mathlib.Core.Path.{ap, refl}
-use Rattle.bucket_model.proofs.Case8.{case8-holds}
+use Rattle.bucket_model.proofs.Case8.{case8-holds, case8-three}
 use Rattle.bucket_model.proofs.CaseTag.{spoilt-case, tag-case}
 use Rattle.bucket_model.proofs.CaseWords.{pop-case-bits, pop-case-words, replace-case-bits, replace-case-words}
 use Rattle.cases.specs.Table.{Right, table, told}
@@ -9,6 +9,7 @@ use Rattle.clocked_model.proofs.Cases.{case-6, case-empty, case-untagged}
 use Rattle.laws.specs.Lists.{All}
 use Rattle.promise.specs.Queue.{answers, leaves}
 use Rattle.strip.specs.Answers.{blank, key, untagged, precedes}
+use Rattle.tree_model.proofs.Edge.{eight-past, eight-taken, four-past, four-taken, none-refused, three-refused, two-past, two-taken}
 use Rattle.tree_model.specs.Calls.{called, carriedOut, cleared, heldCount, orderOk, rule, shapeOk}
 use Rattle.tree_model.specs.Damage.{workOk, hasRoom, hasSome, isBlank, lifts, nodeOk, pathOk, readOk, room, slotOk, stepOk}
 use Rattle.tree_model.specs.Levels.{levelMove, stepWork, top, work}
@@ -19,5 +20,5 @@ pub cases : All Right table
 unfolding table blank key precedes untagged vacant isEmpty slotAt seek every firstEmpty leastCount lowest low sumCounts keep pass putBy putMove takeBy takeMove swapBy swapMove opMove isNothing top work levelMove stepWork slotOf write wipe tabulate nodeOf size levelOf levelsOf stepWords applyWords room isBlank slotOk nodeOk hasRoom hasSome readOk lifts stepOk workOk pathOk orderOk shapeOk rule carriedOut called cleared heldCount leaves answers
 cases = (
   (refl, refl, refl),
-  ((refl, refl, refl), ((refl, refl, refl), ((refl, refl, refl), ((refl, refl, refl), (case-6, ((refl, refl, refl), ((refl, refl, refl), (ap (map told) case-empty, ((refl, refl, refl), (ap (map told) case8-holds, ((pop-case-bits, pop-case-words), ((replace-case-bits, replace-case-words), ((refl, refl, refl), ((refl, refl, refl), (ap (map told) case-untagged, (ap (map told) tag-case, (ap (map told) spoilt-case, (refl, (refl, tt))))))))))))))))))),
+  ((refl, refl, refl), ((refl, refl, refl), ((refl, refl, refl), ((refl, refl, refl), (case-6, ((refl, refl, refl), ((refl, refl, refl), (ap (map told) case-empty, ((refl, refl, refl), (ap (map told) case8-holds, (ap (map told) case8-three, ((pop-case-bits, pop-case-words), ((replace-case-bits, replace-case-words), ((refl, refl, refl), ((refl, refl, refl), (ap (map told) case-untagged, (ap (map told) tag-case, (ap (map told) spoilt-case, (refl, (refl, (four-taken, (four-past, (two-taken, (two-past, (eight-taken, (eight-past, (three-refused, (none-refused, tt)))))))))))))))))))))))))))),
 )

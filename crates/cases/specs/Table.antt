@@ -1,9 +1,9 @@
--- 01's worked cases that are marked (P), and those that 02 adds, as one table.
+-- 01's worked cases that are marked (P), those that 02 adds, and case 9, as one table.
 use Prim.Native.Nat.{ℕ}
 use mathlib.Core.List.{[], _++_, _∷_, List, map}
 use mathlib.Core.Path.{_≡_}
 use lib.ListN.{length, replicate}
-use Rattle.bucket_model.specs.Case8.{case8}
+use Rattle.bucket_model.specs.Case8.{case8, case8Three}
 use Rattle.bucket_model.specs.CaseTag.{spoilt, spoiltCase, tagCase}
 use Rattle.bucket_model.specs.CaseWords.{filled, leftBy, popCase, popCaseBits, popCaseWords, replaceCase, replaceCaseBits, replaceCaseWords}
 use Rattle.bucket_model.specs.Layout.{queue}
@@ -16,6 +16,7 @@ use Rattle.strip.specs.declared.Count.{Count}
 use Rattle.strip.specs.declared.Request.{Request}
 use Rattle.strip.specs.declared.Request.the-variants.{Pop, Push, Replace}
 use Rattle.tree_model.specs.Calls.{heldCount}
+use Rattle.tree_model.specs.Edge.{Edge}
 use Rattle.tree_model.specs.Promise.{after, start, treeQueue}
 
 -- what is said, in 01's numbers: the number, and the rank and tag; of held the number and how many
@@ -26,14 +27,15 @@ abbrev pub toldHeld : Count → ℕ × ℕ
 toldHeld c = (countNumber c, countOf c)
 
 -- a row: what is asked of a cleared queue, what it says, the words it leaves, and what held says then. A slice to begin with is garbage, and longer
--- than needed. `bucketOn` asks it of a store that was not cleared
+-- than needed. `bucketOn` asks it of a store that was not cleared, `bucketWords` of two storeys. `edge` has a shape's capacity and the number of a clear on any words that hold it
 pub data Row : Type 0 where
   tree : (order levels : ℕ) (requests : List Request) (said : List (ℕ × ℕ × ℕ)) (left : List ℕ) (held : ℕ × ℕ) → Row
   held : (order levels : ℕ) (words : List ℕ) (said : ℕ × ℕ) → Row
+  edge : (order levels slots said : ℕ) → Row
   clocked : (words said : List (List ℕ)) → Row
   cycles : (answers said : List (ℕ × ℕ × ℕ)) → Row
-  bucket : (nodes : ℕ) (requests : List Request) (said : List (ℕ × ℕ × ℕ)) → Row
-  bucketOn : (nodes : ℕ) (store : Store) (requests : List Request) (said : List (ℕ × ℕ × ℕ)) → Row
+  bucket : (storeys nodes : ℕ) (requests : List Request) (said : List (ℕ × ℕ × ℕ)) → Row
+  bucketOn : (storeys nodes : ℕ) (store : Store) (requests : List Request) (said : List (ℕ × ℕ × ℕ)) → Row
   bucketWords : (nodes : ℕ) (requests : List Request) (bits words : List (ℕ × ℕ)) → Row
 
 abbrev pub garbage : ℕ → List ℕ
@@ -44,10 +46,11 @@ abbrev pub Right : Row → Type 0
 Right (tree m l rs said left h) =
     (map told (answers (treeQueue m l) rs (start m l (garbage (length left)))) ≡ said) × (after m l rs (garbage (length left)) ≡ left) × (toldHeld (heldCount m l left) ≡ h)
 Right (held m l ws said) = toldHeld (heldCount m l ws) ≡ said
+Right (edge m l n said) = Edge m l n said
 Right (clocked words said) = words ≡ said
 Right (cycles answers said) = answers ≡ said
-Right (bucket n rs said) = map told (bucketAnswers (queue n) rs) ≡ said
-Right (bucketOn n s rs said) = map told (answersFrom (queue n) rs s) ≡ said
+Right (bucket d n rs said) = map told (bucketAnswers (queue d n) rs) ≡ said
+Right (bucketOn d n s rs said) = map told (answersFrom (queue d n) rs s) ≡ said
 Right (bucketWords n rs bits words) = (filled 0 (leftBy n rs .bits) ≡ bits) × (filled 0 (leftBy n rs .words) ≡ words)
 
 -- "Tree cases have order 2, levels 2, capacity 6. Store A is cleared, then push 5/50, 3/30, 8/80, 1/10"
@@ -84,7 +87,9 @@ table =
     -- [12] a node with 5/9 and 5/3 gives 5/3, not the leftmost
     ∷ row (Push (element 5 9) ∷ Push (element 5 3) ∷ Pop ∷ []) (done 2 ++ ((0, 5, 3) ∷ [])) (5 ∷ 9 ∷ 1 ∷ replicate 15 0) 1
     -- 8. bucket, N = 3: push 7/1, 7/2, 4095/3; push 0/4 refused 5; 4096/4 refused 4; pops 7/1, 7/2, 4095/3, then 6
-    ∷ bucket 3 case8 ((0, 0, 0) ∷ (0, 0, 0) ∷ (0, 0, 0) ∷ (5, 0, 0) ∷ (4, 0, 0) ∷ (0, 7, 1) ∷ (0, 7, 2) ∷ (0, 4095, 3) ∷ (6, 0, 0) ∷ [])
+    ∷ bucket 2 3 case8 ((0, 0, 0) ∷ (0, 0, 0) ∷ (0, 0, 0) ∷ (5, 0, 0) ∷ (4, 0, 0) ∷ (0, 7, 1) ∷ (0, 7, 2) ∷ (0, 4095, 3) ∷ (6, 0, 0) ∷ [])
+    -- .. at three storeys the last rank is 262,143
+    ∷ bucket 3 3 case8Three ((0, 0, 0) ∷ (0, 0, 0) ∷ (0, 0, 0) ∷ (5, 0, 0) ∷ (4, 0, 0) ∷ (0, 7, 1) ∷ (0, 7, 2) ∷ (0, 262143, 3) ∷ (6, 0, 0) ∷ [])
     -- the bucket's words that are not 0, with their places, after push 7/1, 7/2, 7/3 and a pop; and after replace 70/5 and replace 3/6
     ∷ bucketWords 4 popCase popCaseBits popCaseWords
     ∷ bucketWords 4 replaceCase replaceCaseBits replaceCaseWords
@@ -94,11 +99,21 @@ table =
     -- .. by cycles, after 3: as idle, so that a pop just after it is not too soon
     ∷ cycles (map told caseUntagged) (map told caseUntaggedSays)
     -- .. in the bucket queue, N = 3: push 4096/0 refused 4, push 7/0 and replace 7/0 refused 7, empty or full; rank 0 is taken
-    ∷ bucket 3 tagCase
+    ∷ bucket 2 3 tagCase
     ((4, 0, 0) ∷ (7, 0, 0) ∷ (7, 0, 0) ∷ (0, 0, 0) ∷ (0, 0, 0) ∷ (0, 0, 0) ∷ (7, 0, 0) ∷ (5, 0, 0) ∷ (7, 0, 0) ∷ (0, 0, 1) ∷ (0, 7, 2) ∷ (0, 7, 3) ∷ (6, 0, 0) ∷ [])
     -- .. and on a damaged store: push 7/1 refused 2, push 7/0 refused 7, push 4096/0 refused 4, replace 7/0 refused 7, replace 7/1 and pop refused 2
-    ∷ bucketOn 3 spoilt spoiltCase ((2, 0, 0) ∷ (7, 0, 0) ∷ (4, 0, 0) ∷ (7, 0, 0) ∷ (2, 0, 0) ∷ (2, 0, 0) ∷ [])
+    ∷ bucketOn 2 3 spoilt spoiltCase ((2, 0, 0) ∷ (7, 0, 0) ∷ (4, 0, 0) ∷ (7, 0, 0) ∷ (2, 0, 0) ∷ (2, 0, 0) ∷ [])
     -- held refused: 1, an order of 3; 2, a slot with count 0 and a rank
     ∷ held 3 1 (replicate 9 0) (1, 0)
     ∷ held 2 1 (9 ∷ 0 ∷ 0 ∷ 0 ∷ 0 ∷ 0 ∷ []) (2, 0)
+    -- 9. the largest shape of each order is taken, one level more is refused 1: on any slice that is long enough, so that the capacity is the cause
+    ∷ edge 4 8 87380 0
+    ∷ edge 4 9 349524 1
+    ∷ edge 2 15 65534 0
+    ∷ edge 2 16 131070 1
+    ∷ edge 8 5 37448 0
+    ∷ edge 8 6 299592 1
+    -- .. and so is order 3, and levels 0
+    ∷ edge 3 2 12 1
+    ∷ edge 2 0 0 1
     ∷ []

@@ -101,64 +101,78 @@ fn shaped(store: &mut [u32], order: usize, levels: usize) {
     say_answer(b"clear ", tree::clear(store, order, levels));
 }
 
-fn shapes() {
-    let mut store = [0u32; 16384];
+// The largest shape of each order is taken, one level more refused.
+fn edges(store: &mut [u32]) {
     io::write_all(1, b"case 9\n");
-    shaped(&mut store, 4, 6);
-    shaped(&mut store, 4, 7);
-    shaped(&mut store, 2, 11);
-    shaped(&mut store, 2, 12);
-    shaped(&mut store, 8, 4);
-    shaped(&mut store, 8, 5);
-    shaped(&mut store, 3, 2);
-    shaped(&mut store, 2, 0);
-    shaped(&mut store, 2, 18446744073709551615);
+    shaped(store, 4, 8);
+    shaped(store, 4, 9);
+    shaped(store, 2, 15);
+    shaped(store, 2, 16);
+    shaped(store, 8, 5);
+    shaped(store, 8, 6);
+    shaped(store, 3, 2);
+    shaped(store, 2, 0);
+    shaped(store, 2, 18446744073709551615);
 }
 
-fn bucket_push(bits: &mut [u64], words: &mut [u32], rank: u32, tag: u32) {
-    say_answer(b"push ", bucket::push(bits, words, 3, element(rank, tag)));
+// The slice would hold order 4 with 9 levels, 349,524 slots, and so all the others: where a shape is refused, the slice is not the cause.
+fn shapes() {
+    let mut store = [0u32; 1048572];
+    edges(&mut store);
 }
 
-fn bucket_pop(bits: &mut [u64], words: &mut [u32]) {
-    say_answer(b"pop ", bucket::pop(bits, words, 3));
+fn bucket_push(bits: &mut [u64], words: &mut [u32], storeys: usize, rank: u32, tag: u32) {
+    say_answer(
+        b"push ",
+        bucket::push(bits, words, storeys, 3, element(rank, tag)),
+    );
 }
 
-fn bucket_pushes(bits: &mut [u64], words: &mut [u32]) {
-    bucket_push(bits, words, 7, 1);
-    bucket_push(bits, words, 7, 2);
-    bucket_push(bits, words, 4095, 3);
-    bucket_push(bits, words, 0, 4);
-    bucket_push(bits, words, 4096, 4);
+fn bucket_pop(bits: &mut [u64], words: &mut [u32], storeys: usize) {
+    say_answer(b"pop ", bucket::pop(bits, words, storeys, 3));
 }
 
-fn bucket_pops(bits: &mut [u64], words: &mut [u32]) {
-    bucket_pop(bits, words);
-    bucket_pop(bits, words);
-    bucket_pop(bits, words);
-    bucket_pop(bits, words);
+fn bucket_clear(bits: &mut [u64], words: &mut [u32], storeys: usize, n: u32) {
+    say_answer(b"clear ", bucket::clear(bits, words, storeys, n));
+}
+
+// Last is the highest rank, and past is the number after it.
+fn bucket_pushes(bits: &mut [u64], words: &mut [u32], storeys: usize, last: u32, past: u32) {
+    bucket_push(bits, words, storeys, 7, 1);
+    bucket_push(bits, words, storeys, 7, 2);
+    bucket_push(bits, words, storeys, last, 3);
+    bucket_push(bits, words, storeys, 0, 4);
+    bucket_push(bits, words, storeys, past, 4);
+}
+
+fn bucket_pops(bits: &mut [u64], words: &mut [u32], storeys: usize) {
+    bucket_pop(bits, words, storeys);
+    bucket_pop(bits, words, storeys);
+    bucket_pop(bits, words, storeys);
+    bucket_pop(bits, words, storeys);
 }
 
 fn bucket_replace(bits: &mut [u64], words: &mut [u32], rank: u32, tag: u32) {
     say_answer(
         b"replace ",
-        bucket::replace(bits, words, 3, element(rank, tag)),
+        bucket::replace(bits, words, 2, 3, element(rank, tag)),
     );
 }
 
 // Tag 0: after 4, and before 6.
 fn bucket_untagged(bits: &mut [u64], words: &mut [u32]) {
-    bucket_push(bits, words, 4096, 0);
-    bucket_push(bits, words, 7, 0);
+    bucket_push(bits, words, 2, 4096, 0);
+    bucket_push(bits, words, 2, 7, 0);
     bucket_replace(bits, words, 7, 0);
-    bucket_push(bits, words, 0, 1);
-    bucket_push(bits, words, 7, 2);
+    bucket_push(bits, words, 2, 0, 1);
+    bucket_push(bits, words, 2, 7, 2);
 }
 
 // .. and before 5.
 fn bucket_full(bits: &mut [u64], words: &mut [u32]) {
-    bucket_push(bits, words, 7, 3);
-    bucket_push(bits, words, 7, 0);
-    bucket_push(bits, words, 7, 4);
+    bucket_push(bits, words, 2, 7, 3);
+    bucket_push(bits, words, 2, 7, 0);
+    bucket_push(bits, words, 2, 7, 4);
     bucket_replace(bits, words, 0, 0);
 }
 
@@ -166,28 +180,43 @@ fn bucket_full(bits: &mut [u64], words: &mut [u32]) {
 fn bucket_spoilt() {
     let mut bits = [9u64; 65];
     let mut words = [9u32; 8200];
-    bucket_push(&mut bits, &mut words, 7, 1);
-    bucket_push(&mut bits, &mut words, 7, 0);
-    bucket_push(&mut bits, &mut words, 4096, 0);
+    bucket_push(&mut bits, &mut words, 2, 7, 1);
+    bucket_push(&mut bits, &mut words, 2, 7, 0);
+    bucket_push(&mut bits, &mut words, 2, 4096, 0);
     bucket_replace(&mut bits, &mut words, 7, 0);
     bucket_replace(&mut bits, &mut words, 7, 1);
-    bucket_pop(&mut bits, &mut words);
+    bucket_pop(&mut bits, &mut words, 2);
+}
+
+// Three storeys; and the limits of a shape, on slices that are long enough: N, and the depth.
+fn bucket_deep() {
+    let mut bits = [9u64; 4161];
+    let mut words = [9u32; 524296];
+    io::write_all(1, b"case 8, three storeys\n");
+    bucket_clear(&mut bits, &mut words, 3, 3);
+    bucket_pushes(&mut bits, &mut words, 3, 262143, 262144);
+    bucket_pops(&mut bits, &mut words, 3);
+    io::write_all(1, b"N = 65,536 and 65,537; storeys 1 and 4\n");
+    bucket_clear(&mut bits, &mut words, 2, 65536);
+    bucket_clear(&mut bits, &mut words, 2, 65537);
+    bucket_clear(&mut bits, &mut words, 1, 3);
+    bucket_clear(&mut bits, &mut words, 4, 3);
 }
 
 fn buckets() {
     let mut bits = [9u64; 65];
     let mut words = [9u32; 8200];
     io::write_all(1, b"case 8\n");
-    say_answer(b"clear ", bucket::clear(&mut bits, &mut words, 3));
-    bucket_pushes(&mut bits, &mut words);
-    bucket_pops(&mut bits, &mut words);
+    bucket_clear(&mut bits, &mut words, 2, 3);
+    bucket_pushes(&mut bits, &mut words, 2, 4095, 4096);
+    bucket_pops(&mut bits, &mut words, 2);
     io::write_all(1, b"tag 0\n");
     bucket_untagged(&mut bits, &mut words);
     bucket_full(&mut bits, &mut words);
-    bucket_pops(&mut bits, &mut words);
+    bucket_pops(&mut bits, &mut words, 2);
     bucket_spoilt();
     io::write_all(1, b"case 9, N = 0\n");
-    say_answer(b"clear ", bucket::clear(&mut bits, &mut words, 0));
+    bucket_clear(&mut bits, &mut words, 2, 0);
 }
 
 fn asked(rank: u32, tag: u32) -> Request {
@@ -325,4 +354,5 @@ fn main() {
     on_its_way(&mut store);
     shapes();
     buckets();
+    bucket_deep();
 }

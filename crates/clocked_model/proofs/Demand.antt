@@ -44,26 +44,26 @@ unfolding room
 more-room m zero n h = omega arith
 more-room m (suc d) n h = let i : suc (room 2 d) ≤ suc (room m (d + n)) = omega (arith, more-room m d n h) in rw suc-add (mul-le-mul h i)
 
--- order 2 with 12 levels has more slots than the limit, and no order has fewer
-room-twelve : room 2 12 ≡ 8190
+-- order 2 with one level more than there are records for has more slots than the limit, and no order has fewer
+room-past : room 2 (2 + recordCount) ≡ 131070
 unfolding room
-room-twelve = refl
+room-past = refl
 
 pub few-levels : (m levels len : ℕ) → Shape m levels len → pred levels ≤ recordCount
-few-levels m levels len sh = go (leb levels 11) refl
+few-levels m levels len sh = go (leb levels (1 + recordCount)) refl
   where
     two : 2 ≤ m
     two = ⊎-elim (λ e. omega arith) (λ d. ⊎-elim (λ e. omega arith) (λ e. omega arith) d) (sh .order)
 
-    pred-le : (n : ℕ) → n ≤ 11 → pred n ≤ recordCount
+    pred-le : (n : ℕ) → n ≤ 1 + recordCount → pred n ≤ recordCount
     pred-le zero h = omega arith
     pred-le (suc n) h = omega arith
 
-    go : (b : Bool) → leb levels 11 ≡ b → pred levels ≤ recordCount
-    go true e = pred-le levels (leb-true levels 11 e)
+    go : (b : Bool) → leb levels (1 + recordCount) ≡ b → pred levels ≤ recordCount
+    go true e = pred-le levels (leb-true levels (1 + recordCount) e)
     go false e =
-        let at : 12 + (levels - 12) ≡ levels = omega (arith, leb-false levels 11 e) in
-        absurd (omega (arith, subst (λ (n : ℕ). room 2 12 ≤ room m n) at (more-room m 12 (levels - 12) two), room-twelve, sh .capacity))
+        let at : 2 + recordCount + (levels - (2 + recordCount)) ≡ levels = omega (arith, leb-false levels (1 + recordCount) e) in
+        absurd (omega (arith, subst (λ (n : ℕ). room 2 (2 + recordCount) ≤ room m n) at (more-room m (2 + recordCount) (levels - (2 + recordCount)) two), room-past, sh .capacity))
 
 -- ---- the cleared machine
 getD-same : {A : Type 0} (n i : ℕ) (a : A) → getD (replicate n a) i a ≡ a

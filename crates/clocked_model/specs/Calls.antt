@@ -66,7 +66,7 @@ drainOutcome a n left ws s = record { answer = a; cycles = n; left = left; words
 
 -- one record for each level from 2, as many as the shape with the most levels needs
 abbrev pub recordCount : ℕ
-recordCount = 10
+recordCount = 14
 
 -- "A cleared machine has none pending and the mark off"
 unfoldable pub fresh : State

@@ -2,8 +2,8 @@
 use strip::Answer;
 use tree_model::Work;
 
-// How many records there are: one for each level from 2, as many as order 2 needs, that has the most levels, 11.
-pub const RECORDS: usize = 10;
+// How many records there are: one for each level from 2, as many as order 2 needs, that has the most levels, 15.
+pub const RECORDS: usize = 14;
 
 // What stands beside the store between two cycles: the pending records, that of level 2 first, and whether the last cycle's operation was
 // answered without refusal.

@@ -21,7 +21,7 @@ use strip::no_element;
 use tree_model::Slot;
 
 // The largest capacity of a tree.
-pub const SLOT_LIMIT: usize = 5460;
+pub const SLOT_LIMIT: usize = 87380;
 
 // The largest order. A scan that says so is laid out flat by the compiler, with no loop left.
 const ORDER_LIMIT: usize = 8;

@@ -32,7 +32,7 @@ use Rattle.strip.specs.declared.Request.{Request}
 use Rattle.tree_model.proofs.Nothing.{op-work, work-none}
 use Rattle.tree_model.proofs.Rules.{comes}
 use Rattle.tree_model.proofs.Words.{node-length}
-use Rattle.tree_model.specs.Calls.{called, carriedOut, cleared, heldCount, orderOk, Outcome, outcome, rootOf, rootOk, rule, ruling, Ruling, shapeOk, ruleAt, wayOk}
+use Rattle.tree_model.specs.Calls.{called, carriedOut, cleared, heldCount, orderOk, Outcome, outcome, rootOf, rootOk, rule, ruling, Ruling, shapeOk, slotLimit, ruleAt, wayOk}
 use Rattle.tree_model.specs.Damage.{workOk, hasRoom, hasSome, isBlank, lifts, nodeOk, pathOk, readOk, room, slotOk, stepOk}
 use Rattle.tree_model.specs.Levels.{Level, Levels, stepWork, top, work}
 use Rattle.tree_model.specs.Node.{every, isEmpty, isNothing, low, lowest, slotAt, sumCounts}
@@ -138,7 +138,7 @@ order-means m =
 pub shape-means : (m levels len : ℕ) → Means (shapeOk m levels len) (Shape m levels len)
 unfolding shapeOk
 shape-means m levels len =
-    means-by (means-and (order-means m) (means-and (means-leb 1 levels) (means-and (means-leb (room m levels) 5460) (means-leb (3 * room m levels) len))))
+    means-by (means-and (order-means m) (means-and (means-leb 1 levels) (means-and (means-leb (room m levels) slotLimit) (means-leb (3 * room m levels) len))))
     (λ p. record { order = p .0; some = p .1 .0; capacity = p .1 .1 .0; slice = p .1 .1 .1 }) (λ s. (s .order, (s .some, (s .capacity, s .slice))))
 
 pub shape-is : (m levels len : ℕ) → shapeOk m levels len ≡ true → Shape m levels len

@@ -16,3 +16,4 @@ pub mod Agreement
 pub mod Unread
 pub mod Replace
 pub mod Tags
+pub mod Edge

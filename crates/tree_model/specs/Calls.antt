@@ -23,9 +23,9 @@ use Rattle.tree_model.specs.Words.{slotWords, nodeOf, levelsOf, applyWor
 use Rattle.tree_model.specs.Damage.{room, nodeOk, pathOk}
 
 -- ---- the shape
--- "Capacity .. is at most 5,460 here"
+-- "Capacity .. is at most 5,460 here"; "Trees go up to 87,380 slots (order 4, 8 levels)" (02 [7])
 abbrev pub slotLimit : ℕ
-slotLimit = 5460
+slotLimit = 87380
 
 -- "Order M is 2, 4 or 8"
 unfoldable pub orderOk : ℕ → Bool

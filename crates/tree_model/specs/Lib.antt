@@ -7,3 +7,4 @@ pub mod Rules
 pub mod Tree
 pub mod Serve
 pub mod Promise
+pub mod Edge

@@ -32,11 +32,11 @@ use Rattle.tree_model.specs.declared.Slot.{Slot}
 use Rattle.tree_model.specs.declared.Work.{Work}
 
 -- ---- causes: column "Exactly when" of the table of refusals
--- what a shape must be, in 01's numbers; anything else is cause 1
+-- what a shape must be, in the numbers of 01 and 02 [7]; anything else is cause 1
 pub record Shape (m levels len : ℕ) : Type 0 where
   pub order : (m ≡ 2) ⊎ (m ≡ 4) ⊎ (m ≡ 8)
   pub some : 1 ≤ levels
-  pub capacity : room m levels ≤ 5460
+  pub capacity : room m levels ≤ 87380
   pub slice : 3 * room m levels ≤ len
 
 -- "a count above one plus the room below it, or a slot with count 0 and another word not 0"

@@ -116,7 +116,7 @@ pub fn rows(plan: &Plan) -> Vec<Row> {
     row(plan, &mut all, "random", (4, 6), any);
     row(plan, &mut all, "idle", (4, 6), |_, _| Ask::Idle);
     row(plan, &mut all, "each second idle", (4, 6), |rng, n| if n % 2 == 0 { any(rng, n) } else { Ask::Idle });
-    for shape in [(8, 4), (2, 11), (4, 2), (4, 3), (4, 4), (4, 5)] {
+    for shape in [(8, 4), (2, 11), (4, 2), (4, 3), (4, 4), (4, 5), (4, 8)] {
         row(plan, &mut all, "random", shape, any);
     }
     all

@@ -81,6 +81,7 @@ fn main() {
         rows
     };
     show("bucket queue (N = 4096) beside BTreeMap<u32, VecDeque<u32>>, 4,000 held", traces::buckets(&plan));
+    show("bucket queue, three storeys (N = 65,536), beside the same map", traces::deep_buckets(&plan));
     show("tree beside std's BinaryHeap, 4,000 held", traces::trees(&plan));
     show("clocked tree beside a plain machine without damage tests, 4,000 held or three quarters", cycles::rows(&plan));
     let played = playing::rows(&plan, program.as_deref(), records);

@@ -7,8 +7,12 @@ use crate::queues::{filled, HeapQueue, MapQueue, Op, Player, Queue, RankHeap};
 use crate::table::{Plan, Row};
 use card_host::{BucketQueue, TreeQueue};
 
-/// The bucket queue's pool in every row.
+/// The bucket queue's pool at two storeys, and at three.
 const NODES: u32 = 4096;
+const NODES_DEEP: u32 = 65536;
+
+/// The ranks of three storeys.
+const RANKS_DEEP: u32 = 262_144;
 
 /// Ranks of the trees' rows lie below this, or so far behind what came out before where they rise.
 const RANKS: u32 = 1 << 20;
@@ -44,12 +48,22 @@ fn replaced(fill: Vec<Op>, operations: usize, mut rank: impl FnMut(u32) -> u32) 
     Work { fill, trace }
 }
 
-fn bucket(plan: &Plan, all: &mut Vec<Row>, name: &str, mut work: impl FnMut(&mut Rng) -> Work<Op>) {
+fn bucket(plan: &Plan, all: &mut Vec<Row>, name: &str, work: impl FnMut(&mut Rng) -> Work<Op>) {
+    shaped(plan, all, name, (2, NODES), work)
+}
+
+fn shaped(
+    plan: &Plan,
+    all: &mut Vec<Row>,
+    name: &str,
+    shape: (u32, u32),
+    mut work: impl FnMut(&mut Rng) -> Work<Op>,
+) {
     if !plan.wants(name) {
         return;
     }
     let mut rng = Rng::new(1);
-    let mut card = Player { queue: BucketQueue::new(NODES).expect("a good shape"), tags: true };
+    let mut card = Player { queue: BucketQueue::new(shape.0, shape.1).expect("a good shape"), tags: true };
     let mut other = Player { queue: MapQueue::default(), tags: true };
     let pair = race(plan.rounds, Clock::Own, &mut card, &mut other, || work(&mut rng));
     let Work { fill, trace } = work(&mut rng);
@@ -126,6 +140,25 @@ pub fn buckets(plan: &Plan) -> Vec<Row> {
     all
 }
 
+/// Three storeys, the largest pool: growth, with ranks spread wide and in a window.
+pub fn deep_buckets(plan: &Plan) -> Vec<Row> {
+    let mut all = Vec::new();
+    let shape = (3, NODES_DEEP);
+    for held in [64, 1024, 4096, 16384, 65536] {
+        let operations = plan.operations.min(4 * held);
+        // a pop comes first, so that a full queue has room for each push
+        shaped(plan, &mut all, &format!("bucket, three storeys, spread ranks refilled, {held} held"), shape, |rng| {
+            let fill = pushes(held, || rng.below(RANKS_DEEP));
+            refilled(fill, operations, |_| rng.below(RANKS_DEEP))
+        });
+        shaped(plan, &mut all, &format!("bucket, three storeys, a window of 512 ranks, {held} held"), shape, |rng| {
+            let fill = pushes(held, || rng.below(512));
+            refilled(fill, operations, |given| (given + rng.below(512)).min(RANKS_DEEP - 1))
+        });
+    }
+    all
+}
+
 /// The tree beside the heap: each order at 4,000 held, then growth by what is held and by levels.
 pub fn trees(plan: &Plan) -> Vec<Row> {
     let mut all = Vec::new();
@@ -156,7 +189,7 @@ pub fn trees(plan: &Plan) -> Vec<Row> {
         let name = format!("tree, order 4 x 6, push and pop, {held} held");
         tree::<HeapQueue>(plan, &mut all, &name, (4, 6), |rng| any(rng, held));
     }
-    for (levels, held) in [(2, 15), (3, 63), (4, 255), (5, 1023)] {
+    for (levels, held) in [(2, 15), (3, 63), (4, 255), (5, 1023), (8, 65535)] {
         let name = format!("tree, order 4 x {levels}, push and pop, {held} held");
         tree::<HeapQueue>(plan, &mut all, &name, (4, levels), |rng| any(rng, held));
     }

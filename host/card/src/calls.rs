@@ -62,42 +62,52 @@ pub fn tree_held(store: &[u32], order: u32, levels: u32, out: &mut [u32]) -> u32
 
 /// Empties a bucket queue.
 #[inline]
-pub fn bucket_clear(bits: &mut [u64], words: &mut [u32], nodes: u32) -> u32 {
+pub fn bucket_clear(bits: &mut [u64], words: &mut [u32], storeys: u32, nodes: u32) -> u32 {
+    let (b, w) = (bits, words);
     // SAFETY: borrowed slices, as said above.
-    unsafe { raw::card_bucket_clear(bits.as_mut_ptr(), bits.len(), words.as_mut_ptr(), words.len(), nodes) }
+    unsafe { raw::card_bucket_clear(b.as_mut_ptr(), b.len(), w.as_mut_ptr(), w.len(), storeys, nodes) }
 }
 
 /// Takes an element into a bucket queue.
 #[inline]
-pub fn bucket_push(bits: &mut [u64], words: &mut [u32], nodes: u32, rank: u32, tag: u32) -> u32 {
+pub fn bucket_push(bits: &mut [u64], words: &mut [u32], storeys: u32, nodes: u32, rank: u32, tag: u32) -> u32 {
     let (b, w) = (bits, words);
     // SAFETY: borrowed slices, as said above.
-    unsafe { raw::card_bucket_push(b.as_mut_ptr(), b.len(), w.as_mut_ptr(), w.len(), nodes, rank, tag) }
+    unsafe { raw::card_bucket_push(b.as_mut_ptr(), b.len(), w.as_mut_ptr(), w.len(), storeys, nodes, rank, tag) }
 }
 
 /// Gives a bucket queue's first element of the lowest rank.
 #[inline]
-pub fn bucket_pop(bits: &mut [u64], words: &mut [u32], nodes: u32, out: &mut [u32]) -> u32 {
+pub fn bucket_pop(bits: &mut [u64], words: &mut [u32], storeys: u32, nodes: u32, out: &mut [u32]) -> u32 {
     let (b, w, o) = (bits, words, out);
+    let (bits, words, out) = (b.as_mut_ptr(), w.as_mut_ptr(), o.as_mut_ptr());
     // SAFETY: borrowed slices, as said above.
-    unsafe { raw::card_bucket_pop(b.as_mut_ptr(), b.len(), w.as_mut_ptr(), w.len(), nodes, o.as_mut_ptr(), o.len()) }
+    unsafe { raw::card_bucket_pop(bits, b.len(), words, w.len(), storeys, nodes, out, o.len()) }
 }
 
 /// Gives a bucket queue's first element of the lowest rank, and then takes a new element in.
 #[inline]
-pub fn bucket_replace(bits: &mut [u64], words: &mut [u32], nodes: u32, rank: u32, tag: u32, out: &mut [u32]) -> u32 {
+pub fn bucket_replace(
+    bits: &mut [u64],
+    words: &mut [u32],
+    storeys: u32,
+    nodes: u32,
+    rank: u32,
+    tag: u32,
+    out: &mut [u32],
+) -> u32 {
     let (b, w, o) = (bits, words, out);
     let (bits, words, out) = (b.as_mut_ptr(), w.as_mut_ptr(), o.as_mut_ptr());
     // SAFETY: borrowed slices, as said above.
-    unsafe { raw::card_bucket_replace(bits, b.len(), words, w.len(), nodes, rank, tag, out, o.len()) }
+    unsafe { raw::card_bucket_replace(bits, b.len(), words, w.len(), storeys, nodes, rank, tag, out, o.len()) }
 }
 
 /// Gives the number of a bucket queue's held elements.
 #[inline]
-pub fn bucket_held(bits: &[u64], words: &[u32], nodes: u32, out: &mut [u32]) -> u32 {
+pub fn bucket_held(bits: &[u64], words: &[u32], storeys: u32, nodes: u32, out: &mut [u32]) -> u32 {
     let (b, w, o) = (bits, words, out);
     // SAFETY: borrowed slices, as said above.
-    unsafe { raw::card_bucket_held(b.as_ptr(), b.len(), w.as_ptr(), w.len(), nodes, o.as_mut_ptr(), o.len()) }
+    unsafe { raw::card_bucket_held(b.as_ptr(), b.len(), w.as_ptr(), w.len(), storeys, nodes, o.as_mut_ptr(), o.len()) }
 }
 
 /// Empties a clocked tree, its records and its mark.
@@ -185,16 +195,16 @@ pub fn tree_words(order: u32, levels: u32) -> u32 {
     unsafe { raw::card_tree_words(order, levels) }
 }
 
-/// How many words of 64 bits a bucket queue needs.
+/// How many words of 64 bits a bucket queue of so many storeys needs; 0 for a depth that there is not.
 #[inline]
-pub fn bucket_bits() -> u32 {
-    // SAFETY: nothing is handed over.
-    unsafe { raw::card_bucket_bits() }
+pub fn bucket_bits(storeys: u32) -> u32 {
+    // SAFETY: a number, and it may be any.
+    unsafe { raw::card_bucket_bits(storeys) }
 }
 
-/// How many words of 32 bits a bucket queue of so many nodes needs; 0 for a bad number of nodes.
+/// How many words of 32 bits a bucket queue of so many storeys and nodes needs; 0 for a bad shape.
 #[inline]
-pub fn bucket_words(nodes: u32) -> u32 {
-    // SAFETY: a number, and it may be any.
-    unsafe { raw::card_bucket_words(nodes) }
+pub fn bucket_words(storeys: u32, nodes: u32) -> u32 {
+    // SAFETY: two numbers, and they may be any.
+    unsafe { raw::card_bucket_words(storeys, nodes) }
 }

@@ -5,7 +5,7 @@
 //! | queue | ranks | ties | over lent words or arrays | with a store of its own (feature `std`) |
 //! |---|---|---|---|---|
 //! | multi-way tree | any | in a node the lower tag, else its own order | [`Tree`] | `TreeQueue` |
-//! | bucket queue | 0 to 4,095 | first in, first out | [`Bucket`] | `BucketQueue` |
+//! | bucket queue | 0 to 4,095, or 262,143 | first in, first out | [`Bucket`] | `BucketQueue` |
 //! | multi-way tree by clock cycles | any | in a node the lower tag, else its own order | [`Clocked`] | `ClockedTree` |
 //!
 //! A call that is refused says so by a [`Refusal`] and leaves behind what the paper's table says. No store's content makes a call
@@ -45,7 +45,7 @@ pub use bucket::Bucket;
 pub use clocked::{Clocked, Drained, Request, Stopped};
 #[cfg(feature = "std")]
 pub use owned::{BucketQueue, ClockedTree, TreeQueue};
-pub use sizes::{bucket_words, record_words, tree_slots, tree_words, BUCKET_BITS};
+pub use sizes::{bucket_bits, bucket_ranks, bucket_words, record_words, tree_slots, tree_words};
 pub use tree::Tree;
 
 use core::fmt;
@@ -101,7 +101,7 @@ pub enum Refusal {
     Damaged = 2,
     /// A clocked pop or replace just after an answered operation. The cycle runs as an idle one.
     TooSoon = 3,
-    /// A bucket rank above 4,095. Everything stands.
+    /// A bucket rank above the last, 4,095 or (with three storeys) 262,143. Everything stands.
     BadRank = 4,
     /// A push on a full queue. The store stands; a cycle runs as an idle one.
     Full = 5,

@@ -1,6 +1,6 @@
 //! Queues that own their stores.
 
-use crate::{bucket_words, record_words, tree_words, Bucket, Clocked, Refusal, Tree, BUCKET_BITS};
+use crate::{bucket_bits, bucket_words, record_words, tree_words, Bucket, Clocked, Refusal, Tree};
 use std::vec;
 use std::vec::Vec;
 
@@ -33,10 +33,10 @@ impl TreeQueue {
 /// use card_host::{BucketQueue, Element, Rank, Refusal, Tag};
 ///
 /// # fn main() -> Result<(), Refusal> {
-/// let mut queue = BucketQueue::new(100)?;
+/// let mut queue = BucketQueue::new(2, 100)?;
 /// queue.push(Element::new(Rank(7), Tag(1)))?;
 /// let (bits, words) = queue.into_words();
-/// let mut again = BucketQueue::from_words(100, bits, words);
+/// let mut again = BucketQueue::from_words(2, 100, bits, words);
 /// assert_eq!(again.pop()?, Element::new(Rank(7), Tag(1)));
 /// # Ok(())
 /// # }
@@ -44,9 +44,9 @@ impl TreeQueue {
 pub type BucketQueue = Bucket<Vec<u64>, Vec<u32>>;
 
 impl BucketQueue {
-    /// An empty queue with a pool of 1 to 4,096 nodes, its store allocated.
-    pub fn new(nodes: u32) -> Result<BucketQueue, Refusal> {
-        Bucket::cleared(nodes, vec![0; BUCKET_BITS], vec![0; bucket_words(nodes)])
+    /// An empty queue with two or three storeys and a pool of 1 to 65,536 nodes, its store allocated.
+    pub fn new(storeys: u32, nodes: u32) -> Result<BucketQueue, Refusal> {
+        Bucket::cleared(storeys, nodes, vec![0; bucket_bits(storeys)], vec![0; bucket_words(storeys, nodes)])
     }
 }
 

@@ -33,12 +33,20 @@ extern "C" {
         out_len: usize,
     ) -> u32;
 
-    pub fn card_bucket_clear(bits: *mut u64, bits_len: usize, words: *mut u32, words_len: usize, nodes: u32) -> u32;
+    pub fn card_bucket_clear(
+        bits: *mut u64,
+        bits_len: usize,
+        words: *mut u32,
+        words_len: usize,
+        storeys: u32,
+        nodes: u32,
+    ) -> u32;
     pub fn card_bucket_push(
         bits: *mut u64,
         bits_len: usize,
         words: *mut u32,
         words_len: usize,
+        storeys: u32,
         nodes: u32,
         rank: u32,
         tag: u32,
@@ -48,6 +56,7 @@ extern "C" {
         bits_len: usize,
         words: *mut u32,
         words_len: usize,
+        storeys: u32,
         nodes: u32,
         out: *mut u32,
         out_len: usize,
@@ -57,6 +66,7 @@ extern "C" {
         bits_len: usize,
         words: *mut u32,
         words_len: usize,
+        storeys: u32,
         nodes: u32,
         rank: u32,
         tag: u32,
@@ -68,6 +78,7 @@ extern "C" {
         bits_len: usize,
         words: *const u32,
         words_len: usize,
+        storeys: u32,
         nodes: u32,
         out: *mut u32,
         out_len: usize,
@@ -121,6 +132,6 @@ extern "C" {
     ) -> u32;
 
     pub fn card_tree_words(order: u32, levels: u32) -> u32;
-    pub fn card_bucket_bits() -> u32;
-    pub fn card_bucket_words(nodes: u32) -> u32;
+    pub fn card_bucket_bits(storeys: u32) -> u32;
+    pub fn card_bucket_words(storeys: u32, nodes: u32) -> u32;
 }

@@ -1,13 +1,13 @@
 //! How long stores are, as constants: for arrays, whose lengths are known when they are compiled.
 
 /// The most slots that a tree has.
-const SLOTS: usize = 5460;
+const SLOTS: usize = 87_380;
 
 /// How many elements a tree of this order and these levels can hold; 0 for a bad shape.
 ///
 /// ```
-/// assert_eq!(card_host::tree_slots(4, 6), 5460);
-/// assert_eq!(card_host::tree_slots(4, 7), 0);
+/// assert_eq!(card_host::tree_slots(4, 8), 87_380);
+/// assert_eq!(card_host::tree_slots(4, 9), 0);
 /// ```
 pub const fn tree_slots(order: u32, levels: u32) -> usize {
     if order != 2 && order != 4 && order != 8 {
@@ -39,18 +39,49 @@ pub const fn record_words(levels: u32) -> usize {
     4 * (levels as usize).saturating_sub(1)
 }
 
-/// How many words of 64 bits a bucket queue needs.
-pub const BUCKET_BITS: usize = 65;
+/// The most nodes that a bucket queue has, at either depth.
+const NODES: u32 = 65536;
 
-/// How many words of 32 bits a bucket queue of so many nodes needs; 0 for a bad number of nodes.
+/// How many ranks a bucket queue of so many storeys has, 64 for each rank of a storey less; 0 for a depth that there is not.
 ///
 /// ```
-/// assert_eq!(card_host::bucket_words(3), 8200);
-/// assert_eq!(card_host::bucket_words(0), 0);
+/// assert_eq!(card_host::bucket_ranks(2), 4096);
+/// assert_eq!(card_host::bucket_ranks(3), 262_144);
+/// assert_eq!(card_host::bucket_ranks(4), 0);
 /// ```
-pub const fn bucket_words(nodes: u32) -> usize {
-    if nodes < 1 || nodes > 4096 {
+pub const fn bucket_ranks(storeys: u32) -> usize {
+    if storeys < 2 || storeys > 3 {
         return 0;
     }
-    8194 + 2 * nodes as usize
+    64usize.pow(storeys)
+}
+
+/// How many words of 64 bits a bucket queue of so many storeys needs; 0 for a depth that there is not.
+///
+/// ```
+/// assert_eq!(card_host::bucket_bits(2), 65);
+/// assert_eq!(card_host::bucket_bits(3), 4161);
+/// ```
+pub const fn bucket_bits(storeys: u32) -> usize {
+    let (mut words, mut storey) = (0, bucket_ranks(storeys));
+    while storey > 1 {
+        storey /= 64;
+        words += storey;
+    }
+    words
+}
+
+/// How many words of 32 bits a bucket queue of so many storeys and nodes needs; 0 for a bad shape.
+///
+/// ```
+/// assert_eq!(card_host::bucket_words(2, 3), 8200);
+/// assert_eq!(card_host::bucket_words(3, 3), 524_296);
+/// assert_eq!(card_host::bucket_words(2, 0), 0);
+/// ```
+pub const fn bucket_words(storeys: u32, nodes: u32) -> usize {
+    let ranks = bucket_ranks(storeys);
+    if ranks == 0 || nodes < 1 || nodes > NODES {
+        return 0;
+    }
+    2 * ranks + 2 * nodes as usize + 2
 }

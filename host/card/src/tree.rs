@@ -5,8 +5,9 @@ use crate::{calls, refused, Element, Refusal};
 /// A multi-way tree over words of any kind: a lent slice, an array, or (with feature `std`) a vector of its own, see
 /// [`TreeQueue`](crate::TreeQueue).
 ///
-/// Order M is 2, 4 or 8, levels L at least 1, and M + M² + … + M^L elements, at most 5,460, can be held. Equal ranks
-/// that stand in one node leave by lower tag; in different nodes the order of leaving is the tree's own.
+/// Order M is 2, 4 or 8, levels L at least 1, and M + M² + … + M^L elements, at most 87,380, can be held: up to 15 levels of order 2,
+/// 8 of order 4, 5 of order 8. Equal ranks that stand in one node leave by lower tag; in different nodes the order of leaving is the
+/// tree's own.
 ///
 /// ```
 /// use card_host::{tree_words, Element, Rank, Refusal, Tag, Tree};

@@ -11,8 +11,8 @@ static void number(const char *what, uint32_t got, uint32_t expected) {
 }
 
 int main(void) {
-    uint32_t store[CARD_TREE_WORDS(2, 1)], words[CARD_BUCKET_WORDS(1)], mark[1], out[2];
-    uint64_t bits[CARD_BUCKET_BITS];
+    uint32_t store[CARD_TREE_WORDS(2, 1)], words[CARD_BUCKET_WORDS(2, 1)], mark[1], out[2];
+    uint64_t bits[CARD_BUCKET_BITS(2)];
     const uint32_t bad = CARD_BAD_SHAPE;
 
     /* no store */
@@ -21,11 +21,11 @@ int main(void) {
     number("tree pop", card_tree_pop(NULL, 0, 2, 1, out, 2), bad);
     number("tree replace", card_tree_replace(NULL, 0, 2, 1, 5, 50, out, 2), bad);
     number("tree held", card_tree_held(NULL, 0, 2, 1, out, 1), bad);
-    number("bucket clear", card_bucket_clear(NULL, 0, NULL, 0, 1), bad);
-    number("bucket push", card_bucket_push(NULL, 0, NULL, 0, 1, 5, 50), bad);
-    number("bucket pop", card_bucket_pop(NULL, 0, NULL, 0, 1, out, 2), bad);
-    number("bucket replace", card_bucket_replace(NULL, 0, NULL, 0, 1, 5, 50, out, 2), bad);
-    number("bucket held", card_bucket_held(NULL, 0, NULL, 0, 1, out, 1), bad);
+    number("bucket clear", card_bucket_clear(NULL, 0, NULL, 0, 2, 1), bad);
+    number("bucket push", card_bucket_push(NULL, 0, NULL, 0, 2, 1, 5, 50), bad);
+    number("bucket pop", card_bucket_pop(NULL, 0, NULL, 0, 2, 1, out, 2), bad);
+    number("bucket replace", card_bucket_replace(NULL, 0, NULL, 0, 2, 1, 5, 50, out, 2), bad);
+    number("bucket held", card_bucket_held(NULL, 0, NULL, 0, 2, 1, out, 1), bad);
     number("clocked clear", card_clocked_clear(NULL, 0, 2, 1, NULL, 0, mark, 1), bad);
     number("clocked held", card_clocked_held(NULL, 0, 2, 1, out, 1), bad);
 
@@ -37,10 +37,10 @@ int main(void) {
     number("tree held", card_tree_held(store, 6, 2, 1, NULL, 0), bad);
     number("tree held", card_tree_held(store, 6, 2, 1, out, 1), CARD_OK);
     number("what is held", out[0], 1);
-    number("bucket clear", card_bucket_clear(bits, CARD_BUCKET_BITS, words, CARD_BUCKET_WORDS(1), 1), CARD_OK);
-    number("bucket pop", card_bucket_pop(bits, CARD_BUCKET_BITS, words, CARD_BUCKET_WORDS(1), 1, NULL, 0), bad);
-    number("bucket replace", card_bucket_replace(bits, CARD_BUCKET_BITS, words, CARD_BUCKET_WORDS(1), 1, 5, 50, NULL, 0), bad);
-    number("bucket held", card_bucket_held(bits, CARD_BUCKET_BITS, words, CARD_BUCKET_WORDS(1), 1, NULL, 0), bad);
+    number("bucket clear", card_bucket_clear(bits, CARD_BUCKET_BITS(2), words, CARD_BUCKET_WORDS(2, 1), 2, 1), CARD_OK);
+    number("bucket pop", card_bucket_pop(bits, CARD_BUCKET_BITS(2), words, CARD_BUCKET_WORDS(2, 1), 2, 1, NULL, 0), bad);
+    number("bucket replace", card_bucket_replace(bits, CARD_BUCKET_BITS(2), words, CARD_BUCKET_WORDS(2, 1), 2, 1, 5, 50, NULL, 0), bad);
+    number("bucket held", card_bucket_held(bits, CARD_BUCKET_BITS(2), words, CARD_BUCKET_WORDS(2, 1), 2, 1, NULL, 0), bad);
 
     /* no mark */
     number("clocked clear", card_clocked_clear(store, 6, 2, 1, NULL, 0, NULL, 0), bad);

@@ -48,10 +48,10 @@ fn in_two_files_of_one_program() {
     let twice = "#include \"card.h\"\n#include \"card.h\"\n";
     std::fs::write(
         folder.join("a.c"),
-        format!("{twice}uint32_t other(void);\nuint32_t other(void) {{ return card_bucket_bits(); }}\n"),
+        format!("{twice}uint32_t other(void);\nuint32_t other(void) {{ return card_bucket_bits(2); }}\n"),
     )
     .unwrap();
-    let main = "uint32_t other(void);\nint main(void) { return other() == CARD_BUCKET_BITS ? 0 : 1; }\n";
+    let main = "uint32_t other(void);\nint main(void) { return other() == CARD_BUCKET_BITS(2) ? 0 : 1; }\n";
     std::fs::write(folder.join("b.c"), format!("{twice}{main}")).unwrap();
     let files: Vec<_> = ["a.c", "b.c"].iter().map(|name| folder.join(name)).collect();
     let mut command = compiler("CARD_CC", "gcc");

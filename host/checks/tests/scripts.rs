@@ -77,6 +77,7 @@ fn the_bench_runs() {
     let table = done(script("bench.sh").arg("--brief"));
     for part in [
         "bucket, spread ranks refilled",
+        "bucket, three storeys, spread ranks refilled, 65536 held",
         "tree, order 4 x 6, push and pop",
         "cycle, order 4 x 6, idle",
         "records a second",

@@ -39,7 +39,10 @@ impl<'c, C: Card> Queue<'c, C> {
         Queue::cleared(card, Call::machine(Op::ClockedClear, order, levels, 3 * slots, records))
     }
     fn bucket(card: &'c mut C, nodes: u32) -> Result<Queue<'c, C>, String> {
-        Queue::cleared(card, Call::bucket(Op::BucketClear, nodes, 65, 8192 + 2 * nodes as usize + 2))
+        Queue::cleared(card, Call::bucket(Op::BucketClear, 2, nodes, 65, 8192 + 2 * nodes as usize + 2))
+    }
+    fn deep_bucket(card: &'c mut C, nodes: u32) -> Result<Queue<'c, C>, String> {
+        Queue::cleared(card, Call::bucket(Op::BucketClear, 3, nodes, 4161, 524_288 + 2 * nodes as usize + 2))
     }
     /// Store A: cleared, then push 5/50, 3/30, 8/80, 1/10.
     fn a(card: &'c mut C) -> Result<Queue<'c, C>, String> {
@@ -156,15 +159,31 @@ fn case_8<C: Card>(c: &mut C) -> Done {
     Ok(())
 }
 
+/// Case 8 at three storeys: the last rank is 262,143.
+fn case_8_deep<C: Card>(c: &mut C) -> Done {
+    let mut q = Queue::deep_bucket(c, 3)?;
+    same("nodes", q.words()[524_288..].to_vec(), vec![0, 2, 0, 3, 0, 0, 1, 0])?;
+    for (rank, tag, number) in [(7, 1, 0), (7, 2, 0), (262_143, 3, 0), (0, 4, 5), (262_144, 4, 4)] {
+        same("push", q.number(Op::BucketPush, rank, tag), number)?;
+    }
+    let bits = |q: &Queue<C>| [q.side.bits[0], q.side.bits[1], q.side.bits[64], q.side.bits[65], q.side.bits[4160]];
+    same("bits: top, middle, lowest", bits(&q), [1 | 1 << 63, 1, 1 << 63, 1 << 7, 1 << 63])?;
+    for answer in [(0, 7, 1), (0, 7, 2), (0, 262_143, 3), (6, 0, 0)] {
+        same("pop", q.pop(), answer)?;
+    }
+    same("bits of an empty queue", bits(&q), [0; 5])
+}
+
 fn case_9<C: Card>(c: &mut C) -> Done {
-    let mut side = Side::new(3 * 100_000, 65, 0);
+    // one that holds the largest of the refused shapes: the capacity refuses it, not the slice
+    let mut side = Side::new(3 * 349_524, 65, 0);
     for (order, levels, slots, number) in [
-        (4, 6, 5460, 0),
-        (4, 7, 21844, 1),
-        (2, 11, 4094, 0),
-        (2, 12, 8190, 1),
-        (8, 4, 4680, 0),
-        (8, 5, 37448, 1),
+        (4, 8, 87_380, 0),
+        (4, 9, 349_524, 1),
+        (2, 15, 65_534, 0),
+        (2, 16, 131_070, 1),
+        (8, 5, 37_448, 0),
+        (8, 6, 299_592, 1),
         (3, 1, 3, 1),
         (3, 2, 12, 1),
         (2, 0, 0, 1),
@@ -176,7 +195,7 @@ fn case_9<C: Card>(c: &mut C) -> Done {
             same("clear of a short store", side.apply(c, &clear(3 * slots - 1)), 1)?;
         }
     }
-    same("N = 0", side.apply(c, &Call::bucket(Op::BucketClear, 0, 65, 8194)), 1)
+    same("N = 0", side.apply(c, &Call::bucket(Op::BucketClear, 2, 0, 65, 8194)), 1)
 }
 
 fn case_10<C: Card>(c: &mut C) -> Done {
@@ -345,6 +364,7 @@ pub fn all<C: Card>(c: &mut C) -> Vec<(&'static str, Done)> {
         ("case 6: A clocked, drained, pop", case_6(c)),
         ("case 7: six pushes and a seventh", case_7(c)),
         ("case 8: bucket, N = 3", case_8(c)),
+        ("case 8 at three storeys", case_8_deep(c)),
         ("case 9: shapes at the edge", case_9(c)),
         ("case 10: what is too soon", case_10(c)),
         ("push 1, 9, 2: still on its way", on_its_way(c)),

@@ -56,12 +56,13 @@ fn alone(op: Op) -> Causes {
         | b::TAIL_ALONE
         | b::BIT_ALONE
         | b::GROUP_SET
+        | b::MIDDLE_SET
         | b::HEAD_LINK
         | b::TAIL_LINK
         | b::TAIL_NEXT
         | b::TAIL_NEXT_LINK;
     let pop = links | b::HEAD_NEXT_LINK | b::CHAIN_CUT;
-    let push = links | b::GROUP_UNSET | b::TAKEN_TAIL;
+    let push = links | b::GROUP_UNSET | b::MIDDLE_UNSET | b::TAKEN_TAIL;
     match op {
         Op::TreeHeld | Op::ClockedHeld => root,
         Op::TreePush => root | t::at(t::BELOW, SLOT | t::FULL) | t::at(t::DEEPER, SLOT | t::FULL),

@@ -1,6 +1,6 @@
 //! Makes each call on both sides, counts it, and keeps the first difference.
 
-use crate::side::{difference, Card, Model, Side};
+use crate::side::{difference, other_answer, Card, Model, Side};
 use models::call::{Call, Op, OPS};
 use models::{bucket, shape_cause, tree, No};
 
@@ -115,6 +115,20 @@ impl<C: Card> Harness<C> {
     /// Makes the call on both sides and compares everything. None where they differ (the first
     /// difference is kept), else the number.
     pub fn call(&mut self, k: &Call) -> Option<u32> {
+        self.compared(k, difference)
+    }
+
+    /// .. and compares the number and `out` alone: for many calls in a row on a large store. The words are compared by the next call
+    /// that compares everything.
+    pub fn answers(&mut self, k: &Call) -> Option<u32> {
+        self.compared(k, other_answer)
+    }
+
+    fn compared(
+        &mut self,
+        k: &Call,
+        difference: impl Fn(&Call, u32, &Side, u32, &Side) -> Option<String>,
+    ) -> Option<u32> {
         let before = Before::of(&self.b, k);
         let number = self.library_call(k);
         let expected = self.b.apply(&mut self.model, k);
@@ -258,7 +272,7 @@ impl Before {
             shown: None,
         };
         if k.op.is_bucket() {
-            match bucket::held(&side.bits[..k.bits], &side.words[..k.words], k.nodes) {
+            match bucket::held(&side.bits[..k.bits], &side.words[..k.words], k.storeys, k.nodes) {
                 Ok(held) => (b.full, b.empty) = (held == k.nodes, held == 0),
                 Err(no) => b.damaged = matches!(no, No::Damaged(_)),
             }
@@ -291,9 +305,10 @@ impl Before {
     fn text(&self, side: &Side, k: &Call) -> String {
         let (words, records) = (&side.words[..k.words], &side.records[..k.records]);
         if k.op.is_bucket() {
-            let named = |i: usize| match i {
-                0..=4095 => format!("head {i}"),
-                4096..=8191 => format!("tail {}", i - 4096),
+            let ranks = bucket::ranks(k.storeys);
+            let named = |i: usize| match i / ranks {
+                0 => format!("head {i}"),
+                1 => format!("tail {}", i - ranks),
                 _ => format!("word {i}"),
             };
             let set = (0..k.words).filter(|&i| words[i] != 0).take(60);

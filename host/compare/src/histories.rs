@@ -71,6 +71,13 @@ pub fn shapes() -> Vec<(u32, u32)> {
     all
 }
 
+/// Shapes up to so many slots are compared word for word after every call; larger ones have parts of their own.
+pub const SMALLER: u64 = 5460;
+
+pub fn larger() -> Vec<(u32, u32)> {
+    shapes().into_iter().filter(|&(o, l)| Shape::new(o, l).unwrap().capacity() > SMALLER).collect()
+}
+
 /// Shapes with at most so many slots.
 pub fn shapes_up_to(slots: u64) -> Vec<(u32, u32)> {
     shapes().into_iter().filter(|&(o, l)| Shape::new(o, l).unwrap().capacity() <= slots).collect()
@@ -196,23 +203,35 @@ pub fn tree<C: Card>(h: &mut Harness<C>, rng: &mut Rng, order: u32, levels: u32,
     }
 }
 
+/// The ranks that a history of a bucket queue draws from: a few, those at the edges of words, one for each word, or any.
+fn bucket_ranks(rng: &mut Rng, storeys: u32) -> Vec<u32> {
+    let ranks = bucket::ranks(storeys) as u64;
+    let few = match rng.below(6) {
+        0 => 1,
+        1 => 4,
+        2 => return (0..64).collect(),
+        3 => {
+            let last = ranks as u32 - 1;
+            return vec![0, 63, 64, 127, 128, 4031, 4032, 4094, 4095, last / 2, last / 2 + 1, last - 64, last - 63, last];
+        }
+        4 => return (0..64).map(|g| (ranks / 64) as u32 * g + 5).collect(),
+        _ => 4096,
+    };
+    (0..few).map(|_| rng.below(ranks) as u32).collect()
+}
+
 /// One history of the bucket queue: exact pairs.
-pub fn bucket<C: Card>(h: &mut Harness<C>, rng: &mut Rng, nodes: u32, calls: u64, fill: bool) {
-    let (bits, words) = (65 + rng.below(3) as usize, bucket::words(nodes as u64) as usize + rng.below(4) as usize);
+pub fn bucket<C: Card>(h: &mut Harness<C>, rng: &mut Rng, storeys: u32, nodes: u32, calls: u64, fill: bool) {
+    let need = bucket::words(storeys, nodes as u64) as usize;
+    let (bits, words) = (bucket::bits(storeys) + rng.below(3) as usize, need + rng.below(4) as usize);
+    let ranks = bucket::ranks(storeys) as u32;
     let side = Side::new(words, bits, 0);
     h.set(&side);
-    let pool: Vec<u32> = match rng.below(6) {
-        0 => vec![rng.below(4096) as u32],
-        1 => (0..4).map(|_| rng.below(4096) as u32).collect(),
-        2 => (0..64).collect(),
-        3 => vec![0, 63, 64, 127, 128, 4031, 4032, 4094, 4095],
-        4 => (0..64).map(|g| 64 * g + 5).collect(),
-        _ => (0..4096).collect(),
-    };
+    let pool = bucket_ranks(rng, storeys);
     let tags = draw_tags(rng);
     let mut list = SortedList::new();
-    if h.call(&Call::bucket(Op::BucketClear, nodes, bits, words)) != Some(0) {
-        return h.fail(format!("clear with N = {nodes} was refused"));
+    if h.call(&Call::bucket(Op::BucketClear, storeys, nodes, bits, words)) != Some(0) {
+        return h.fail(format!("clear with {storeys} storeys and N = {nodes} was refused"));
     }
     let mut weights = mood(rng);
     let none = element(0, 0);
@@ -227,10 +246,10 @@ pub fn bucket<C: Card>(h: &mut Harness<C>, rng: &mut Rng, nodes: u32, calls: u64
         let (push, pop, replace) = weights;
         let mut x = element(rng.pick(&pool), draw_tag(rng, tags, n));
         if rng.once_in(50) {
-            x.rank = rng.pick(&[4096, 4097, 8191, 1 << 16, u32::MAX]);
+            x.rank = rng.pick(&[ranks, ranks + 1, 2 * ranks - 1, 1 << 20, u32::MAX]);
         }
         // what refuses the newcomer, whatever is held
-        let barred = if x.rank > 4095 {
+        let barred = if x.rank >= ranks {
             4
         } else if x.tag == 0 {
             7
@@ -263,7 +282,7 @@ pub fn bucket<C: Card>(h: &mut Harness<C>, rng: &mut Rng, nodes: u32, calls: u64
         } else {
             (Op::BucketHeld, (0, element(list.held() as u32, 0)))
         };
-        let number = match h.call(&Call::bucket(op, nodes, bits, words).with(x.rank, x.tag)) {
+        let number = match h.call(&Call::bucket(op, storeys, nodes, bits, words).with(x.rank, x.tag)) {
             Some(number) => number,
             None => return,
         };
@@ -274,7 +293,7 @@ pub fn bucket<C: Card>(h: &mut Harness<C>, rng: &mut Rng, nodes: u32, calls: u64
         };
         if (number, got) != expected {
             return h.fail(format!(
-                "N = {nodes}, call {n} of a history, {} {x:?}: {number}, {got:?}; the list says {expected:?}",
+                "storeys {storeys}, N = {nodes}, call {n} of a history, {} {x:?}: {number}, {got:?}; the list says {expected:?}",
                 op.name()
             ));
         }

@@ -2,7 +2,7 @@
 //! that are wrong, shapes and lengths outside the rules.
 
 use crate::harness::Harness;
-use crate::histories::{shapes, shapes_up_to};
+use crate::histories::{larger, shapes_up_to, SMALLER};
 use crate::side::{Card, Side};
 use models::call::{Call, Op};
 use models::rng::Rng;
@@ -10,7 +10,9 @@ use models::tree::{Node, Shape};
 use models::{boundary, bucket};
 
 const ORDERS: [u32; 15] = [0, 1, 3, 5, 6, 7, 9, 16, 32, 64, 0x8000_0000, 0x8000_0002, u32::MAX, u32::MAX - 1, 12];
-const LEVELS: [u32; 12] = [0, 12, 13, 16, 31, 32, 33, 63, 0x4000_0000, 0x8000_0000, 0x8000_0001, u32::MAX];
+const LEVELS: [u32; 12] = [0, 16, 17, 20, 31, 32, 33, 63, 0x4000_0000, 0x8000_0000, 0x8000_0001, u32::MAX];
+
+const STOREYS: [u32; 10] = [0, 1, 4, 5, 8, 63, 64, 0x8000_0000, 0x8000_0002, u32::MAX];
 
 /// A small shape that is taken, more often the smallest ones.
 fn small(rng: &mut Rng) -> (u32, u32) {
@@ -426,8 +428,9 @@ pub fn clocked<C: Card>(h: &mut Harness<C>, rng: &mut Rng, calls: u64) {
     }
 }
 
-/// A bucket queue's store under attack: its N, and the few ranks in use.
+/// A bucket queue's store under attack: its depth, its N, and the few ranks in use.
 struct Target {
+    storeys: u32,
     nodes: u32,
     ranks: Vec<u32>,
 }
@@ -437,16 +440,29 @@ impl Target {
         rank as usize
     }
     fn tail(&self, rank: u32) -> usize {
-        4096 + rank as usize
+        bucket::ranks(self.storeys) + rank as usize
+    }
+    fn tag(&self, node: u32) -> usize {
+        2 * bucket::ranks(self.storeys) + 2 * node as usize
     }
     fn next(&self, node: u32) -> usize {
-        8192 + 2 * node as usize + 1
+        self.tag(node) + 1
     }
     fn free(&self) -> usize {
-        8192 + 2 * self.nodes as usize
+        self.tag(self.nodes)
     }
     fn held(&self) -> usize {
         self.free() + 1
+    }
+    /// The word and the bit over a rank, so many storeys up from the lowest.
+    fn over(&self, rank: u32, up: u32) -> (usize, u32) {
+        let bit = rank / 64u32.pow(up);
+        let first = match self.storeys - 1 - up {
+            0 => 0,
+            1 => 1,
+            _ => 65,
+        };
+        (first + bit as usize / 64, bit % 64)
     }
 
     fn link(&self, rng: &mut Rng) -> u32 {
@@ -461,13 +477,17 @@ impl Target {
     /// Spoils one word.
     fn spoil(&self, rng: &mut Rng, bits: &mut [u64], words: &mut [u32]) {
         let r = rng.pick(&self.ranks);
-        let g = (r / 64) as usize;
+        let (own, bit) = self.over(r, 0);
+        // a storey above the lowest, and a storey below the top
+        let (above, bit_above) = self.over(r, 1 + rng.below(self.storeys as u64 - 1) as u32);
+        let (below, _) = self.over(r, rng.below(self.storeys as u64 - 1) as u32);
         match rng.below(20) {
-            0 => bits[0] ^= 1 << g,
+            0 => bits[above] ^= 1 << bit_above,
             1 => bits[0] = rng.pick(&[0, 1, u64::MAX, 1 << 63]),
-            2 => bits[0] ^= 1 << rng.below(64),
-            3 => bits[1 + g] ^= 1 << (r % 64),
-            4 => bits[1 + g] = 0,
+            2 if rng.once_in(2) => bits[0] ^= 1 << rng.below(64),
+            2 => bits[0] ^= 1 << self.over(r, self.storeys - 1).1,
+            3 => bits[own] ^= 1 << bit,
+            4 => bits[below] = 0,
             5 => bits[1 + rng.below(64) as usize] ^= 1 << rng.below(64),
             6 | 7 => words[self.head(r)] = self.link(rng),
             8 | 9 => words[self.tail(r)] = self.link(rng),
@@ -498,17 +518,16 @@ impl Target {
                     words[self.tail(r)] = 0;
                 }
                 if keep != 2 {
-                    bits[1 + g] &= !(1 << (r % 64));
+                    bits[own] &= !(1 << bit);
                 }
             }
-            _ => words[8192 + 2 * rng.below(self.nodes as u64) as usize] = rng.word(),
+            _ => words[self.tag(rng.below(self.nodes as u64) as u32)] = rng.word(),
         }
     }
 
     /// Links, bits and counts at will, all small.
     fn scatter(&self, rng: &mut Rng, bits: &mut [u64], words: &mut [u32]) {
         for &r in &self.ranks {
-            let g = (r / 64) as usize;
             let some = rng.below(3);
             words[self.head(r)] = if some == 0 { 0 } else { self.link(rng) };
             words[self.tail(r)] = match some {
@@ -516,11 +535,13 @@ impl Target {
                 1 => words[self.head(r)],
                 _ => self.link(rng),
             };
-            if (some != 0) != rng.once_in(8) {
-                bits[1 + g] |= 1 << (r % 64);
-            }
-            if (bits[1 + g] != 0) != rng.once_in(8) {
-                bits[0] |= 1 << g;
+            let mut below = some != 0;
+            for up in 0..self.storeys {
+                let (at, bit) = self.over(r, up);
+                if below != rng.once_in(8) {
+                    bits[at] |= 1 << bit;
+                }
+                below = bits[at] != 0;
             }
         }
         for node in 0..self.nodes {
@@ -532,46 +553,55 @@ impl Target {
     }
 }
 
+/// A few ranks of a bucket queue: in one word, in words side by side, first and last, in one group and another.
+fn bucket_ranks(rng: &mut Rng, storeys: u32) -> Vec<u32> {
+    let ranks = bucket::ranks(storeys) as u32;
+    let group = ranks / 64;
+    match rng.below(7) {
+        0 => vec![0, 1, 2],
+        1 => vec![63, 64],
+        2 => vec![0, ranks - 1],
+        3 => vec![ranks - 64, ranks - 1, 31],
+        4 => vec![5, 64 * 7 + 5, 64 * 7 + 6],
+        5 => vec![5, group * 7 + 5, group * 7 + group - 1],
+        _ => (0..3).map(|_| rng.below(ranks as u64) as u32).collect(),
+    }
+}
+
 /// Hostile calls of the bucket queue.
-pub fn bucket<C: Card>(h: &mut Harness<C>, rng: &mut Rng, calls: u64) {
+pub fn bucket<C: Card>(h: &mut Harness<C>, rng: &mut Rng, storeys: u32, calls: u64) {
     let until = h.calls + calls;
+    let (tower, last) = (bucket::bits(storeys), bucket::ranks(storeys) as u32 - 1);
     while h.calls < until {
         let nodes = match rng.below(30) {
             0 => 1 + rng.below(300) as u32,
             1 => 4096,
             _ => 1 + rng.below(5) as u32,
         };
-        let ranks = match rng.below(6) {
-            0 => vec![0, 1, 2],
-            1 => vec![63, 64],
-            2 => vec![0, 4095],
-            3 => vec![4032, 4095, 31],
-            4 => vec![5, 64 * 7 + 5, 64 * 7 + 6],
-            _ => (0..3).map(|_| rng.below(4096) as u32).collect(),
-        };
-        let t = Target { nodes, ranks };
-        let need = bucket::words(nodes as u64) as usize;
-        let mut side = Side::new(need + 2, 67, 0);
-        side.bits[..65].fill(0);
+        let t = Target { storeys, nodes, ranks: bucket_ranks(rng, storeys) };
+        let need = bucket::words(storeys, nodes as u64) as usize;
+        let mut side = Side::new(need + 2, tower + 2, 0);
+        side.bits[..tower].fill(0);
         side.words[..need].fill(0);
         if rng.once_in(4) {
             t.scatter(rng, &mut side.bits, &mut side.words);
         } else {
-            let (b, w) = (&mut side.bits[..65], &mut side.words[..need]);
-            let _ = boundary::bucket_clear(b, w, nodes);
+            let (b, w) = (&mut side.bits[..tower], &mut side.words[..need]);
+            let _ = boundary::bucket_clear(b, w, storeys, nodes);
             let fill = match rng.below(5) {
                 0 => nodes as u64,
                 1 => (nodes - 1) as u64,
                 _ => rng.below(nodes as u64 + 1),
             };
             for _ in 0..fill {
-                let _ = boundary::bucket_push(b, w, nodes, rng.pick(&t.ranks), rng.word());
+                let _ = boundary::bucket_push(b, w, storeys, nodes, rng.pick(&t.ranks), rng.word());
             }
             for _ in 0..rng.below(4) {
-                let _ = boundary::bucket_replace(b, w, nodes, rng.pick(&t.ranks), rng.word(), &mut [0; 2]);
+                let (rank, tag) = (rng.pick(&t.ranks), rng.word());
+                let _ = boundary::bucket_replace(b, w, storeys, nodes, rank, tag, &mut [0; 2]);
             }
             if rng.once_in(3) {
-                let _ = boundary::bucket_pop(b, w, nodes, &mut [0; 2]);
+                let _ = boundary::bucket_pop(b, w, storeys, nodes, &mut [0; 2]);
             }
         }
         let mut spoilt = side.clone();
@@ -589,16 +619,17 @@ pub fn bucket<C: Card>(h: &mut Harness<C>, rng: &mut Rng, calls: u64) {
                     15..=25 => Op::BucketPop,
                     _ => Op::BucketReplace,
                 };
-                let (bits, words) = (65 + rng.below(3) as usize, need + rng.below(3) as usize);
-                let mut k = Call::bucket(op, nodes, bits, words).with(rng.pick(&t.ranks), tag(rng));
+                let (bits, words) = (tower + rng.below(3) as usize, need + rng.below(3) as usize);
+                let mut k = Call::bucket(op, storeys, nodes, bits, words).with(rng.pick(&t.ranks), tag(rng));
                 k.out = 1 + (op != Op::BucketHeld) as usize + rng.below(2) as usize;
                 match rng.below(60) {
-                    0 | 1 => k.rank = rng.pick(&[4096, 4097, 0x1_0000, u32::MAX]),
-                    2 => k.nodes = rng.pick(&[0, 4097, 0x8000_0000, 0x8000_0001, u32::MAX]),
+                    0 | 1 => k.rank = rng.pick(&[last + 1, last + 2, 0x8_0000, u32::MAX]),
+                    2 => k.nodes = rng.pick(&[0, 65537, 0x8000_0000, 0x8000_0001, u32::MAX]),
                     3 => k.words = rng.pick(&[need - 1, 0, 8193, 8192]),
-                    4 => k.bits = rng.pick(&[64, 0, 1]),
+                    4 => k.bits = rng.pick(&[tower - 1, 0, 1]),
                     5 => k.out = rng.below(2) as usize,
-                    6 => k.rank = rng.below(4096) as u32,
+                    6 => k.rank = rng.below(last as u64 + 1) as u32,
+                    7 => k.storeys = rng.pick(&STOREYS),
                     _ => {}
                 }
                 if h.call(&k).is_none() {
@@ -609,76 +640,116 @@ pub fn bucket<C: Card>(h: &mut Harness<C>, rng: &mut Rng, calls: u64) {
     }
 }
 
+/// Every tree call of an order and levels, on lengths near the `need`ed one. False where something differs.
+fn edge<C: Card>(h: &mut Harness<C>, rng: &mut Rng, o: u32, l: u32, need: usize) -> bool {
+    let taken = Shape::new(o, l).is_some();
+    let records = if taken { 4 * (l as usize - 1) } else { 56 };
+    let lengths = if taken { vec![need - 1, need, need + 1, 0] } else { vec![need, 0] };
+    for words in lengths {
+        for op in [Op::TreeClear, Op::TreePush, Op::TreePop, Op::TreeReplace, Op::TreeHeld, Op::ClockedHeld] {
+            let k = Call::tree(op, o, l, words).with(rng.word(), tag(rng));
+            let number = match h.call(&k) {
+                Some(number) => number,
+                None => return false,
+            };
+            if (number == 1) != (!taken || words < need) {
+                h.fail(format!("{} answered {number}", k.text()));
+                return false;
+            }
+        }
+        for (records, mark) in [(records, 1), (records.saturating_sub(1), 1), (records + 3, 2), (records, 0)] {
+            for request in 0..6 {
+                let mut k = match request {
+                    4 => Call::machine(Op::ClockedDrain, o, l, words, records).budget(rng.word()),
+                    5 => Call::machine(Op::ClockedClear, o, l, words, records),
+                    _ => Call::cycle(request, o, l, words, records).with(rng.word(), tag(rng)),
+                };
+                k.mark = mark;
+                if h.call(&k).is_none() {
+                    return false;
+                }
+            }
+        }
+    }
+    true
+}
+
+/// A cleared store of so many words, and two more.
+fn cleared(words: usize) -> Side {
+    let mut base = Side::new(words + 2, 67, 64);
+    base.words[..words].fill(0);
+    base.records.fill(0);
+    base
+}
+
 /// Every order and number of levels near the rules' edges, every length near the one that is
 /// needed, for every call.
 pub fn edges<C: Card>(h: &mut Harness<C>, rng: &mut Rng) {
-    let most = 3 * 5460;
-    let mut base = Side::new(most + 2, 67, 64);
-    base.words[..most].fill(0);
-    base.records.fill(0);
+    let most = 3 * SMALLER as usize;
+    let base = cleared(most);
     let mut orders = ORDERS.to_vec();
     orders.extend([2, 4, 8]);
     let mut levels = LEVELS.to_vec();
-    levels.extend(1..=11);
-    let good = shapes();
+    levels.extend(1..=15);
     h.set(&base);
     for &o in &orders {
         for &l in &levels {
             let need = match Shape::new(o, l) {
+                Some(shape) if shape.capacity() > SMALLER => continue,
                 Some(shape) => 3 * shape.capacity() as usize,
                 None => most,
             };
-            let taken = good.contains(&(o, l));
-            let records = if taken { 4 * (l as usize - 1) } else { 40 };
-            let lengths = if taken { vec![need - 1, need, need + 1, 0] } else { vec![need, 0] };
-            for words in lengths {
-                for op in [Op::TreeClear, Op::TreePush, Op::TreePop, Op::TreeReplace, Op::TreeHeld, Op::ClockedHeld] {
-                    let k = Call::tree(op, o, l, words).with(rng.word(), tag(rng));
-                    let number = match h.call(&k) {
-                        Some(number) => number,
-                        None => return,
-                    };
-                    if (number == 1) != (!taken || words < need) {
-                        return h.fail(format!("{} answered {number}", k.text()));
-                    }
-                }
-                for (records, mark) in [(records, 1), (records.saturating_sub(1), 1), (records + 3, 2), (records, 0)] {
-                    for request in 0..6 {
-                        let mut k = match request {
-                            4 => Call::machine(Op::ClockedDrain, o, l, words, records).budget(rng.word()),
-                            5 => Call::machine(Op::ClockedClear, o, l, words, records),
-                            _ => Call::cycle(request, o, l, words, records).with(rng.word(), tag(rng)),
-                        };
-                        k.mark = mark;
-                        if h.call(&k).is_none() {
-                            return;
-                        }
-                    }
-                }
+            if !edge(h, rng, o, l, need) {
+                return;
             }
             // nothing of this shape's work is left for the next one
             h.set(&base);
         }
     }
-    let most = bucket::words(4096) as usize;
-    let mut base = Side::new(most + 2, 67, 0);
-    base.bits[..65].fill(0);
-    base.words.fill(0);
-    h.set(&base);
-    for n in [0, 1, 2, 3, 64, 4095, 4096, 4097, 8192, 65536, 0x7fff_ffff, 0x8000_0000, 0x8000_0001, u32::MAX] {
-        let need = if n <= 4096 { bucket::words(n as u64) as usize } else { most };
-        for words in [need, need - 1, need + 1, 0, 8194] {
-            for bits in [65, 64, 66, 0] {
-                for op in [Op::BucketClear, Op::BucketPush, Op::BucketPop, Op::BucketReplace, Op::BucketHeld] {
-                    let k = Call::bucket(op, n, bits, words).with(rng.below(4100) as u32, tag(rng));
-                    let number = match h.call(&k) {
-                        Some(number) => number,
-                        None => return,
-                    };
-                    let taken = (1..=4096).contains(&n) && words >= need && bits >= 65;
-                    if (number == 1) == taken {
-                        return h.fail(format!("{} answered {number}", k.text()));
+    // the larger shapes have stores of their own; so has one level more than each order takes, long enough: its capacity is refused
+    for (o, l) in larger().into_iter().chain([(2, 16), (4, 9), (8, 6)]) {
+        let need: usize = (1..=l).map(|k| 3 * (o as usize).pow(k)).sum();
+        h.set(&cleared(need));
+        if !edge(h, rng, o, l, need) {
+            return;
+        }
+    }
+    let ops = [Op::BucketClear, Op::BucketPush, Op::BucketPop, Op::BucketReplace, Op::BucketHeld];
+    for storeys in [2, 3] {
+        let (most, tower) = (bucket::words(storeys, 65536) as usize, bucket::bits(storeys));
+        let mut base = Side::new(most + 2, tower + 2, 0);
+        base.bits[..tower].fill(0);
+        base.words.fill(0);
+        h.set(&base);
+        // at three storeys a store is so long that a few of each must do
+        let wide = [0, 1, 2, 3, 64, 4095, 4096, 4097, 65535, 65536, 65537, 0x7fff_ffff, 0x8000_0000, 0x8000_0001, u32::MAX];
+        let nodes: &[u32] = if storeys == 2 { &wide } else { &[0, 1, 65535, 65536, 65537, u32::MAX] };
+        for &n in nodes {
+            let need = if n <= 65536 { bucket::words(storeys, n as u64) as usize } else { most };
+            let lengths = [need, need - 1, need + 1, 0, 8194];
+            for &words in &lengths[..if storeys == 2 { 5 } else { 2 }] {
+                for bits in [tower, tower - 1, tower + 1, 0] {
+                    for op in ops {
+                        let rank = rng.below(bucket::ranks(storeys) as u64 + 4) as u32;
+                        let k = Call::bucket(op, storeys, n, bits, words).with(rank, tag(rng));
+                        let number = match h.call(&k) {
+                            Some(number) => number,
+                            None => return,
+                        };
+                        let taken = (1..=65536).contains(&n) && words >= need && bits >= tower;
+                        if (number == 1) == taken {
+                            return h.fail(format!("{} answered {number}", k.text()));
+                        }
                     }
+                }
+            }
+        }
+        // depths that there are not, on slices that are long enough for those that there are
+        for other in STOREYS {
+            for op in ops {
+                let k = Call::bucket(op, other, 3, tower, most).with(7, 1);
+                if h.call(&k) != Some(1) {
+                    return h.fail(format!("{} was not refused 1", k.text()));
                 }
             }
         }
@@ -797,7 +868,7 @@ pub fn small_stores<C: Card>(h: &mut Harness<C>, _: &mut Rng) {
     }
 
     // a bucket queue of one node and one rank: every link, count and bit
-    let t = Target { nodes: 1, ranks: vec![65] };
+    let t = Target { storeys: 2, nodes: 1, ranks: vec![65] };
     let mut side = Side::new(8196, 65, 0);
     side.words[..8196].fill(0);
     side.bits[..65].fill(0);
@@ -825,8 +896,46 @@ pub fn small_stores<C: Card>(h: &mut Harness<C>, _: &mut Rng) {
             (Op::BucketHeld, 0, 9),
         ] {
             h.set(&side);
-            if h.call(&Call::bucket(op, 1, 65, 8196).with(rank, tag)).is_none() {
+            if h.call(&Call::bucket(op, 2, 1, 65, 8196).with(rank, tag)).is_none() {
                 return;
+            }
+        }
+    }
+}
+
+/// Three storeys: a few ranks held, each bit on the way to a few ranks turned, every call on each such store.
+pub fn deep_bits<C: Card>(h: &mut Harness<C>, _: &mut Rng) {
+    // in one group, in another and the last of all; the second and third in words side by side
+    let ranks = [5, 4096 * 7 + 5, 4096 * 7 + 70, 262_143];
+    let t = Target { storeys: 3, nodes: 4, ranks: ranks.to_vec() };
+    let (tower, need) = (bucket::bits(3), bucket::words(3, 4) as usize);
+    for held in [&[0][..], &[1], &[0, 3], &[0, 1, 3]] {
+        let mut side = Side::new(need, tower, 0);
+        let (b, w) = (&mut side.bits[..tower], &mut side.words[..need]);
+        let _ = boundary::bucket_clear(b, w, 3, 4);
+        for &i in held {
+            let _ = boundary::bucket_push(b, w, 3, 4, ranks[i], 9);
+        }
+        // no bit turned, then each
+        for turned in 0..=3 * ranks.len() {
+            let mut spoilt = side.clone();
+            if turned > 0 {
+                let (at, bit) = t.over(ranks[(turned - 1) / 3], (turned - 1) as u32 % 3);
+                spoilt.bits[at] ^= 1 << bit;
+            }
+            for (op, rank) in [
+                (Op::BucketPop, 0),
+                (Op::BucketPush, ranks[0]),
+                (Op::BucketPush, ranks[1]),
+                (Op::BucketPush, ranks[2]),
+                (Op::BucketReplace, ranks[0]),
+                (Op::BucketReplace, ranks[1]),
+                (Op::BucketReplace, ranks[2]),
+            ] {
+                h.set(&spoilt);
+                if h.call(&Call::bucket(op, 3, 4, tower, need).with(rank, 9)).is_none() {
+                    return;
+                }
             }
         }
     }

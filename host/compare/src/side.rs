@@ -29,18 +29,18 @@ pub struct Linked;
 impl Card for Linked {
     fn call(&mut self, k: &Call, s: Slices<'_>) -> u32 {
         let Slices { words, bits, records, mark, out } = s;
-        let (order, levels, nodes, rank, tag) = (k.order, k.levels, k.nodes, k.rank, k.tag);
+        let (order, levels, storeys, nodes, rank, tag) = (k.order, k.levels, k.storeys, k.nodes, k.rank, k.tag);
         match k.op {
             Op::TreeClear => calls::tree_clear(words, order, levels),
             Op::TreePush => calls::tree_push(words, order, levels, rank, tag),
             Op::TreePop => calls::tree_pop(words, order, levels, out),
             Op::TreeReplace => calls::tree_replace(words, order, levels, rank, tag, out),
             Op::TreeHeld => calls::tree_held(words, order, levels, out),
-            Op::BucketClear => calls::bucket_clear(bits, words, nodes),
-            Op::BucketPush => calls::bucket_push(bits, words, nodes, rank, tag),
-            Op::BucketPop => calls::bucket_pop(bits, words, nodes, out),
-            Op::BucketReplace => calls::bucket_replace(bits, words, nodes, rank, tag, out),
-            Op::BucketHeld => calls::bucket_held(bits, words, nodes, out),
+            Op::BucketClear => calls::bucket_clear(bits, words, storeys, nodes),
+            Op::BucketPush => calls::bucket_push(bits, words, storeys, nodes, rank, tag),
+            Op::BucketPop => calls::bucket_pop(bits, words, storeys, nodes, out),
+            Op::BucketReplace => calls::bucket_replace(bits, words, storeys, nodes, rank, tag, out),
+            Op::BucketHeld => calls::bucket_held(bits, words, storeys, nodes, out),
             Op::ClockedClear => calls::clocked_clear(words, order, levels, records, mark),
             Op::CycleIdle | Op::CyclePush | Op::CyclePop | Op::CycleReplace | Op::CycleOther => {
                 calls::clocked_cycle(words, order, levels, records, mark, k.request, rank, tag, out)
@@ -116,12 +116,21 @@ fn first<T: PartialEq + std::fmt::Display>(name: &str, a: &[T], b: &[T]) -> Opti
     Some(format!("{name} word {at} is {}, the model says {}", a[at], b[at]))
 }
 
-/// The first difference that a call left, if any.
-pub fn difference(k: &Call, number: u32, a: &Side, expected: u32, b: &Side) -> Option<String> {
+/// The difference of two answers: the number, and `out`.
+pub fn other_answer(k: &Call, number: u32, a: &Side, expected: u32, b: &Side) -> Option<String> {
     if number != expected {
         return Some(format!("{}: answered number {number}, the model says {expected}", k.text()));
     }
-    let mut d = first("out", &a.out, &b.out).or_else(|| first("store", &a.words, &b.words));
+    first("out", &a.out, &b.out).map(|d| format!("{} (number {number}): {d}", k.text()))
+}
+
+/// The first difference that a call left, if any.
+pub fn difference(k: &Call, number: u32, a: &Side, expected: u32, b: &Side) -> Option<String> {
+    let told = other_answer(k, number, a, expected, b);
+    if told.is_some() {
+        return told;
+    }
+    let mut d = first("store", &a.words, &b.words);
     if k.op.is_bucket() {
         d = d.or_else(|| first("bits", &a.bits, &b.bits));
     }

@@ -8,7 +8,7 @@
 
 use compare::harness::Harness;
 use compare::side::{Card, Linked, Model};
-use compare::{cases, coverage, histories, hostile};
+use compare::{cases, coverage, histories, hostile, large};
 use models::rng::{self, Rng};
 use std::time::Instant;
 
@@ -66,7 +66,7 @@ fn run<C: Card>(library: C, seed: u64, times: u64, verbose: bool) -> Score {
         score.note(&format!("library, {name}"), result.map(|()| String::new()));
     }
 
-    for (i, (order, levels)) in histories::shapes().into_iter().enumerate() {
+    for (i, (order, levels)) in histories::shapes_up_to(histories::SMALLER).into_iter().enumerate() {
         let name = format!("tree histories, order {order}, levels {levels}");
         part(&mut score, &mut h, seed, &name, 100 + i as u64, |h, rng| {
             let capacity = models::tree::Shape::new(order, levels).unwrap().capacity();
@@ -86,12 +86,12 @@ fn run<C: Card>(library: C, seed: u64, times: u64, verbose: bool) -> Score {
     for (i, nodes) in [1u32, 2, 3, 4, 5, 7, 8, 16, 63, 64, 65, 200, 1000, 4095, 4096].into_iter().enumerate() {
         let name = format!("bucket histories, N = {nodes}");
         part(&mut score, &mut h, seed, &name, 200 + i as u64, |h, rng| {
-            histories::bucket(h, rng, nodes, 6 * nodes as u64 + 60, true);
+            histories::bucket(h, rng, 2, nodes, 6 * nodes as u64 + 60, true);
             let budget = times * 8000;
             let each = (8 * nodes as u64 + 40).min(2000);
             let mut made = 0;
             while made < budget && h.failed.is_none() {
-                histories::bucket(h, rng, nodes, each, false);
+                histories::bucket(h, rng, 2, nodes, each, false);
                 made += each;
             }
         });
@@ -99,14 +99,25 @@ fn run<C: Card>(library: C, seed: u64, times: u64, verbose: bool) -> Score {
     part(&mut score, &mut h, seed, "bucket histories, any N", 299, |h, rng| {
         for _ in 0..20 * times {
             let nodes = 1 + rng.below(4096) as u32;
-            histories::bucket(h, rng, nodes, 1000, false);
+            histories::bucket(h, rng, 2, nodes, 1000, false);
             if h.failed.is_some() {
                 return;
             }
         }
     });
 
-    for (i, (order, levels)) in histories::shapes().into_iter().enumerate() {
+    // the largest pool, and three storeys: long stores, so fewer calls
+    let long = [(2, 65536, 2000), (3, 1, 60), (3, 2, 60), (3, 64, 500), (3, 4096, 300), (3, 65536, 300)];
+    for (i, (storeys, nodes, calls)) in long.into_iter().enumerate() {
+        let name = format!("bucket histories, {storeys} storeys, N = {nodes}");
+        part(&mut score, &mut h, seed, &name, 280 + i as u64, |h, rng| {
+            for n in 0..2 * times {
+                histories::bucket(h, rng, storeys, nodes, calls, n == 0 && nodes < 1000);
+            }
+        });
+    }
+
+    for (i, (order, levels)) in histories::shapes_up_to(histories::SMALLER).into_iter().enumerate() {
         let name = format!("clocked histories, order {order}, levels {levels}");
         part(&mut score, &mut h, seed, &name, 300 + i as u64, |h, rng| {
             let capacity = models::tree::Shape::new(order, levels).unwrap().capacity();
@@ -120,16 +131,28 @@ fn run<C: Card>(library: C, seed: u64, times: u64, verbose: bool) -> Score {
         });
     }
 
+    for (i, (order, levels)) in histories::larger().into_iter().enumerate() {
+        let name = format!("a large tree, order {order}, levels {levels}");
+        part(&mut score, &mut h, seed, &name, 350 + i as u64, |h, rng| large::tree(h, rng, order, levels));
+        let name = format!("a large clocked tree, order {order}, levels {levels}");
+        part(&mut score, &mut h, seed, &name, 370 + i as u64, |h, rng| large::clocked(h, rng, order, levels));
+    }
+
     part(&mut score, &mut h, seed, "edges of shapes and lengths, every call", 400, hostile::edges);
     part(&mut score, &mut h, seed, "every store of a few words, every call", 401, hostile::small_stores);
     for i in 0..4 {
         let name = format!("hostile tree calls, part {}", i + 1);
         part(&mut score, &mut h, seed, &name, 410 + i, |h, rng| hostile::tree(h, rng, 60_000 * times));
         let name = format!("hostile bucket calls, part {}", i + 1);
-        part(&mut score, &mut h, seed, &name, 420 + i, |h, rng| hostile::bucket(h, rng, 60_000 * times));
+        part(&mut score, &mut h, seed, &name, 420 + i, |h, rng| hostile::bucket(h, rng, 2, 60_000 * times));
         let name = format!("hostile clocked calls, part {}", i + 1);
         part(&mut score, &mut h, seed, &name, 430 + i, |h, rng| hostile::clocked(h, rng, 150_000 * times));
     }
+
+    part(&mut score, &mut h, seed, "every bit on the way turned, three storeys", 402, hostile::deep_bits);
+    part(&mut score, &mut h, seed, "hostile bucket calls, three storeys", 440, |h, rng| {
+        hostile::bucket(h, rng, 3, 2_000 * times)
+    });
 
     if score.failed == 0 {
         let missed = coverage::check(&h.tally, verbose);

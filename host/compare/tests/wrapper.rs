@@ -1,8 +1,8 @@
 //! The safe Rust wrapper, used as its users do: beside the plain list, over lent words and over its own, handed out and back.
 
 use card_host::{
-    bucket_words, calls, record_words, tree_slots, tree_words, Bucket, BucketQueue, Clocked, ClockedTree, Drained,
-    Element, Rank, Refusal, Request, Stopped, Tag, Tree, TreeQueue, BUCKET_BITS,
+    bucket_bits, bucket_ranks, bucket_words, calls, record_words, tree_slots, tree_words, Bucket, BucketQueue, Clocked,
+    ClockedTree, Drained, Element, Rank, Refusal, Request, Stopped, Tag, Tree, TreeQueue,
 };
 use models::list::SortedList;
 use models::rng::{seed, Rng};
@@ -44,14 +44,15 @@ fn replace(list: &mut SortedList, x: models::Element) -> Result<Element, Refusal
 #[test]
 fn bucket_queues_beside_the_list() {
     let mut rng = Rng::new(seed(), 500);
-    for nodes in [1, 3, 50, 4096] {
-        let mut queue = BucketQueue::new(nodes).unwrap();
-        let (mut bits, mut words) = ([9; BUCKET_BITS], vec![9; bucket_words(nodes)]);
-        let mut lent = Bucket::cleared(nodes, &mut bits[..], &mut words[..]).unwrap();
+    for (storeys, nodes) in [(2, 1), (2, 3), (2, 50), (2, 4096), (3, 1), (3, 50)] {
+        let ranks = bucket_ranks(storeys) as u32;
+        let mut queue = BucketQueue::new(storeys, nodes).unwrap();
+        let (mut bits, mut words) = (vec![9; bucket_bits(storeys)], vec![9; bucket_words(storeys, nodes)]);
+        let mut lent = Bucket::cleared(storeys, nodes, &mut bits[..], &mut words[..]).unwrap();
         let mut list = SortedList::new();
         for n in 0..3000 {
-            let x = models::element(rng.below(4098) as u32, if rng.once_in(20) { 0 } else { n + 1 });
-            let bad = x.rank > 4095;
+            let x = models::element(rng.below(ranks as u64 + ranks as u64 / 64) as u32, if rng.once_in(20) { 0 } else { n + 1 });
+            let bad = x.rank >= ranks;
             match rng.below(4) {
                 0 | 1 => {
                     let expected = if bad { Err(Refusal::BadRank) } else { push(&mut list, x, nodes as usize) };
@@ -70,21 +71,43 @@ fn bucket_queues_beside_the_list() {
             if n % 500 == 0 {
                 // handed out and back
                 let (bits, words) = queue.into_words();
-                queue = BucketQueue::from_words(nodes, bits, words);
+                queue = BucketQueue::from_words(storeys, nodes, bits, words);
             }
         }
         assert_eq!((queue.bits(), queue.words()), (lent.bits(), lent.words()));
     }
-    assert_eq!(BucketQueue::new(0), Err(Refusal::BadShape));
-    assert_eq!(BucketQueue::new(4097), Err(Refusal::BadShape));
-    let damaged = BucketQueue::from_words(1, vec![0; 65], vec![0; 8196]);
+    for (storeys, nodes) in [(2, 0), (2, 65537), (3, 0), (3, 65537), (0, 3), (1, 3), (4, 3), (1 << 31, 3), (u32::MAX, 3)] {
+        assert_eq!(BucketQueue::new(storeys, nodes), Err(Refusal::BadShape), "{storeys} storeys, {nodes} nodes");
+    }
+    let damaged = BucketQueue::from_words(2, 1, vec![0; 65], vec![0; 8196]);
     assert_eq!(damaged.held(), Err(Refusal::Damaged), "free link 0 and nothing held");
+}
+
+#[test]
+fn the_largest_bucket_queues_to_the_brim() {
+    for storeys in [2, 3] {
+        let mut rng = Rng::new(seed(), 510 + storeys as u64);
+        let mut queue = BucketQueue::new(storeys, 65536).unwrap();
+        let mut all: Vec<_> =
+            (1..=65536).map(|tag| element(rng.below(bucket_ranks(storeys) as u64) as u32, tag)).collect();
+        for &x in &all {
+            assert_eq!(queue.push(x), Ok(()));
+        }
+        assert_eq!((queue.push(element(0, 1)), queue.held()), (Err(Refusal::Full), Ok(65536)));
+        // first in, first out within a rank: a stable sort
+        all.sort_by_key(|x| x.rank);
+        for &x in &all {
+            assert_eq!(queue.pop(), Ok(x));
+        }
+        assert_eq!((queue.pop(), queue.held()), (Err(Refusal::Empty), Ok(0)));
+        assert!(queue.bits().iter().all(|&word| word == 0), "an empty queue has no bit set");
+    }
 }
 
 #[test]
 fn trees_beside_the_list() {
     let mut rng = Rng::new(seed(), 501);
-    for (order, levels) in [(2, 1), (2, 4), (4, 3), (8, 3), (4, 6)] {
+    for (order, levels) in [(2, 1), (2, 4), (4, 3), (8, 3), (4, 8)] {
         let mut queue = TreeQueue::new(order, levels).unwrap();
         let mut words = vec![9; tree_words(order, levels)];
         let mut lent = Tree::cleared(order, levels, &mut words[..]).unwrap();
@@ -114,7 +137,7 @@ fn trees_beside_the_list() {
         }
         assert_eq!(queue.words(), lent.words());
     }
-    for (order, levels) in [(3, 2), (2, 0), (4, 7), (u32::MAX, u32::MAX)] {
+    for (order, levels) in [(3, 2), (2, 0), (4, 9), (2, 16), (8, 6), (u32::MAX, u32::MAX)] {
         assert_eq!(TreeQueue::new(order, levels), Err(Refusal::BadShape));
     }
     let damaged = Tree::from_words(2, 1, [9, 0, 0, 0, 0, 0]);
@@ -124,7 +147,7 @@ fn trees_beside_the_list() {
 #[test]
 fn clocked_trees_beside_the_list() {
     let mut rng = Rng::new(seed(), 502);
-    for (order, levels) in [(2, 1), (2, 5), (4, 3), (8, 3), (2, 11)] {
+    for (order, levels) in [(2, 1), (2, 5), (4, 3), (8, 3), (2, 15)] {
         let mut tree = ClockedTree::new(order, levels).unwrap();
         let (mut words, mut records) = (vec![9; tree_words(order, levels)], vec![9; record_words(levels)]);
         let mut lent = Clocked::cleared(order, levels, &mut words[..], &mut records[..]).unwrap();
@@ -192,7 +215,7 @@ fn sizes_are_the_models_and_the_shapes_that_are_taken() {
     levels.extend([63, 64, 65, 1 << 16, 1 << 30, 1 << 31, u32::MAX - 1, u32::MAX]);
     let mut orders: Vec<u32> = (0..20).collect();
     orders.extend([32, 64, 1 << 16, 1 << 31, (1 << 31) + 2, u32::MAX]);
-    let mut store = vec![0; 3 * 5460];
+    let mut store = vec![0; 3 * 349_524];
     for &order in &orders {
         for &l in &levels {
             let model = models::tree::Shape::new(order, l).map_or(0, |shape| shape.capacity() as usize);
@@ -207,11 +230,16 @@ fn sizes_are_the_models_and_the_shapes_that_are_taken() {
             }
         }
     }
-    assert_eq!((BUCKET_BITS, calls::bucket_bits()), (models::bucket::BITS, models::bucket::BITS as u32));
-    for nodes in (0..=4100).chain([8192, 1 << 16, 1 << 31, u32::MAX]) {
-        let good = (1..=4096).contains(&nodes);
-        let model = if good { models::bucket::words(nodes as u64) as usize } else { 0 };
-        assert_eq!((bucket_words(nodes), calls::bucket_words(nodes) as usize), (model, model), "{nodes} nodes");
+    for storeys in [0, 1, 2, 3, 4, 5, 64, 1 << 31, u32::MAX] {
+        let deep = (2..=3).contains(&storeys);
+        let model = if deep { models::bucket::bits(storeys) } else { 0 };
+        assert_eq!((bucket_bits(storeys), calls::bucket_bits(storeys) as usize), (model, model), "{storeys} storeys");
+        for nodes in (0..=4100).chain([8192, 65535, 65536, 65537, 1 << 31, u32::MAX]) {
+            let good = deep && (1..=65536).contains(&nodes);
+            let model = if good { models::bucket::words(storeys, nodes as u64) as usize } else { 0 };
+            let (constant, asked) = (bucket_words(storeys, nodes), calls::bucket_words(storeys, nodes) as usize);
+            assert_eq!((constant, asked), (model, model), "{storeys} storeys, {nodes} nodes");
+        }
     }
 }
 

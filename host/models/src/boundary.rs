@@ -89,18 +89,18 @@ fn count(result: Result<u32, No>, out: &mut [u32]) -> Result<(), No> {
 /// A call of the library.
 pub fn call(k: &Call, s: Slices<'_>) -> Result<(), No> {
     let Slices { words, bits, records, mark, out } = s;
-    let (order, levels, nodes, rank, tag) = (k.order, k.levels, k.nodes, k.rank, k.tag);
+    let (order, levels, storeys, nodes, rank, tag) = (k.order, k.levels, k.storeys, k.nodes, k.rank, k.tag);
     match k.op {
         Op::TreeClear => tree_clear(words, order, levels),
         Op::TreePush => tree_push(words, order, levels, rank, tag),
         Op::TreePop => tree_pop(words, order, levels, out),
         Op::TreeReplace => tree_replace(words, order, levels, rank, tag, out),
         Op::TreeHeld => tree_held(words, order, levels, out),
-        Op::BucketClear => bucket_clear(bits, words, nodes),
-        Op::BucketPush => bucket_push(bits, words, nodes, rank, tag),
-        Op::BucketPop => bucket_pop(bits, words, nodes, out),
-        Op::BucketReplace => bucket_replace(bits, words, nodes, rank, tag, out),
-        Op::BucketHeld => bucket_held(bits, words, nodes, out),
+        Op::BucketClear => bucket_clear(bits, words, storeys, nodes),
+        Op::BucketPush => bucket_push(bits, words, storeys, nodes, rank, tag),
+        Op::BucketPop => bucket_pop(bits, words, storeys, nodes, out),
+        Op::BucketReplace => bucket_replace(bits, words, storeys, nodes, rank, tag, out),
+        Op::BucketHeld => bucket_held(bits, words, storeys, nodes, out),
         Op::ClockedClear => clocked_clear(words, order, levels, records, mark),
         Op::CycleIdle | Op::CyclePush | Op::CyclePop | Op::CycleReplace | Op::CycleOther => {
             clocked_cycle(words, order, levels, records, mark, k.request, rank, tag, out)
@@ -149,25 +149,39 @@ pub fn tree_held(store: &[u32], order: u32, levels: u32, out: &mut [u32]) -> Res
     count(tree::held(store, order, levels), out)
 }
 
-pub fn bucket_clear(bits: &mut [u64], words: &mut [u32], nodes: u32) -> Result<(), No> {
-    bucket::clear(bits, words, nodes)
+pub fn bucket_clear(bits: &mut [u64], words: &mut [u32], storeys: u32, nodes: u32) -> Result<(), No> {
+    bucket::clear(bits, words, storeys, nodes)
 }
 
-pub fn bucket_push(bits: &mut [u64], words: &mut [u32], nodes: u32, rank: u32, tag: u32) -> Result<(), No> {
-    bucket::push(bits, words, nodes, element(rank, tag))
+pub fn bucket_push(
+    bits: &mut [u64],
+    words: &mut [u32],
+    storeys: u32,
+    nodes: u32,
+    rank: u32,
+    tag: u32,
+) -> Result<(), No> {
+    bucket::push(bits, words, storeys, nodes, element(rank, tag))
 }
 
-pub fn bucket_pop(bits: &mut [u64], words: &mut [u32], nodes: u32, out: &mut [u32]) -> Result<(), No> {
+pub fn bucket_pop(
+    bits: &mut [u64],
+    words: &mut [u32],
+    storeys: u32,
+    nodes: u32,
+    out: &mut [u32],
+) -> Result<(), No> {
     let fault = out_fault(out, 2);
     if fault != 0 {
         return answer(Err(No::BadShape(fault)), out);
     }
-    answer(bucket::pop(bits, words, nodes), out)
+    answer(bucket::pop(bits, words, storeys, nodes), out)
 }
 
 pub fn bucket_replace(
     bits: &mut [u64],
     words: &mut [u32],
+    storeys: u32,
     nodes: u32,
     rank: u32,
     tag: u32,
@@ -177,15 +191,15 @@ pub fn bucket_replace(
     if fault != 0 {
         return answer(Err(No::BadShape(fault)), out);
     }
-    answer(bucket::replace(bits, words, nodes, element(rank, tag)), out)
+    answer(bucket::replace(bits, words, storeys, nodes, element(rank, tag)), out)
 }
 
-pub fn bucket_held(bits: &[u64], words: &[u32], nodes: u32, out: &mut [u32]) -> Result<(), No> {
+pub fn bucket_held(bits: &[u64], words: &[u32], storeys: u32, nodes: u32, out: &mut [u32]) -> Result<(), No> {
     let fault = out_fault(out, 1);
     if fault != 0 {
         return count(Err(No::BadShape(fault)), out);
     }
-    count(bucket::held(bits, words, nodes), out)
+    count(bucket::held(bits, words, storeys, nodes), out)
 }
 
 /// Clear reads neither the records' words nor the mark's: only their lengths matter.

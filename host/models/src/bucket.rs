@@ -49,11 +49,15 @@ pub mod cause {
     pub const TAKEN_LAST: Causes = 1 << 20;
     /// On a push: held is N − 1 and the taken node's next is not 0.
     pub const TAKEN_NOT_LAST: Causes = 1 << 21;
+    /// Of three storeys: the middle word's bit set and the middle word 0.
+    pub const MIDDLE_SET: Causes = 1 << 22;
+    /// Of three storeys: the middle word's bit not set and the middle word not 0.
+    pub const MIDDLE_UNSET: Causes = 1 << 23;
 
     /// The causes that a replace meets in its push's tests stand this far to the left.
-    pub const SECOND: u32 = 22;
+    pub const SECOND: u32 = 24;
 
-    pub const NAMES: [&str; 22] = [
+    pub const NAMES: [&str; 24] = [
         "held above N",
         "free link above N",
         "free link 0, held not N",
@@ -76,6 +80,8 @@ pub mod cause {
         "taken node's next above N",
         "taken node's next 0, held not N - 1",
         "held N - 1, taken node's next not 0",
+        "middle word's bit set, word 0",
+        "middle word's bit not set, word not 0",
     ];
 
     pub fn name(bit: u32) -> String {
@@ -87,28 +93,46 @@ pub mod cause {
     }
 }
 
-pub const RANKS: usize = 4096;
+/// The most nodes of a pool, at either depth.
+pub const NODES: u32 = 65536;
 
-/// The 64-bit words: the top word, then one for each of the 64 groups.
-pub const BITS: usize = 65;
+/// The ranks: 64 groups of 64, with a third storey 64 times as many.
+pub fn ranks(storeys: u32) -> usize {
+    match storeys {
+        2 => 64 * 64,
+        _ => 64 * 64 * 64,
+    }
+}
 
-/// The 32-bit words for N nodes: 4,096 heads, 4,096 tails, N pairs of tag and next, free, held.
-pub fn words(n: u64) -> u64 {
-    4096 + 4096 + 2 * n + 2
+/// Where the words of each storey begin, in the order top, middle, lowest. Of two storeys the second is the lowest.
+const BEGINS: [usize; 3] = [0, 1, 1 + 64];
+
+/// The 64-bit words: the top word, one for each of its bits, and with a third storey one for each bit of these.
+pub fn bits(storeys: u32) -> usize {
+    match storeys {
+        2 => 1 + 64,
+        _ => 1 + 64 + 64 * 64,
+    }
+}
+
+/// The 32-bit words for N nodes: as many heads as ranks, as many tails, N pairs of tag and next, free, held.
+pub fn words(storeys: u32, n: u64) -> u64 {
+    2 * ranks(storeys) as u64 + 2 * n + 2
 }
 
 /// The lent store. Each change is noted, so that it can be taken back.
 struct Pool<'a> {
     bits: &'a mut [u64],
     words: &'a mut [u32],
+    storeys: u32,
     n: u32,
     changed_bits: Vec<(usize, u64)>,
     changed_words: Vec<(usize, u32)>,
 }
 
 impl<'a> Pool<'a> {
-    fn new(bits: &'a mut [u64], words: &'a mut [u32], n: u32) -> Pool<'a> {
-        Pool { bits, words, n, changed_bits: Vec::new(), changed_words: Vec::new() }
+    fn new(bits: &'a mut [u64], words: &'a mut [u32], storeys: u32, n: u32) -> Pool<'a> {
+        Pool { bits, words, storeys, n, changed_bits: Vec::new(), changed_words: Vec::new() }
     }
 
     fn set_bits(&mut self, at: usize, to: u64) {
@@ -130,36 +154,36 @@ impl<'a> Pool<'a> {
     }
 
     // Where each word stands. A link is a node number plus one.
-    fn head_at(rank: u32) -> usize {
+    fn head_at(&self, rank: u32) -> usize {
         rank as usize
     }
-    fn tail_at(rank: u32) -> usize {
-        RANKS + rank as usize
+    fn tail_at(&self, rank: u32) -> usize {
+        ranks(self.storeys) + rank as usize
     }
-    fn tag_at(link: u32) -> usize {
-        2 * RANKS + 2 * (link as usize - 1)
+    fn tag_at(&self, link: u32) -> usize {
+        2 * ranks(self.storeys) + 2 * (link as usize - 1)
     }
-    fn next_at(link: u32) -> usize {
-        2 * RANKS + 2 * (link as usize - 1) + 1
+    fn next_at(&self, link: u32) -> usize {
+        2 * ranks(self.storeys) + 2 * (link as usize - 1) + 1
     }
     fn free_at(&self) -> usize {
-        2 * RANKS + 2 * self.n as usize
+        2 * ranks(self.storeys) + 2 * self.n as usize
     }
     fn held_at(&self) -> usize {
-        2 * RANKS + 2 * self.n as usize + 1
+        2 * ranks(self.storeys) + 2 * self.n as usize + 1
     }
 
     fn head(&self, rank: u32) -> u32 {
-        self.words[Pool::head_at(rank)]
+        self.words[self.head_at(rank)]
     }
     fn tail(&self, rank: u32) -> u32 {
-        self.words[Pool::tail_at(rank)]
+        self.words[self.tail_at(rank)]
     }
     fn tag(&self, link: u32) -> u32 {
-        self.words[Pool::tag_at(link)]
+        self.words[self.tag_at(link)]
     }
     fn next(&self, link: u32) -> u32 {
-        self.words[Pool::next_at(link)]
+        self.words[self.next_at(link)]
     }
     fn free(&self) -> u32 {
         self.words[self.free_at()]
@@ -170,17 +194,24 @@ impl<'a> Pool<'a> {
     fn top(&self) -> u64 {
         self.bits[0]
     }
-    fn group(rank: u32) -> u32 {
-        rank / 64
+
+    // Storeys are counted from the top one, 0, to the lowest. A bit of the lowest stands for a rank, one of any other for a word
+    // of the storey below.
+    fn lowest_storey(&self) -> u32 {
+        self.storeys - 1
     }
-    fn word(&self, group: u32) -> u64 {
-        self.bits[1 + group as usize]
+    /// The bit of a storey that stands over this rank: the place of its word, and its number there.
+    fn bit_at(&self, storey: u32, rank: u32) -> (usize, u32) {
+        let below = 64u32.pow(self.lowest_storey() - storey);
+        let bit = rank / below;
+        (BEGINS[storey as usize] + bit as usize / 64, bit % 64)
     }
-    fn group_bit(&self, group: u32) -> bool {
-        self.top() >> group & 1 == 1
+    fn bit(&self, storey: u32, rank: u32) -> bool {
+        let (at, k) = self.bit_at(storey, rank);
+        self.bits[at] >> k & 1 == 1
     }
-    fn rank_bit(&self, rank: u32) -> bool {
-        self.word(Pool::group(rank)) >> (rank % 64) & 1 == 1
+    fn word(&self, storey: u32, rank: u32) -> u64 {
+        self.bits[self.bit_at(storey, rank).0]
     }
     fn whole(&self) -> Causes {
         whole(self.top(), self.free(), self.held(), self.n)
@@ -215,7 +246,7 @@ fn whole(top: u64, free: u32, held: u32, n: u32) -> Causes {
 fn bucket(p: &Pool, rank: u32) -> Causes {
     let mut c = 0;
     let (head, tail) = (p.head(rank), p.tail(rank));
-    let (has_head, has_tail, has_bit) = (head != 0, tail != 0, p.rank_bit(rank));
+    let (has_head, has_tail, has_bit) = (head != 0, tail != 0, p.bit(p.lowest_storey(), rank));
     if has_tail == has_bit && has_head != has_tail {
         c |= cause::HEAD_ALONE;
     }
@@ -225,12 +256,20 @@ fn bucket(p: &Pool, rank: u32) -> Causes {
     if has_head == has_tail && has_bit != has_head {
         c |= cause::BIT_ALONE;
     }
-    let group = Pool::group(rank);
-    if p.group_bit(group) && p.word(group) == 0 {
-        c |= cause::GROUP_SET;
-    }
-    if !p.group_bit(group) && p.word(group) != 0 {
-        c |= cause::GROUP_UNSET;
+    // each word on the way up, and the bit above it
+    for storey in 1..p.storeys {
+        let lowest = storey == p.lowest_storey();
+        let (set, unset) = if lowest {
+            (cause::GROUP_SET, cause::GROUP_UNSET)
+        } else {
+            (cause::MIDDLE_SET, cause::MIDDLE_UNSET)
+        };
+        if p.bit(storey - 1, rank) && p.word(storey, rank) == 0 {
+            c |= set;
+        }
+        if !p.bit(storey - 1, rank) && p.word(storey, rank) != 0 {
+            c |= unset;
+        }
     }
     if head > p.n {
         c |= cause::HEAD_LINK;
@@ -249,23 +288,23 @@ fn bucket(p: &Pool, rank: u32) -> Causes {
     c
 }
 
-/// The lowest rank by the bits: the lowest set bit of the top word, then of its group's word.
-/// None where the group's word is 0.
-fn lowest(p: &Pool) -> Option<u32> {
-    let group = p.top().trailing_zeros();
-    let word = p.word(group);
-    if word == 0 {
-        return None;
+/// The lowest rank by the bits: the lowest set bit of the top word, then of the word that it stands for, and so on down.
+/// A word that is 0 on the way is refused: the bit above it is set.
+fn lowest(p: &Pool) -> Result<u32, Causes> {
+    let mut at = 0;
+    for storey in 0..p.storeys {
+        let word = p.bits[BEGINS[storey as usize] + at as usize];
+        if word == 0 {
+            return Err(if storey == p.lowest_storey() { cause::GROUP_SET } else { cause::MIDDLE_SET });
+        }
+        at = 64 * at + word.trailing_zeros();
     }
-    Some(64 * group + word.trailing_zeros())
+    Ok(at)
 }
 
 /// A pop's tests, with something held.
 fn pop_tests(p: &Pool) -> Result<u32, Causes> {
-    let rank = match lowest(p) {
-        Some(rank) => rank,
-        None => return Err(cause::GROUP_SET),
-    };
+    let rank = lowest(p)?;
     let mut c = bucket(p, rank);
     let (head, tail) = (p.head(rank), p.tail(rank));
     if head != 0 && head <= p.n {
@@ -314,21 +353,25 @@ fn pop_writes(p: &mut Pool, rank: u32) -> Element {
     let link = p.head(rank);
     let answer = Element { rank, tag: p.tag(link) };
     let next = p.next(link);
-    p.set_word(Pool::head_at(rank), next);
+    let (head_at, tail_at) = (p.head_at(rank), p.tail_at(rank));
+    p.set_word(head_at, next);
     if next == 0 {
-        p.set_word(Pool::tail_at(rank), 0);
-        let group = Pool::group(rank);
-        let word = p.word(group) & !(1 << (rank % 64));
-        p.set_bits(1 + group as usize, word);
-        if word == 0 {
-            let top = p.top() & !(1 << group);
-            p.set_bits(0, top);
+        p.set_word(tail_at, 0);
+        // the rank's bit, and each bit above as far as a word becomes 0
+        for storey in (0..p.storeys).rev() {
+            let (at, k) = p.bit_at(storey, rank);
+            let word = p.bits[at] & !(1 << k);
+            p.set_bits(at, word);
+            if word != 0 {
+                break;
+            }
         }
     }
     // the freed node gets tag 0 and becomes first in the free chain
     let free = p.free();
-    p.set_word(Pool::tag_at(link), 0);
-    p.set_word(Pool::next_at(link), free);
+    let (tag_at, next_at) = (p.tag_at(link), p.next_at(link));
+    p.set_word(tag_at, 0);
+    p.set_word(next_at, free);
     let (free_at, held_at, held) = (p.free_at(), p.held_at(), p.held());
     p.set_word(free_at, link);
     p.set_word(held_at, held - 1);
@@ -341,31 +384,29 @@ fn push_writes(p: &mut Pool, x: Element) {
     let tail = p.tail(x.rank);
     let (free_at, held_at, held) = (p.free_at(), p.held_at(), p.held());
     let next = p.next(link);
+    let (tag_at, next_at, tail_at) = (p.tag_at(link), p.next_at(link), p.tail_at(x.rank));
     p.set_word(free_at, next);
-    p.set_word(Pool::tag_at(link), x.tag);
-    p.set_word(Pool::next_at(link), 0);
-    if tail == 0 {
-        p.set_word(Pool::head_at(x.rank), link);
-    } else {
-        p.set_word(Pool::next_at(tail), link);
+    p.set_word(tag_at, x.tag);
+    p.set_word(next_at, 0);
+    let link_at = if tail == 0 { p.head_at(x.rank) } else { p.next_at(tail) };
+    p.set_word(link_at, link);
+    p.set_word(tail_at, link);
+    for storey in 0..p.storeys {
+        let (at, k) = p.bit_at(storey, x.rank);
+        let word = p.bits[at] | 1 << k;
+        p.set_bits(at, word);
     }
-    p.set_word(Pool::tail_at(x.rank), link);
-    let group = Pool::group(x.rank);
-    let word = p.word(group) | 1 << (x.rank % 64);
-    p.set_bits(1 + group as usize, word);
-    let top = p.top() | 1 << group;
-    p.set_bits(0, top);
     p.set_word(held_at, held + 1);
 }
 
-fn shape(bits: usize, have: usize, nodes: u32) -> Result<(), No> {
+fn shape(bits: usize, have: usize, storeys: u32, nodes: u32) -> Result<(), No> {
     let mut c = 0;
-    if !(1..=4096).contains(&nodes) {
+    if !(2..=3).contains(&storeys) || !(1..=NODES).contains(&nodes) {
         c |= shape_cause::NUMBERS;
-    } else if (have as u64) < words(nodes as u64) {
+    } else if (have as u64) < words(storeys, nodes as u64) {
         c |= shape_cause::STORE;
     }
-    if bits < BITS {
+    if (2..=3).contains(&storeys) && bits < self::bits(storeys) {
         c |= shape_cause::BITS;
     }
     if c != 0 {
@@ -374,31 +415,32 @@ fn shape(bits: usize, have: usize, nodes: u32) -> Result<(), No> {
     Ok(())
 }
 
-pub fn clear(bits: &mut [u64], words: &mut [u32], nodes: u32) -> Result<(), No> {
-    shape(bits.len(), words.len(), nodes)?;
-    for word in &mut bits[..BITS] {
+pub fn clear(bits: &mut [u64], words: &mut [u32], storeys: u32, nodes: u32) -> Result<(), No> {
+    shape(bits.len(), words.len(), storeys, nodes)?;
+    for word in &mut bits[..self::bits(storeys)] {
         *word = 0;
     }
-    for word in &mut words[..self::words(nodes as u64) as usize] {
+    for word in &mut words[..self::words(storeys, nodes as u64) as usize] {
         *word = 0;
     }
+    let first = 2 * ranks(storeys);
     // node i has the link i + 1; its next names the node after it, the last none
-    for link in 1..nodes {
-        words[Pool::next_at(link)] = link + 1;
+    for i in 0..nodes as usize - 1 {
+        words[first + 2 * i + 1] = i as u32 + 2;
     }
-    words[2 * RANKS + 2 * nodes as usize] = 1;
+    words[first + 2 * nodes as usize] = 1;
     Ok(())
 }
 
-pub fn push(bits: &mut [u64], words: &mut [u32], nodes: u32, x: Element) -> Result<(), No> {
-    shape(bits.len(), words.len(), nodes)?;
-    if x.rank > 4095 {
+pub fn push(bits: &mut [u64], words: &mut [u32], storeys: u32, nodes: u32, x: Element) -> Result<(), No> {
+    shape(bits.len(), words.len(), storeys, nodes)?;
+    if x.rank as usize >= ranks(storeys) {
         return Err(No::BadRank);
     }
     if x.tag == 0 {
         return Err(No::NoTag);
     }
-    let mut p = Pool::new(bits, words, nodes);
+    let mut p = Pool::new(bits, words, storeys, nodes);
     let c = p.whole();
     if c != 0 {
         return Err(No::Damaged(c));
@@ -411,9 +453,9 @@ pub fn push(bits: &mut [u64], words: &mut [u32], nodes: u32, x: Element) -> Resu
     Ok(())
 }
 
-pub fn pop(bits: &mut [u64], words: &mut [u32], nodes: u32) -> Result<Element, No> {
-    shape(bits.len(), words.len(), nodes)?;
-    let mut p = Pool::new(bits, words, nodes);
+pub fn pop(bits: &mut [u64], words: &mut [u32], storeys: u32, nodes: u32) -> Result<Element, No> {
+    shape(bits.len(), words.len(), storeys, nodes)?;
+    let mut p = Pool::new(bits, words, storeys, nodes);
     let c = p.whole();
     if c != 0 {
         return Err(No::Damaged(c));
@@ -425,15 +467,15 @@ pub fn pop(bits: &mut [u64], words: &mut [u32], nodes: u32) -> Result<Element, N
     Ok(pop_writes(&mut p, rank))
 }
 
-pub fn replace(bits: &mut [u64], words: &mut [u32], nodes: u32, x: Element) -> Result<Element, No> {
-    shape(bits.len(), words.len(), nodes)?;
-    if x.rank > 4095 {
+pub fn replace(bits: &mut [u64], words: &mut [u32], storeys: u32, nodes: u32, x: Element) -> Result<Element, No> {
+    shape(bits.len(), words.len(), storeys, nodes)?;
+    if x.rank as usize >= ranks(storeys) {
         return Err(No::BadRank);
     }
     if x.tag == 0 {
         return Err(No::NoTag);
     }
-    let mut p = Pool::new(bits, words, nodes);
+    let mut p = Pool::new(bits, words, storeys, nodes);
     let c = p.whole();
     if c != 0 {
         return Err(No::Damaged(c));
@@ -459,10 +501,10 @@ pub fn replace(bits: &mut [u64], words: &mut [u32], nodes: u32, x: Element) -> R
     Ok(answer)
 }
 
-pub fn held(bits: &[u64], words: &[u32], nodes: u32) -> Result<u32, No> {
-    shape(bits.len(), words.len(), nodes)?;
-    let free = words[2 * RANKS + 2 * nodes as usize];
-    let held = words[2 * RANKS + 2 * nodes as usize + 1];
+pub fn held(bits: &[u64], words: &[u32], storeys: u32, nodes: u32) -> Result<u32, No> {
+    shape(bits.len(), words.len(), storeys, nodes)?;
+    let behind = 2 * ranks(storeys) + 2 * nodes as usize;
+    let (free, held) = (words[behind], words[behind + 1]);
     let c = whole(bits[0], free, held, nodes);
     if c != 0 {
         return Err(No::Damaged(c));

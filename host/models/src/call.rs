@@ -94,6 +94,7 @@ pub struct Call {
     pub op: Op,
     pub order: u32,
     pub levels: u32,
+    pub storeys: u32,
     pub nodes: u32,
     pub rank: u32,
     pub tag: u32,
@@ -112,6 +113,7 @@ impl Call {
             op,
             order,
             levels,
+            storeys: 0,
             nodes: 0,
             rank: 0,
             tag: 0,
@@ -124,8 +126,9 @@ impl Call {
             out: 2,
         }
     }
-    pub fn bucket(op: Op, nodes: u32, bits: usize, words: usize) -> Call {
+    pub fn bucket(op: Op, storeys: u32, nodes: u32, bits: usize, words: usize) -> Call {
         let mut call = Call::tree(op, 0, 0, words);
+        call.storeys = storeys;
         call.nodes = nodes;
         call.bits = bits;
         call
@@ -157,7 +160,8 @@ impl Call {
     pub fn text(&self) -> String {
         let mut s = format!("{}(", self.op.name());
         if self.op.is_bucket() {
-            s += &format!("nodes {}, bits of {}, words of {}", self.nodes, self.bits, self.words);
+            let (storeys, nodes) = (self.storeys, self.nodes);
+            s += &format!("storeys {storeys}, nodes {nodes}, bits of {}, words of {}", self.bits, self.words);
         } else {
             s += &format!("order {}, levels {}, store of {}", self.order, self.levels, self.words);
         }

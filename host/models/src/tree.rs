@@ -3,7 +3,7 @@
 use crate::{shape_cause, Causes, Element, No};
 
 /// The highest capacity that is taken.
-pub const MOST: u64 = 5460;
+pub const MOST: u64 = 87_380;
 
 /// What a node can break, and where it was read: the bit is `clause << (6 * place)`.
 pub mod cause {
@@ -70,7 +70,7 @@ pub struct Shape {
 }
 
 impl Shape {
-    /// Order 2, 4 or 8; at least one level; capacity at most 5,460.
+    /// Order 2, 4 or 8; at least one level; capacity at most 87,380.
     pub fn new(order: u32, levels: u32) -> Option<Shape> {
         if order != 2 && order != 4 && order != 8 {
             return None;

@@ -1,17 +1,28 @@
 -- `bucket::clear` meets its contract.
-use mathlib.Core.Path.{ap, _∙_}
+use mathlib.Core.Path.{sym, ap, _∙_}
+use borrow.Author.Tests.{not-true, not-false}
 use Rattle.bucket_model.specs.declared.Lay.{Lay}
 use Rattle.bucket_model.specs.Calls.{cleared}
+use Rattle.bucket_model.proofs.Returns.{clear-bad}
 use Rattle.bucket.proofs.Steps.{queue-placed}
+use Rattle.bucket.proofs.Depths.{deep-of, undeep}
 use borrow.Author.Needs.{needs}
 use Rattle.bucket.proofs.clear.Statement.{statement}
 use Rattle.bucket.proofs.clear.Tie as tie
 
+is-deep-requires : tie.Need-is-deep-requires
+is-deep-requires c κs = search needs
+
+returns : tie.Need-returns
+returns c = clear-bad _ _ _ (undeep (c .before .before .before .before .args .storeys) (c .before .before .before .before .args .n) (c .before .before .before .before .args .bits .now) (c .before .before .before .before .args .words .now) (sym (c .before .is-deep .ensures) ∙ not-true (c .before .is-deep .result) (c .if1 .taken)))
+
 queue-of-requires : tie.Need-queue-of-requires
-queue-of-requires c κs = search needs
+queue-of-requires c κs = deep-of (c .before .before .before .before .before .before .args .storeys) (sym (c .before .before .before .is-deep .ensures) ∙ not-false (c .before .before .before .is-deep .result) (c .before .before .if1 .left))
 
 clear-laid-requires : tie.Need-clear-laid-requires
-clear-laid-requires c κs = queue-placed _ _ (c .queue-of .ensures)
+clear-laid-requires c κs =
+    let deep = deep-of (c .before .before .before .before .before .before .before .args .storeys) (sym (c .before .before .before .before .is-deep .ensures) ∙ not-false (c .before .before .before .before .is-deep .result) (c .before .before .before .if1 .left)) in
+    queue-placed (c .before .before .before .before .before .before .before .args .storeys) _ _ (deep .0) (deep .1) (c .queue-of .ensures)
 
 same-length : tie.Need-same-length
 same-length c = search needs
@@ -19,9 +30,10 @@ same-length c = search needs
 same-length-2 : tie.Need-same-length-2
 same-length-2 c = search needs
 
-returns : tie.Need-returns
-returns c = c .before .before .before .before .clear-laid .ensures ∙ ap (λ (k : Lay). cleared k (c .before .before .before .before .before .before .before .before .before .before .args .bits .now) (c .before .before .before .before .before .before .before .before .before .before .args .words .now)) (c .before .before .before .before .before .queue-of .ensures)
+returns-2 : tie.Need-returns-2
+returns-2 c = c .before .before .before .before .clear-laid .ensures ∙ ap (λ (k : Lay). cleared k (c .before .before .before .before .before .before .before .before .before .before .before .before .args .bits .now) (c .before .before .before .before .before .before .before .before .before .before .before .before .args .words .now)) (c .before .before .before .before .before .queue-of .ensures)
 
 pub clear-spec : {M : Type 1} → statement M
 clear-spec =
-    tie.close (tie.spec queue-of-requires clear-laid-requires same-length same-length-2 returns)
+    tie.close
+    (tie.spec is-deep-requires returns queue-of-requires clear-laid-requires same-length same-length-2 returns-2)

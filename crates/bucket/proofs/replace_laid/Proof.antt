@@ -1,45 +1,76 @@
 -- `bucket::replace_laid` meets its contract.
 use mathlib.Core.Path.{_≡_, refl, sym, _∙_}
 use mathlib.Core.Bool.{true, false, not, _&&_}
-use borrow.Author.Tests.{not-true, not-false}
-use lib.Dec.{eqb}
+use Prim.Native.Nat.{_<_}
+use borrow.Author.Tests.{not-true, not-false, ltb-true}
+use lib.Dec.{ltb, eqb}
+use Rattle.laws.specs.Tests.{and-left, and-right}
 use Rattle.strip.specs.Answers.{untagged}
+use Rattle.bucket_model.specs.declared.Lay.{Lay}
 use Rattle.bucket_model.specs.Layout.{word}
 use Rattle.bucket_model.specs.Calls.{isShaped, isWhole, lowestOf, takenBits, takenWords, roomAfter}
 use Rattle.bucket_tests.specs.Stores.{Stands, Freeing}
-use Rattle.bucket_model.proofs.Returns.{replace-bad, replace-high, replace-untagged, replace-limit, replace-unfit, replace-shut, replace-out}
+use Rattle.bucket_model.proofs.Returns.{replace-bad, replace-newcomer, replace-limit, replace-unfit, replace-shut, replace-out}
 use Rattle.bucket.proofs.Steps.{stands, whole, whole-of, some-of, freeing, swapping}
 use borrow.Author.Needs.{needs}
 use Rattle.bucket.proofs.replace_laid.Statement.{statement}
 use Rattle.bucket.proofs.replace_laid.Tie as tie
 
+-- from place to place, back to the start
+abbrev at1 : tie.Else1 → tie.Start
+at1 c = c .before .before .before .before .before .before
+
+abbrev up2 : tie.Else2 → tie.Else1
+up2 c = c .before .before .before
+
+abbrev at2 : tie.Else2 → tie.Start
+at2 c = at1 (up2 c)
+
+abbrev up3 : tie.Else3 → tie.Else2
+up3 c = c .before .before .before .before
+
+abbrev at3 : tie.Else3 → tie.Start
+at3 c = at2 (up3 c)
+
+abbrev up4 : tie.Else4 → tie.Else3
+up4 c = c .before .before .before .before .before
+
+abbrev at4 : tie.Else4 → tie.Start
+at4 c = at3 (up4 c)
+
 -- what has been tested so far
-ok : (c : tie.Else1) → isShaped (c .before .before .before .before .before .before .args .k) (c .before .before .before .before .before .before .args .bits .now) (c .before .before .before .before .before .before .args .words .now) ≡ true
+ok : (c : tie.Else1) → isShaped (at1 c .args .k) (at1 c .args .bits .now) (at1 c .args .words .now) ≡ true
 ok c = sym (c .before .is-shaped .ensures) ∙ not-false (c .before .is-shaped .result) (c .if1 .left)
 
-st : (c : tie.Else1) → Stands (c .before .before .before .before .before .before .args .k) (c .before .before .before .before .before .before .args .bits .now) (c .before .before .before .before .before .before .args .words .now)
-st c = stands _ _ _ (c .before .before .before .before .before .before .pre) (ok c)
+st : (c : tie.Else1) → Stands (at1 c .args .k) (at1 c .args .bits .now) (at1 c .args .words .now)
+st c = stands _ _ _ (at1 c .pre) (ok c)
 
-tag : (c : tie.Else3) → untagged (c .before .before .before .before .before .before .before .before .before .before .before .before .args .e) ≡ false
-tag c = sym (c .before .is-untagged .ensures) ∙ c .if3 .left
+comes : (c : tie.Else2) → (ltb (at2 c .args .e .rank .0) (at2 c .args .k .ranks) && not (untagged (at2 c .args .e))) ≡ true
+comes c = sym (c .before .may-come .ensures) ∙ not-false (c .before .may-come .result) (c .if2 .left)
 
-given : (c : tie.Else4) → (isWhole (c .before .before .before .before .before .before .before .before .before .before .before .before .before .before .before .before .args .k) (c .before .before .before .before .before .before .before .before .before .before .before .before .before .before .before .before .args .bits .now) (c .before .before .before .before .before .before .before .before .before .before .before .before .before .before .before .before .args .words .now) && not (eqb (word (c .before .before .before .before .before .before .before .before .before .before .before .before .before .before .before .before .args .words .now) (c .before .before .before .before .before .before .before .before .before .before .before .before .before .before .before .before .args .k .held)) 0)) ≡ true
-given c = sym (c .before .has-some .ensures) ∙ not-false (c .before .has-some .result) (c .if4 .left)
+ranked : (c : tie.Else2) → at2 c .args .e .rank .0 < at2 c .args .k .ranks
+ranked c = ltb-true _ _ (and-left (ltb (at2 c .args .e .rank .0) (at2 c .args .k .ranks)) (not (untagged (at2 c .args .e))) (comes c))
 
-sound : (c : tie.Else4) → isWhole (c .before .before .before .before .before .before .before .before .before .before .before .before .before .before .before .before .args .k) (c .before .before .before .before .before .before .before .before .before .before .before .before .before .before .before .before .args .bits .now) (c .before .before .before .before .before .before .before .before .before .before .before .before .before .before .before .before .args .words .now) ≡ true
-sound c = whole-of (c .before .before .before .before .before .before .before .before .before .before .before .before .before .before .before .before .args .k) (c .before .before .before .before .before .before .before .before .before .before .before .before .before .before .before .before .args .bits .now) (c .before .before .before .before .before .before .before .before .before .before .before .before .before .before .before .before .args .words .now) (not (eqb (word (c .before .before .before .before .before .before .before .before .before .before .before .before .before .before .before .before .args .words .now) (c .before .before .before .before .before .before .before .before .before .before .before .before .before .before .before .before .args .k .held)) 0)) (given c)
+tag : (c : tie.Else2) → untagged (at2 c .args .e) ≡ false
+tag c = not-true _ (and-right (ltb (at2 c .args .e .rank .0) (at2 c .args .k .ranks)) (not (untagged (at2 c .args .e))) (comes c))
 
-some : (c : tie.Else4) → word (c .before .before .before .before .before .before .before .before .before .before .before .before .before .before .before .before .args .words .now) (c .before .before .before .before .before .before .before .before .before .before .before .before .before .before .before .before .args .k .held) ≡ 0 → ⊥
-some c = some-of (c .before .before .before .before .before .before .before .before .before .before .before .before .before .before .before .before .args .k) (c .before .before .before .before .before .before .before .before .before .before .before .before .before .before .before .before .args .bits .now) (c .before .before .before .before .before .before .before .before .before .before .before .before .before .before .before .before .args .words .now) (given c)
+given : (c : tie.Else3) → (isWhole (at3 c .args .k) (at3 c .args .bits .now) (at3 c .args .words .now) && not (eqb (word (at3 c .args .words .now) (at3 c .args .k .held)) 0)) ≡ true
+given c = sym (c .before .has-some .ensures) ∙ not-false (c .before .has-some .result) (c .if3 .left)
 
-good : (c : tie.Else5) → c .before .before .find-lowest .result .good ≡ true
-good c = not-false (c .before .before .find-lowest .result .good) (c .if5 .left)
+sound : (c : tie.Else3) → isWhole (at3 c .args .k) (at3 c .args .bits .now) (at3 c .args .words .now) ≡ true
+sound c = whole-of (at3 c .args .k) (at3 c .args .bits .now) (at3 c .args .words .now) (not (eqb (word (at3 c .args .words .now) (at3 c .args .k .held)) 0)) (given c)
 
-takes : (c : tie.Else5) → Freeing (c .before .before .before .before .before .before .before .before .before .before .before .before .before .before .before .before .before .before .before .before .before .args .k) (c .before .before .before .before .before .before .before .before .before .before .before .before .before .before .before .before .before .before .before .before .before .args .bits .now) (c .before .before .before .before .before .before .before .before .before .before .before .before .before .before .before .before .before .before .before .before .before .args .words .now) (c .before .before .find-lowest .result)
-takes c = freeing _ _ _ (st (c .before .before .before .before .before .before .before .before .before .before .before .before .before .before .before)) _ (some (c .before .before .before .before .before)) (c .before .before .find-lowest .ensures) (good c)
+some : (c : tie.Else3) → word (at3 c .args .words .now) (at3 c .args .k .held) ≡ 0 → ⊥
+some c = some-of (at3 c .args .k) (at3 c .args .bits .now) (at3 c .args .words .now) (given c)
 
-fits : (c : tie.Else6) → c .before .before .room-after .result .good ≡ true
-fits c = not-false (c .before .before .room-after .result .good) (c .if6 .left)
+good : (c : tie.Else4) → c .before .before .find-lowest .result .good ≡ true
+good c = not-false (c .before .before .find-lowest .result .good) (c .if4 .left)
+
+takes : (c : tie.Else4) → Freeing (at4 c .args .k) (at4 c .args .bits .now) (at4 c .args .words .now) (c .before .before .find-lowest .result)
+takes c = freeing _ _ _ (st (up2 (up3 (up4 c)))) _ (some (up4 c)) (c .before .before .find-lowest .ensures) (good c)
+
+fits : (c : tie.Else5) → c .before .before .room-after .result .good ≡ true
+fits c = not-false (c .before .before .room-after .result .good) (c .if5 .left)
 
 is-shaped-requires : tie.Need-is-shaped-requires
 is-shaped-requires c κs = search needs
@@ -53,6 +84,12 @@ same-length-2 c = search needs
 returns : tie.Need-returns
 returns c = replace-bad _ _ _ (c .before .before .before .before .before .before .args .e) (sym (c .before .is-shaped .ensures) ∙ not-true (c .before .is-shaped .result) (c .if1 .taken))
 
+may-come-requires : tie.Need-may-come-requires
+may-come-requires c κs = search needs
+
+rank-or-tag-requires : tie.Need-rank-or-tag-requires
+rank-or-tag-requires c κs = search needs
+
 same-length-3 : tie.Need-same-length-3
 same-length-3 c = search needs
 
@@ -60,10 +97,13 @@ same-length-4 : tie.Need-same-length-4
 same-length-4 c = search needs
 
 returns-2 : tie.Need-returns-2
-returns-2 c = replace-high _ _ _ (c .before .before .before .before .before .before .before .before .before .before .args .e) (ok (c .before .before .before .before)) (c .if2 .taken)
+returns-2 c = replace-newcomer _ _ _ (c .before .before .before .before .before .before .before .before .before .before .args .e) (ok (c .before .before .before .before)) _ (sym (c .before .before .may-come .ensures) ∙ not-true (c .before .before .may-come .result) (c .before .if2 .taken)) (c .rank-or-tag .ensures)
 
-is-untagged-requires : tie.Need-is-untagged-requires
-is-untagged-requires c κs = search needs
+has-some-requires : tie.Need-has-some-requires
+has-some-requires c κs = st (c .before .before .before .before .before)
+
+limit-or-damage-requires : tie.Need-limit-or-damage-requires
+limit-or-damage-requires c κs = st (c .before .before .before .before .before .before .before .before .before)
 
 same-length-5 : tie.Need-same-length-5
 same-length-5 c = search needs
@@ -72,13 +112,10 @@ same-length-6 : tie.Need-same-length-6
 same-length-6 c = search needs
 
 returns-3 : tie.Need-returns-3
-returns-3 c = replace-untagged _ _ _ (c .before .before .before .before .before .before .before .before .before .before .before .before .args .e) (ok (c .before .before .before .before .before .before)) (c .before .before .if2 .left) (sym (c .before .is-untagged .ensures) ∙ c .if3 .taken)
+returns-3 c = replace-limit _ _ _ (c .before .before .before .before .before .before .before .before .before .before .before .before .before .before .before .before .args .e) (ok (c .before .before .before .before .before .before .before .before .before .before)) (ranked (c .before .before .before .before .before .before .before)) (tag (c .before .before .before .before .before .before .before)) _ (sym (c .before .before .before .before .has-some .ensures) ∙ not-true (c .before .before .before .before .has-some .result) (c .before .before .before .if3 .taken)) (c .limit-or-damage .ensures)
 
-has-some-requires : tie.Need-has-some-requires
-has-some-requires c κs = st (c .before .before .before .before .before .before .before .before)
-
-limit-or-damage-requires : tie.Need-limit-or-damage-requires
-limit-or-damage-requires c κs = st (c .before .before .before .before .before .before .before .before .before .before .before .before)
+find-lowest-requires : tie.Need-find-lowest-requires
+find-lowest-requires c κs = st (c .before .before .before .before .before .before .before .before .before)
 
 same-length-7 : tie.Need-same-length-7
 same-length-7 c = search needs
@@ -87,10 +124,12 @@ same-length-8 : tie.Need-same-length-8
 same-length-8 c = search needs
 
 returns-4 : tie.Need-returns-4
-returns-4 c = replace-limit _ _ _ (c .before .before .before .before .before .before .before .before .before .before .before .before .before .before .before .before .before .before .before .args .e) (ok (c .before .before .before .before .before .before .before .before .before .before .before .before .before)) (c .before .before .before .before .before .before .before .before .before .if2 .left) (tag (c .before .before .before .before .before .before .before)) _ (sym (c .before .before .before .before .has-some .ensures) ∙ not-true (c .before .before .before .before .has-some .result) (c .before .before .before .if4 .taken)) (c .limit-or-damage .ensures)
+returns-4 c =
+    replace-unfit _ _ _ (c .before .before .before .before .before .before .before .before .before .before .before .before .before .before .before .before .before .before .args .e) (ok (c .before .before .before .before .before .before .before .before .before .before .before .before)) (ranked (c .before .before .before .before .before .before .before .before .before)) (tag (c .before .before .before .before .before .before .before .before .before)) (sound (c .before .before .before .before .before)) (some (c .before .before .before .before .before))
+    (lowestOf (c .before .before .before .before .before .before .before .before .before .before .before .before .before .before .before .before .before .before .args .k) (c .before .before .before .before .before .before .before .before .before .before .before .before .before .before .before .before .before .before .args .bits .now) (c .before .before .before .before .before .before .before .before .before .before .before .before .before .before .before .before .before .before .args .words .now)) refl (sym (c .before .before .find-lowest .ensures .good) ∙ not-true (c .before .before .find-lowest .result .good) (c .if4 .taken))
 
-find-lowest-requires : tie.Need-find-lowest-requires
-find-lowest-requires c κs = st (c .before .before .before .before .before .before .before .before .before .before .before .before)
+room-after-requires : tie.Need-room-after-requires
+room-after-requires c κs = (takes (c .before .before), (ranked (c .before .before .before .before .before .before .before .before .before .before .before), whole _ _ _ (sound (c .before .before .before .before .before .before .before))))
 
 same-length-9 : tie.Need-same-length-9
 same-length-9 c = search needs
@@ -99,10 +138,17 @@ same-length-10 : tie.Need-same-length-10
 same-length-10 c = search needs
 
 returns-5 : tie.Need-returns-5
-returns-5 c = replace-unfit _ _ _ (c .before .before .before .before .before .before .before .before .before .before .before .before .before .before .before .before .before .before .before .before .before .args .e) (ok (c .before .before .before .before .before .before .before .before .before .before .before .before .before .before .before)) (c .before .before .before .before .before .before .before .before .before .before .before .if2 .left) (tag (c .before .before .before .before .before .before .before .before .before)) (sound (c .before .before .before .before .before)) (some (c .before .before .before .before .before)) (lowestOf (c .before .before .before .before .before .before .before .before .before .before .before .before .before .before .before .before .before .before .before .before .before .args .k) (c .before .before .before .before .before .before .before .before .before .before .before .before .before .before .before .before .before .before .before .before .before .args .bits .now) (c .before .before .before .before .before .before .before .before .before .before .before .before .before .before .before .before .before .before .before .before .before .args .words .now)) refl (sym (c .before .before .find-lowest .ensures .good) ∙ not-true (c .before .before .find-lowest .result .good) (c .if5 .taken))
+returns-5 c =
+    let a = c .before .before .before .before .before .before .before .before .before .before .before .before .before .before .before .before .before .before .before .before .before .before .before .args in
+    let low = c .before .before .before .before .before .before .before .find-lowest .result in
+    replace-shut _ _ _ (a .e) (ok (c .before .before .before .before .before .before .before .before .before .before .before .before .before .before .before .before .before)) (ranked (c .before .before .before .before .before .before .before .before .before .before .before .before .before .before)) (tag (c .before .before .before .before .before .before .before .before .before .before .before .before .before .before)) (sound (c .before .before .before .before .before .before .before .before .before .before)) (some (c .before .before .before .before .before .before .before .before .before .before)) _ (c .before .before .before .before .before .before .before .find-lowest .ensures .is (good (c .before .before .before .before .before))) (good (c .before .before .before .before .before))
+    (roomAfter (a .k) (takenBits (a .k) (a .bits .now) low) (takenWords (a .k) (a .words .now) low) (a .e .rank .0)) refl (sym (c .before .before .room-after .ensures .good) ∙ not-true (c .before .before .room-after .result .good) (c .if5 .taken))
 
-room-after-requires : tie.Need-room-after-requires
-room-after-requires c κs = (takes (c .before .before), ((c .before .before .before .before .before .before .before .before .before .before .before .before .before .if2 .left), whole _ _ _ (sound (c .before .before .before .before .before .before .before))))
+element-of-requires : tie.Need-element-of-requires
+element-of-requires c κs = takes (c .before .before .before .before .before .before) .takable .node
+
+swap-requires : tie.Need-swap-requires
+swap-requires c κs = swapping _ _ _ _ _ _ (takes (c .before .before .before .before .before .before .before .before .before)) (ranked (c .before .before .before .before .before .before .before .before .before .before .before .before .before .before .before .before .before .before)) (c .before .before .before .before .before .before .room-after .ensures) (fits (c .before .before .before .before))
 
 same-length-11 : tie.Need-same-length-11
 same-length-11 c = search needs
@@ -111,22 +157,9 @@ same-length-12 : tie.Need-same-length-12
 same-length-12 c = search needs
 
 returns-6 : tie.Need-returns-6
-returns-6 c = replace-shut _ _ _ (c .before .before .before .before .before .before .before .before .before .before .before .before .before .before .before .before .before .before .before .before .before .before .before .before .before .before .args .e) (ok (c .before .before .before .before .before .before .before .before .before .before .before .before .before .before .before .before .before .before .before .before)) (c .before .before .before .before .before .before .before .before .before .before .before .before .before .before .before .before .if2 .left) (tag (c .before .before .before .before .before .before .before .before .before .before .before .before .before .before)) (sound (c .before .before .before .before .before .before .before .before .before .before)) (some (c .before .before .before .before .before .before .before .before .before .before)) _ (c .before .before .before .before .before .before .before .find-lowest .ensures .is (good (c .before .before .before .before .before))) (good (c .before .before .before .before .before)) (roomAfter (c .before .before .before .before .before .before .before .before .before .before .before .before .before .before .before .before .before .before .before .before .before .before .before .before .before .before .args .k) (takenBits (c .before .before .before .before .before .before .before .before .before .before .before .before .before .before .before .before .before .before .before .before .before .before .before .before .before .before .args .k) (c .before .before .before .before .before .before .before .before .before .before .before .before .before .before .before .before .before .before .before .before .before .before .before .before .before .before .args .bits .now) (c .before .before .before .before .before .before .before .find-lowest .result)) (takenWords (c .before .before .before .before .before .before .before .before .before .before .before .before .before .before .before .before .before .before .before .before .before .before .before .before .before .before .args .k) (c .before .before .before .before .before .before .before .before .before .before .before .before .before .before .before .before .before .before .before .before .before .before .before .before .before .before .args .words .now) (c .before .before .before .before .before .before .before .find-lowest .result)) (c .before .before .before .before .before .before .before .before .before .before .before .before .before .before .before .before .before .before .before .before .before .before .before .before .before .before .args .e .rank .0)) refl (sym (c .before .before .room-after .ensures .good) ∙ not-true (c .before .before .room-after .result .good) (c .if6 .taken))
-
-element-of-requires : tie.Need-element-of-requires
-element-of-requires c κs = takes (c .before .before .before .before .before .before) .takable .node
-
-swap-requires : tie.Need-swap-requires
-swap-requires c κs = swapping _ _ _ _ _ _ (takes (c .before .before .before .before .before .before .before .before .before)) (c .before .before .before .before .before .before .before .before .before .before .before .before .before .before .before .before .before .before .before .before .if2 .left) (c .before .before .before .before .before .before .room-after .ensures) (fits (c .before .before .before .before))
-
-same-length-13 : tie.Need-same-length-13
-same-length-13 c = search needs
-
-same-length-14 : tie.Need-same-length-14
-same-length-14 c = search needs
-
-returns-7 : tie.Need-returns-7
-returns-7 c = replace-out _ _ _ (c .before .before .before .before .before .before .before .before .before .before .before .before .before .before .before .before .before .before .before .before .before .before .before .before .before .before .before .before .before .before .before .before .before .before .before .args .e) (ok (c .before .before .before .before .before .before .before .before .before .before .before .before .before .before .before .before .before .before .before .before .before .before .before .before .before .before .before .before .before)) (c .before .before .before .before .before .before .before .before .before .before .before .before .before .before .before .before .before .before .before .before .before .before .before .before .before .if2 .left) (tag (c .before .before .before .before .before .before .before .before .before .before .before .before .before .before .before .before .before .before .before .before .before .before .before)) (sound (c .before .before .before .before .before .before .before .before .before .before .before .before .before .before .before .before .before .before .before)) (some (c .before .before .before .before .before .before .before .before .before .before .before .before .before .before .before .before .before .before .before)) _ (c .before .before .before .before .before .before .before .before .before .before .before .before .before .before .before .before .find-lowest .ensures .is (good (c .before .before .before .before .before .before .before .before .before .before .before .before .before .before))) (good (c .before .before .before .before .before .before .before .before .before .before .before .before .before .before)) _ (c .before .before .before .before .before .before .before .before .before .before .before .room-after .ensures .is (fits (c .before .before .before .before .before .before .before .before .before))) _ _ _ _ _ (fits (c .before .before .before .before .before .before .before .before .before)) (c .before .before .before .before .before .before .before .element-of .ensures) refl refl (c .before .before .before .before .swap .ensures .0) (c .before .before .before .before .swap .ensures .1)
+returns-6 c =
+    replace-out _ _ _ (c .before .before .before .before .before .before .before .before .before .before .before .before .before .before .before .before .before .before .before .before .before .before .before .before .before .before .before .before .before .before .before .before .args .e) (ok (c .before .before .before .before .before .before .before .before .before .before .before .before .before .before .before .before .before .before .before .before .before .before .before .before .before .before)) (ranked (c .before .before .before .before .before .before .before .before .before .before .before .before .before .before .before .before .before .before .before .before .before .before .before)) (tag (c .before .before .before .before .before .before .before .before .before .before .before .before .before .before .before .before .before .before .before .before .before .before .before)) (sound (c .before .before .before .before .before .before .before .before .before .before .before .before .before .before .before .before .before .before .before)) (some (c .before .before .before .before .before .before .before .before .before .before .before .before .before .before .before .before .before .before .before)) _ (c .before .before .before .before .before .before .before .before .before .before .before .before .before .before .before .before .find-lowest .ensures .is (good (c .before .before .before .before .before .before .before .before .before .before .before .before .before .before))) (good (c .before .before .before .before .before .before .before .before .before .before .before .before .before .before))
+    _ (c .before .before .before .before .before .before .before .before .before .before .before .room-after .ensures .is (fits (c .before .before .before .before .before .before .before .before .before))) _ _ _ _ _ (fits (c .before .before .before .before .before .before .before .before .before)) (c .before .before .before .before .before .before .before .element-of .ensures) refl refl (c .before .before .before .before .swap .ensures .0) (c .before .before .before .before .swap .ensures .1)
 
 pub replace-laid-spec : {M : Type 1} → statement M
 replace-laid-spec =
@@ -136,28 +169,26 @@ replace-laid-spec =
     same-length
     same-length-2
     returns
+    may-come-requires
+    rank-or-tag-requires
     same-length-3
     same-length-4
     returns-2
-    is-untagged-requires
+    has-some-requires
+    limit-or-damage-requires
     same-length-5
     same-length-6
     returns-3
-    has-some-requires
-    limit-or-damage-requires
+    find-lowest-requires
     same-length-7
     same-length-8
     returns-4
-    find-lowest-requires
+    room-after-requires
     same-length-9
     same-length-10
     returns-5
-    room-after-requires
-    same-length-11
-    same-length-12
-    returns-6
     element-of-requires
     swap-requires
-    same-length-13
-    same-length-14
-    returns-7)
+    same-length-11
+    same-length-12
+    returns-6)

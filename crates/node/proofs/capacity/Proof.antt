@@ -7,6 +7,7 @@ use borrow.Author.Needs.{needs}
 use borrow.Author.Tests.{leb-false, leb-true}
 use Rattle.node.proofs.Steps.{capacity-above, capacity-end, counted-above, counted-next, room-next}
 use Rattle.node.specs.Scan.{slotsCounted}
+use Rattle.tree_model.specs.Calls.{slotLimit}
 use Rattle.tree_model.specs.Damage.{room}
 use Rattle.tree_model.specs.Tree.{slots}
 use Rattle.node.proofs.capacity.Statement.{statement}
@@ -23,10 +24,10 @@ unfolding room slotsCounted
 loop-holds c = search needs
 
 add-slots : tie.Need-add-slots Inv-loop μ-loop
-add-slots c = omega (arith, leb-true (c .before .before .loop .slots) 5460 (c .if1 .taken))
+add-slots c = omega (arith, leb-true (c .before .before .loop .slots) slotLimit (c .if1 .taken))
 
 mul-slots : tie.Need-mul-slots Inv-loop μ-loop
-mul-slots c = omega (arith, leb-true (c .before .before .loop .slots) 5460 (c .if1 .taken), mul-le-mul-right (c .before .before .loop .slots + 1) (c .before .before .before .pre .1))
+mul-slots c = omega (arith, leb-true (c .before .before .loop .slots) slotLimit (c .if1 .taken), mul-le-mul-right (c .before .before .loop .slots + 1) (c .before .before .before .pre .1))
 
 add-i : tie.Need-add-i Inv-loop μ-loop
 add-i c = search needs
@@ -35,10 +36,10 @@ loop-less : tie.Need-loop-less Inv-loop μ-loop
 loop-less c = search needs
 
 loop-again : tie.Need-loop-again Inv-loop μ-loop
-loop-again c = (omega arith, ap (λ (n : ℕ). c .before .before .before .args .order * (n + 1)) (c .before .before .loop .inv .1) ∙ room-next (c .before .before .before .args .order) (c .before .before .loop .i), counted-next _ _ _ (c .before .before .loop .inv .2) (leb-true (c .before .before .loop .slots) 5460 (c .if1 .taken)))
+loop-again c = (omega arith, ap (λ (n : ℕ). c .before .before .before .args .order * (n + 1)) (c .before .before .loop .inv .1) ∙ room-next (c .before .before .before .args .order) (c .before .before .loop .i), counted-next _ _ _ (c .before .before .loop .inv .2) (leb-true (c .before .before .loop .slots) slotLimit (c .if1 .taken)))
 
 returns : tie.Need-returns Inv-loop μ-loop
-returns c = (capacity-above _ _ (c .before .before .loop .i) _ (c .before .before .before .pre .0) (c .before .before .loop .inv .0) (leb-false (c .before .before .loop .slots) 5460 (c .if1 .left)) (c .before .before .loop .inv .1), counted-above _ _ (c .before .before .loop .i) _ (c .before .before .loop .inv .0) (leb-false (c .before .before .loop .slots) 5460 (c .if1 .left)) (c .before .before .loop .inv .2))
+returns c = (capacity-above _ _ (c .before .before .loop .i) _ (c .before .before .before .pre .0) (c .before .before .loop .inv .0) (leb-false (c .before .before .loop .slots) slotLimit (c .if1 .left)) (c .before .before .loop .inv .1), counted-above _ _ (c .before .before .loop .i) _ (c .before .before .loop .inv .0) (leb-false (c .before .before .loop .slots) slotLimit (c .if1 .left)) (c .before .before .loop .inv .2))
 
 returns-2 : tie.Need-returns-2 Inv-loop μ-loop
 returns-2 c = (capacity-end _ _ _ _ (omega arith) (c .before .loop .inv .1), c .before .loop .inv .2 ∙ ap (slotsCounted (c .before .before .args .order)) (omega arith))

@@ -1,0 +1,25 @@
+-- `bucket_nodes::queue_of` meets its contract.
+use mathlib.Core.Path.{_≡_, sym, ap, _∙_}
+use Prim.Native.Nat.{ℕ}
+use native.Mathlib.Omega.{arith}
+use Rattle.bucket_model.specs.Layout.{queue}
+use borrow.Author.Needs.{needs}
+use Rattle.bucket_nodes.proofs.queue_of.Statement.{statement}
+use Rattle.bucket_nodes.proofs.queue_of.Tie as tie
+
+lay-of-requires : tie.Need-lay-of-requires
+lay-of-requires c κs = search needs
+
+returns : tie.Need-returns
+returns c = c .lay-of .ensures ∙ ap (λ (d : ℕ). queue d (c .before .before .args .n)) (sym (c .before .if1 .taken))
+
+lay-of-requires-2 : tie.Need-lay-of-requires-2
+lay-of-requires-2 c κs = search needs
+
+returns-2 : tie.Need-returns-2
+returns-2 c =
+    let three : 3 ≡ c .before .before .args .storeys = omega (arith, c .before .if1 .left, c .before .before .pre) in
+    c .lay-of2 .ensures ∙ ap (λ (d : ℕ). queue d (c .before .before .args .n)) three
+
+pub queue-of-spec : {M : Type 1} → statement M
+queue-of-spec = tie.close (tie.spec lay-of-requires returns lay-of-requires-2 returns-2)

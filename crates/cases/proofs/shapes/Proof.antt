@@ -1,0 +1,20 @@
+-- `cases::shapes` meets its contract. Assumes nothing.
+use Prim.Native.Nat.{ℕ}
+use mathlib.Core.Path.{sym}
+use lib.ListN.{length-replicate}
+use borrow.Author.Needs.{needs}
+use Rattle.cases.proofs.shapes.Statement.{statement}
+use Rattle.cases.proofs.shapes.Tie as tie
+
+-- with every argument of the law written, nothing is counted out
+slice-aggregate-edges : tie.Need-slice-aggregate-edges
+slice-aggregate-edges c = sym (length-replicate {0} {A = ℕ} 1048572 0)
+
+edges-requires : tie.Need-edges-requires
+edges-requires c κs = search needs
+
+returns : tie.Need-returns
+returns c = search needs
+
+pub shapes-spec : {M : Type 1} → statement M
+shapes-spec = tie.close (tie.spec slice-aggregate-edges edges-requires returns)

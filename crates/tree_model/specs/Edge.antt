@@ -1,0 +1,13 @@
+-- A shape at the edge of the limits, 01's worked case 9. Assumes nothing: these are definitions.
+use Prim.Native.Nat.{_*_, _≤_, ℕ}
+use mathlib.Core.List.{List}
+use mathlib.Core.Path.{_≡_}
+use lib.ListN.{length}
+use Rattle.strip.specs.Answers.{numberOf}
+use Rattle.tree_model.specs.Calls.{cleared}
+use Rattle.tree_model.specs.Damage.{room}
+
+-- the shape's capacity, and the number that a clear answers on any words that have room for it: where that is 1, the slice is not the cause
+pub record Edge (order levels slots number : ℕ) : Type 0 where
+  pub capacity : room order levels ≡ slots
+  pub says : (ws : List ℕ) → 3 * slots ≤ length ws → numberOf (cleared order levels ws .answer) ≡ number
