@@ -18,11 +18,11 @@
  *
  * A call keeps nothing. All of a queue's state lies in the slices that the caller lends.
  *
- * `out` receives the answer: two words, rank and tag (pop, replace, cycle), or one word, the count
- * (held), or two words, cycles run and whether work is left (drain). A refusal writes zeros, but
- * a drain refused 2 writes the cycles already run, and 1. A mark or records that are too short, a
- * mark above 1, a record's kind above 3 and a request above 3 are refusal 1 as well; so is an
- * `out` that is too short, and then nothing at all is written.
+ * `out` receives the answer: three words, rank, tag and length (pop, replace, cycle), or one word,
+ * the count (held), or two words, cycles run and whether work is left (drain). A refusal writes
+ * zeros, but a drain refused 2 writes the cycles already run, and 1. A mark or records that are too
+ * short, a mark above 1, a record's kind above 3 and a request above 3 are refusal 1 as well; so is
+ * an `out` that is too short, and then nothing at all is written.
  */
 #ifndef CARD_H
 #define CARD_H
@@ -71,39 +71,41 @@ uint32_t card_bucket_words(uint32_t storeys, uint32_t nodes);
 /*
  * The same as constants, for arrays. They test nothing: order, levels, storeys and nodes must be good.
  */
-#define CARD_TREE_WORDS(order, levels) (3u * ((((order) << (CARD_SHIFT(order) * (levels))) - (order)) / ((order)-1u)))
+#define CARD_TREE_WORDS(order, levels) (4u * ((((order) << (CARD_SHIFT(order) * (levels))) - (order)) / ((order)-1u)))
 #define CARD_BUCKET_BITS(storeys) ((storeys) == 3u ? 4161u : 65u)
-#define CARD_BUCKET_WORDS(storeys, nodes) ((2u << (6u * (storeys))) + 2u * (nodes) + 2u)
-/* The records of a clocked tree, four words for each level from 2: none where there is one level. */
-#define CARD_RECORD_WORDS(levels) (4u * ((levels)-1u))
+#define CARD_BUCKET_WORDS(storeys, nodes) ((2u << (6u * (storeys))) + 3u * (nodes) + 2u)
+/* The records of a clocked tree, five words for each level from 2: none where there is one level. */
+#define CARD_RECORD_WORDS(levels) (5u * ((levels)-1u))
 #define CARD_MARK_WORDS 1u
-#define CARD_OUT_WORDS 2u
+#define CARD_OUT_WORDS 3u
 /* order is 2 to this power */
 #define CARD_SHIFT(order) ((order) == 8u ? 3u : (order) / 2u)
 
 /*
  * The multi-way tree, one operation at a time. Order M is 2, 4 or 8, levels L at least 1, and the
  * capacity M + M^2 + ... + M^L at most 87380: up to 15 levels of order 2, 8 of order 4, 5 of order
- * 8. The store has three words for each slot: rank, tag, count (card_tree_words in all); it must be
- * cleared before its first use.
+ * 8. The store has four words for each slot: rank, tag, length, count (card_tree_words in all); it
+ * must be cleared before its first use. The length, in bytes, travels with its element and decides
+ * nothing.
  */
 
-/* Empties the tree: 3 * capacity words of zero. Never refused 2. */
+/* Empties the tree: 4 * capacity words of zero. Never refused 2. */
 uint32_t card_tree_clear(uint32_t *store, size_t store_len, uint32_t order, uint32_t levels);
 
 /* Takes an element in. Refused 7 with tag 0, 5 where the tree is full. */
 uint32_t card_tree_push(uint32_t *store, size_t store_len, uint32_t order, uint32_t levels,
-                        uint32_t rank, uint32_t tag);
+                        uint32_t rank, uint32_t tag, uint32_t length);
 
-/* Gives the element of lowest rank in out[0] and out[1]. Refused 6 where nothing is held. */
+/* Gives the element of lowest rank in out[0] to out[2]. Refused 6 where nothing is held. */
 uint32_t card_tree_pop(uint32_t *store, size_t store_len, uint32_t order, uint32_t levels,
                        uint32_t *out, size_t out_len);
 
-/* A pop, and then a push of the new element: gives the element of lowest rank in out[0] and out[1],
+/* A pop, and then a push of the new element: gives the element of lowest rank in out[0] to out[2],
    even if the new rank is lower. Works on a full tree. Refused 7 with tag 0, 6 where nothing is
    held. */
 uint32_t card_tree_replace(uint32_t *store, size_t store_len, uint32_t order, uint32_t levels,
-                           uint32_t rank, uint32_t tag, uint32_t *out, size_t out_len);
+                           uint32_t rank, uint32_t tag, uint32_t length, uint32_t *out,
+                           size_t out_len);
 
 /* Gives the number of held elements in out[0]. */
 uint32_t card_tree_held(const uint32_t *store, size_t store_len, uint32_t order, uint32_t levels,
@@ -112,7 +114,7 @@ uint32_t card_tree_held(const uint32_t *store, size_t store_len, uint32_t order,
 /*
  * The bucket queue: first in first out within a rank, a pool of 1 to 65536 nodes. With two storeys
  * of bits it has ranks 0 to 4095, with three 0 to 262143; there is no other depth. The store is 65
- * or 4161 words of 64 bits (bits: top, middle, lowest) and a head and a tail for each rank, two
+ * or 4161 words of 64 bits (bits: top, middle, lowest) and a head and a tail for each rank, three
  * words for each node and two more of 32 bits (words), as card_bucket_bits and card_bucket_words
  * say; it must be cleared before its first use, and storeys and nodes are the same in every call.
  */
@@ -124,19 +126,20 @@ uint32_t card_bucket_clear(uint64_t *bits, size_t bits_len, uint32_t *words, siz
 /* Takes an element in, behind those of its rank. Refused 4 above the last rank, 7 with tag 0, 5
    where no node is free. */
 uint32_t card_bucket_push(uint64_t *bits, size_t bits_len, uint32_t *words, size_t words_len,
-                          uint32_t storeys, uint32_t nodes, uint32_t rank, uint32_t tag);
+                          uint32_t storeys, uint32_t nodes, uint32_t rank, uint32_t tag,
+                          uint32_t length);
 
-/* Gives the first element of the lowest rank in out[0] and out[1]. Refused 6 where nothing is
+/* Gives the first element of the lowest rank in out[0] to out[2]. Refused 6 where nothing is
    held. */
 uint32_t card_bucket_pop(uint64_t *bits, size_t bits_len, uint32_t *words, size_t words_len,
                          uint32_t storeys, uint32_t nodes, uint32_t *out, size_t out_len);
 
 /* A pop, and then a push of the new element: gives the first element of the lowest rank in out[0]
-   and out[1], even if the new rank is lower. Works on a full queue. Refused 4 above the last rank,
+   to out[2], even if the new rank is lower. Works on a full queue. Refused 4 above the last rank,
    7 with tag 0, 6 where nothing is held. */
 uint32_t card_bucket_replace(uint64_t *bits, size_t bits_len, uint32_t *words, size_t words_len,
                              uint32_t storeys, uint32_t nodes, uint32_t rank, uint32_t tag,
-                             uint32_t *out, size_t out_len);
+                             uint32_t length, uint32_t *out, size_t out_len);
 
 /* Gives the number of held elements in out[0]. */
 uint32_t card_bucket_held(const uint64_t *bits, size_t bits_len, const uint32_t *words,
@@ -144,10 +147,10 @@ uint32_t card_bucket_held(const uint64_t *bits, size_t bits_len, const uint32_t 
                           size_t out_len);
 
 /*
- * The same tree, worked by clock cycles. Beside the store there are four words of records for each
- * level from 2 - kind (0 nothing, 1 put, 2 take, 3 swap), node, rank, tag - and one word of mark:
- * 1 where the last cycle's operation was answered without refusal, else 0. Records and mark are
- * handed on, each time, as the call before left them.
+ * The same tree, worked by clock cycles. Beside the store there are five words of records for each
+ * level from 2 - kind (0 nothing, 1 put, 2 take, 3 swap), node, rank, tag, length - and one word of
+ * mark: 1 where the last cycle's operation was answered without refusal, else 0. Records and mark
+ * are handed on, each time, as the call before left them.
  */
 
 /* Empties the tree: store and records zero, mark off. Reads neither records nor mark. */
@@ -158,8 +161,8 @@ uint32_t card_clocked_clear(uint32_t *store, size_t store_len, uint32_t order, u
    its own cycle. Refused 3, 5, 6 or 7 it runs as an idle cycle. */
 uint32_t card_clocked_cycle(uint32_t *store, size_t store_len, uint32_t order, uint32_t levels,
                             uint32_t *records, size_t records_len, uint32_t *mark, size_t mark_len,
-                            uint32_t request, uint32_t rank, uint32_t tag, uint32_t *out,
-                            size_t out_len);
+                            uint32_t request, uint32_t rank, uint32_t tag, uint32_t length,
+                            uint32_t *out, size_t out_len);
 
 /* Runs idle cycles until nothing is pending or the budget is spent: out[0] the cycles run, out[1]
    1 where work is left. */

@@ -21,9 +21,9 @@ int main(void) {
     }
     must("clear", card_tree_clear(store, len, order, levels));
     for (int i = 0; i < 4; i++)
-        must("push", card_tree_push(store, len, order, levels, ranks[i], 10 * ranks[i]));
+        must("push", card_tree_push(store, len, order, levels, ranks[i], 10 * ranks[i], 100 * ranks[i]));
     while ((number = card_tree_pop(store, len, order, levels, out, CARD_OUT_WORDS)) == CARD_OK)
-        printf("out %u %u\n", (unsigned)out[0], (unsigned)out[1]);
+        printf("out %u %u %u\n", (unsigned)out[0], (unsigned)out[1], (unsigned)out[2]);
     printf("refusal %u, %s\n", (unsigned)number, card_name(number));
     free(store);
     return number == CARD_EMPTY ? 0 : 1;

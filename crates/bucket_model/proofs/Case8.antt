@@ -27,7 +27,7 @@ case8-holds = refl
 
 -- ---- at three storeys a store has half a million words: its answers are those of the plain list, and these are computed
 
-abbrev answerOf : Said → Answer
+abbrev pub answerOf : Said → Answer
 answerOf (answered a) = a
 answerOf (counted c) = Done
 
@@ -40,7 +40,7 @@ module _ (k : Lay) (laid : Laid k) (two : leastStoreys ≤ k .storeys) (three : 
   zeros : Shaped k (replicate (bitWords k) 0) (replicate (storeWords k) 0)
   zeros = record { two = two; three = three; low = low; high = high; bits = omega (arith, length-replicate {A = ℕ} (bitWords k) 0); words = omega (arith, length-replicate {A = ℕ} (storeWords k) 0) }
 
-  as-list : (qs : List Request) → bucketAnswers k qs ≡ map answerOf (plainSays k (map ask qs) [])
+  pub as-list : (qs : List Request) → bucketAnswers k qs ≡ map answerOf (plainSays k (map ask qs) [])
   unfolding bucketAnswers
   as-list qs =
       one-by-one k qs (start k (replicate (bitWords k) 0) (replicate (storeWords k) 0))

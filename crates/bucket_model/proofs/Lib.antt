@@ -27,6 +27,7 @@ pub mod Places
 pub mod Replace
 pub mod Served
 pub mod Spare
+pub mod Blind
 pub mod Shown
 pub mod Case8
 pub mod CaseWords

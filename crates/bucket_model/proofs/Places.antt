@@ -24,7 +24,7 @@ record Right (d : Depth) : Type 0 where
   two : leastStoreys ≤ d .storeys
   three : d .storeys ≤ mostStoreys
   ranks : d .ranks ≡ 64 ^ d .storeys
-  some : 1 ≤ d .ranks
+  some : 2 ≤ d .ranks
   places : d .places ≡ storeysFrom 0 (d .storeys)
   bits : d .bits ≡ wordsOf (d .storeys)
 
@@ -59,6 +59,7 @@ module _ (d : Depth) (ok : Right d) (n : ℕ) where
         head = λ r. omega arith;
         tail = λ r. omega (arith, ok .ranks);
         tag = λ w i. ap (word w) (omega (arith, ok .ranks, ok .some));
+        lengths = λ w i. ap (word w) (omega (arith, ok .ranks, ok .some));
         next = λ i. omega (arith, ok .ranks, ok .some);
         free = omega (arith, ok .ranks);
         held = omega (arith, ok .ranks);
@@ -73,15 +74,15 @@ module _ (d : Depth) (ok : Right d) (n : ℕ) where
     abbrev W : List ℕ
     W = fill (blankWord k) (storeWords k) w
 
-    at : (j : ℕ) → j < 2 * d .ranks + 2 * n + 2 → word W j ≡ blankWord k j
+    at : (j : ℕ) → j < 2 * d .ranks + 3 * n + 2 → word W j ≡ blankWord k j
     at j h = fill-at (blankWord k) (storeWords k) w j (omega (arith, ok .ranks)) (is-shaped .words)
 
     low : (j : ℕ) → j < 2 * d .ranks → word W j ≡ 0
     low j h = at j (omega arith) ∙ blank-low k laid j (omega (arith, ok .ranks, ok .some))
 
-    node : (i c : ℕ) → i < n → c < 2 → word W (2 * d .ranks + 2 * i + c) ≡ blankCell n (i + 1) c
+    node : (i c : ℕ) → i < n → c < 3 → word W (2 * d .ranks + 3 * i + c) ≡ blankCell n (i + 1) c
     node i c h l =
-        at (2 * d .ranks + 2 * i + c) (omega arith) ∙ ap (blankWord k) (omega (arith, ok .ranks, ok .some)) ∙ blank-node k laid (i + 1) c (omega arith) (omega arith) l
+        at (2 * d .ranks + 3 * i + c) (omega arith) ∙ ap (blankWord k) (omega (arith, ok .ranks, ok .some)) ∙ blank-node k laid (i + 1) c (omega arith) (omega arith) l
 
     more : (i : ℕ) → i + 1 < n → blankCell n (i + 1) loadWords ≡ i + 2
     more i h = rw (ne-eqb (i + 1) n (λ e. omega arith)) (omega arith)
@@ -99,11 +100,12 @@ module _ (d : Depth) (ok : Right d) (n : ℕ) where
           bits = λ i h. ap (λ (o : Outcome). word (o .bits) i) is ∙ fill-at (λ j. 0) (bitWords k) b i (omega (arith, ok .bits)) (is-shaped .bits);
           head = λ r h. ap (λ (o : Outcome). word (o .words) r) is ∙ low r (omega arith);
           tail = λ r h. ap (λ (o : Outcome). word (o .words) (d .ranks + r)) is ∙ low (d .ranks + r) (omega arith);
-          tag = λ i h. ap (λ (o : Outcome). word (o .words) (2 * d .ranks + 2 * i)) is ∙ ap (word W) (omega arith) ∙ node i 0 h (omega arith);
-          next = λ i h. ap (λ (o : Outcome). word (o .words) (2 * d .ranks + 2 * i + 1)) is ∙ node i 1 (omega arith) (omega arith) ∙ more i h;
-          last = λ i h. ap (λ (o : Outcome). word (o .words) (2 * d .ranks + 2 * i + 1)) is ∙ node i 1 (omega arith) (omega arith) ∙ none i h;
-          free = ap (λ (o : Outcome). word (o .words) (2 * d .ranks + 2 * n)) is ∙ at (2 * d .ranks + 2 * n) (omega arith) ∙ ap (blankWord k) (omega (arith, ok .ranks)) ∙ blank-free k laid;
-          held = ap (λ (o : Outcome). word (o .words) (2 * d .ranks + 2 * n + 1)) is ∙ at (2 * d .ranks + 2 * n + 1) (omega arith) ∙ ap (blankWord k) (omega (arith, ok .ranks)) ∙ blank-held k laid;
+          tag = λ i h. ap (λ (o : Outcome). word (o .words) (2 * d .ranks + 3 * i)) is ∙ ap (word W) (omega arith) ∙ node i 0 h (omega arith);
+          lengths = λ i h. ap (λ (o : Outcome). word (o .words) (2 * d .ranks + 3 * i + 1)) is ∙ node i 1 h (omega arith);
+          next = λ i h. ap (λ (o : Outcome). word (o .words) (2 * d .ranks + 3 * i + 2)) is ∙ node i 2 (omega arith) (omega arith) ∙ more i h;
+          last = λ i h. ap (λ (o : Outcome). word (o .words) (2 * d .ranks + 3 * i + 2)) is ∙ node i 2 (omega arith) (omega arith) ∙ none i h;
+          free = ap (λ (o : Outcome). word (o .words) (2 * d .ranks + 3 * n)) is ∙ at (2 * d .ranks + 3 * n) (omega arith) ∙ ap (blankWord k) (omega (arith, ok .ranks)) ∙ blank-free k laid;
+          held = ap (λ (o : Outcome). word (o .words) (2 * d .ranks + 3 * n + 1)) is ∙ at (2 * d .ranks + 3 * n + 1) (omega arith) ∙ ap (blankWord k) (omega (arith, ok .ranks)) ∙ blank-held k laid;
           bits-rest = λ i h. rest .bits-rest i (omega (arith, ok .bits));
           words-rest = λ i h. rest .words-rest i (omega (arith, ok .ranks));
           bits-long = rest .bits-long;

@@ -1,4 +1,4 @@
--- What goes in and out and what is least, in 01's numbers: by the number of an answer, its rank and its tag.
+-- What goes in and out and what is least, in 01's numbers: by the number of an answer, its rank, its tag and its length.
 use mathlib.Core.Path.{_≡_, refl, sym, ap, _∙_}
 use mathlib.Core.Bool.{Bool, true, false, cond, not}
 use mathlib.Core.List.{List, [], _∷_}

@@ -96,7 +96,7 @@ lowestOf k b w = cond (lowestOpen k b) (lowestIn k w (lowestRank k b)) noLowest
 unfoldable pub tailLeft : ℕ → ℕ → ℕ
 tailLeft next tail = cond (eqb next 0) 0 tail
 
--- "Pop takes the head of the lowest rank. The freed node gets tag 0 and becomes first in the free chain"
+-- "Pop takes the head of the lowest rank. The freed node gets tag 0 and becomes first in the free chain"; length 0 too
 abbrev pub takes : Lay → List ℕ → Lowest → List (ℕ × ℕ)
 takes k w low =
     (headAt k (low .rank), low .next)

@@ -29,10 +29,10 @@ leastStoreys = 2
 abbrev pub mostStoreys : ℕ
 mostStoreys = 3
 
--- ---- a node: "A node is a tag and a next". Beside its next it carries a load
+-- ---- a node: "A node is a tag and a next", and "a bucket node three" words (02 [9]): tag, length, next. Beside its next it carries a load
 
 abbrev pub loadWords : ℕ
-loadWords = 1
+loadWords = 2
 
 abbrev pub nodeWords : ℕ
 nodeWords = loadWords + 1
@@ -46,24 +46,25 @@ nextIn stem l = cell stem l loadWords
 
 pub record Load : Type 0 where
   pub tag : ℕ
+  pub length : ℕ
 
 -- what stands of it in the words, and what is written
 abbrev pub loadIn : ℕ → List ℕ → ℕ → Load
-loadIn stem w l = record { tag = word w (cell stem l 0) }
+loadIn stem w l = record { tag = word w (cell stem l 0); length = word w (cell stem l 1) }
 
 abbrev pub loadWrites : ℕ → ℕ → Load → List (ℕ × ℕ)
-loadWrites stem l t = (cell stem l 0, t .tag) ∷ []
+loadWrites stem l t = (cell stem l 0, t .tag) ∷ (cell stem l 1, t .length) ∷ []
 
 -- of an element, and back
 abbrev pub loadOf : Element → Load
-loadOf e = record { tag = e .tag .0 }
+loadOf e = record { tag = e .tag .0; length = e .length .0 }
 
 abbrev pub loaded : ℕ → Load → Element
-loaded r t = element r (t .tag)
+loaded r t = element r (t .tag) (t .length)
 
--- "The freed node gets tag 0"
+-- "The freed node gets tag 0", and length 0
 abbrev pub noLoad : Load
-noLoad = record { tag = 0 }
+noLoad = record { tag = 0; length = 0 }
 
 -- ---- places
 
@@ -100,7 +101,7 @@ pub record Laid (k : Lay) : Type 0 where
 
 -- ---- one queue in a store of its own
 
--- so many storeys, words of bits, ranks and nodes: as many heads as ranks, as many tails, "N pairs of tag and next, free link, held"
+-- so many storeys, words of bits, ranks and nodes: as many heads as ranks, as many tails, "N pairs of tag and next, free link, held", with the length between tag and next
 abbrev pub layOf : (storeys tower ranks nodes : ℕ) → Lay
 layOf d tower ranks n =
     record {

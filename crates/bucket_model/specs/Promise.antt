@@ -1,6 +1,6 @@
 -- What is promised of the bucket queue's words, beside the plain queue. These are definitions.
 use mathlib.Core.Bool.{Bool}
-use mathlib.Core.List.{List, [], _∷_}
+use mathlib.Core.List.{List, [], _∷_, map}
 use mathlib.Core.Path.{_≡_}
 use Prim.Native.Nat.{ℕ, _+_, _*_, _/_, _%_, _≤_, _<_}
 use lib.ListN.{length}
@@ -9,6 +9,7 @@ use Rattle.laws.specs.Lists.{All}
 use Rattle.laws.specs.Means.{Iff}
 use Rattle.promise.specs.Queue as served
 use Rattle.promise.specs.Queue.{Pins}
+use Rattle.promise.specs.Lengths.{short, shortRequest, shortAnswer}
 use Rattle.strip.specs.declared.Answer.{Answer}
 use Rattle.strip.specs.declared.Answer.the-variants.{Done}
 use Rattle.strip.specs.declared.Element.{Element}
@@ -18,7 +19,7 @@ use Rattle.bucket_model.specs.Layout.{Lay, queue, bitWords, storeWords, 
 use Rattle.bucket_model.specs.Storeys.{Storey, storeysAt}
 use Rattle.bucket_model.specs.Calls.{Outcome, cleared, pushed, popped, replaced, heldCount}
 use Rattle.bucket_model.specs.Causes.{Shaped, bitNo}
-use Rattle.bucket_model.specs.Plain.{Store, store, asked, walk, lane, stored, times}
+use Rattle.bucket_model.specs.Plain.{Call, ask, held, Said, answered, counted, Store, store, asked, walk, lane, stored, times}
 
 -- "any two outcomes allowed by the statement are shown equal", call by call
 pub record Pinned (k : Lay) (b w : List ℕ) : Type 0 where
@@ -56,9 +57,9 @@ pub record Shape (d : Depth) (n bitsLong wordsLong : ℕ) : Type 0 where
   pub low : 1 ≤ n
   pub high : n ≤ 65536
   pub bits : d .bits ≤ bitsLong
-  pub words : 2 * d .ranks + 2 * n + 2 ≤ wordsLong
+  pub words : 2 * d .ranks + 3 * n + 2 ≤ wordsLong
 
--- the storeys' words; "4,096 heads, 4,096 tails, N pairs of tag and next, free link, held", with as many heads and tails as ranks; "Links are node number plus one": node i has link i + 1
+-- the storeys' words; "4,096 heads, 4,096 tails, N pairs of tag and next, free link, held", with as many heads and tails as ranks, and the length between tag and next; "Links are node number plus one": node i has link i + 1
 pub record Lies (d : Depth) (n : ℕ) : Type 0 where
   pub ranks : queue (d .storeys) n .ranks ≡ d .ranks
   pub nodes : queue (d .storeys) n .nodes ≡ n
@@ -66,28 +67,30 @@ pub record Lies (d : Depth) (n : ℕ) : Type 0 where
   pub bits : bitWords (queue (d .storeys) n) ≡ d .bits
   pub head : (r : ℕ) → headAt (queue (d .storeys) n) r ≡ r
   pub tail : (r : ℕ) → tailAt (queue (d .storeys) n) r ≡ d .ranks + r
-  pub tag : (w : List ℕ) (i : ℕ) → loadIn (queue (d .storeys) n .stem) w (i + 1) .tag ≡ word w (2 * d .ranks + 2 * i)
-  pub next : (i : ℕ) → nextAt (queue (d .storeys) n) (i + 1) ≡ 2 * d .ranks + 2 * i + 1
-  pub free : queue (d .storeys) n .free ≡ 2 * d .ranks + 2 * n
-  pub held : queue (d .storeys) n .held ≡ 2 * d .ranks + 2 * n + 1
-  pub words : storeWords (queue (d .storeys) n) ≡ 2 * d .ranks + 2 * n + 2
+  pub tag : (w : List ℕ) (i : ℕ) → loadIn (queue (d .storeys) n .stem) w (i + 1) .tag ≡ word w (2 * d .ranks + 3 * i)
+  pub lengths : (w : List ℕ) (i : ℕ) → loadIn (queue (d .storeys) n .stem) w (i + 1) .length ≡ word w (2 * d .ranks + 3 * i + 1)
+  pub next : (i : ℕ) → nextAt (queue (d .storeys) n) (i + 1) ≡ 2 * d .ranks + 3 * i + 2
+  pub free : queue (d .storeys) n .free ≡ 2 * d .ranks + 3 * n
+  pub held : queue (d .storeys) n .held ≡ 2 * d .ranks + 3 * n + 1
+  pub words : storeWords (queue (d .storeys) n) ≡ 2 * d .ranks + 3 * n + 2
   pub shaped : (b w : List ℕ) → Iff (Shaped (queue (d .storeys) n) b w) (Shape d n (length b) (length w))
 
 -- ---- clear, word by word
 
--- bits 0; heads and tails 0; each node's tag 0, its next the link of the node after it, the last none; free link 1; held 0. Behind the shape every word is as before, and no slice is longer or shorter
+-- bits 0; heads and tails 0; each node's tag 0, its length 0, its next the link of the node after it, the last none; free link 1; held 0. Behind the shape every word is as before, and no slice is longer or shorter
 pub record Blank (d : Depth) (n : ℕ) (b w : List ℕ) (o : Outcome) : Type 0 where
   pub answer : o .answer ≡ Done
   pub bits : (i : ℕ) → i < d .bits → word (o .bits) i ≡ 0
   pub head : (r : ℕ) → r < d .ranks → word (o .words) r ≡ 0
   pub tail : (r : ℕ) → r < d .ranks → word (o .words) (d .ranks + r) ≡ 0
-  pub tag : (i : ℕ) → i < n → word (o .words) (2 * d .ranks + 2 * i) ≡ 0
-  pub next : (i : ℕ) → i + 1 < n → word (o .words) (2 * d .ranks + 2 * i + 1) ≡ i + 2
-  pub last : (i : ℕ) → i + 1 ≡ n → word (o .words) (2 * d .ranks + 2 * i + 1) ≡ 0
-  pub free : word (o .words) (2 * d .ranks + 2 * n) ≡ 1
-  pub held : word (o .words) (2 * d .ranks + 2 * n + 1) ≡ 0
+  pub tag : (i : ℕ) → i < n → word (o .words) (2 * d .ranks + 3 * i) ≡ 0
+  pub lengths : (i : ℕ) → i < n → word (o .words) (2 * d .ranks + 3 * i + 1) ≡ 0
+  pub next : (i : ℕ) → i + 1 < n → word (o .words) (2 * d .ranks + 3 * i + 2) ≡ i + 2
+  pub last : (i : ℕ) → i + 1 ≡ n → word (o .words) (2 * d .ranks + 3 * i + 2) ≡ 0
+  pub free : word (o .words) (2 * d .ranks + 3 * n) ≡ 1
+  pub held : word (o .words) (2 * d .ranks + 3 * n + 1) ≡ 0
   pub bits-rest : (i : ℕ) → d .bits ≤ i → word (o .bits) i ≡ word b i
-  pub words-rest : (i : ℕ) → 2 * d .ranks + 2 * n + 2 ≤ i → word (o .words) i ≡ word w i
+  pub words-rest : (i : ℕ) → 2 * d .ranks + 3 * n + 2 ≤ i → word (o .words) i ≡ word w i
   pub bits-long : length (o .bits) ≡ length b
   pub words-long : length (o .words) ≡ length w
 
@@ -130,10 +133,26 @@ pub record BitsTellThree (n : ℕ) (s : Store) : Type 0 where
 
 -- ---- the free chain
 
--- "The freed node gets tag 0": from the free link on stand as many nodes as are not held, each with tag 0
+-- "The freed node gets tag 0", and length 0: from the free link on stand as many nodes as are not held, each with tag 0 and length 0
 pub record Spare (k : Lay) (s : Store) : Type 0 where
   pub many : length (walk (k .stem) (s .words) (k .nodes) (word (s .words) (k .free))) + word (s .words) (k .held) ≡ k .nodes
   pub tags : All (λ t. t .tag ≡ 0) (walk (k .stem) (s .words) (k .nodes) (word (s .words) (k .free)))
+  pub lengths : All (λ t. t .length ≡ 0) (walk (k .stem) (s .words) (k .nodes) (word (s .words) (k .free)))
+
+-- ---- the length decides nothing: what is asked and what is said, with every length left out
+
+abbrev pub shortCall : Call → Call
+shortCall (ask q) = ask (shortRequest q)
+shortCall held = held
+
+abbrev pub shortSaid : Said → Said
+shortSaid (answered a) = answered (shortAnswer a)
+shortSaid (counted c) = counted c
+
+-- two runs: what is said and what is held then, alike in rank and tag
+pub record Blind (said said′ : List Said) (left left′ : List Element) : Type 0 where
+  pub says : map shortSaid said ≡ map shortSaid said′
+  pub holds : map short left ≡ map short left′
 
 -- ---- replace
 

@@ -8,7 +8,7 @@ use Rattle.strip.specs.declared.Element.{Element}
 use Rattle.bucket_model.specs.declared.Lay.{Lay}
 use Rattle.bucket_model.specs.declared.Lowest.{Lowest}
 use Rattle.bucket_model.specs.declared.Room.{Room}
-use Rattle.bucket_model.specs.Layout.{nodeWords, word, write, headAt, tailAt, nextAt, loadWrites, loadOf, noLoad}
+use Rattle.bucket_model.specs.Layout.{loadWords, nodeWords, word, write, headAt, tailAt, nextAt, loadWrites, loadOf, noLoad}
 use Rattle.bucket_model.specs.Checks.{nextOf}
 use Rattle.bucket_model.specs.Calls.{tailLeft, takenWords, linkAt, joinedWords, blankCell, blankWord}
 use Rattle.bucket_model.proofs.Swapped.{swapped}
@@ -45,22 +45,22 @@ module _ (k : Lay) (r tail : ℕ) (h : Linkable k r tail) where
   link-next n = (rw (ne-eqb tail 0 n) refl, omega (arith, h .tail≤, h .laid .pool))
 
 module _ (n l i : ℕ) where
-  pub cell-load : (i ≡ 1 → ⊥) → 0 ≡ blankCell n l i
-  cell-load e = rw (ne-eqb i 1 e) refl
+  pub cell-load : (i ≡ loadWords → ⊥) → 0 ≡ blankCell n l i
+  cell-load e = rw (ne-eqb i loadWords e) refl
 
-  pub cell-last : i ≡ 1 → l ≡ n → 0 ≡ blankCell n l i
-  cell-last e p = rw (eq-eqb i 1 e, eq-eqb l n p) refl
+  pub cell-last : i ≡ loadWords → l ≡ n → 0 ≡ blankCell n l i
+  cell-last e p = rw (eq-eqb i loadWords e, eq-eqb l n p) refl
 
-  pub cell-next : i ≡ 1 → (l ≡ n → ⊥) → l + 1 ≡ blankCell n l i
-  cell-next e p = rw (eq-eqb i 1 e, ne-eqb l n p) refl
+  pub cell-next : i ≡ loadWords → (l ≡ n → ⊥) → l + 1 ≡ blankCell n l i
+  cell-next e p = rw (eq-eqb i loadWords e, ne-eqb l n p) refl
 
 module _ (k : Lay) (j : ℕ) where
-  pub blank-list : j < k .stem + 2 → 0 ≡ blankWord k j
+  pub blank-list : j < k .stem + nodeWords → 0 ≡ blankWord k j
   unfolding blankWord
   blank-list h = rw (lt-ltb j (k .stem + nodeWords) h) refl
 
-  module _ (h : k .stem + 2 ≤ j) where
-    pub blank-node : (x : ℕ) → j < k .free → x ≡ blankCell (k .nodes) ((j - k .stem) / 2) ((j - k .stem) % 2) → x ≡ blankWord k j
+  module _ (h : k .stem + nodeWords ≤ j) where
+    pub blank-node : (x : ℕ) → j < k .free → x ≡ blankCell (k .nodes) ((j - k .stem) / nodeWords) ((j - k .stem) % nodeWords) → x ≡ blankWord k j
     unfolding blankWord
     blank-node x l e = rw (le-ltb j (k .stem + nodeWords) h, lt-ltb j (k .free) l) e
 

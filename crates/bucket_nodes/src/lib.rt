@@ -5,6 +5,7 @@ use bucket_model::Lay;
 use bucket_model::Lowest;
 use bucket_model::Room;
 use strip::Element;
+use strip::Length;
 use strip::Rank;
 use strip::Tag;
 ghost use mathlib.Core.Path.{_≡_};
@@ -29,16 +30,18 @@ const TOWER_DEEP: usize = 1 + 64 * TOWER;
 
 const RANKS_DEEP: u32 = 64 * RANKS;
 
-// The words of a node, and which of them is its tag and which its next.
-const NODE: usize = 2;
+// The words of a node, and which of them is its tag, which its length and which its next.
+const NODE: usize = 3;
 
 const TAG: usize = 0;
 
-const NEXT: usize = 1;
+const LENGTH: usize = 1;
+
+const NEXT: usize = 2;
 
 // Where the words of a queue stand that has so many storeys, words of bits, ranks and nodes.
 fn lay_of(storeys: usize, tower: usize, ranks: u32, n: u32) -> Lay
-    requires { ⌜ 1 ≤ ranks ⌝ }
+    requires { ⌜ 2 ≤ ranks ⌝ }
     ensures { λ r. ⌜ r ≡ layout.layOf storeys tower ranks n ⌝ }
 {
     let lists = 2 * (ranks as usize);
@@ -118,10 +121,13 @@ pub fn element_of(words: &[u32], k: Lay, rank: u32, link: u32) -> Element
     requires { ⌜ NodeOf k (now words) link ⌝ }
     ensures { λ r. ⌜ r ≡ loaded rank (loadIn (k .stem) (now (words .entry)) link) ⌝ }
 {
-    let tag = words[k.stem + NODE * (link as usize) + TAG];
+    let node = k.stem + NODE * (link as usize);
+    let tag = words[node + TAG];
+    let length = words[node + LENGTH];
     Element {
         rank: Rank(rank),
         tag: Tag(tag),
+        length: Length(length),
     }
 }
 
@@ -152,6 +158,7 @@ pub fn take_words(words: &mut [u32], k: Lay, low: Lowest)
     words[head_at] = low.next;
     words[head_at + k.ranks as usize] = tail;
     words[node + TAG] = 0;
+    words[node + LENGTH] = 0;
     words[node + NEXT] = free;
     words[free_at] = low.head;
     words[held_at] = held - 1;
@@ -178,6 +185,7 @@ pub fn join_words(words: &mut [u32], k: Lay, e: Element, to: Room)
 {
     let rank = e.rank;
     let tag = e.tag;
+    let length = e.length;
     let free_at = k.free;
     let held_at = k.held;
     let free = words[free_at];
@@ -188,6 +196,7 @@ pub fn join_words(words: &mut [u32], k: Lay, e: Element, to: Room)
     let tail_at = k.heads + rank.0 as usize + k.ranks as usize;
     words[free_at] = to.next;
     words[node + TAG] = tag.0;
+    words[node + LENGTH] = length.0;
     words[node + NEXT] = 0;
     words[link] = free;
     words[tail_at] = free;
@@ -203,7 +212,8 @@ pub fn swap_words(words: &mut [u32], k: Lay, low: Lowest, e: Element, to: Room)
     ensures { λ _. ⌜ now (words .exit) ≡ joinedWords k (takenWords k (now (words .entry)) low) e to ⌝ }
 {
     let rank = e.rank;
-    let load = e.tag;
+    let new_tag = e.tag;
+    let new_length = e.length;
     let head_at = k.heads + low.rank as usize;
     let node = k.stem + NODE * (low.head as usize);
     let left = tail_left(low.next, low.tail);
@@ -211,7 +221,8 @@ pub fn swap_words(words: &mut [u32], k: Lay, low: Lowest, e: Element, to: Room)
     let tail_at = k.heads + rank.0 as usize + k.ranks as usize;
     words[head_at] = low.next;
     words[head_at + k.ranks as usize] = left;
-    words[node + TAG] = load.0;
+    words[node + TAG] = new_tag.0;
+    words[node + LENGTH] = new_length.0;
     words[node + NEXT] = 0;
     words[link] = low.head;
     words[tail_at] = low.head;

@@ -8,7 +8,7 @@ use lib.Dec.{leb, ltb}
 use lib.ListN.{getD, length, set}
 use borrow.Author.Tests.{eq-eqb, le-leb, lt-leb, ne-eqb, not-false, not-true}
 use Rattle.card.specs.Clocked.{clockedAfterOut, clockedClear, clockedCycle, clockedDrain, cycleOf, drainOf, drainOut, markBack, ran, recordsBack, requestOf, clockedAfter, clearOf, saysNo, stateIn, taken}
-use Rattle.card.specs.Out.{answerOut, refusedOut}
+use Rattle.card.specs.Out.{answerOut, answerWords, drainWords, refusedOut, zeros}
 use Rattle.card_records.proofs.Nodes.{drained-fits, Fits, fresh-fit, read-fits, cycled-fits}
 use Rattle.card_records.proofs.Records.{lent, readable-roomy}
 use Rattle.card_records.specs.Records.{Fit, Lent, wordLimit, markWritten, readable, roomy, stateRead, worksWritten}
@@ -34,21 +34,21 @@ use Rattle.tree_model.specs.Calls.{shapeOk}
 use Rattle.tree_model.specs.Words.{wipe}
 
 -- ---- the tests
-pub request-idle : (n rank tag : ℕ) → (n ≡ 1 → ⊥) → (n ≡ 2 → ⊥) → (n ≡ 3 → ⊥) → Idle ≡ requestOf n rank tag
+pub request-idle : (n rank tag bytes : ℕ) → (n ≡ 1 → ⊥) → (n ≡ 2 → ⊥) → (n ≡ 3 → ⊥) → Idle ≡ requestOf n rank tag bytes
 unfolding requestOf
-request-idle n rank tag a b d = rw (ne-eqb n 1 a, ne-eqb n 2 b, ne-eqb n 3 d)
+request-idle n rank tag bytes a b d = rw (ne-eqb n 1 a, ne-eqb n 2 b, ne-eqb n 3 d)
 
-pub request-push : (n rank tag : ℕ) → n ≡ 1 → Push (element rank tag) ≡ requestOf n rank tag
+pub request-push : (n rank tag bytes : ℕ) → n ≡ 1 → Push (element rank tag bytes) ≡ requestOf n rank tag bytes
 unfolding requestOf
-request-push n rank tag e = rw (eq-eqb n 1 e)
+request-push n rank tag bytes e = rw (eq-eqb n 1 e)
 
-pub request-pop : (n rank tag : ℕ) → (n ≡ 1 → ⊥) → n ≡ 2 → Pop ≡ requestOf n rank tag
+pub request-pop : (n rank tag bytes : ℕ) → (n ≡ 1 → ⊥) → n ≡ 2 → Pop ≡ requestOf n rank tag bytes
 unfolding requestOf
-request-pop n rank tag a e = rw (ne-eqb n 1 a, eq-eqb n 2 e)
+request-pop n rank tag bytes a e = rw (ne-eqb n 1 a, eq-eqb n 2 e)
 
-pub request-replace : (n rank tag : ℕ) → (n ≡ 1 → ⊥) → (n ≡ 2 → ⊥) → n ≡ 3 → Replace (element rank tag) ≡ requestOf n rank tag
+pub request-replace : (n rank tag bytes : ℕ) → (n ≡ 1 → ⊥) → (n ≡ 2 → ⊥) → n ≡ 3 → Replace (element rank tag bytes) ≡ requestOf n rank tag bytes
 unfolding requestOf
-request-replace n rank tag a b e = rw (ne-eqb n 1 a, ne-eqb n 2 b, eq-eqb n 3 e)
+request-replace n rank tag bytes a b e = rw (ne-eqb n 1 a, ne-eqb n 2 b, eq-eqb n 3 e)
 
 module _ (m levels n : ℕ) (rs mark : List ℕ) (request : ℕ) where
   pub taken-shapeless : (t : Bool) → t ≡ shapeOk m levels n → not t ≡ true → false ≡ taken m levels n rs mark request
@@ -166,28 +166,28 @@ module _ (m levels : ℕ) (ws rs mark : List ℕ) (f : Shape) (t : Taken m level
         (subst (λ (o : DrainOutcome). Fits levels (o .state)) (sym (drain-levels m levels ws f (t .shaped) (t .fits) budget state _ o)) (drained-fits m levels budget state ws state-fits))
 
   -- the calls' outcomes
-  module _ (out : List ℕ) (room : 2 ≤ length out) where
-    pub cycle-done : (request rank tag : ℕ) → taken m levels (length ws) rs mark request ≡ true → (asked : Request) (state : State) (a : Answer) (after : List ℕ) (s : State) (n : ℕ) (r : Bool) (rs₁ mark₁ out₁ : List ℕ)
-        → asked ≡ requestOf request rank tag → state ≡ stateRead (f .below) rs mark → cycleOutcome a after s ≡ cycled m (suc (f .below)) asked state ws
+  module _ (out : List ℕ) where
+    pub cycle-done : answerWords ≤ length out → (request rank tag bytes : ℕ) → taken m levels (length ws) rs mark request ≡ true → (asked : Request) (state : State) (a : Answer) (after : List ℕ) (s : State) (n : ℕ) (r : Bool) (rs₁ mark₁ out₁ : List ℕ)
+        → asked ≡ requestOf request rank tag bytes → state ≡ stateRead (f .below) rs mark → cycleOutcome a after s ≡ cycled m (suc (f .below)) asked state ws
         → r ≡ ran (numberOf a) → Back (f .below) rs mark r s rs₁ mark₁ → (n ≡ numberOf a) × (out₁ ≡ answerOut a out)
-        → clockedAfterOut n after rs₁ mark₁ out₁ ≡ clockedCycle m levels ws rs mark request rank tag out
+        → clockedAfterOut n after rs₁ mark₁ out₁ ≡ clockedCycle m levels ws rs mark request rank tag bytes out
     unfolding clockedCycle
-    cycle-done request rank tag passed asked state a after s n r rs₁ mark₁ out₁ h k o q back told =
+    cycle-done room request rank tag bytes passed asked state a after s n r rs₁ mark₁ out₁ h k o q back told =
         let handed = back-is r s rs₁ mark₁ back in
-        rw (le-leb 2 (length out) room, passed)
+        rw (le-leb answerWords (length out) room, passed)
         ((λ i. record { number = told .0 i; store = after; records = handed .0 i; mark = handed .1 i; out = told .1 i })
         ∙ ap (λ (r : Bool). clockedAfterOut (numberOf a) after (recordsBack levels rs mark r s) (markBack levels rs mark r s) (answerOut a out)) q
         ∙ ap (λ (o : CycleOutcome). cycleOf levels rs mark o out)
         (cycle-levels m levels ws f (t .shaped) (t .fits) asked state _ o ∙ ap₂ (λ (q : Request) (s : State). cycled m levels q s ws) h (state-is state k)))
 
-    pub drain-done : (budget : ℕ) → taken m levels (length ws) rs mark 0 ≡ true → (state : State) (a : Answer) (cycles : ℕ) (left : Bool) (after : List ℕ) (s : State) (n : ℕ) (rs₁ mark₁ out₁ : List ℕ)
+    pub drain-done : drainWords ≤ length out → (budget : ℕ) → taken m levels (length ws) rs mark 0 ≡ true → (state : State) (a : Answer) (cycles : ℕ) (left : Bool) (after : List ℕ) (s : State) (n : ℕ) (rs₁ mark₁ out₁ : List ℕ)
         → state ≡ stateRead (f .below) rs mark → drainOutcome a cycles left after s ≡ drains m (suc (f .below)) budget state ws
         → Back (f .below) rs mark (ltb 0 cycles) s rs₁ mark₁ → (n ≡ numberOf a) × (out₁ ≡ drainOut cycles left out)
         → clockedAfterOut n after rs₁ mark₁ out₁ ≡ clockedDrain m levels ws rs mark budget out
     unfolding clockedDrain
-    drain-done budget passed state a cycles left after s n rs₁ mark₁ out₁ k o back told =
+    drain-done room budget passed state a cycles left after s n rs₁ mark₁ out₁ k o back told =
         let handed = back-is (ltb 0 cycles) s rs₁ mark₁ back in
-        rw (le-leb 2 (length out) room, passed)
+        rw (le-leb drainWords (length out) room, passed)
         ((λ i. record { number = told .0 i; store = after; records = handed .0 i; mark = handed .1 i; out = told .1 i })
         ∙ ap (λ (o : DrainOutcome). drainOf levels rs mark o out)
         (drain-levels m levels ws f (t .shaped) (t .fits) budget state _ o ∙ ap (λ (s : State). drains m levels budget s ws) (state-is state k)))
@@ -198,35 +198,35 @@ module _ (m levels : ℕ) (ws rs mark : List ℕ) where
   unfolding clockedClear
   clear-shape t p f = rw (sym p ∙ not-true t f)
 
-  no-short : (out : List ℕ) → length out < 2 → clockedAfterOut 1 ws rs mark out ≡ saysNo m levels ws rs mark out
+  no-short : (n : ℕ) (out : List ℕ) → length out < n → clockedAfterOut 1 ws rs mark out ≡ saysNo m levels ws rs mark n out
   unfolding refusedOut
-  no-short out h = rw (lt-leb 2 (length out) h)
+  no-short n out h = rw (lt-leb n (length out) h)
 
-  no-zeros : (out : List ℕ) → 2 ≤ length out → (n : ℕ) (out₁ : List ℕ) → n ≡ 1 → out₁ ≡ set (set out 0 0) 1 0 → clockedAfterOut n ws rs mark out₁ ≡ saysNo m levels ws rs mark out
+  no-zeros : (n : ℕ) (out : List ℕ) → n ≤ length out → (said : ℕ) (out₁ : List ℕ) → said ≡ 1 → out₁ ≡ zeros n out → clockedAfterOut said ws rs mark out₁ ≡ saysNo m levels ws rs mark n out
   unfolding refusedOut
-  no-zeros out h n out₁ e z = rw (le-leb 2 (length out) h) (λ i. record { number = e i; store = ws; records = rs; mark = mark; out = z i })
+  no-zeros n out h said out₁ e z = rw (le-leb n (length out) h) (λ i. record { number = e i; store = ws; records = rs; mark = mark; out = z i })
 
-  module _ (out : List ℕ) (request rank tag : ℕ) where
-    pub cycle-short : length out < 2 → clockedAfterOut 1 ws rs mark out ≡ clockedCycle m levels ws rs mark request rank tag out
+  module _ (out : List ℕ) (request rank tag bytes : ℕ) where
+    pub cycle-short : length out < answerWords → clockedAfterOut 1 ws rs mark out ≡ clockedCycle m levels ws rs mark request rank tag bytes out
     unfolding clockedCycle
-    cycle-short h = rw (lt-leb 2 (length out) h) (no-short out h)
+    cycle-short h = rw (lt-leb answerWords (length out) h) (no-short answerWords out h)
 
-    pub cycle-refused : 2 ≤ length out → (b : Bool) → b ≡ taken m levels (length ws) rs mark request → not b ≡ true → (n : ℕ) (out₁ : List ℕ)
+    pub cycle-refused : answerWords ≤ length out → (b : Bool) → b ≡ taken m levels (length ws) rs mark request → not b ≡ true → (n : ℕ) (out₁ : List ℕ)
         → (n ≡ numberOf (Refused BadShape)) × (out₁ ≡ answerOut (Refused BadShape) out)
-        → clockedAfterOut n ws rs mark out₁ ≡ clockedCycle m levels ws rs mark request rank tag out
+        → clockedAfterOut n ws rs mark out₁ ≡ clockedCycle m levels ws rs mark request rank tag bytes out
     unfolding clockedCycle blank
-    cycle-refused room b tested e n out₁ told = rw (le-leb 2 (length out) room, sym tested ∙ not-true b e) (no-zeros out room n out₁ (told .0) (told .1))
+    cycle-refused room b tested e n out₁ told = rw (le-leb answerWords (length out) room, sym tested ∙ not-true b e) (no-zeros answerWords out room n out₁ (told .0) (told .1))
 
   module _ (out : List ℕ) (budget : ℕ) where
-    pub drain-short : length out < 2 → clockedAfterOut 1 ws rs mark out ≡ clockedDrain m levels ws rs mark budget out
+    pub drain-short : length out < drainWords → clockedAfterOut 1 ws rs mark out ≡ clockedDrain m levels ws rs mark budget out
     unfolding clockedDrain
-    drain-short h = rw (lt-leb 2 (length out) h) (no-short out h)
+    drain-short h = rw (lt-leb drainWords (length out) h) (no-short drainWords out h)
 
-    pub drain-refused : 2 ≤ length out → (b : Bool) → b ≡ taken m levels (length ws) rs mark 0 → not b ≡ true → (n : ℕ) (out₁ : List ℕ)
+    pub drain-refused : drainWords ≤ length out → (b : Bool) → b ≡ taken m levels (length ws) rs mark 0 → not b ≡ true → (n : ℕ) (out₁ : List ℕ)
         → (n ≡ numberOf (Refused BadShape)) × (out₁ ≡ drainOut 0 false out)
         → clockedAfterOut n ws rs mark out₁ ≡ clockedDrain m levels ws rs mark budget out
     unfolding clockedDrain
-    drain-refused room b tested e n out₁ told = rw (le-leb 2 (length out) room, sym tested ∙ not-true b e) (no-zeros out room n out₁ (told .0) (told .1))
+    drain-refused room b tested e n out₁ told = rw (le-leb drainWords (length out) room, sym tested ∙ not-true b e) (no-zeros drainWords out room n out₁ (told .0) (told .1))
 
 -- no more cycles than the budget
 pub drain-few : (m levels : ℕ) (ws : List ℕ) (budget : ℕ) (state : State) (a : Answer) (cycles : ℕ) (left : Bool) (after : List ℕ) (s : State)

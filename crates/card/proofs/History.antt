@@ -12,7 +12,7 @@ use borrow.Author.Tests.{le-leb, ltb-false}
 use Rattle.card.proofs.Clocked.{shape-few}
 use Rattle.card.specs.Clocked.{ClockedAfterOut, clockedClear, clockedCycle, clockedDrain, cycleOf, drainOf, drainOut, markBack, ran, recordsBack, requestOf, clockedAfter, ClockedAfter, clearOf, saysNo, stateIn, taken}
 use Rattle.card.specs.History.{asks, broughtBy, Call, callC, callM, codeOf, Did, drain, Holds, leftC, leftM, saidC, saidM}
-use Rattle.card.specs.Out.{answerOut, badShape, CountAfter, countAfter}
+use Rattle.card.specs.Out.{answerOut, answerWords, badShape, CountAfter, countAfter, drainWords}
 use Rattle.card_records.proofs.Alike.{Alike, drains-kept, drains-same, SameCycle, SameDrain, cycled-records, cycled-same}
 use Rattle.card_records.proofs.Handed.{handed-on, mark-on, readable-again}
 use Rattle.card_records.proofs.Nodes.{works-few}
@@ -40,7 +40,7 @@ use Rattle.tree_model.specs.Levels.{idle}
 use Rattle.tree_model.specs.Words.{wipe}
 
 -- ---- a request handed over
-request-handed : (r : Request) → requestOf (codeOf r) (broughtBy r .rank .0) (broughtBy r .tag .0) ≡ r
+request-handed : (r : Request) → requestOf (codeOf r) (broughtBy r .rank .0) (broughtBy r .tag .0) (broughtBy r .length .0) ≡ r
 unfolding requestOf codeOf broughtBy
 request-handed Idle = refl
 request-handed (Push x) = refl
@@ -102,7 +102,7 @@ record Goes (m levels : ℕ) (b : ClockedAfterOut) (d : Did) : Type 0 where
   holds : Holds levels (b .records) (b .mark) (d .state)
   shape : shapeOk m levels (length (d .words)) ≡ true
 
-module _ (m levels : ℕ) (out : List ℕ) (room : 2 ≤ length out) (s : State) (ws rs mark : List ℕ) (shape : shapeOk m levels (length ws) ≡ true) (q : Holds levels rs mark s) where
+module _ (m levels : ℕ) (out : List ℕ) (room : answerWords ≤ length out) (s : State) (ws rs mark : List ℕ) (shape : shapeOk m levels (length ws) ≡ true) (q : Holds levels rs mark s) where
   abbrev t : State
   t = stateIn levels rs mark
 
@@ -115,10 +115,10 @@ module _ (m levels : ℕ) (out : List ℕ) (room : 2 ≤ length out) (s : State)
   roomed : roomy (levels - 1) rs mark ≡ true
   roomed = readable-roomy (levels - 1) rs mark (q .read)
 
-  takes : (request : ℕ) → leb request 3 ≡ true → (leb 2 (length out) && taken m levels (length ws) rs mark request) ≡ true
+  takes : (words : ℕ) → words ≤ length out → (request : ℕ) → leb request 3 ≡ true → (leb words (length out) && taken m levels (length ws) rs mark request) ≡ true
   unfolding taken
-  takes request e =
-      and-true (leb 2 (length out)) (taken m levels (length ws) rs mark request) (le-leb 2 (length out) room)
+  takes words h request e =
+      and-true (leb words (length out)) (taken m levels (length ws) rs mark request) (le-leb words (length out) h)
       (and-true (shapeOk m levels (length ws)) (leb request 3 && readable (levels - 1) rs mark) shape (and-true (leb request 3) (readable (levels - 1) rs mark) e (q .read)))
 
   -- records and mark written back where a cycle ran, from a state that goes on as u does, or standing where u is the state held
@@ -148,9 +148,9 @@ module _ (m levels : ℕ) (out : List ℕ) (room : 2 ≤ length out) (s : State)
       same : SameCycle (pred levels) o p
       same = cycled-same m levels r t s ws alike
 
-      here : clockedCycle m levels ws rs mark (codeOf r) (broughtBy r .rank .0) (broughtBy r .tag .0) out ≡ cycleOf levels rs mark o out
+      here : clockedCycle m levels ws rs mark (codeOf r) (broughtBy r .rank .0) (broughtBy r .tag .0) (broughtBy r .length .0) out ≡ cycleOf levels rs mark o out
       here =
-          ap (λ (b : Bool). cond b (cycleOf levels rs mark (cycled m levels (requestOf (codeOf r) (broughtBy r .rank .0) (broughtBy r .tag .0)) t ws) out) (saysNo m levels ws rs mark out)) (takes (codeOf r) (code-low r))
+          ap (λ (b : Bool). cond b (cycleOf levels rs mark (cycled m levels (requestOf (codeOf r) (broughtBy r .rank .0) (broughtBy r .tag .0) (broughtBy r .length .0)) t ws) out) (saysNo m levels ws rs mark answerWords out)) (takes answerWords room (codeOf r) (code-low r))
           ∙ ap (λ (r : Request). cycleOf levels rs mark (cycled m levels r t ws) out) (request-handed r)
 
       stood : ran (numberOf (o .answer)) ≡ false → p .state ≡ s
@@ -180,7 +180,7 @@ module _ (m levels : ℕ) (out : List ℕ) (room : 2 ≤ length out) (s : State)
       same = drains-same m levels budget t s ws alike
 
       here : clockedDrain m levels ws rs mark budget out ≡ drainOf levels rs mark d out
-      here = ap (λ (b : Bool). cond b (drainOf levels rs mark d out) (saysNo m levels ws rs mark out)) (takes 0 refl)
+      here = ap (λ (b : Bool). cond b (drainOf levels rs mark d out) (saysNo m levels ws rs mark drainWords out)) (takes drainWords (omega (arith, room)) 0 refl)
 
       stood : ltb 0 (d .cycles) ≡ false → e .state ≡ s
       stood f =
@@ -192,7 +192,7 @@ module _ (m levels : ℕ) (out : List ℕ) (room : 2 ≤ length out) (s : State)
   call-goes (drain budget) = drain-goes budget
 
 -- READABLE AGAIN: whatever a call through the boundary leaves of records and mark, the next can read
-module _ (m levels : ℕ) (out : List ℕ) (room : 2 ≤ length out) where
+module _ (m levels : ℕ) (out : List ℕ) (room : answerWords ≤ length out) where
   pub readable-next : (c : Call) (ws rs mark : List ℕ) → shapeOk m levels (length ws) ≡ true → readable (levels - 1) rs mark ≡ true
       → readable (levels - 1) (callC m levels out c ws rs mark .records) (callC m levels out c ws rs mark .mark) ≡ true
   readable-next c ws rs mark shape e = call-goes m levels out room (stateIn levels rs mark) ws rs mark shape (holds-read levels rs mark e) c .holds .read
@@ -244,7 +244,7 @@ module _ (m levels : ℕ) (ws rs mark : List ℕ) (shape : shapeOk m levels (len
   )
 
   -- .. and from there a list of calls answers and leaves what the model does from its own clear
-  pub history-cleared : (out : List ℕ) → 2 ≤ length out → (cs : List Call)
+  pub history-cleared : (out : List ℕ) → answerWords ≤ length out → (cs : List Call)
       → (saidC m levels out cs (b .store) (b .records) (b .mark) ≡ saidM m levels out cs (clearedMachine m levels ws .state) (clearedMachine m levels ws .words))
       × (leftC m levels out cs (b .store) (b .records) (b .mark) .store ≡ leftM m levels out cs (clearedMachine m levels ws .state) (clearedMachine m levels ws .words) .words)
       × Holds levels (leftC m levels out cs (b .store) (b .records) (b .mark) .records) (leftC m levels out cs (b .store) (b .records) (b .mark) .mark)

@@ -52,16 +52,16 @@ module _ (m levels : ℕ) (ws : List ℕ) (n k : ℕ) (v w : List ℕ) where
   pub pinned-tree-clear : treeAfter n v ≡ treeClear m levels ws → treeAfter k w ≡ treeClear m levels ws → (n ≡ k) × (v ≡ w)
   pinned-tree-clear p q = tree (treeClear m levels ws) n k v w p q
 
-  pub pinned-tree-push : (rank tag : ℕ) → treeAfter n v ≡ treePush m levels ws rank tag → treeAfter k w ≡ treePush m levels ws rank tag → (n ≡ k) × (v ≡ w)
-  pinned-tree-push rank tag p q = tree (treePush m levels ws rank tag) n k v w p q
+  pub pinned-tree-push : (rank tag bytes : ℕ) → treeAfter n v ≡ treePush m levels ws rank tag bytes → treeAfter k w ≡ treePush m levels ws rank tag bytes → (n ≡ k) × (v ≡ w)
+  pinned-tree-push rank tag bytes p q = tree (treePush m levels ws rank tag bytes) n k v w p q
 
   module _ (out x y : List ℕ) where
     pub pinned-tree-pop : treeAfterOut n v x ≡ treePop m levels ws out → treeAfterOut k w y ≡ treePop m levels ws out → (n ≡ k) × (v ≡ w) × (x ≡ y)
     pinned-tree-pop p q = tree-out (treePop m levels ws out) n k v w x y p q
 
-    pub pinned-tree-replace : (rank tag : ℕ) → treeAfterOut n v x ≡ treeReplace m levels ws rank tag out → treeAfterOut k w y ≡ treeReplace m levels ws rank tag out
+    pub pinned-tree-replace : (rank tag bytes : ℕ) → treeAfterOut n v x ≡ treeReplace m levels ws rank tag bytes out → treeAfterOut k w y ≡ treeReplace m levels ws rank tag bytes out
         → (n ≡ k) × (v ≡ w) × (x ≡ y)
-    pinned-tree-replace rank tag p q = tree-out (treeReplace m levels ws rank tag out) n k v w x y p q
+    pinned-tree-replace rank tag bytes p q = tree-out (treeReplace m levels ws rank tag bytes out) n k v w x y p q
 
 pub pinned-tree-held : (m levels : ℕ) (ws out : List ℕ) (n k : ℕ) (x y : List ℕ) → countAfter n x ≡ treeHeld m levels ws out → countAfter k y ≡ treeHeld m levels ws out
     → (n ≡ k) × (x ≡ y)
@@ -72,18 +72,18 @@ module _ (bits words : List ℕ) (storeys nodes : ℕ) (n k : ℕ) (a b v w : Li
   pub pinned-bucket-clear : bucketAfter n a v ≡ bucketClear bits words storeys nodes → bucketAfter k b w ≡ bucketClear bits words storeys nodes → (n ≡ k) × (a ≡ b) × (v ≡ w)
   pinned-bucket-clear p q = bucket (bucketClear bits words storeys nodes) n k a b v w p q
 
-  pub pinned-bucket-push : (rank tag : ℕ) → bucketAfter n a v ≡ bucketPush bits words storeys nodes rank tag → bucketAfter k b w ≡ bucketPush bits words storeys nodes rank tag
+  pub pinned-bucket-push : (rank tag bytes : ℕ) → bucketAfter n a v ≡ bucketPush bits words storeys nodes rank tag bytes → bucketAfter k b w ≡ bucketPush bits words storeys nodes rank tag bytes
       → (n ≡ k) × (a ≡ b) × (v ≡ w)
-  pinned-bucket-push rank tag p q = bucket (bucketPush bits words storeys nodes rank tag) n k a b v w p q
+  pinned-bucket-push rank tag bytes p q = bucket (bucketPush bits words storeys nodes rank tag bytes) n k a b v w p q
 
   module _ (out x y : List ℕ) where
     pub pinned-bucket-pop : bucketAfterOut n a v x ≡ bucketPop bits words storeys nodes out → bucketAfterOut k b w y ≡ bucketPop bits words storeys nodes out
         → (n ≡ k) × (a ≡ b) × (v ≡ w) × (x ≡ y)
     pinned-bucket-pop p q = bucket-out (bucketPop bits words storeys nodes out) n k a b v w x y p q
 
-    pub pinned-bucket-replace : (rank tag : ℕ) → bucketAfterOut n a v x ≡ bucketReplace bits words storeys nodes rank tag out → bucketAfterOut k b w y ≡ bucketReplace bits words storeys nodes rank tag out
+    pub pinned-bucket-replace : (rank tag bytes : ℕ) → bucketAfterOut n a v x ≡ bucketReplace bits words storeys nodes rank tag bytes out → bucketAfterOut k b w y ≡ bucketReplace bits words storeys nodes rank tag bytes out
         → (n ≡ k) × (a ≡ b) × (v ≡ w) × (x ≡ y)
-    pinned-bucket-replace rank tag p q = bucket-out (bucketReplace bits words storeys nodes rank tag out) n k a b v w x y p q
+    pinned-bucket-replace rank tag bytes p q = bucket-out (bucketReplace bits words storeys nodes rank tag bytes out) n k a b v w x y p q
 
 pub pinned-bucket-held : (bits words : List ℕ) (storeys nodes : ℕ) (out : List ℕ) (n k : ℕ) (x y : List ℕ) → countAfter n x ≡ bucketHeld bits words storeys nodes out
     → countAfter k y ≡ bucketHeld bits words storeys nodes out → (n ≡ k) × (x ≡ y)
@@ -95,9 +95,9 @@ module _ (m levels : ℕ) (ws rs mark : List ℕ) (n k : ℕ) (v w r s a b : Lis
   pinned-clocked-clear p q = clocked (clockedClear m levels ws rs mark) n k v w r s a b p q
 
   module _ (out x y : List ℕ) where
-    pub pinned-clocked-cycle : (request rank tag : ℕ) → clockedAfterOut n v r a x ≡ clockedCycle m levels ws rs mark request rank tag out
-        → clockedAfterOut k w s b y ≡ clockedCycle m levels ws rs mark request rank tag out → (n ≡ k) × (v ≡ w) × (r ≡ s) × (a ≡ b) × (x ≡ y)
-    pinned-clocked-cycle request rank tag p q = clocked-out (clockedCycle m levels ws rs mark request rank tag out) n k v w r s a b x y p q
+    pub pinned-clocked-cycle : (request rank tag bytes : ℕ) → clockedAfterOut n v r a x ≡ clockedCycle m levels ws rs mark request rank tag bytes out
+        → clockedAfterOut k w s b y ≡ clockedCycle m levels ws rs mark request rank tag bytes out → (n ≡ k) × (v ≡ w) × (r ≡ s) × (a ≡ b) × (x ≡ y)
+    pinned-clocked-cycle request rank tag bytes p q = clocked-out (clockedCycle m levels ws rs mark request rank tag bytes out) n k v w r s a b x y p q
 
     pub pinned-clocked-drain : (budget : ℕ) → clockedAfterOut n v r a x ≡ clockedDrain m levels ws rs mark budget out
         → clockedAfterOut k w s b y ≡ clockedDrain m levels ws rs mark budget out → (n ≡ k) × (v ≡ w) × (r ≡ s) × (a ≡ b) × (x ≡ y)

@@ -53,9 +53,9 @@ module _ (m levels : ℕ) where
         pub tree-most : slots ≤ tree.slotLimit
         tree-most = omega (arith, c .within tree-room, tree-room)
 
-        pub tree-some : 3 * slots ≡ treeWords m levels
+        pub tree-some : slotWords * slots ≡ treeWords m levels
         unfolding treeWords
-        tree-some = rw (← tree-any, ← shape, not-false ok e) (ap (λ (n : ℕ). 3 * n) (c .within tree-room))
+        tree-some = rw (← tree-any, ← shape, not-false ok e) (ap (λ (n : ℕ). slotWords * n) (c .within tree-room))
 
 -- a tree that is taken has a slot at least
 some-room : (m levels : ℕ) → tree.orderOk m ≡ true → 1 ≤ levels → 0 < room m levels
@@ -100,7 +100,7 @@ module _ (d : ℕ) (l : leastStoreys ≤ d) (h : d ≤ mostStoreys) where
     | no m ↦ let three : d ≡ 3 = omega arith in rw (e, three) (lit≤ tt)
   ]
 
-  pub few-words : (n : ℕ) (k : Lay) → k ≡ queue d n → n ≤ pool → k .held ≤ 655361
+  pub few-words : (n : ℕ) (k : Lay) → k ≡ queue d n → n ≤ pool → k .held ≤ 720897
   few-words n k e m = let q : k .held ≡ queue d n .held = ap (λ (k : Lay). k .held) e in omega (arith, few-ranks)
 
 module _ (d n : ℕ) (ok : Bool) (deep : ok ≡ bucket.depthOk d) where

@@ -10,7 +10,7 @@ use Rattle.bucket_model.specs.Calls as bucket
 use Rattle.card.proofs.Clocked.{taken-shape}
 use Rattle.card.specs.Bucket.{bucketPop, bucketReplace, bucketAfterOut, bucketAnswered}
 use Rattle.card.specs.Clocked.{ClockedAfterOut, clockedCycle, clockedDrain, cycleOf, drainOf, requestOf, saysNo, stateIn, taken}
-use Rattle.card.specs.Out.{answerOut, badShape, countAnswered, refusedOut, countAfter}
+use Rattle.card.specs.Out.{answerOut, answerWords, badShape, countAfter, countAnswered, drainWords, refusedOut, zeros}
 use Rattle.card.specs.Tree.{treePop, treeReplace, treeAfterOut, treeAnswered}
 use Rattle.clocked_model.proofs.Drain.{done, drain-ends, End, jammed}
 use Rattle.clocked_model.specs.Calls.{DrainOutcome, drains, cycled}
@@ -23,72 +23,72 @@ use Rattle.strip.specs.declared.Count.the-variants.{Held, Unknown}
 use Rattle.tree_model.proofs.Exactly.{shape-is}
 use Rattle.tree_model.specs.Calls as tree
 
-answer-zeros : (a : Answer) (out : List ℕ) → (numberOf a ≡ 0 → ⊥) → answerOut a out ≡ set (set out 0 0) 1 0
+answer-zeros : (a : Answer) (out : List ℕ) → (numberOf a ≡ 0 → ⊥) → answerOut a out ≡ zeros answerWords out
 unfolding blank
 answer-zeros Done out h = absurd (h refl)
 answer-zeros (Out e) out h = absurd (h refl)
 answer-zeros (Refused r) out h = refl
 
 -- what a call leaves in `out`, where it answers a and where it does not touch it
-told-zeros : (a : Answer) (out : List ℕ) (b : Bool) → leb 2 (length out) ≡ b → (cond b (numberOf a) badShape ≡ 0 → ⊥) → cond b (answerOut a out) out ≡ refusedOut out
+told-zeros : (a : Answer) (out : List ℕ) (b : Bool) → leb answerWords (length out) ≡ b → (cond b (numberOf a) badShape ≡ 0 → ⊥) → cond b (answerOut a out) out ≡ refusedOut answerWords out
 unfolding refusedOut
-told-zeros a out true e h = answer-zeros a out h ∙ ap (λ (b : Bool). cond b (set (set out 0 0) 1 0) out) (sym e)
-told-zeros a out false e h = ap (λ (b : Bool). cond b (set (set out 0 0) 1 0) out) (sym e)
+told-zeros a out true e h = answer-zeros a out h ∙ ap (λ (b : Bool). cond b (zeros answerWords out) out) (sym e)
+told-zeros a out false e h = ap (λ (b : Bool). cond b (zeros answerWords out) out) (sym e)
 
-tree-zeros : (o : tree.Outcome) (ws out : List ℕ) → (treeAnswered o ws out .number ≡ 0 → ⊥) → treeAnswered o ws out .out ≡ refusedOut out
+tree-zeros : (o : tree.Outcome) (ws out : List ℕ) → (treeAnswered o ws out .number ≡ 0 → ⊥) → treeAnswered o ws out .out ≡ refusedOut answerWords out
 unfolding treeAnswered
-tree-zeros o ws out h = go (leb 2 (length out)) refl h
+tree-zeros o ws out h = go (leb answerWords (length out)) refl h
   where
-    go : (b : Bool) → leb 2 (length out) ≡ b → (cond b (treeAfterOut (numberOf (o .answer)) (o .words) (answerOut (o .answer) out)) (treeAfterOut badShape ws out) .number ≡ 0 → ⊥)
-        → cond b (treeAfterOut (numberOf (o .answer)) (o .words) (answerOut (o .answer) out)) (treeAfterOut badShape ws out) .out ≡ refusedOut out
+    go : (b : Bool) → leb answerWords (length out) ≡ b → (cond b (treeAfterOut (numberOf (o .answer)) (o .words) (answerOut (o .answer) out)) (treeAfterOut badShape ws out) .number ≡ 0 → ⊥)
+        → cond b (treeAfterOut (numberOf (o .answer)) (o .words) (answerOut (o .answer) out)) (treeAfterOut badShape ws out) .out ≡ refusedOut answerWords out
     go true e h = told-zeros (o .answer) out true e h
     go false e h = told-zeros (o .answer) out false e h
 
-bucket-zeros : (o : bucket.Outcome) (b w out : List ℕ) → (bucketAnswered o b w out .number ≡ 0 → ⊥) → bucketAnswered o b w out .out ≡ refusedOut out
+bucket-zeros : (o : bucket.Outcome) (b w out : List ℕ) → (bucketAnswered o b w out .number ≡ 0 → ⊥) → bucketAnswered o b w out .out ≡ refusedOut answerWords out
 unfolding bucketAnswered
-bucket-zeros o b w out h = go (leb 2 (length out)) refl h
+bucket-zeros o b w out h = go (leb answerWords (length out)) refl h
   where
-    go : (t : Bool) → leb 2 (length out) ≡ t → (cond t (bucketAfterOut (numberOf (o .answer)) (o .bits) (o .words) (answerOut (o .answer) out)) (bucketAfterOut badShape b w out) .number ≡ 0 → ⊥)
-        → cond t (bucketAfterOut (numberOf (o .answer)) (o .bits) (o .words) (answerOut (o .answer) out)) (bucketAfterOut badShape b w out) .out ≡ refusedOut out
+    go : (t : Bool) → leb answerWords (length out) ≡ t → (cond t (bucketAfterOut (numberOf (o .answer)) (o .bits) (o .words) (answerOut (o .answer) out)) (bucketAfterOut badShape b w out) .number ≡ 0 → ⊥)
+        → cond t (bucketAfterOut (numberOf (o .answer)) (o .bits) (o .words) (answerOut (o .answer) out)) (bucketAfterOut badShape b w out) .out ≡ refusedOut answerWords out
     go true e h = told-zeros (o .answer) out true e h
     go false e h = told-zeros (o .answer) out false e h
 
 -- ---- ZEROS, call by call
 module _ (m levels : ℕ) (ws : List ℕ) where
-  pub zeros-tree-pop : (out : List ℕ) → (treePop m levels ws out .number ≡ 0 → ⊥) → treePop m levels ws out .out ≡ refusedOut out
+  pub zeros-tree-pop : (out : List ℕ) → (treePop m levels ws out .number ≡ 0 → ⊥) → treePop m levels ws out .out ≡ refusedOut answerWords out
   zeros-tree-pop out h = tree-zeros _ ws out h
 
-  pub zeros-tree-replace : (rank tag : ℕ) (out : List ℕ) → (treeReplace m levels ws rank tag out .number ≡ 0 → ⊥) → treeReplace m levels ws rank tag out .out ≡ refusedOut out
-  zeros-tree-replace rank tag out h = tree-zeros _ ws out h
+  pub zeros-tree-replace : (rank tag bytes : ℕ) (out : List ℕ) → (treeReplace m levels ws rank tag bytes out .number ≡ 0 → ⊥) → treeReplace m levels ws rank tag bytes out .out ≡ refusedOut answerWords out
+  zeros-tree-replace rank tag bytes out h = tree-zeros _ ws out h
 
 module _ (b w : List ℕ) (storeys n : ℕ) where
-  pub zeros-bucket-pop : (out : List ℕ) → (bucketPop b w storeys n out .number ≡ 0 → ⊥) → bucketPop b w storeys n out .out ≡ refusedOut out
+  pub zeros-bucket-pop : (out : List ℕ) → (bucketPop b w storeys n out .number ≡ 0 → ⊥) → bucketPop b w storeys n out .out ≡ refusedOut answerWords out
   zeros-bucket-pop out h = bucket-zeros _ b w out h
 
-  pub zeros-bucket-replace : (rank tag : ℕ) (out : List ℕ) → (bucketReplace b w storeys n rank tag out .number ≡ 0 → ⊥) → bucketReplace b w storeys n rank tag out .out ≡ refusedOut out
-  zeros-bucket-replace rank tag out h = bucket-zeros _ b w out h
+  pub zeros-bucket-replace : (rank tag bytes : ℕ) (out : List ℕ) → (bucketReplace b w storeys n rank tag bytes out .number ≡ 0 → ⊥) → bucketReplace b w storeys n rank tag bytes out .out ≡ refusedOut answerWords out
+  zeros-bucket-replace rank tag bytes out h = bucket-zeros _ b w out h
 
 module _ (m levels : ℕ) (ws rs mark out : List ℕ) where
-  pub zeros-clocked-cycle : (request rank tag : ℕ) → (clockedCycle m levels ws rs mark request rank tag out .number ≡ 0 → ⊥)
-      → clockedCycle m levels ws rs mark request rank tag out .out ≡ refusedOut out
+  pub zeros-clocked-cycle : (request rank tag bytes : ℕ) → (clockedCycle m levels ws rs mark request rank tag bytes out .number ≡ 0 → ⊥)
+      → clockedCycle m levels ws rs mark request rank tag bytes out .out ≡ refusedOut answerWords out
   unfolding clockedCycle
-  zeros-clocked-cycle request rank tag h = go (leb 2 (length out)) refl (taken m levels (length ws) rs mark request) h
+  zeros-clocked-cycle request rank tag bytes h = go (leb answerWords (length out)) refl (taken m levels (length ws) rs mark request) h
     where
       a : Answer
-      a = cycled m levels (requestOf request rank tag) (stateIn levels rs mark) ws .answer
+      a = cycled m levels (requestOf request rank tag bytes) (stateIn levels rs mark) ws .answer
 
       done : ClockedAfterOut
-      done = cycleOf levels rs mark (cycled m levels (requestOf request rank tag) (stateIn levels rs mark) ws) out
+      done = cycleOf levels rs mark (cycled m levels (requestOf request rank tag bytes) (stateIn levels rs mark) ws) out
 
-      go : (b : Bool) → leb 2 (length out) ≡ b → (t : Bool) → (cond (b && t) done (saysNo m levels ws rs mark out) .number ≡ 0 → ⊥) → cond (b && t) done (saysNo m levels ws rs mark out) .out ≡ refusedOut out
+      go : (b : Bool) → leb answerWords (length out) ≡ b → (t : Bool) → (cond (b && t) done (saysNo m levels ws rs mark answerWords out) .number ≡ 0 → ⊥) → cond (b && t) done (saysNo m levels ws rs mark answerWords out) .out ≡ refusedOut answerWords out
       go true e true h = told-zeros a out true e h
       go true e false h = refl
       go false e t h = refl
 
   -- "at 1 it reports 0 and no work left"; at 2 it reports the cycles already run, work left
-  pub zeros-clocked-drain : (budget : ℕ) → clockedDrain m levels ws rs mark budget out .number ≡ badShape → clockedDrain m levels ws rs mark budget out .out ≡ refusedOut out
+  pub zeros-clocked-drain : (budget : ℕ) → clockedDrain m levels ws rs mark budget out .number ≡ badShape → clockedDrain m levels ws rs mark budget out .out ≡ refusedOut drainWords out
   unfolding clockedDrain
-  zeros-clocked-drain budget h = go (leb 2 (length out) && taken m levels (length ws) rs mark 0) refl h
+  zeros-clocked-drain budget h = go (leb drainWords (length out) && taken m levels (length ws) rs mark 0) refl h
     where
       d : DrainOutcome
       d = drains m levels budget (stateIn levels rs mark) ws
@@ -98,16 +98,16 @@ module _ (m levels : ℕ) (ws rs mark out : List ℕ) where
       not-bad (done a l) e = omega (arith, ap numberOf a)
       not-bad (jammed a l j) e = omega (arith, ap numberOf a)
 
-      go : (t : Bool) → (leb 2 (length out) && taken m levels (length ws) rs mark 0) ≡ t → cond t (drainOf levels rs mark d out) (saysNo m levels ws rs mark out) .number ≡ badShape
-          → cond t (drainOf levels rs mark d out) (saysNo m levels ws rs mark out) .out ≡ refusedOut out
+      go : (t : Bool) → (leb drainWords (length out) && taken m levels (length ws) rs mark 0) ≡ t → cond t (drainOf levels rs mark d out) (saysNo m levels ws rs mark drainWords out) .number ≡ badShape
+          → cond t (drainOf levels rs mark d out) (saysNo m levels ws rs mark drainWords out) .out ≡ refusedOut drainWords out
       go false e h = refl
       go true e h =
-          let sh = shape-is m levels (length ws) (taken-shape m levels (length ws) rs mark 0 (and-right (leb 2 (length out)) (taken m levels (length ws) rs mark 0) e)) in
+          let sh = shape-is m levels (length ws) (taken-shape m levels (length ws) rs mark 0 (and-right (leb drainWords (length out)) (taken m levels (length ws) rs mark 0) e)) in
           absurd (not-bad (drain-ends m levels budget (stateIn levels rs mark) ws sh) h)
 
 -- held answers 0
-pub zeros-held : (c : Count) (out : List ℕ) → (countAnswered c out .number ≡ 0 → ⊥) → countAnswered c out .out ≡ cond (leb 1 (length out)) (set out 0 0) out
-unfolding countAnswered
+pub zeros-held : (c : Count) (out : List ℕ) → (countAnswered c out .number ≡ 0 → ⊥) → countAnswered c out .out ≡ refusedOut 1 out
+unfolding countAnswered refusedOut
 zeros-held c out h = go (leb 1 (length out)) c h
   where
     go : (b : Bool) (c : Count) → (cond b (countAfter (countNumber c) (set out 0 (countOf c))) (countAfter badShape out) .number ≡ 0 → ⊥)

@@ -7,7 +7,7 @@ use lib.Dec.{leb}
 use lib.ListN.{length}
 use Rattle.bucket_model.specs.Layout.{queue}
 use Rattle.bucket_model.specs.Calls.{cleared, heldCount, Outcome, popped, pushed, replaced}
-use Rattle.card.specs.Out.{answerOut, badShape, CountAfter, countAnswered}
+use Rattle.card.specs.Out.{answerOut, answerWords, badShape, CountAfter, countAnswered}
 use Rattle.strip.specs.Answers.{element, numberOf}
 
 -- ---- clear and push: the number, and both slices afterwards
@@ -32,23 +32,23 @@ pub record BucketAfterOut : Type 0 where
 abbrev pub bucketAfterOut : ℕ → List ℕ → List ℕ → List ℕ → BucketAfterOut
 bucketAfterOut n b w out = record { number = n; bits = b; words = w; out = out }
 
--- what a call on these words comes to, and the words where `out` has no two words and nothing is done
+-- what a call on these words comes to, and the words where `out` is too short and nothing is done
 unfoldable pub bucketAnswered : Outcome → List ℕ → List ℕ → List ℕ → BucketAfterOut
-bucketAnswered o b w out = cond (leb 2 (length out)) (bucketAfterOut (numberOf (o .answer)) (o .bits) (o .words) (answerOut (o .answer) out)) (bucketAfterOut badShape b w out)
+bucketAnswered o b w out = cond (leb answerWords (length out)) (bucketAfterOut (numberOf (o .answer)) (o .bits) (o .words) (answerOut (o .answer) out)) (bucketAfterOut badShape b w out)
 
 -- ---- the calls
 module _ (b w : List ℕ) (storeys n : ℕ) where
   abbrev pub bucketClear : BucketAfter
   bucketClear = bucketDone (cleared (queue storeys n) b w)
 
-  abbrev pub bucketPush : ℕ → ℕ → BucketAfter
-  bucketPush rank tag = bucketDone (pushed (queue storeys n) b w (element rank tag))
+  abbrev pub bucketPush : ℕ → ℕ → ℕ → BucketAfter
+  bucketPush rank tag bytes = bucketDone (pushed (queue storeys n) b w (element rank tag bytes))
 
   abbrev pub bucketPop : List ℕ → BucketAfterOut
   bucketPop out = bucketAnswered (popped (queue storeys n) b w) b w out
 
-  abbrev pub bucketReplace : ℕ → ℕ → List ℕ → BucketAfterOut
-  bucketReplace rank tag out = bucketAnswered (replaced (queue storeys n) b w (element rank tag)) b w out
+  abbrev pub bucketReplace : ℕ → ℕ → ℕ → List ℕ → BucketAfterOut
+  bucketReplace rank tag bytes out = bucketAnswered (replaced (queue storeys n) b w (element rank tag bytes)) b w out
 
   abbrev pub bucketHeld : List ℕ → CountAfter
   bucketHeld out = countAnswered (heldCount (queue storeys n) b w) out

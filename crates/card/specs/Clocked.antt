@@ -5,7 +5,7 @@ use mathlib.Core.Bool.{_&&_, Bool, cond, not}
 use mathlib.Core.List.{List}
 use lib.Dec.{eqb, leb, ltb}
 use lib.ListN.{length, set}
-use Rattle.card.specs.Out.{answerOut, badShape, CountAfter, countAnswered, refusedOut}
+use Rattle.card.specs.Out.{answerOut, answerWords, badShape, CountAfter, countAnswered, drainWords, refusedOut}
 use Rattle.card_records.specs.Records.{markWritten, readable, roomy, stateRead, worksWritten}
 use Rattle.clocked_model.specs.Calls.{CycleOutcome, DrainOutcome, drains, clearedMachine, cycled}
 use Rattle.clocked_model.specs.declared.State.{State}
@@ -36,9 +36,9 @@ abbrev pub clockedAfterOut : ℕ → List ℕ → List ℕ → List ℕ → List
 clockedAfterOut n ws rs mark out = record { number = n; store = ws; records = rs; mark = mark; out = out }
 
 -- the request of a number: 0 idle, 1 push, 2 pop, 3 replace
-unfoldable pub requestOf : ℕ → ℕ → ℕ → Request
-requestOf n rank tag =
-    cond (eqb n 1) (Push (element rank tag)) (cond (eqb n 2) Pop (cond (eqb n 3) (Replace (element rank tag)) Idle))
+unfoldable pub requestOf : ℕ → ℕ → ℕ → ℕ → Request
+requestOf n rank tag bytes =
+    cond (eqb n 1) (Push (element rank tag bytes)) (cond (eqb n 2) Pop (cond (eqb n 3) (Replace (element rank tag bytes)) Idle))
 
 -- did a cycle run? Refusals 1 and 2 leave everything
 abbrev pub ran : ℕ → Bool
@@ -83,19 +83,19 @@ module _ (m levels : ℕ) (ws rs mark : List ℕ) where
   clockedClear =
       cond (shapeOk m levels (length ws) && roomy (levels - 1) rs mark) (clearOf levels rs mark (clearedMachine m levels ws)) (clockedAfter badShape ws rs mark)
 
-  -- where the boundary says no, all stands but `out`, which gets zeros if it is long enough
-  abbrev pub saysNo : List ℕ → ClockedAfterOut
-  saysNo out = clockedAfterOut badShape ws rs mark (refusedOut out)
+  -- where the boundary says no, all stands but `out`, which gets n zeros if it is long enough
+  abbrev pub saysNo : ℕ → List ℕ → ClockedAfterOut
+  saysNo n out = clockedAfterOut badShape ws rs mark (refusedOut n out)
 
-  unfoldable pub clockedCycle : ℕ → ℕ → ℕ → List ℕ → ClockedAfterOut
-  clockedCycle request rank tag out =
-      cond (leb 2 (length out) && taken m levels (length ws) rs mark request)
-      (cycleOf levels rs mark (cycled m levels (requestOf request rank tag) (stateIn levels rs mark) ws) out) (saysNo out)
+  unfoldable pub clockedCycle : ℕ → ℕ → ℕ → ℕ → List ℕ → ClockedAfterOut
+  clockedCycle request rank tag bytes out =
+      cond (leb answerWords (length out) && taken m levels (length ws) rs mark request)
+      (cycleOf levels rs mark (cycled m levels (requestOf request rank tag bytes) (stateIn levels rs mark) ws) out) (saysNo answerWords out)
 
   unfoldable pub clockedDrain : ℕ → List ℕ → ClockedAfterOut
   clockedDrain budget out =
-      cond (leb 2 (length out) && taken m levels (length ws) rs mark 0)
-      (drainOf levels rs mark (drains m levels budget (stateIn levels rs mark) ws) out) (saysNo out)
+      cond (leb drainWords (length out) && taken m levels (length ws) rs mark 0)
+      (drainOf levels rs mark (drains m levels budget (stateIn levels rs mark) ws) out) (saysNo drainWords out)
 
 abbrev pub clockedHeld : ℕ → ℕ → List ℕ → List ℕ → CountAfter
 clockedHeld m levels ws out = countAnswered (heldCount m levels ws) out

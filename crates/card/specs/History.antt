@@ -21,7 +21,7 @@ pub data Call : Type 0 where
   asks : Request → Call
   drain : ℕ → Call
 
--- a request as C hands it over: its number, and an element
+-- a request as C hands it over: its number, and an element's rank, tag and length
 unfoldable pub codeOf : Request → ℕ
 codeOf Idle = 0
 codeOf (Push x) = 1
@@ -44,7 +44,7 @@ pub record Did : Type 0 where
 module _ (m levels : ℕ) (out : List ℕ) where
   -- ---- through the boundary
   unfoldable pub callC : Call → List ℕ → List ℕ → List ℕ → ClockedAfterOut
-  callC (asks r) ws rs mark = clockedCycle m levels ws rs mark (codeOf r) (broughtBy r .rank .0) (broughtBy r .tag .0) out
+  callC (asks r) ws rs mark = clockedCycle m levels ws rs mark (codeOf r) (broughtBy r .rank .0) (broughtBy r .tag .0) (broughtBy r .length .0) out
   callC (drain budget) ws rs mark = clockedDrain m levels ws rs mark budget out
 
   -- one after the other, each handed the words that the one before left: what is left in the end, and what each answers

@@ -1,26 +1,42 @@
 -- What `out` receives. Assumes nothing: these are definitions.
-use Prim.Native.Nat.{ℕ}
+use Prim.Native.Nat.{_≤_, suc, zero, ℕ}
 use mathlib.Core.Bool.{cond}
 use mathlib.Core.List.{List}
 use lib.Dec.{leb}
 use lib.ListN.{length, set}
-use Rattle.strip.specs.Answers.{countNumber, countOf, rankOf, refusalNumber, tagOf}
+use Rattle.strip.specs.Answers.{countNumber, countOf, lengthOf, rankOf, refusalNumber, tagOf}
 use Rattle.strip.specs.declared.Answer.{Answer}
 use Rattle.strip.specs.declared.Count.{Count}
 use Rattle.strip.specs.declared.Refusal.the-variants.{BadShape}
 
--- an answer's rank and tag in the first two words; the others stand
+-- how many words an answer writes: rank, tag and length; how many a drain's: the cycles run, and whether work is left
+abbrev pub answerWords : ℕ
+answerWords = 3
+
+abbrev pub drainWords : ℕ
+drainWords = 2
+
+-- an `out` long enough for n words
+abbrev pub Long : ℕ → List ℕ → Type 0
+Long n out = n ≤ length out
+
+-- an answer's rank, tag and length in the first three words; the others stand
 abbrev pub answerOut : Answer → List ℕ → List ℕ
-answerOut a out = set (set out 0 (rankOf a)) 1 (tagOf a)
+answerOut a out = set (set (set out 0 (rankOf a)) 1 (tagOf a)) 2 (lengthOf a)
 
 -- the number of a call that the boundary itself refuses: nothing is changed but `out`
 abbrev pub badShape : ℕ
 badShape = refusalNumber BadShape
 
--- what a refused call leaves in `out`: "A refusal .. answers rank 0, tag 0", a drain refused 1 "reports 0 and no work left".
--- An `out` that is too short is not touched
-unfoldable pub refusedOut : List ℕ → List ℕ
-refusedOut out = cond (leb 2 (length out)) (set (set out 0 0) 1 0) out
+-- the first n words 0; the others stand
+abbrev pub zeros : ℕ → List ℕ → List ℕ
+zeros zero out = out
+zeros (suc n) out = set (zeros n out) n 0
+
+-- what a refused call that answers by n words leaves in `out`: "A refusal .. answers rank 0, tag 0", with the length "0 on refusal" (02 [9]); a
+-- drain refused 1 "reports 0 and no work left". An `out` that is too short is not touched
+unfoldable pub refusedOut : ℕ → List ℕ → List ℕ
+refusedOut n out = cond (leb n (length out)) (zeros n out) out
 
 -- ---- held, of any queue: the number returned, and `out` afterwards
 pub record CountAfter : Type 0 where

@@ -8,7 +8,7 @@ use Rattle.tree_model.specs.Calls as tree
 use Rattle.tree_model.specs.Damage.{room}
 use Rattle.tree_model.specs.Words.{slotWords}
 
--- a tree of this order and these levels: three words a slot
+-- a tree of this order and these levels: four words a slot
 unfoldable pub treeWords : ℕ → ℕ → ℕ
 treeWords m levels = cond (tree.shapeOk m levels (slotWords * room m levels)) (slotWords * room m levels) 0
 

@@ -5,7 +5,7 @@ use mathlib.Core.Bool.{cond}
 use mathlib.Core.List.{List}
 use lib.Dec.{leb}
 use lib.ListN.{length}
-use Rattle.card.specs.Out.{answerOut, badShape, CountAfter, countAnswered}
+use Rattle.card.specs.Out.{answerOut, answerWords, badShape, CountAfter, countAnswered}
 use Rattle.strip.specs.Answers.{element, numberOf}
 use Rattle.strip.specs.declared.Request.the-variants.{Pop, Push, Replace}
 use Rattle.tree_model.specs.Calls.{called, cleared, heldCount, Outcome}
@@ -30,23 +30,23 @@ pub record TreeAfterOut : Type 0 where
 abbrev pub treeAfterOut : ℕ → List ℕ → List ℕ → TreeAfterOut
 treeAfterOut n ws out = record { number = n; store = ws; out = out }
 
--- what a call on these words comes to, and the store where `out` has no two words and nothing is done
+-- what a call on these words comes to, and the store where `out` is too short and nothing is done
 unfoldable pub treeAnswered : Outcome → List ℕ → List ℕ → TreeAfterOut
-treeAnswered o ws out = cond (leb 2 (length out)) (treeAfterOut (numberOf (o .answer)) (o .words) (answerOut (o .answer) out)) (treeAfterOut badShape ws out)
+treeAnswered o ws out = cond (leb answerWords (length out)) (treeAfterOut (numberOf (o .answer)) (o .words) (answerOut (o .answer) out)) (treeAfterOut badShape ws out)
 
 -- ---- the calls
 module _ (m levels : ℕ) (ws : List ℕ) where
   abbrev pub treeClear : TreeAfter
   treeClear = treeDone (cleared m levels ws)
 
-  abbrev pub treePush : ℕ → ℕ → TreeAfter
-  treePush rank tag = treeDone (called m levels (Push (element rank tag)) ws)
+  abbrev pub treePush : ℕ → ℕ → ℕ → TreeAfter
+  treePush rank tag bytes = treeDone (called m levels (Push (element rank tag bytes)) ws)
 
   abbrev pub treePop : List ℕ → TreeAfterOut
   treePop out = treeAnswered (called m levels Pop ws) ws out
 
-  abbrev pub treeReplace : ℕ → ℕ → List ℕ → TreeAfterOut
-  treeReplace rank tag out = treeAnswered (called m levels (Replace (element rank tag)) ws) ws out
+  abbrev pub treeReplace : ℕ → ℕ → ℕ → List ℕ → TreeAfterOut
+  treeReplace rank tag bytes out = treeAnswered (called m levels (Replace (element rank tag bytes)) ws) ws out
 
   abbrev pub treeHeld : List ℕ → CountAfter
   treeHeld out = countAnswered (heldCount m levels ws) out

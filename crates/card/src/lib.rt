@@ -2,11 +2,11 @@
 // refused, and writes what it answers to `out`, zeros on a refusal. An `out` that is too short is refusal 1, and nothing changes.
 ghost use mathlib.Core.Path.{_≡_};
 ghost use Prim.Native.Nat.{_≤_, ℕ};
-ghost use lib.ListN.{length, set};
+ghost use lib.ListN.{set};
 ghost use Rattle.tree_model.specs.Calls.{slotLimit};
 ghost use Rattle.node.specs.Shaping.{Shaped};
 ghost use Rattle.strip.specs.Answers.{numberOf, countNumber, countOf};
-ghost use Rattle.card.specs.Out.{answerOut, countAfter};
+ghost use Rattle.card.specs.Out.{Long, answerOut, answerWords, countAfter, drainWords};
 ghost use Rattle.card.specs.Tree.{treeAfter, treeAfterOut, treeClear, treePush, treePop, treeReplace, treeHeld};
 ghost use Rattle.card.specs.Bucket.{bucketAfter, bucketAfterOut, bucketClear, bucketPush, bucketPop, bucketReplace, bucketHeld};
 ghost use Rattle.card.specs.Clocked.{clockedAfter, clockedAfterOut, requestOf, ran, taken, drainOut, clockedClear, clockedCycle, clockedDrain, clockedHeld};
@@ -23,6 +23,7 @@ use clocked_steps::clear_shaped;
 use clocked_steps::cycle_shaped;
 use clocked_steps::drain_shaped;
 use node::SLOT_LIMIT;
+use node::SLOT_WORDS;
 use node::capacity;
 use node::shape::Shape;
 use node::shape::shape_fits;
@@ -31,6 +32,7 @@ use node::shape_ok;
 use strip::Answer;
 use strip::Count;
 use strip::Element;
+use strip::Length;
 use strip::Rank;
 use strip::Refusal;
 use strip::Request;
@@ -42,25 +44,29 @@ use strip::number;
 
 // ---- what `out` receives
 
-// The words of an answer: rank and tag, or cycles run and whether work is left.
-const OUT: usize = 2;
+// The words of an answer: rank, tag and length; of a drain's: cycles run and whether work is left.
+const OUT: usize = 3;
 
-// Writes an answer's rank and tag, 0 and 0 on a refusal, and returns its number.
+const DRAIN_OUT: usize = 2;
+
+// Writes an answer's rank, tag and length, zeros on a refusal, and returns its number.
 fn tell(out: &mut [u32], answer: Answer) -> u32
-    requires { ⌜ 2 ≤ length (now out) ⌝ }
+    requires { ⌜ Long answerWords (now out) ⌝ }
     ensures { λ r. ⌜ (r ≡ numberOf answer) × (now (out .exit) ≡ answerOut answer (now (out .entry))) ⌝ }
 {
     let e = given(answer);
     let rank = e.rank.0;
     let tag = e.tag.0;
+    let length = e.length.0;
     out[0] = rank;
     out[1] = tag;
+    out[2] = length;
     number(answer)
 }
 
 // Writes a count, 0 on a refusal, and returns its number.
 fn tell_count(out: &mut [u32], count: Count) -> u32
-    requires { ⌜ 1 ≤ length (now out) ⌝ }
+    requires { ⌜ Long 1 (now out) ⌝ }
     ensures { λ r. ⌜ (r ≡ countNumber count) × (now (out .exit) ≡ set (now (out .entry)) 0 (countOf count)) ⌝ }
 {
     out[0] = count_of(count);
@@ -83,12 +89,14 @@ pub extern "C" fn card_tree_push(
     levels: u32,
     rank: u32,
     tag: u32,
+    length: u32,
 ) -> u32
-    ensures { λ r. ⌜ treeAfter r (now (store .exit)) ≡ treePush order levels (now (store .entry)) rank tag ⌝ }
+    ensures { λ r. ⌜ treeAfter r (now (store .exit)) ≡ treePush order levels (now (store .entry)) rank tag length ⌝ }
 {
     let x = Element {
         rank: Rank(rank),
         tag: Tag(tag),
+        length: Length(length),
     };
     number(tree::push(store, order as usize, levels as usize, x))
 }
@@ -111,9 +119,10 @@ pub extern "C" fn card_tree_replace(
     levels: u32,
     rank: u32,
     tag: u32,
+    length: u32,
     out: &mut [u32],
 ) -> u32
-    ensures { λ r. ⌜ treeAfterOut r (now (store .exit)) (now (out .exit)) ≡ treeReplace order levels (now (store .entry)) rank tag (now (out .entry)) ⌝ }
+    ensures { λ r. ⌜ treeAfterOut r (now (store .exit)) (now (out .exit)) ≡ treeReplace order levels (now (store .entry)) rank tag length (now (out .entry)) ⌝ }
 {
     if out.len() < OUT {
         return 1;
@@ -121,6 +130,7 @@ pub extern "C" fn card_tree_replace(
     let x = Element {
         rank: Rank(rank),
         tag: Tag(tag),
+        length: Length(length),
     };
     let answer = tree::replace(store, order as usize, levels as usize, x);
     tell(out, answer)
@@ -159,12 +169,14 @@ pub extern "C" fn card_bucket_push(
     nodes: u32,
     rank: u32,
     tag: u32,
+    length: u32,
 ) -> u32
-    ensures { λ r. ⌜ bucketAfter r (now (bits .exit)) (now (words .exit)) ≡ bucketPush (now (bits .entry)) (now (words .entry)) storeys nodes rank tag ⌝ }
+    ensures { λ r. ⌜ bucketAfter r (now (bits .exit)) (now (words .exit)) ≡ bucketPush (now (bits .entry)) (now (words .entry)) storeys nodes rank tag length ⌝ }
 {
     let e = Element {
         rank: Rank(rank),
         tag: Tag(tag),
+        length: Length(length),
     };
     number(bucket::push(bits, words, storeys as usize, nodes, e))
 }
@@ -194,9 +206,10 @@ pub extern "C" fn card_bucket_replace(
     nodes: u32,
     rank: u32,
     tag: u32,
+    length: u32,
     out: &mut [u32],
 ) -> u32
-    ensures { λ r. ⌜ bucketAfterOut r (now (bits .exit)) (now (words .exit)) (now (out .exit)) ≡ bucketReplace (now (bits .entry)) (now (words .entry)) storeys nodes rank tag (now (out .entry)) ⌝ }
+    ensures { λ r. ⌜ bucketAfterOut r (now (bits .exit)) (now (words .exit)) (now (out .exit)) ≡ bucketReplace (now (bits .entry)) (now (words .entry)) storeys nodes rank tag length (now (out .entry)) ⌝ }
 {
     if out.len() < OUT {
         return 1;
@@ -204,6 +217,7 @@ pub extern "C" fn card_bucket_replace(
     let e = Element {
         rank: Rank(rank),
         tag: Tag(tag),
+        length: Length(length),
     };
     let answer = bucket::replace(bits, words, storeys as usize, nodes, e);
     tell(out, answer)
@@ -240,12 +254,13 @@ fn is_taken(shape: Shape, words: usize, records: &[u32], mark: &[u32], request: 
     (request <= 3) & readable
 }
 
-fn request_of(request: u32, rank: u32, tag: u32) -> Request
-    ensures { λ r. ⌜ r ≡ requestOf request rank tag ⌝ }
+fn request_of(request: u32, rank: u32, tag: u32, length: u32) -> Request
+    ensures { λ r. ⌜ r ≡ requestOf request rank tag length ⌝ }
 {
     let x = Element {
         rank: Rank(rank),
         tag: Tag(tag),
+        length: Length(length),
     };
     if request == 1 {
         return Request::Push(x);
@@ -269,7 +284,7 @@ fn has_run(answer: Answer) -> bool
 
 // Writes the cycles run and whether work is left, and returns the answer's number.
 fn tell_drain(out: &mut [u32], cycles: u32, left: bool, answer: Answer) -> u32
-    requires { ⌜ 2 ≤ length (now out) ⌝ }
+    requires { ⌜ Long drainWords (now out) ⌝ }
     ensures { λ r. ⌜ (r ≡ numberOf answer) × (now (out .exit) ≡ drainOut cycles left (now (out .entry))) ⌝ }
 {
     out[0] = cycles;
@@ -309,9 +324,10 @@ pub extern "C" fn card_clocked_cycle(
     request: u32,
     rank: u32,
     tag: u32,
+    length: u32,
     out: &mut [u32],
 ) -> u32
-    ensures { λ r. ⌜ clockedAfterOut r (now (store .exit)) (now (records .exit)) (now (mark .exit)) (now (out .exit)) ≡ clockedCycle order levels (now (store .entry)) (now (records .entry)) (now (mark .entry)) request rank tag (now (out .entry)) ⌝ }
+    ensures { λ r. ⌜ clockedAfterOut r (now (store .exit)) (now (records .exit)) (now (mark .exit)) (now (out .exit)) ≡ clockedCycle order levels (now (store .entry)) (now (records .entry)) (now (mark .entry)) request rank tag length (now (out .entry)) ⌝ }
 {
     let m = order as usize;
     if out.len() < OUT {
@@ -322,7 +338,7 @@ pub extern "C" fn card_clocked_cycle(
         return tell(out, Answer::Refused(Refusal::BadShape));
     }
     let state = read_state(records, mark, shape.below);
-    let asked = request_of(request, rank, tag);
+    let asked = request_of(request, rank, tag, length);
     let done = cycle_shaped(store, m, shape.below, shape.room, state, asked);
     let answer = done.answer;
     let next = done.state;
@@ -344,7 +360,7 @@ pub extern "C" fn card_clocked_drain(
     ensures { λ r. ⌜ clockedAfterOut r (now (store .exit)) (now (records .exit)) (now (mark .exit)) (now (out .exit)) ≡ clockedDrain order levels (now (store .entry)) (now (records .entry)) (now (mark .entry)) budget (now (out .entry)) ⌝ }
 {
     let m = order as usize;
-    if out.len() < OUT {
+    if out.len() < DRAIN_OUT {
         return 1;
     }
     let shape = shape_of(m, levels as usize);
@@ -379,10 +395,10 @@ pub extern "C" fn card_tree_words(order: u32, levels: u32) -> u32
 {
     let m = order as usize;
     let l = levels as usize;
-    if !shape_ok(m, l, 3 * SLOT_LIMIT) {
+    if !shape_ok(m, l, SLOT_WORDS * SLOT_LIMIT) {
         return 0;
     }
-    (3 * capacity(m, l)) as u32
+    (SLOT_WORDS * capacity(m, l)) as u32
 }
 
 // The words of 64 bits.

@@ -19,6 +19,7 @@ use Rattle.clocked_model.specs.Cycle.{Works}
 use Rattle.clocked_model.specs.Records.{recordAt, worksOf}
 use Rattle.clocked_model.specs.declared.State.{State}
 use Rattle.laws.specs.Tests.{and-true}
+use Rattle.strip.specs.Answers.{element}
 use Rattle.strip.specs.declared.Element.{Element}
 use Rattle.tree_model.specs.Levels.{idle, work}
 use Rattle.tree_model.specs.declared.Op.{Op}
@@ -26,52 +27,62 @@ use Rattle.tree_model.specs.declared.Op.the-variants.{Nothing, Put, Swap, Take}
 use Rattle.tree_model.specs.declared.Work.{Work}
 
 -- ---- one record
-same-work : (o : Op) (n : ℕ) → workOf (kindOf o) (nodeWord o n) (carried o .rank .0) (carried o .tag .0) ≡ work o n
+same-work : (o : Op) (n : ℕ) → workOf (kindOf o) (nodeWord o n) (carried o) ≡ work o n
 unfolding workOf work
 same-work Nothing n = refl
 same-work (Put x) n = refl
 same-work Take n = refl
 same-work (Swap x) n = refl
 
-work-path : (a a′ b b′ c c′ d d′ : ℕ) → a ≡ a′ → b ≡ b′ → c ≡ c′ → d ≡ d′ → workOf a b c d ≡ workOf a′ b′ c′ d′
-work-path a a′ b b′ c c′ d d′ p q r s = λ i. workOf (p i) (q i) (r i) (s i)
+work-path : (a a′ b b′ c c′ d d′ e e′ : ℕ) → a ≡ a′ → b ≡ b′ → c ≡ c′ → d ≡ d′ → e ≡ e′ → workOf a b (element c d e) ≡ workOf a′ b′ (element c′ d′ e′)
+work-path a a′ b b′ c c′ d d′ e e′ p q r s t = λ i. workOf (p i) (q i) (element (r i) (s i) (t i))
 
--- four words in a row are written at a
-module _ (rs : List ℕ) (a x y z u : ℕ) where
+-- five words in a row are written at a
+module _ (rs : List ℕ) (a x y z u v : ℕ) where
+  abbrev one : List ℕ
+  one = set rs a x
+
+  abbrev two : List ℕ
+  two = set one (a + 1) y
+
+  abbrev three : List ℕ
+  three = set two (a + 2) z
+
   abbrev four : List ℕ
-  four = set (set (set (set rs a x) (a + 1) y) (a + 2) z) (a + 3) u
+  four = set three (a + 3) u
 
-  four-length : length four ≡ length rs
-  four-length = simp length-set
+  abbrev five : List ℕ
+  five = set four (a + 4) v
 
-  four-other : (j : ℕ) → j < a → getD four j 0 ≡ getD rs j 0
-  four-other j h =
-      getD-set-other (set (set (set rs a x) (a + 1) y) (a + 2) z) (a + 3) j u 0 (λ e. omega arith)
-      ∙ getD-set-other (set (set rs a x) (a + 1) y) (a + 2) j z 0 (λ e. omega arith)
-      ∙ getD-set-other (set rs a x) (a + 1) j y 0 (λ e. omega arith)
-      ∙ getD-set-other rs a j x 0 (λ e. omega arith)
+  five-length : length five ≡ length rs
+  five-length = simp length-set
 
-  module _ (h : a + 4 ≤ length rs) where
-    four-0 : getD four a 0 ≡ x
-    four-0 =
-        getD-set-other (set (set (set rs a x) (a + 1) y) (a + 2) z) (a + 3) a u 0 (λ e. omega arith)
-        ∙ getD-set-other (set (set rs a x) (a + 1) y) (a + 2) a z 0 (λ e. omega arith)
-        ∙ getD-set-other (set rs a x) (a + 1) a y 0 (λ e. omega arith)
-        ∙ getD-set-same rs a x 0 (omega arith)
+  five-other : (j : ℕ) → j < a → getD five j 0 ≡ getD rs j 0
+  five-other j h =
+      getD-set-other four (a + 4) j v 0 (λ e. omega arith) ∙ getD-set-other three (a + 3) j u 0 (λ e. omega arith) ∙ getD-set-other two (a + 2) j z 0 (λ e. omega arith)
+      ∙ getD-set-other one (a + 1) j y 0 (λ e. omega arith) ∙ getD-set-other rs a j x 0 (λ e. omega arith)
 
-    four-1 : getD four (a + 1) 0 ≡ y
-    four-1 =
-        getD-set-other (set (set (set rs a x) (a + 1) y) (a + 2) z) (a + 3) (a + 1) u 0 (λ e. omega arith)
-        ∙ getD-set-other (set (set rs a x) (a + 1) y) (a + 2) (a + 1) z 0 (λ e. omega arith)
-        ∙ getD-set-same (set rs a x) (a + 1) y 0 (simp length-set (omega arith))
+  module _ (h : a + 5 ≤ length rs) where
+    five-0 : getD five a 0 ≡ x
+    five-0 =
+        getD-set-other four (a + 4) a v 0 (λ e. omega arith) ∙ getD-set-other three (a + 3) a u 0 (λ e. omega arith) ∙ getD-set-other two (a + 2) a z 0 (λ e. omega arith)
+        ∙ getD-set-other one (a + 1) a y 0 (λ e. omega arith) ∙ getD-set-same rs a x 0 (omega arith)
 
-    four-2 : getD four (a + 2) 0 ≡ z
-    four-2 =
-        getD-set-other (set (set (set rs a x) (a + 1) y) (a + 2) z) (a + 3) (a + 2) u 0 (λ e. omega arith)
-        ∙ getD-set-same (set (set rs a x) (a + 1) y) (a + 2) z 0 (simp length-set (omega arith))
+    five-1 : getD five (a + 1) 0 ≡ y
+    five-1 =
+        getD-set-other four (a + 4) (a + 1) v 0 (λ e. omega arith) ∙ getD-set-other three (a + 3) (a + 1) u 0 (λ e. omega arith)
+        ∙ getD-set-other two (a + 2) (a + 1) z 0 (λ e. omega arith) ∙ getD-set-same one (a + 1) y 0 (simp length-set (omega arith))
 
-    four-3 : getD four (a + 3) 0 ≡ u
-    four-3 = getD-set-same (set (set (set rs a x) (a + 1) y) (a + 2) z) (a + 3) u 0 (simp length-set (omega arith))
+    five-2 : getD five (a + 2) 0 ≡ z
+    five-2 =
+        getD-set-other four (a + 4) (a + 2) v 0 (λ e. omega arith) ∙ getD-set-other three (a + 3) (a + 2) u 0 (λ e. omega arith)
+        ∙ getD-set-same two (a + 2) z 0 (simp length-set (omega arith))
+
+    five-3 : getD five (a + 3) 0 ≡ u
+    five-3 = getD-set-other four (a + 4) (a + 3) v 0 (λ e. omega arith) ∙ getD-set-same three (a + 3) u 0 (simp length-set (omega arith))
+
+    five-4 : getD five (a + 4) 0 ≡ v
+    five-4 = getD-set-same four (a + 4) v 0 (simp length-set (omega arith))
 
 module _ (rs : List ℕ) (i : ℕ) (w : Work) where
   abbrev a : ℕ
@@ -82,27 +93,29 @@ module _ (rs : List ℕ) (i : ℕ) (w : Work) where
 
   written-length : length (workWritten rs i w) ≡ length rs
   unfolding workWritten
-  written-length = four-length rs a (kindOf (w .op)) (nodeWord (w .op) (w .node)) (x .rank .0) (x .tag .0)
+  written-length = five-length rs a (kindOf (w .op)) (nodeWord (w .op) (w .node)) (x .rank .0) (x .tag .0) (x .length .0)
 
-  read-written : a + 4 ≤ length rs → workRead (workWritten rs i w) i ≡ work (w .op) (w .node)
+  read-written : a + recordWords ≤ length rs → workRead (workWritten rs i w) i ≡ work (w .op) (w .node)
   unfolding workRead workWritten
   read-written h =
-      work-path _ _ _ _ _ _ _ _
-      (four-0 rs a (kindOf (w .op)) (nodeWord (w .op) (w .node)) (x .rank .0) (x .tag .0) h)
-      (four-1 rs a (kindOf (w .op)) (nodeWord (w .op) (w .node)) (x .rank .0) (x .tag .0) h)
-      (four-2 rs a (kindOf (w .op)) (nodeWord (w .op) (w .node)) (x .rank .0) (x .tag .0) h)
-      (four-3 rs a (kindOf (w .op)) (nodeWord (w .op) (w .node)) (x .rank .0) (x .tag .0) h)
+      work-path _ _ _ _ _ _ _ _ _ _
+      (five-0 rs a (kindOf (w .op)) (nodeWord (w .op) (w .node)) (x .rank .0) (x .tag .0) (x .length .0) h)
+      (five-1 rs a (kindOf (w .op)) (nodeWord (w .op) (w .node)) (x .rank .0) (x .tag .0) (x .length .0) h)
+      (five-2 rs a (kindOf (w .op)) (nodeWord (w .op) (w .node)) (x .rank .0) (x .tag .0) (x .length .0) h)
+      (five-3 rs a (kindOf (w .op)) (nodeWord (w .op) (w .node)) (x .rank .0) (x .tag .0) (x .length .0) h)
+      (five-4 rs a (kindOf (w .op)) (nodeWord (w .op) (w .node)) (x .rank .0) (x .tag .0) (x .length .0) h)
       ∙ same-work (w .op) (w .node)
 
   -- a record before it stands
   read-before : (j : ℕ) → j < i → workRead (workWritten rs i w) j ≡ workRead rs j
   unfolding workRead workWritten
   read-before j h =
-      work-path _ _ _ _ _ _ _ _
-      (four-other rs a (kindOf (w .op)) (nodeWord (w .op) (w .node)) (x .rank .0) (x .tag .0) (recordWords * j) (omega arith))
-      (four-other rs a (kindOf (w .op)) (nodeWord (w .op) (w .node)) (x .rank .0) (x .tag .0) (recordWords * j + 1) (omega arith))
-      (four-other rs a (kindOf (w .op)) (nodeWord (w .op) (w .node)) (x .rank .0) (x .tag .0) (recordWords * j + 2) (omega arith))
-      (four-other rs a (kindOf (w .op)) (nodeWord (w .op) (w .node)) (x .rank .0) (x .tag .0) (recordWords * j + 3) (omega arith))
+      work-path _ _ _ _ _ _ _ _ _ _
+      (five-other rs a (kindOf (w .op)) (nodeWord (w .op) (w .node)) (x .rank .0) (x .tag .0) (x .length .0) (recordWords * j) (omega arith))
+      (five-other rs a (kindOf (w .op)) (nodeWord (w .op) (w .node)) (x .rank .0) (x .tag .0) (x .length .0) (recordWords * j + 1) (omega arith))
+      (five-other rs a (kindOf (w .op)) (nodeWord (w .op) (w .node)) (x .rank .0) (x .tag .0) (x .length .0) (recordWords * j + 2) (omega arith))
+      (five-other rs a (kindOf (w .op)) (nodeWord (w .op) (w .node)) (x .rank .0) (x .tag .0) (x .length .0) (recordWords * j + 3) (omega arith))
+      (five-other rs a (kindOf (w .op)) (nodeWord (w .op) (w .node)) (x .rank .0) (x .tag .0) (x .length .0) (recordWords * j + 4) (omega arith))
 
 -- ---- all of them
 works-length : (k : ℕ) (vs : List Work) (rs : List ℕ) → length (worksWritten k vs rs) ≡ length rs
@@ -165,7 +178,7 @@ unfolding kindsOk workWritten
 kinds-before rs i w zero h = refl
 kinds-before rs i w (suc j) h =
     ap₂ (λ (b : Bool) (n : ℕ). b && leb n 3) (kinds-before rs i w j (omega arith))
-    (four-other rs (recordWords * i) (kindOf (w .op)) (nodeWord (w .op) (w .node)) (carried (w .op) .rank .0) (carried (w .op) .tag .0) (recordWords * j) (omega arith))
+    (five-other rs (recordWords * i) (kindOf (w .op)) (nodeWord (w .op) (w .node)) (carried (w .op) .rank .0) (carried (w .op) .tag .0) (carried (w .op) .length .0) (recordWords * j) (omega arith))
 
 kinds-written : (k : ℕ) (vs : List Work) (rs : List ℕ) → recordWords * k ≤ length rs → kindsOk k (worksWritten k vs rs) ≡ true
 unfolding kindsOk worksWritten workWritten
@@ -174,7 +187,7 @@ kinds-written (suc k) vs rs h =
     let w : Work = getD vs k idle in
     let before : List ℕ = worksWritten k vs rs in
     let here : getD (workWritten before k w) (recordWords * k) 0 ≡ kindOf (w .op) =
-    four-0 before (recordWords * k) (kindOf (w .op)) (nodeWord (w .op) (w .node)) (carried (w .op) .rank .0) (carried (w .op) .tag .0) (omega (arith, works-length k vs rs)) in
+    five-0 before (recordWords * k) (kindOf (w .op)) (nodeWord (w .op) (w .node)) (carried (w .op) .rank .0) (carried (w .op) .tag .0) (carried (w .op) .length .0) (omega (arith, works-length k vs rs)) in
     ap₂ (λ (b : Bool) (n : ℕ). b && leb n 3) (kinds-before before k w k (omega arith) ∙ kinds-written k vs rs (omega arith)) here ∙ le-leb (kindOf (w .op)) 3 (kind-low (w .op))
 
 -- READABLE: the words of records and mark that a call writes

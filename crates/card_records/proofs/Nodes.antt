@@ -133,11 +133,11 @@ module _ (m levels : ℕ) where
       (leaves-keep (clockedQueue m levels) (λ x. Fits levels (x .state)) (λ r x. cycled-fits r (x .state) (x .words)) (replicate (drains m levels budget s ws .cycles) Idle) (machine s ws) f)
 
 -- ---- what is read from words of 32 bits fits
-read-low : (kind node rank tag : ℕ) → workOf kind node rank tag .node ≤ node
+read-low : (kind node : ℕ) (x : Element) → workOf kind node x .node ≤ node
 unfolding workOf
-read-low kind node rank tag = go (eqb kind 1) (eqb kind 2) (eqb kind 3)
+read-low kind node x = go (eqb kind 1) (eqb kind 2) (eqb kind 3)
   where
-    go : (a b c : Bool) → cond {A = Work} a (record { op = Put (element rank tag); node = node }) (cond b (record { op = Take; node = node }) (cond c (record { op = Swap (element rank tag); node = node }) idle)) .node ≤ node
+    go : (a b c : Bool) → cond {A = Work} a (record { op = Put x; node = node }) (cond b (record { op = Take; node = node }) (cond c (record { op = Swap x; node = node }) idle)) .node ≤ node
     go true b c = omega arith
     go false true c = omega arith
     go false false true = omega arith
@@ -149,7 +149,7 @@ module _ (rs : List ℕ) (words : (i : ℕ) → getD rs i 0 < wordLimit) where
   works-low zero = all-replicate (λ (w : Work). w .node < wordLimit) recordCount idle (omega arith)
   works-low (suc k) =
       all-set (λ (w : Work). w .node < wordLimit) (worksRead k rs) k (workRead rs k) (works-low k)
-      (omega (arith, read-low (getD rs (recordWords * k) 0) (getD rs (recordWords * k + 1) 0) (getD rs (recordWords * k + 2) 0) (getD rs (recordWords * k + 3) 0), words (recordWords * k + 1)))
+      (omega (arith, read-low (getD rs (recordWords * k) 0) (getD rs (recordWords * k + 1) 0) (element (getD rs (recordWords * k + 2) 0) (getD rs (recordWords * k + 3) 0) (getD rs (recordWords * k + 4) 0)), words (recordWords * k + 1)))
 
 pub works-few : (k : ℕ) (rs : List ℕ) → length (worksRead k rs) ≡ recordCount
 unfolding worksRead

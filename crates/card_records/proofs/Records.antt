@@ -18,29 +18,30 @@ use Rattle.tree_model.specs.declared.Op.the-variants.{Put, Swap, Take}
 use Rattle.tree_model.specs.declared.Work.{Work}
 
 -- ---- reading
-module _ (kind node rank tag : ℕ) where
-  pub work-put : kind ≡ 1 → record { op = Put (element rank tag); node = node } ≡ workOf kind node rank tag
+module _ (kind node : ℕ) (x : Element) where
+  pub work-put : kind ≡ 1 → record { op = Put x; node = node } ≡ workOf kind node x
   unfolding workOf
   work-put e = rw (eq-eqb kind 1 e)
 
   module _ (a : kind ≡ 1 → ⊥) where
-    pub work-take : kind ≡ 2 → record { op = Take; node = node } ≡ workOf kind node rank tag
+    pub work-take : kind ≡ 2 → record { op = Take; node = node } ≡ workOf kind node x
     unfolding workOf
     work-take e = rw (ne-eqb kind 1 a, eq-eqb kind 2 e)
 
     module _ (b : kind ≡ 2 → ⊥) where
-      pub work-swap : kind ≡ 3 → record { op = Swap (element rank tag); node = node } ≡ workOf kind node rank tag
+      pub work-swap : kind ≡ 3 → record { op = Swap x; node = node } ≡ workOf kind node x
       unfolding workOf
       work-swap e = rw (ne-eqb kind 1 a, ne-eqb kind 2 b, eq-eqb kind 3 e)
 
-      pub work-nothing : (w : Work) → (kind ≡ 3 → ⊥) → w ≡ idle → w ≡ workOf kind node rank tag
+      pub work-nothing : (w : Work) → (kind ≡ 3 → ⊥) → w ≡ idle → w ≡ workOf kind node x
       unfolding workOf
       work-nothing w d e = rw (ne-eqb kind 1 a, ne-eqb kind 2 b, ne-eqb kind 3 d) e
 
 pub read-one : (rs : List ℕ) (i : ℕ) (n : ℕ) (w : Work) → n ≡ getD rs (recordWords * i + 1) 0
-    → w ≡ workOf (getD rs (recordWords * i) 0) n (getD rs (recordWords * i + 2) 0) (getD rs (recordWords * i + 3) 0) → w ≡ workRead rs i
+    → w ≡ workOf (getD rs (recordWords * i) 0) n (element (getD rs (recordWords * i + 2) 0) (getD rs (recordWords * i + 3) 0) (getD rs (recordWords * i + 4) 0))
+    → w ≡ workRead rs i
 unfolding workRead
-read-one rs i n w e p = p ∙ ap (λ (n : ℕ). workOf (getD rs (recordWords * i) 0) n (getD rs (recordWords * i + 2) 0) (getD rs (recordWords * i + 3) 0)) e
+read-one rs i n w e p = rw (← e) p
 
 pub read-none : (rs : List ℕ) (w : Work) → w ≡ idle → replicate recordCount w ≡ worksRead 0 rs
 unfolding worksRead
@@ -52,7 +53,8 @@ read-more rs i ws w e p = rw (add-one, e, p)
 
 -- ---- writing
 pub write-one : (rs : List ℕ) (i : ℕ) (w : Work) (x : Element) (k n : ℕ) → x ≡ carried (w .op) → k ≡ kindOf (w .op) → n ≡ nodeWord (w .op) (w .node)
-    → set (set (set (set rs (recordWords * i) k) (recordWords * i + 1) n) (recordWords * i + 2) (x .rank .0)) (recordWords * i + 3) (x .tag .0) ≡ workWritten rs i w
+    → set (set (set (set (set rs (recordWords * i) k) (recordWords * i + 1) n) (recordWords * i + 2) (x .rank .0)) (recordWords * i + 3) (x .tag .0)) (recordWords * i + 4) (x .length .0)
+    ≡ workWritten rs i w
 unfolding workWritten
 write-one rs i w x k n p q r = rw (p, q, r)
 

@@ -1,4 +1,5 @@
--- The pending records and the mark as words: "4 words for each level from 2: kind (0 nothing, 1 put, 2 take, 3 swap), node, rank, tag".
+-- The pending records and the mark as words: "words for each level from 2: kind (0 nothing, 1 put, 2 take, 3 swap), node, rank, tag", and length:
+-- "pending records grow too" (02 [9]).
 -- Assumes nothing: these are definitions.
 use Prim.Native.Nat.{_*_, _+_, _<_, _≤_, suc, zero, ℕ}
 use mathlib.Core.Bool.{_&&_, Bool, cond, true}
@@ -17,19 +18,20 @@ use Rattle.tree_model.specs.declared.Work.{Work}
 
 -- how many words a record has
 abbrev pub recordWords : ℕ
-recordWords = 4
+recordWords = 5
 
 -- ---- reading
--- the work of a kind, a node, a rank and a tag; the numbers that the kind doesn't use are not read
-unfoldable pub workOf : ℕ → ℕ → ℕ → ℕ → Work
-workOf kind node rank tag =
-    cond (eqb kind 1) (record { op = Put (element rank tag); node = node })
+-- the work of a kind, a node and an element; the numbers that the kind doesn't use are not read
+unfoldable pub workOf : ℕ → ℕ → Element → Work
+workOf kind node x =
+    cond (eqb kind 1) (record { op = Put x; node = node })
     (cond (eqb kind 2) (record { op = Take; node = node })
-    (cond (eqb kind 3) (record { op = Swap (element rank tag); node = node }) idle))
+    (cond (eqb kind 3) (record { op = Swap x; node = node }) idle))
 
 unfoldable pub workRead : List ℕ → ℕ → Work
 workRead rs i =
-    workOf (getD rs (recordWords * i) 0) (getD rs (recordWords * i + 1) 0) (getD rs (recordWords * i + 2) 0) (getD rs (recordWords * i + 3) 0)
+    workOf (getD rs (recordWords * i) 0) (getD rs (recordWords * i + 1) 0)
+    (element (getD rs (recordWords * i + 2) 0) (getD rs (recordWords * i + 3) 0) (getD rs (recordWords * i + 4) 0))
 
 -- the first k records; past them nothing is pending
 unfoldable pub worksRead : ℕ → List ℕ → List Work
@@ -47,7 +49,7 @@ kindOf (Put x) = 1
 kindOf Take = 2
 kindOf (Swap x) = 3
 
--- the element that an operation carries, rank 0 and tag 0 where it carries none
+-- the element that an operation carries, rank, tag and length 0 where it carries none
 abbrev pub carried : Op → Element
 carried Nothing = blank
 carried (Put x) = x
@@ -73,10 +75,11 @@ Fit (suc k) p = (p .0 .node < wordLimit) × Fit k (p .1)
 -- "Numbers that a record's kind doesn't use are written 0"
 unfoldable pub workWritten : List ℕ → ℕ → Work → List ℕ
 workWritten rs i w =
+    let x = carried (w .op) in
     set
-    (set (set (set rs (recordWords * i) (kindOf (w .op))) (recordWords * i + 1) (nodeWord (w .op) (w .node))) (recordWords * i + 2) (carried (w .op) .rank .0))
-    (recordWords * i + 3)
-    (carried (w .op) .tag .0)
+    (set (set (set (set rs (recordWords * i) (kindOf (w .op))) (recordWords * i + 1) (nodeWord (w .op) (w .node))) (recordWords * i + 2) (x .rank .0)) (recordWords * i + 3) (x .tag .0))
+    (recordWords * i + 4)
+    (x .length .0)
 
 -- the first k records; the words past them stand
 unfoldable pub worksWritten : ℕ → List Work → List ℕ → List ℕ

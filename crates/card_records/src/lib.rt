@@ -10,11 +10,24 @@ ghost use Rattle.card_records.specs.Records.{recordWords, workOf, workRe
 use clocked_model::RECORDS;
 use clocked_model::State;
 use strip::Element;
+use strip::Length;
 use strip::Rank;
 use strip::Tag;
 use strip::no_element;
 use tree_model::Op;
 use tree_model::Work;
+
+// A record's words: its kind, and behind it the others.
+const NODE: usize = 1;
+
+const RANK: usize = NODE + 1;
+
+const TAG: usize = RANK + 1;
+
+const LENGTH: usize = TAG + 1;
+
+// How many words a record has.
+const RECORD_WORDS: usize = LENGTH + 1;
 
 // ---- reading
 
@@ -27,13 +40,9 @@ fn no_work() -> Work
     }
 }
 
-fn work_of(kind: u32, node: usize, rank: u32, tag: u32) -> Work
-    ensures { λ r. ⌜ r ≡ workOf kind node rank tag ⌝ }
+fn work_of(kind: u32, node: usize, x: Element) -> Work
+    ensures { λ r. ⌜ r ≡ workOf kind node x ⌝ }
 {
-    let x = Element {
-        rank: Rank(rank),
-        tag: Tag(tag),
-    };
     if kind == 1 {
         return Work {
             op: Op::Put(x),
@@ -59,16 +68,19 @@ fn wide(x: u32) -> usize
 }
 
 fn read_work(records: &[u32], i: usize) -> Work
-    requires { ⌜ recordWords * i + 4 ≤ length (now records) ⌝ }
+    requires { ⌜ recordWords * i + recordWords ≤ length (now records) ⌝ }
     ensures { λ r. ⌜ r ≡ workRead (now (records .entry)) i ⌝ }
 {
-    let at = 4 * i;
-    work_of(
-        records[at],
-        wide(records[at + 1]),
-        records[at + 2],
-        records[at + 3],
-    )
+    let at = RECORD_WORDS * i;
+    let r = records[at + RANK];
+    let t = records[at + TAG];
+    let l = records[at + LENGTH];
+    let x = Element {
+        rank: Rank(r),
+        tag: Tag(t),
+        length: Length(l),
+    };
+    work_of(records[at], wide(records[at + NODE]), x)
 }
 
 // The first so many records, past which nothing is pending, and the mark.
@@ -126,18 +138,20 @@ fn node_word(op: Op, node: usize) -> u32
 }
 
 fn write_work(records: &mut [u32], i: usize, w: Work)
-    requires { ⌜ (recordWords * i + 4 ≤ length (now records)) × (nodeWord (w .op) (w .node) < wordLimit) ⌝ }
+    requires { ⌜ (recordWords * i + recordWords ≤ length (now records)) × (nodeWord (w .op) (w .node) < wordLimit) ⌝ }
     ensures { λ _. ⌜ now (records .exit) ≡ workWritten (now (records .entry)) i w ⌝ }
 {
-    let at = 4 * i;
+    let at = RECORD_WORDS * i;
     let op = w.op;
     let x = carries(op);
     let rank = x.rank.0;
     let tag = x.tag.0;
+    let length = x.length.0;
     records[at] = kind_of(op);
-    records[at + 1] = node_word(op, w.node);
-    records[at + 2] = rank;
-    records[at + 3] = tag;
+    records[at + NODE] = node_word(op, w.node);
+    records[at + RANK] = rank;
+    records[at + TAG] = tag;
+    records[at + LENGTH] = length;
 }
 
 pub fn bit(on: bool) -> u32
@@ -172,17 +186,17 @@ fn kinds_ok(records: &[u32], count: usize) -> bool
     let mut ok = true;
     let mut i = 0;
     while i < count {
-        ok = ok & (records[4 * i] <= 3);
+        ok = ok & (records[RECORD_WORDS * i] <= 3);
         i += 1;
     }
     ok
 }
 
-// Whether the mark has a word, and each of so many records four.
+// Whether the mark has a word, and each of so many records its words.
 pub fn is_roomy(records: &[u32], mark: &[u32], count: usize) -> bool
     ensures { λ r. ⌜ r ≡ roomy count (now (records .entry)) (now (mark .entry)) ⌝ }
 {
-    (1 <= mark.len()) & (count <= records.len() / 4)
+    (1 <= mark.len()) & (count <= records.len() / RECORD_WORDS)
 }
 
 // .. and whether they hold a mark and kinds.

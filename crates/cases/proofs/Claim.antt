@@ -3,12 +3,13 @@ use mathlib.Core.List.{map}
 use mathlib.Core.Path.{ap, refl}
 use Rattle.bucket_model.proofs.Case8.{case8-holds, case8-three}
 use Rattle.bucket_model.proofs.CaseTag.{spoilt-case, tag-case}
-use Rattle.bucket_model.proofs.CaseWords.{pop-case-bits, pop-case-words, replace-case-bits, replace-case-words}
+use Rattle.bucket_model.proofs.CaseWords.{length-case, pop-case-bits, pop-case-words, replace-case-bits, replace-case-words}
 use Rattle.cases.specs.Table.{Right, table, told}
-use Rattle.clocked_model.proofs.Cases.{case-6, case-empty, case-untagged}
+use Rattle.clocked_model.proofs.Cases as clock
 use Rattle.laws.specs.Lists.{All}
 use Rattle.promise.specs.Queue.{answers, leaves}
 use Rattle.strip.specs.Answers.{blank, key, untagged, precedes}
+use Rattle.tree_model.proofs.Cases.{case-length-answers, case-lengths}
 use Rattle.tree_model.proofs.Edge.{eight-past, eight-taken, four-past, four-taken, none-refused, three-refused, two-past, two-taken}
 use Rattle.tree_model.specs.Calls.{called, carriedOut, cleared, heldCount, orderOk, rule, shapeOk}
 use Rattle.tree_model.specs.Damage.{workOk, hasRoom, hasSome, isBlank, lifts, nodeOk, pathOk, readOk, room, slotOk, stepOk}
@@ -18,7 +19,5 @@ use Rattle.tree_model.specs.Words.{applyWords, levelOf, levelsOf, nodeOf, size,
 
 pub cases : All Right table
 unfolding table blank key precedes untagged vacant isEmpty slotAt seek every firstEmpty leastCount lowest low sumCounts keep pass putBy putMove takeBy takeMove swapBy swapMove opMove isNothing top work levelMove stepWork slotOf write wipe tabulate nodeOf size levelOf levelsOf stepWords applyWords room isBlank slotOk nodeOk hasRoom hasSome readOk lifts stepOk workOk pathOk orderOk shapeOk rule carriedOut called cleared heldCount leaves answers
-cases = (
-  (refl, refl, refl),
-  ((refl, refl, refl), ((refl, refl, refl), ((refl, refl, refl), ((refl, refl, refl), (case-6, ((refl, refl, refl), ((refl, refl, refl), (ap (map told) case-empty, ((refl, refl, refl), (ap (map told) case8-holds, (ap (map told) case8-three, ((pop-case-bits, pop-case-words), ((replace-case-bits, replace-case-words), ((refl, refl, refl), ((refl, refl, refl), (ap (map told) case-untagged, (ap (map told) tag-case, (ap (map told) spoilt-case, (refl, (refl, (four-taken, (four-past, (two-taken, (two-past, (eight-taken, (eight-past, (three-refused, (none-refused, tt)))))))))))))))))))))))))))),
-)
+cases =
+    ((refl, refl, refl), ((refl, refl, refl), ((refl, refl, refl), ((refl, refl, refl), ((refl, refl, refl), (clock.case-6, ((refl, refl, refl), ((refl, refl, refl), (ap (map told) clock.case-empty, ((refl, refl, refl), (ap (map told) case8-holds, (ap (map told) case8-three, ((pop-case-bits, pop-case-words), ((replace-case-bits, replace-case-words), ((refl, refl, refl), ((refl, refl, refl), (ap (map told) clock.case-untagged, (ap (map told) tag-case, (ap (map told) spoilt-case, (case-lengths, (ap (map told) case-length-answers, (clock.case-lengths, (ap (map told) clock.case-length-answers, (ap (map told) length-case, (refl, (refl, (refl, (four-taken, (four-past, (two-taken, (two-past, (eight-taken, (eight-past, (three-refused, (none-refused, tt)))))))))))))))))))))))))))))))))))

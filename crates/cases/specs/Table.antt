@@ -5,37 +5,42 @@ use mathlib.Core.Path.{_≡_}
 use lib.ListN.{length, replicate}
 use Rattle.bucket_model.specs.Case8.{case8, case8Three}
 use Rattle.bucket_model.specs.CaseTag.{spoilt, spoiltCase, tagCase}
-use Rattle.bucket_model.specs.CaseWords.{filled, leftBy, popCase, popCaseBits, popCaseWords, replaceCase, replaceCaseBits, replaceCaseWords}
+use Rattle.bucket_model.specs.CaseWords.{filled, leftBy, lengthCase, popCase, popCaseBits, popCaseWords, replaceCase, replaceCaseBits, replaceCaseWords}
 use Rattle.bucket_model.specs.Layout.{queue}
 use Rattle.bucket_model.specs.Plain.{answersFrom, bucketAnswers, Store}
 use Rattle.clocked_model.specs.Cases.{caseEmpty, caseEmptySays, caseSix, caseSixSays, caseUntagged, caseUntaggedSays}
+use Rattle.clocked_model.specs.Cases as clock
 use Rattle.promise.specs.Queue.{answers}
-use Rattle.strip.specs.Answers.{countNumber, countOf, element, numberOf, rankOf, tagOf}
+use Rattle.strip.specs.Answers.{countNumber, countOf, element, lengthOf, numberOf, rankOf, tagOf}
 use Rattle.strip.specs.declared.Answer.{Answer}
 use Rattle.strip.specs.declared.Count.{Count}
 use Rattle.strip.specs.declared.Request.{Request}
 use Rattle.strip.specs.declared.Request.the-variants.{Pop, Push, Replace}
 use Rattle.tree_model.specs.Calls.{heldCount}
+use Rattle.tree_model.specs.Cases.{caseLengthAnswers, caseLengthAnswersSay, caseLengths, caseLengthsSays}
 use Rattle.tree_model.specs.Edge.{Edge}
 use Rattle.tree_model.specs.Promise.{after, start, treeQueue}
+use Rattle.tree_model.specs.declared.Work.{Work}
 
--- what is said, in 01's numbers: the number, and the rank and tag; of held the number and how many
-abbrev pub told : Answer → ℕ × ℕ × ℕ
-told a = (numberOf a, rankOf a, tagOf a)
+-- what is said, in 01's numbers: the number, and the rank, tag and length; of held the number and how many
+abbrev pub told : Answer → ℕ × ℕ × ℕ × ℕ
+told a = (numberOf a, rankOf a, tagOf a, lengthOf a)
 
 abbrev pub toldHeld : Count → ℕ × ℕ
 toldHeld c = (countNumber c, countOf c)
 
 -- a row: what is asked of a cleared queue, what it says, the words it leaves, and what held says then. A slice to begin with is garbage, and longer
--- than needed. `bucketOn` asks it of a store that was not cleared, `bucketWords` of two storeys. `edge` has a shape's capacity and the number of a clear on any words that hold it
+-- than needed. `bucketOn` asks it of a store that was not cleared, `bucketWords` of two storeys. `edge` has a shape's capacity and the number of a clear on any words that hold it. `wordsAre`,
+-- `pendingAre` and `answersAre` hold a model crate's own case to what it should be: words, the record of level 2 with the words, and answers
 pub data Row : Type 0 where
-  tree : (order levels : ℕ) (requests : List Request) (said : List (ℕ × ℕ × ℕ)) (left : List ℕ) (held : ℕ × ℕ) → Row
+  tree : (order levels : ℕ) (requests : List Request) (said : List (ℕ × ℕ × ℕ × ℕ)) (left : List ℕ) (held : ℕ × ℕ) → Row
   held : (order levels : ℕ) (words : List ℕ) (said : ℕ × ℕ) → Row
   edge : (order levels slots said : ℕ) → Row
-  clocked : (words said : List (List ℕ)) → Row
-  cycles : (answers said : List (ℕ × ℕ × ℕ)) → Row
-  bucket : (storeys nodes : ℕ) (requests : List Request) (said : List (ℕ × ℕ × ℕ)) → Row
-  bucketOn : (storeys nodes : ℕ) (store : Store) (requests : List Request) (said : List (ℕ × ℕ × ℕ)) → Row
+  wordsAre : (left says : List (List ℕ)) → Row
+  pendingAre : (left says : List (Work × List ℕ)) → Row
+  answersAre : (answers says : List (ℕ × ℕ × ℕ × ℕ)) → Row
+  bucket : (storeys nodes : ℕ) (requests : List Request) (said : List (ℕ × ℕ × ℕ × ℕ)) → Row
+  bucketOn : (storeys nodes : ℕ) (store : Store) (requests : List Request) (said : List (ℕ × ℕ × ℕ × ℕ)) → Row
   bucketWords : (nodes : ℕ) (requests : List Request) (bits words : List (ℕ × ℕ)) → Row
 
 abbrev pub garbage : ℕ → List ℕ
@@ -47,65 +52,76 @@ Right (tree m l rs said left h) =
     (map told (answers (treeQueue m l) rs (start m l (garbage (length left)))) ≡ said) × (after m l rs (garbage (length left)) ≡ left) × (toldHeld (heldCount m l left) ≡ h)
 Right (held m l ws said) = toldHeld (heldCount m l ws) ≡ said
 Right (edge m l n said) = Edge m l n said
-Right (clocked words said) = words ≡ said
-Right (cycles answers said) = answers ≡ said
+Right (wordsAre left says) = left ≡ says
+Right (pendingAre left says) = left ≡ says
+Right (answersAre answers says) = answers ≡ says
 Right (bucket d n rs said) = map told (bucketAnswers (queue d n) rs) ≡ said
 Right (bucketOn d n s rs said) = map told (answersFrom (queue d n) rs s) ≡ said
 Right (bucketWords n rs bits words) = (filled 0 (leftBy n rs .bits) ≡ bits) × (filled 0 (leftBy n rs .words) ≡ words)
 
 -- "Tree cases have order 2, levels 2, capacity 6. Store A is cleared, then push 5/50, 3/30, 8/80, 1/10"
 abbrev pub A : List Request
-A = Push (element 5 50) ∷ Push (element 3 30) ∷ Push (element 8 80) ∷ Push (element 1 10) ∷ []
+A = Push (element 5 50 0) ∷ Push (element 3 30 0) ∷ Push (element 8 80 0) ∷ Push (element 1 10 0) ∷ []
 
 -- n requests that are done
-abbrev pub done : ℕ → List (ℕ × ℕ × ℕ)
-done n = replicate n (0, 0, 0)
+abbrev pub done : ℕ → List (ℕ × ℕ × ℕ × ℕ)
+done n = replicate n (0, 0, 0, 0)
 
-abbrev pub row : List Request → List (ℕ × ℕ × ℕ) → List ℕ → ℕ → Row
+abbrev pub row : List Request → List (ℕ × ℕ × ℕ × ℕ) → List ℕ → ℕ → Row
 row rs said left h = tree 2 2 rs said (left ++ garbage 2) (0, h)
 
 unfoldable pub table : List Row
 table =
     -- 1. A is: root (5,50,2) (1,10,2); node 0 (8,80,1) empty; node 1 (3,30,1) empty
-    row A (done 4) (5 ∷ 50 ∷ 2 ∷ 1 ∷ 10 ∷ 2 ∷ 8 ∷ 80 ∷ 1 ∷ 0 ∷ 0 ∷ 0 ∷ 3 ∷ 30 ∷ 1 ∷ 0 ∷ 0 ∷ 0 ∷ []) 4
+    row A (done 4) (5 ∷ 50 ∷ 0 ∷ 2 ∷ 1 ∷ 10 ∷ 0 ∷ 2 ∷ 8 ∷ 80 ∷ 0 ∷ 1 ∷ 0 ∷ 0 ∷ 0 ∷ 0 ∷ 3 ∷ 30 ∷ 0 ∷ 1 ∷ 0 ∷ 0 ∷ 0 ∷ 0 ∷ []) 4
     -- 2. A popped: 1, 3, 5, 8, then refusal 6
-    ∷ row (A ++ replicate 5 Pop) (done 4 ++ ((0, 1, 10) ∷ (0, 3, 30) ∷ (0, 5, 50) ∷ (0, 8, 80) ∷ (6, 0, 0) ∷ [])) (replicate 18 0) 0
+    ∷ row (A ++ replicate 5 Pop) (done 4 ++ ((0, 1, 10, 0) ∷ (0, 3, 30, 0) ∷ (0, 5, 50, 0) ∷ (0, 8, 80, 0) ∷ (6, 0, 0, 0) ∷ [])) (replicate 24 0) 0
     -- 3. A, replace 0/7: answers 1/10, slot 1 becomes (0,7,2)
-    ∷ row (A ++ (Replace (element 0 7) ∷ [])) (done 4 ++ ((0, 1, 10) ∷ [])) (5 ∷ 50 ∷ 2 ∷ 0 ∷ 7 ∷ 2 ∷ 8 ∷ 80 ∷ 1 ∷ 0 ∷ 0 ∷ 0 ∷ 3 ∷ 30 ∷ 1 ∷ 0 ∷ 0 ∷ 0 ∷ []) 4
+    ∷ row (A ++ (Replace (element 0 7 0) ∷ [])) (done 4 ++ ((0, 1, 10, 0) ∷ [])) (5 ∷ 50 ∷ 0 ∷ 2 ∷ 0 ∷ 7 ∷ 0 ∷ 2 ∷ 8 ∷ 80 ∷ 0 ∷ 1 ∷ 0 ∷ 0 ∷ 0 ∷ 0 ∷ 3 ∷ 30 ∷ 0 ∷ 1 ∷ 0 ∷ 0 ∷ 0 ∷ 0 ∷ []) 4
     -- 4. A, replace 1/7: answers 1/10, root slot 1 is (1,7,2)
-    ∷ row (A ++ (Replace (element 1 7) ∷ [])) (done 4 ++ ((0, 1, 10) ∷ [])) (5 ∷ 50 ∷ 2 ∷ 1 ∷ 7 ∷ 2 ∷ 8 ∷ 80 ∷ 1 ∷ 0 ∷ 0 ∷ 0 ∷ 3 ∷ 30 ∷ 1 ∷ 0 ∷ 0 ∷ 0 ∷ []) 4
+    ∷ row (A ++ (Replace (element 1 7 0) ∷ [])) (done 4 ++ ((0, 1, 10, 0) ∷ [])) (5 ∷ 50 ∷ 0 ∷ 2 ∷ 1 ∷ 7 ∷ 0 ∷ 2 ∷ 8 ∷ 80 ∷ 0 ∷ 1 ∷ 0 ∷ 0 ∷ 0 ∷ 0 ∷ 3 ∷ 30 ∷ 0 ∷ 1 ∷ 0 ∷ 0 ∷ 0 ∷ 0 ∷ []) 4
     -- 5. A, replace 4/7: answers 1/10, slot 1 (3,30,2), node 1 begins (4,7,1)
-    ∷ row (A ++ (Replace (element 4 7) ∷ [])) (done 4 ++ ((0, 1, 10) ∷ [])) (5 ∷ 50 ∷ 2 ∷ 3 ∷ 30 ∷ 2 ∷ 8 ∷ 80 ∷ 1 ∷ 0 ∷ 0 ∷ 0 ∷ 4 ∷ 7 ∷ 1 ∷ 0 ∷ 0 ∷ 0 ∷ []) 4
+    ∷ row (A ++ (Replace (element 4 7 0) ∷ [])) (done 4 ++ ((0, 1, 10, 0) ∷ [])) (5 ∷ 50 ∷ 0 ∷ 2 ∷ 3 ∷ 30 ∷ 0 ∷ 2 ∷ 8 ∷ 80 ∷ 0 ∷ 1 ∷ 0 ∷ 0 ∷ 0 ∷ 0 ∷ 4 ∷ 7 ∷ 0 ∷ 1 ∷ 0 ∷ 0 ∷ 0 ∷ 0 ∷ []) 4
     -- 6. A clocked, drained, pop: after that cycle slot 1 is (3,30,1) and node 1 still begins (3,30,1); one idle cycle later node 1 is empty
-    ∷ clocked caseSix caseSixSays
+    ∷ wordsAre caseSix caseSixSays
     -- 7. cleared, six pushes accepted, the seventh refused 5
-    ∷ row (replicate 7 (Push (element 1 1))) (done 6 ++ ((5, 0, 0) ∷ [])) (1 ∷ 1 ∷ 3 ∷ 1 ∷ 1 ∷ 3 ∷ 1 ∷ 1 ∷ 1 ∷ 1 ∷ 1 ∷ 1 ∷ 1 ∷ 1 ∷ 1 ∷ 1 ∷ 1 ∷ 1 ∷ []) 6
+    ∷ row (replicate 7 (Push (element 1 1 0))) (done 6 ++ ((5, 0, 0, 0) ∷ [])) (1 ∷ 1 ∷ 0 ∷ 3 ∷ 1 ∷ 1 ∷ 0 ∷ 3 ∷ 1 ∷ 1 ∷ 0 ∷ 1 ∷ 1 ∷ 1 ∷ 0 ∷ 1 ∷ 1 ∷ 1 ∷ 0 ∷ 1 ∷ 1 ∷ 1 ∷ 0 ∷ 1 ∷ []) 6
     -- "an empty queue refuses replace with 6", and the store stands
-    ∷ row (Replace (element 5 50) ∷ []) ((6, 0, 0) ∷ []) (replicate 18 0) 0
+    ∷ row (Replace (element 5 50 0) ∷ []) ((6, 0, 0, 0) ∷ []) (replicate 24 0) 0
     -- .. by cycles: as idle, so that a pop just after it is not too soon; and a lower newcomer is taken in
-    ∷ cycles (map told caseEmpty) (map told caseEmptySays)
+    ∷ answersAre (map told caseEmpty) (map told caseEmptySays)
     -- [12] a node with 5/9 and 5/3 gives 5/3, not the leftmost
-    ∷ row (Push (element 5 9) ∷ Push (element 5 3) ∷ Pop ∷ []) (done 2 ++ ((0, 5, 3) ∷ [])) (5 ∷ 9 ∷ 1 ∷ replicate 15 0) 1
+    ∷ row (Push (element 5 9 0) ∷ Push (element 5 3 0) ∷ Pop ∷ []) (done 2 ++ ((0, 5, 3, 0) ∷ [])) (5 ∷ 9 ∷ 0 ∷ 1 ∷ replicate 20 0) 1
     -- 8. bucket, N = 3: push 7/1, 7/2, 4095/3; push 0/4 refused 5; 4096/4 refused 4; pops 7/1, 7/2, 4095/3, then 6
-    ∷ bucket 2 3 case8 ((0, 0, 0) ∷ (0, 0, 0) ∷ (0, 0, 0) ∷ (5, 0, 0) ∷ (4, 0, 0) ∷ (0, 7, 1) ∷ (0, 7, 2) ∷ (0, 4095, 3) ∷ (6, 0, 0) ∷ [])
+    ∷ bucket 2 3 case8 ((0, 0, 0, 0) ∷ (0, 0, 0, 0) ∷ (0, 0, 0, 0) ∷ (5, 0, 0, 0) ∷ (4, 0, 0, 0) ∷ (0, 7, 1, 0) ∷ (0, 7, 2, 0) ∷ (0, 4095, 3, 0) ∷ (6, 0, 0, 0) ∷ [])
     -- .. at three storeys the last rank is 262,143
-    ∷ bucket 3 3 case8Three ((0, 0, 0) ∷ (0, 0, 0) ∷ (0, 0, 0) ∷ (5, 0, 0) ∷ (4, 0, 0) ∷ (0, 7, 1) ∷ (0, 7, 2) ∷ (0, 262143, 3) ∷ (6, 0, 0) ∷ [])
-    -- the bucket's words that are not 0, with their places, after push 7/1, 7/2, 7/3 and a pop; and after replace 70/5 and replace 3/6
+    ∷ bucket 3 3 case8Three ((0, 0, 0, 0) ∷ (0, 0, 0, 0) ∷ (0, 0, 0, 0) ∷ (5, 0, 0, 0) ∷ (4, 0, 0, 0) ∷ (0, 7, 1, 0) ∷ (0, 7, 2, 0) ∷ (0, 262143, 3, 0) ∷ (6, 0, 0, 0) ∷ [])
+    -- the bucket's words that are not 0, with their places, after push 7/1/64, 7/2/1500, 7/3/40 and a pop; and after replace 70/5/9000 and replace 3/6/4294967295
     ∷ bucketWords 4 popCase popCaseBits popCaseWords
     ∷ bucketWords 4 replaceCase replaceCaseBits replaceCaseWords
     -- "Push and replace with tag 0 are to be refused with a new number 7": before 6, and the store stands
-    ∷ row (Push (element 5 0) ∷ Replace (element 5 0) ∷ []) ((7, 0, 0) ∷ (7, 0, 0) ∷ []) (replicate 18 0) 0
-    ∷ row (A ++ (Push (element 5 0) ∷ Replace (element 0 0) ∷ [])) (done 4 ++ ((7, 0, 0) ∷ (7, 0, 0) ∷ [])) (5 ∷ 50 ∷ 2 ∷ 1 ∷ 10 ∷ 2 ∷ 8 ∷ 80 ∷ 1 ∷ 0 ∷ 0 ∷ 0 ∷ 3 ∷ 30 ∷ 1 ∷ 0 ∷ 0 ∷ 0 ∷ []) 4
+    ∷ row (Push (element 5 0 0) ∷ Replace (element 5 0 0) ∷ []) ((7, 0, 0, 0) ∷ (7, 0, 0, 0) ∷ []) (replicate 24 0) 0
+    ∷ row (A ++ (Push (element 5 0 0) ∷ Replace (element 0 0 0) ∷ [])) (done 4 ++ ((7, 0, 0, 0) ∷ (7, 0, 0, 0) ∷ [])) (5 ∷ 50 ∷ 0 ∷ 2 ∷ 1 ∷ 10 ∷ 0 ∷ 2 ∷ 8 ∷ 80 ∷ 0 ∷ 1 ∷ 0 ∷ 0 ∷ 0 ∷ 0 ∷ 3 ∷ 30 ∷ 0 ∷ 1 ∷ 0 ∷ 0 ∷ 0 ∷ 0 ∷ []) 4
     -- .. by cycles, after 3: as idle, so that a pop just after it is not too soon
-    ∷ cycles (map told caseUntagged) (map told caseUntaggedSays)
+    ∷ answersAre (map told caseUntagged) (map told caseUntaggedSays)
     -- .. in the bucket queue, N = 3: push 4096/0 refused 4, push 7/0 and replace 7/0 refused 7, empty or full; rank 0 is taken
     ∷ bucket 2 3 tagCase
-    ((4, 0, 0) ∷ (7, 0, 0) ∷ (7, 0, 0) ∷ (0, 0, 0) ∷ (0, 0, 0) ∷ (0, 0, 0) ∷ (7, 0, 0) ∷ (5, 0, 0) ∷ (7, 0, 0) ∷ (0, 0, 1) ∷ (0, 7, 2) ∷ (0, 7, 3) ∷ (6, 0, 0) ∷ [])
+    ((4, 0, 0, 0) ∷ (7, 0, 0, 0) ∷ (7, 0, 0, 0) ∷ (0, 0, 0, 0) ∷ (0, 0, 0, 0) ∷ (0, 0, 0, 0) ∷ (7, 0, 0, 0) ∷ (5, 0, 0, 0) ∷ (7, 0, 0, 0) ∷ (0, 0, 1, 0) ∷ (0, 7, 2, 0) ∷ (0, 7, 3, 0) ∷ (6, 0, 0, 0) ∷ [])
     -- .. and on a damaged store: push 7/1 refused 2, push 7/0 refused 7, push 4096/0 refused 4, replace 7/0 refused 7, replace 7/1 and pop refused 2
-    ∷ bucketOn 2 3 spoilt spoiltCase ((2, 0, 0) ∷ (7, 0, 0) ∷ (4, 0, 0) ∷ (7, 0, 0) ∷ (2, 0, 0) ∷ (2, 0, 0) ∷ [])
-    -- held refused: 1, an order of 3; 2, a slot with count 0 and a rank
-    ∷ held 3 1 (replicate 9 0) (1, 0)
-    ∷ held 2 1 (9 ∷ 0 ∷ 0 ∷ 0 ∷ 0 ∷ 0 ∷ []) (2, 0)
+    ∷ bucketOn 2 3 spoilt spoiltCase ((2, 0, 0, 0) ∷ (7, 0, 0, 0) ∷ (4, 0, 0, 0) ∷ (7, 0, 0, 0) ∷ (2, 0, 0, 0) ∷ (2, 0, 0, 0) ∷ [])
+    -- [9] "The strip's length travels with it": through push, replace and pop of the tree, the words and the answers ..
+    ∷ wordsAre caseLengths caseLengthsSays
+    ∷ answersAre (map told caseLengthAnswers) (map told caseLengthAnswersSay)
+    -- .. by cycles, pending records too ..
+    ∷ pendingAre clock.caseLengths clock.caseLengthsSays
+    ∷ answersAre (map told clock.caseLengthAnswers) (map told clock.caseLengthAnswersSay)
+    -- .. and of the bucket queue, N = 4; its words are those of the rows above
+    ∷ bucket 2 4 lengthCase
+    ((0, 0, 0, 0) ∷ (0, 0, 0, 0) ∷ (0, 0, 0, 0) ∷ (0, 7, 1, 64) ∷ (0, 7, 2, 1500) ∷ (0, 7, 3, 40) ∷ (0, 3, 6, 4294967295) ∷ (0, 70, 5, 9000) ∷ [])
+    -- held refused: 1, an order of 3; 2, a slot with count 0 and a rank, or a length
+    ∷ held 3 1 (replicate 12 0) (1, 0)
+    ∷ held 2 1 (9 ∷ 0 ∷ 0 ∷ 0 ∷ 0 ∷ 0 ∷ 0 ∷ 0 ∷ []) (2, 0)
+    ∷ held 2 1 (0 ∷ 0 ∷ 9 ∷ 0 ∷ 0 ∷ 0 ∷ 0 ∷ 0 ∷ []) (2, 0)
     -- 9. the largest shape of each order is taken, one level more is refused 1: on any slice that is long enough, so that the capacity is the cause
     ∷ edge 4 8 87380 0
     ∷ edge 4 9 349524 1

@@ -1,7 +1,9 @@
-// 01's worked cases and those that 02 adds, run: what each call answers, as number, rank and tag, and the words it leaves.
+// 01's worked cases and those that 02 adds, run: what each call answers, as number, rank, tag and length, and the words it leaves. The calls of a case
+// are written as text, each with a space behind it: + push, - pop, * replace, . idle, = drain, ! clear, and the element as rank/tag/length.
 use clocked_model::State;
 use strip::Answer;
 use strip::Element;
+use strip::Length;
 use strip::Rank;
 use strip::Request;
 use strip::Tag;
@@ -14,14 +16,15 @@ fn say(n: u32) {
     io::write_all(1, b" ");
 }
 
-fn say_answer(what: &[u8], a: Answer) {
+fn say_answer(a: Answer) {
     let e = strip::given(a);
     let rank = e.rank;
     let tag = e.tag;
-    io::write_all(1, what);
+    let length = e.length;
     say(strip::number(a));
     say(rank.0);
     say(tag.0);
+    say(length.0);
     io::write_all(1, b"\n");
 }
 
@@ -34,71 +37,298 @@ fn say_words(words: &[u32]) {
     io::write_all(1, b"\n");
 }
 
-fn element(rank: u32, tag: u32) -> Element {
+// ---- a call as it is read, byte by byte
+
+struct Call {
+    sign: u8,
+    rank: u32,
+    tag: u32,
+    length: u32,
+}
+
+fn element(c: Call) -> Element {
     Element {
-        rank: Rank(rank),
-        tag: Tag(tag),
+        rank: Rank(c.rank),
+        tag: Tag(c.tag),
+        length: Length(c.length),
     }
 }
 
-fn push(store: &mut [u32], rank: u32, tag: u32) {
-    say_answer(b"push ", tree::push(store, 2, 2, element(rank, tag)));
+// A digit goes into the last number (its low four bits are its value), a slash moves the numbers up, any other byte is a sign.
+fn read(c: Call, b: u8) -> Call {
+    if b == b'/' {
+        return Call {
+            sign: c.sign,
+            rank: c.tag,
+            tag: c.length,
+            length: 0,
+        };
+    }
+    if (b'0' <= b) & (b <= b'9') {
+        let n = 10 * (c.length as u64) + ((b % 16) as u64);
+        return Call {
+            sign: c.sign,
+            rank: c.rank,
+            tag: c.tag,
+            length: (n % 4294967296) as u32,
+        };
+    }
+    Call {
+        sign: b,
+        rank: 0,
+        tag: 0,
+        length: 0,
+    }
 }
 
-fn pop(store: &mut [u32]) {
-    say_answer(b"pop ", tree::pop(store, 2, 2));
+// Writes the byte too, so that a call stands before its answer.
+fn read_aloud(c: Call, b: u8) -> Call {
+    io::write_all(1, &[b]);
+    read(c, b)
 }
 
-// Store A: cleared, then push 5/50, 3/30, 8/80, 1/10.
-fn fill(store: &mut [u32]) {
-    shaped(store, 2, 2);
-    push(store, 5, 50);
-    push(store, 3, 30);
-    push(store, 8, 80);
-    push(store, 1, 10);
+fn no_call() -> Call {
+    Call {
+        sign: 0,
+        rank: 0,
+        tag: 0,
+        length: 0,
+    }
 }
 
-fn popped(store: &mut [u32]) {
-    fill(store);
-    pop(store);
-    pop(store);
-    pop(store);
-    pop(store);
-    pop(store);
+// ---- the tree, order 2, levels 2
+
+fn tree_call(store: &mut [u32], c: Call) -> Answer {
+    if c.sign == b'+' {
+        return tree::push(store, 2, 2, element(c));
+    }
+    if c.sign == b'*' {
+        return tree::replace(store, 2, 2, element(c));
+    }
+    if c.sign == b'-' {
+        return tree::pop(store, 2, 2);
+    }
+    tree::clear(store, 2, 2)
 }
 
-fn replaced_empty(store: &mut [u32]) {
-    shaped(store, 2, 2);
-    say_answer(b"replace ", tree::replace(store, 2, 2, element(5, 50)));
-    say_words(store);
+fn tree_byte(store: &mut [u32], c: Call, b: u8) -> Call {
+    let next = read_aloud(c, b);
+    if b == b' ' {
+        say_answer(tree_call(store, c));
+    }
+    next
 }
 
-// Tag 0 is refused, by a push and by a replace, and the store stands.
-fn untagged(store: &mut [u32], rank: u32) {
-    push(store, 5, 0);
-    say_answer(b"replace ", tree::replace(store, 2, 2, element(rank, 0)));
-    say_words(store);
-}
-
-fn replaced(store: &mut [u32], rank: u32) {
-    fill(store);
-    say_answer(b"replace ", tree::replace(store, 2, 2, element(rank, 7)));
-    say_words(store);
-}
-
-fn filled(store: &mut [u32]) {
-    fill(store);
-    push(store, 6, 6);
-    push(store, 7, 7);
-    push(store, 8, 8);
+// Calls on a store of nines, the words that they leave, and how many are held then.
+fn trees(calls: &[u8]) {
+    let mut store = [9u32; 26];
+    let mut c = no_call();
+    let mut i = 0;
+    while i < calls.len() {
+        c = tree_byte(&mut store, c, calls[i]);
+        i += 1;
+    }
+    say_words(&store);
     io::write_all(1, b"held ");
-    say(strip::count_of(tree::held(store, 2, 2)));
+    say(strip::count_of(tree::held(&store, 2, 2)));
     io::write_all(1, b"\n");
 }
 
-// Clears a slice of a shape, and says the number of the answer.
+// ---- the same by cycles
+
+fn request(c: Call) -> Request {
+    if c.sign == b'+' {
+        return Request::Push(element(c));
+    }
+    if c.sign == b'*' {
+        return Request::Replace(element(c));
+    }
+    if c.sign == b'-' {
+        return Request::Pop;
+    }
+    Request::Idle
+}
+
+fn drained(store: &mut [u32], state: State) -> State {
+    let d = clocked::drain(store, 2, 2, state, 2);
+    let answer = d.answer;
+    say(strip::number(answer));
+    say((d.cycles % 4294967296) as u32);
+    io::write_all(1, b"\n");
+    d.state
+}
+
+// A cycle and the words that it leaves, or a drain.
+fn cycle(store: &mut [u32], state: State, c: Call) -> State {
+    if c.sign == b'=' {
+        return drained(store, state);
+    }
+    let done = clocked::cycle(store, 2, 2, state, request(c));
+    let answer = done.answer;
+    say_answer(answer);
+    say_words(store);
+    done.state
+}
+
+fn cycle_byte(store: &mut [u32], state: State, c: Call, b: u8) -> State {
+    if b == b' ' {
+        return cycle(store, state, c);
+    }
+    state
+}
+
+// Calls on a cleared machine.
+fn cycles(calls: &[u8]) {
+    let mut store = [9u32; 26];
+    let none = clocked::fresh_state();
+    let cleared = clocked::clear(&mut store, 2, 2, none);
+    let mut state = cleared.state;
+    let mut c = no_call();
+    let mut i = 0;
+    while i < calls.len() {
+        let next = read_aloud(c, calls[i]);
+        state = cycle_byte(&mut store, state, c, calls[i]);
+        c = next;
+        i += 1;
+    }
+}
+
+// ---- the bucket queue
+
+fn bucket_call(bits: &mut [u64], words: &mut [u32], storeys: usize, nodes: u32, c: Call) -> Answer {
+    if c.sign == b'+' {
+        return bucket::push(bits, words, storeys, nodes, element(c));
+    }
+    if c.sign == b'*' {
+        return bucket::replace(bits, words, storeys, nodes, element(c));
+    }
+    if c.sign == b'-' {
+        return bucket::pop(bits, words, storeys, nodes);
+    }
+    bucket::clear(bits, words, storeys, nodes)
+}
+
+fn bucket_byte(
+    bits: &mut [u64],
+    words: &mut [u32],
+    storeys: usize,
+    nodes: u32,
+    c: Call,
+    b: u8,
+) -> Call {
+    let next = read_aloud(c, b);
+    if b == b' ' {
+        say_answer(bucket_call(bits, words, storeys, nodes, c));
+    }
+    next
+}
+
+fn bucket_calls(bits: &mut [u64], words: &mut [u32], storeys: usize, nodes: u32, calls: &[u8]) {
+    let mut c = no_call();
+    let mut i = 0;
+    while i < calls.len() {
+        c = bucket_byte(bits, words, storeys, nodes, c, calls[i]);
+        i += 1;
+    }
+}
+
+// Calls on a store of nines, of two storeys.
+fn buckets(nodes: u32, calls: &[u8]) {
+    let mut bits = [9u64; 65];
+    let mut words = [9u32; 8206];
+    bucket_calls(&mut bits, &mut words, 2, nodes, calls);
+}
+
+// ---- the cases
+
+fn tree_cases() {
+    io::write_all(1, b"cases 1 to 5\n");
+    trees(b"! +5/50/0 +3/30/0 +8/80/0 +1/10/0 ");
+    trees(b"! +5/50/0 +3/30/0 +8/80/0 +1/10/0 - - - - - ");
+    trees(b"! +5/50/0 +3/30/0 +8/80/0 +1/10/0 *0/7/0 ");
+    trees(b"! +5/50/0 +3/30/0 +8/80/0 +1/10/0 *1/7/0 ");
+    trees(b"! +5/50/0 +3/30/0 +8/80/0 +1/10/0 *4/7/0 ");
+    io::write_all(1, b"case 7\n");
+    trees(b"! +1/1/0 +1/1/0 +1/1/0 +1/1/0 +1/1/0 +1/1/0 +1/1/0 ");
+}
+
+fn more_tree_cases() {
+    io::write_all(1, b"a replace with nothing held\n");
+    trees(b"! *5/50/0 ");
+    io::write_all(1, b"equal ranks\n");
+    trees(b"! +5/9/0 +5/3/0 - ");
+    io::write_all(1, b"tag 0\n");
+    trees(b"! +5/0/0 *5/0/0 ");
+    trees(b"! +5/50/0 +3/30/0 +8/80/0 +1/10/0 +5/0/0 *0/0/0 ");
+    io::write_all(1, b"lengths\n");
+    trees(b"! +5/50/500 +3/30/300 +8/80/800 +1/10/100 *4/7/70 - ");
+}
+
+fn cycle_cases() {
+    io::write_all(1, b"case 6\n");
+    cycles(b"+5/50/0 +3/30/0 +8/80/0 +1/10/0 = - . ");
+    io::write_all(1, b"case 10\n");
+    cycles(b"+5/50/0 . - +1/10/0 +2/20/0 - - ");
+    io::write_all(
+        1,
+        b"a replace with nothing held is as idle, and a lower newcomer is taken in\n",
+    );
+    cycles(b"*5/50/0 - +1/10/0 *0/7/0 *0/7/0 . - ");
+    io::write_all(1, b"tag 0 is as idle, and after too soon\n");
+    cycles(b"+5/0/0 - +5/50/0 *1/0/0 *1/0/0 +1/0/0 - ");
+    io::write_all(
+        1,
+        b"2/2 is still on its way, and a pop just after it too soon\n",
+    );
+    cycles(b"+1/1/0 +9/9/0 +2/2/0 - - ");
+    io::write_all(1, b"lengths\n");
+    cycles(b"+5/50/500 +3/30/300 +8/80/800 +1/10/100 . *4/7/70 . - . ");
+}
+
+fn bucket_cases() {
+    io::write_all(1, b"case 8\n");
+    buckets(3, b"! +7/1/0 +7/2/0 +4095/3/0 +0/4/0 +4096/4/0 - - - - ");
+    io::write_all(1, b"tag 0: after 4, before 6 and 5\n");
+    buckets(
+        3,
+        b"! +4096/0/0 +7/0/0 *7/0/0 +0/1/0 +7/2/0 +7/3/0 +7/0/0 +7/4/0 *0/0/0 - - - - ",
+    );
+    io::write_all(1, b".. and before 2, on a damaged store\n");
+    buckets(3, b"+7/1/0 +7/0/0 +4096/0/0 *7/0/0 *7/1/0 - ");
+    io::write_all(1, b"lengths\n");
+    buckets(
+        4,
+        b"! +7/1/64 +7/2/1500 +7/3/40 - *70/5/9000 *3/6/4294967295 - - ",
+    );
+    io::write_all(1, b"case 9, N = 0\n");
+    buckets(0, b"! ");
+}
+
+// .. of a store that is long enough for three storeys and N = 3, and for two and N = 65,536.
+fn deep_buckets(storeys: usize, nodes: u32, calls: &[u8]) {
+    let mut bits = [9u64; 4161];
+    let mut words = [9u32; 524299];
+    bucket_calls(&mut bits, &mut words, storeys, nodes, calls);
+}
+
+// Three storeys; and the limits of a shape: N, and the depth.
+fn deep_cases() {
+    io::write_all(1, b"case 8, three storeys\n");
+    deep_buckets(
+        3,
+        3,
+        b"! +7/1/0 +7/2/0 +262143/3/0 +0/4/0 +262144/4/0 - - - - ",
+    );
+    io::write_all(1, b"N = 65,536 and 65,537; storeys 1 and 4\n");
+    deep_buckets(2, 65536, b"! ");
+    deep_buckets(2, 65537, b"! ");
+    deep_buckets(1, 3, b"! ");
+    deep_buckets(4, 3, b"! ");
+}
+
+// Clears a slice of a shape, and says the answer.
 fn shaped(store: &mut [u32], order: usize, levels: usize) {
-    say_answer(b"clear ", tree::clear(store, order, levels));
+    say_answer(tree::clear(store, order, levels));
 }
 
 // The largest shape of each order is taken, one level more refused.
@@ -117,242 +347,15 @@ fn edges(store: &mut [u32]) {
 
 // The slice would hold order 4 with 9 levels, 349,524 slots, and so all the others: where a shape is refused, the slice is not the cause.
 fn shapes() {
-    let mut store = [0u32; 1048572];
+    let mut store = [0u32; 1398096];
     edges(&mut store);
 }
 
-fn bucket_push(bits: &mut [u64], words: &mut [u32], storeys: usize, rank: u32, tag: u32) {
-    say_answer(
-        b"push ",
-        bucket::push(bits, words, storeys, 3, element(rank, tag)),
-    );
-}
-
-fn bucket_pop(bits: &mut [u64], words: &mut [u32], storeys: usize) {
-    say_answer(b"pop ", bucket::pop(bits, words, storeys, 3));
-}
-
-fn bucket_clear(bits: &mut [u64], words: &mut [u32], storeys: usize, n: u32) {
-    say_answer(b"clear ", bucket::clear(bits, words, storeys, n));
-}
-
-// Last is the highest rank, and past is the number after it.
-fn bucket_pushes(bits: &mut [u64], words: &mut [u32], storeys: usize, last: u32, past: u32) {
-    bucket_push(bits, words, storeys, 7, 1);
-    bucket_push(bits, words, storeys, 7, 2);
-    bucket_push(bits, words, storeys, last, 3);
-    bucket_push(bits, words, storeys, 0, 4);
-    bucket_push(bits, words, storeys, past, 4);
-}
-
-fn bucket_pops(bits: &mut [u64], words: &mut [u32], storeys: usize) {
-    bucket_pop(bits, words, storeys);
-    bucket_pop(bits, words, storeys);
-    bucket_pop(bits, words, storeys);
-    bucket_pop(bits, words, storeys);
-}
-
-fn bucket_replace(bits: &mut [u64], words: &mut [u32], rank: u32, tag: u32) {
-    say_answer(
-        b"replace ",
-        bucket::replace(bits, words, 2, 3, element(rank, tag)),
-    );
-}
-
-// Tag 0: after 4, and before 6.
-fn bucket_untagged(bits: &mut [u64], words: &mut [u32]) {
-    bucket_push(bits, words, 2, 4096, 0);
-    bucket_push(bits, words, 2, 7, 0);
-    bucket_replace(bits, words, 7, 0);
-    bucket_push(bits, words, 2, 0, 1);
-    bucket_push(bits, words, 2, 7, 2);
-}
-
-// .. and before 5.
-fn bucket_full(bits: &mut [u64], words: &mut [u32]) {
-    bucket_push(bits, words, 2, 7, 3);
-    bucket_push(bits, words, 2, 7, 0);
-    bucket_push(bits, words, 2, 7, 4);
-    bucket_replace(bits, words, 0, 0);
-}
-
-// .. and before 2: a store of nines is damaged.
-fn bucket_spoilt() {
-    let mut bits = [9u64; 65];
-    let mut words = [9u32; 8200];
-    bucket_push(&mut bits, &mut words, 2, 7, 1);
-    bucket_push(&mut bits, &mut words, 2, 7, 0);
-    bucket_push(&mut bits, &mut words, 2, 4096, 0);
-    bucket_replace(&mut bits, &mut words, 7, 0);
-    bucket_replace(&mut bits, &mut words, 7, 1);
-    bucket_pop(&mut bits, &mut words, 2);
-}
-
-// Three storeys; and the limits of a shape, on slices that are long enough: N, and the depth.
-fn bucket_deep() {
-    let mut bits = [9u64; 4161];
-    let mut words = [9u32; 524296];
-    io::write_all(1, b"case 8, three storeys\n");
-    bucket_clear(&mut bits, &mut words, 3, 3);
-    bucket_pushes(&mut bits, &mut words, 3, 262143, 262144);
-    bucket_pops(&mut bits, &mut words, 3);
-    io::write_all(1, b"N = 65,536 and 65,537; storeys 1 and 4\n");
-    bucket_clear(&mut bits, &mut words, 2, 65536);
-    bucket_clear(&mut bits, &mut words, 2, 65537);
-    bucket_clear(&mut bits, &mut words, 1, 3);
-    bucket_clear(&mut bits, &mut words, 4, 3);
-}
-
-fn buckets() {
-    let mut bits = [9u64; 65];
-    let mut words = [9u32; 8200];
-    io::write_all(1, b"case 8\n");
-    bucket_clear(&mut bits, &mut words, 2, 3);
-    bucket_pushes(&mut bits, &mut words, 2, 4095, 4096);
-    bucket_pops(&mut bits, &mut words, 2);
-    io::write_all(1, b"tag 0\n");
-    bucket_untagged(&mut bits, &mut words);
-    bucket_full(&mut bits, &mut words);
-    bucket_pops(&mut bits, &mut words, 2);
-    bucket_spoilt();
-    io::write_all(1, b"case 9, N = 0\n");
-    bucket_clear(&mut bits, &mut words, 2, 0);
-}
-
-fn asked(rank: u32, tag: u32) -> Request {
-    Request::Push(Element {
-        rank: Rank(rank),
-        tag: Tag(tag),
-    })
-}
-
-fn tick(store: &mut [u32], state: State, request: Request) -> State {
-    let c = clocked::cycle(store, 2, 2, state, request);
-    let answer = c.answer;
-    say_answer(b"cycle ", answer);
-    c.state
-}
-
-fn restart(store: &mut [u32]) -> State {
-    let none = clocked::fresh_state();
-    let c = clocked::clear(store, 2, 2, none);
-    let answer = c.answer;
-    say_answer(b"clear ", answer);
-    c.state
-}
-
-fn drained(store: &mut [u32], state: State) -> State {
-    let d = clocked::drain(store, 2, 2, state, 2);
-    io::write_all(1, b"drain ");
-    let answer = d.answer;
-    say(strip::number(answer));
-    say((d.cycles % 4294967296) as u32);
-    io::write_all(1, b"\n");
-    d.state
-}
-
-fn case_six(store: &mut [u32]) {
-    io::write_all(1, b"case 6\n");
-    let s0 = restart(store);
-    let s1 = tick(store, s0, asked(5, 50));
-    let s2 = tick(store, s1, asked(3, 30));
-    let s3 = tick(store, s2, asked(8, 80));
-    let s4 = tick(store, s3, asked(1, 10));
-    let s5 = drained(store, s4);
-    let s6 = tick(store, s5, Request::Pop);
-    say_words(store);
-    tick(store, s6, Request::Idle);
-    say_words(store);
-}
-
-fn case_ten(store: &mut [u32]) {
-    io::write_all(1, b"case 10\n");
-    let s0 = restart(store);
-    let s1 = tick(store, s0, asked(5, 50));
-    let s2 = tick(store, s1, Request::Idle);
-    let s3 = tick(store, s2, Request::Pop);
-    let s4 = tick(store, s3, asked(1, 10));
-    let s5 = tick(store, s4, asked(2, 20));
-    let s6 = tick(store, s5, Request::Pop);
-    tick(store, s6, Request::Pop);
-}
-
-fn newcomer(rank: u32, tag: u32) -> Request {
-    Request::Replace(Element {
-        rank: Rank(rank),
-        tag: Tag(tag),
-    })
-}
-
-// A replace with nothing held is refused and runs as an idle cycle; a lower newcomer is taken in.
-fn empty_machine(store: &mut [u32]) {
-    io::write_all(1, b"a replace on an empty machine\n");
-    let s0 = restart(store);
-    let s1 = tick(store, s0, newcomer(5, 50));
-    let s2 = tick(store, s1, Request::Pop);
-    let s3 = tick(store, s2, asked(1, 10));
-    let s4 = tick(store, s3, newcomer(0, 7));
-    let s5 = tick(store, s4, newcomer(0, 7));
-    let s6 = tick(store, s5, Request::Idle);
-    tick(store, s6, Request::Pop);
-}
-
-// Tag 0 on an empty machine: a pop just after it is not too soon.
-fn untagged_machine(store: &mut [u32]) -> State {
-    let s0 = restart(store);
-    let s1 = tick(store, s0, asked(5, 0));
-    let s2 = tick(store, s1, Request::Pop);
-    tick(store, s2, asked(5, 50))
-}
-
-// .. and with the mark on: too soon comes first.
-fn untagged_marked(store: &mut [u32], s3: State) {
-    let s4 = tick(store, s3, newcomer(1, 0));
-    let s5 = tick(store, s4, newcomer(1, 0));
-    let s6 = tick(store, s5, asked(1, 0));
-    tick(store, s6, Request::Pop);
-}
-
-// Push 1, 9, 2: the 2 is still on its way and node 0 is empty, so that a pop just after is too soon.
-fn on_its_way(store: &mut [u32]) {
-    io::write_all(1, b"a pop just after a push\n");
-    let s0 = restart(store);
-    let s1 = tick(store, s0, asked(1, 1));
-    let s2 = tick(store, s1, asked(9, 9));
-    let s3 = tick(store, s2, asked(2, 2));
-    say_words(store);
-    let s4 = tick(store, s3, Request::Pop);
-    say_words(store);
-    tick(store, s4, Request::Pop);
-}
-
 fn main() {
-    let mut store = [9u32; 20];
-    io::write_all(1, b"cases 1 and 2\n");
-    fill(&mut store);
-    say_words(&store);
-    popped(&mut store);
-    say_words(&store);
-    io::write_all(1, b"cases 3, 4 and 5\n");
-    replaced(&mut store, 0);
-    replaced(&mut store, 1);
-    replaced(&mut store, 4);
-    replaced_empty(&mut store);
-    io::write_all(1, b"case 7\n");
-    filled(&mut store);
-    io::write_all(1, b"tag 0\n");
-    shaped(&mut store, 2, 2);
-    untagged(&mut store, 5);
-    fill(&mut store);
-    untagged(&mut store, 0);
-    case_six(&mut store);
-    case_ten(&mut store);
-    empty_machine(&mut store);
-    io::write_all(1, b"tag 0 by cycles\n");
-    let marked = untagged_machine(&mut store);
-    untagged_marked(&mut store, marked);
-    on_its_way(&mut store);
+    tree_cases();
+    more_tree_cases();
+    cycle_cases();
     shapes();
-    buckets();
-    bucket_deep();
+    bucket_cases();
+    deep_cases();
 }

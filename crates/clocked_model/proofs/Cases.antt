@@ -1,7 +1,7 @@
--- 01's worked cases 6 and 10, an empty machine, and elements without a tag, computed from the definitions.
+-- 01's worked cases 6 and 10, an empty machine, elements without a tag, and lengths, computed from the definitions.
 use mathlib.Core.Path.{_≡_, refl}
 use Rattle.clocked_model.specs.Calls.{asks, drainFrom, drains, fresh, ruleMarked, isRefused, marks, popsOrReplaces, cycled, cycleRun}
-use Rattle.clocked_model.specs.Cases.{caseEmpty, caseEmptySays, caseSix, caseSixSays, caseTen, caseTenSays, caseUntagged, caseUntaggedSays, clockedA}
+use Rattle.clocked_model.specs.Cases.{caseEmpty, caseEmptySays, caseLengthAnswers, caseLengthAnswersSay, caseLengths, caseLengthsSays, caseSix, caseSixSays, caseTen, caseTenSays, caseUntagged, caseUntaggedSays, clockedA}
 use Rattle.clocked_model.specs.Cycle.{cycleOk, cycleWords, quiet}
 use Rattle.clocked_model.specs.Records.{landed, recordAt, recordsAfter, worksOf}
 use Rattle.promise.specs.Queue.{answers, leaves}
@@ -27,3 +27,11 @@ case-empty = refl
 pub case-untagged : caseUntagged ≡ caseUntaggedSays
 unfolding caseUntagged answers cycled cycleRun fresh ruleMarked asks popsOrReplaces isRefused marks cycleWords cycleOk recordAt worksOf landed recordsAfter blank key precedes untagged vacant isEmpty seek every firstEmpty leastCount lowest slotAt low keep pass putBy putMove takeBy takeMove swapBy swapMove opMove isNothing sumCounts work top levelMove stepWork room isBlank slotOk nodeOk hasRoom hasSome readOk lifts stepOk workOk slotOf write wipe tabulate nodeOf levelOf levelsOf stepWords orderOk shapeOk rule cleared
 case-untagged = refl
+
+pub case-lengths : caseLengths ≡ caseLengthsSays
+unfolding caseLengths leaves cycled cycleRun fresh ruleMarked asks popsOrReplaces isRefused marks cycleWords cycleOk recordAt worksOf landed recordsAfter blank key precedes untagged vacant isEmpty seek every firstEmpty leastCount lowest slotAt low keep pass putBy putMove takeBy takeMove swapBy swapMove opMove isNothing sumCounts work top levelMove stepWork room isBlank slotOk nodeOk hasRoom hasSome readOk lifts stepOk workOk slotOf write wipe tabulate nodeOf levelOf levelsOf stepWords orderOk shapeOk rule cleared
+case-lengths = refl
+
+pub case-length-answers : caseLengthAnswers ≡ caseLengthAnswersSay
+unfolding caseLengthAnswers answers cycled cycleRun fresh ruleMarked asks popsOrReplaces isRefused marks cycleWords cycleOk recordAt worksOf landed recordsAfter blank key precedes untagged vacant isEmpty seek every firstEmpty leastCount lowest slotAt low keep pass putBy putMove takeBy takeMove swapBy swapMove opMove isNothing sumCounts work top levelMove stepWork room isBlank slotOk nodeOk hasRoom hasSome readOk lifts stepOk workOk slotOf write wipe tabulate nodeOf levelOf levelsOf stepWords orderOk shapeOk rule cleared
+case-length-answers = refl

@@ -11,3 +11,4 @@ pub mod OneStep
 pub mod Unread
 pub mod Replace
 pub mod Tags
+pub mod Lengths

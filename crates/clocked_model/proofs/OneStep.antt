@@ -40,7 +40,7 @@ use Rattle.tree_model.specs.Calls.{Ruling}
 use Rattle.tree_model.specs.Damage.{workOk, hasRoom, hasSome, nodeOk, readOk, room, slotOk, stepOk}
 use Rattle.tree_model.specs.Levels.{idle, Level, levelMove, Levels, stepLevel, stepWork, top, work}
 use Rattle.tree_model.specs.Node.{firstEmpty, isNothing, lowest, opMove, slotAt, vacant}
-use Rattle.tree_model.specs.Promise.{levelAt, Shape, threeWords}
+use Rattle.tree_model.specs.Promise.{levelAt, Shape, fourWords}
 use Rattle.tree_model.specs.Rules.{clears, ends, exchanges, goes, passes, Puts, receives, stays, Swaps, Takes}
 use Rattle.tree_model.specs.Words.{levelOf, levelsOf, restWords, size, under}
 use Rattle.tree_model.specs.declared.Move.{Move}
@@ -186,7 +186,7 @@ module _ (m k : ℕ) (r : Request) (s : State) (ws : List ℕ) (sh : Shape m (su
   here = cycled-fine m (suc k) r s ws (is-shape m (suc k) (length ws) sh) (no-damage-sound m (suc k) r s ws d)
 
   levels-cycled : (levelsOf m (suc k) (cycleWords m (suc k) p 0 1 ws) 0 1 ≡ cycleLevels m (suc k) p (levelsOf m (suc k) ws 0 1))
-      × ((a : ℕ) → 3 * (0 + size m (suc k) 1) ≤ a → getD (cycleWords m (suc k) p 0 1 ws) a 0 ≡ getD ws a 0)
+      × ((a : ℕ) → 4 * (0 + size m (suc k) 1) ≤ a → getD (cycleWords m (suc k) p 0 1 ws) a 0 ≡ getD ws a 0)
   levels-cycled = words-cycle m (order-pos sh) (suc k) p 0 1 ws (omega (arith, sh .slice, size-room m (suc k) 1)) steps-ok
 
   work-is : (i : ℕ) → i < suc k → workAt (suc k) p i ≡ levelWork m (suc k) r s ws i
@@ -212,20 +212,20 @@ module _ (m k : ℕ) (r : Request) (s : State) (ws : List ℕ) (sh : Shape m (su
   by-place P i q h f = let d = place-of m (m ^ i) q (subst (λ (c : ℕ). q < c) (pow-suc m i) h) in subst P (sym (d .is)) (f (d .row) (d .place) (d .in-rows) (d .in-row))
 
   same-there : (i n j : ℕ) → i < suc k → n < m ^ i → j < m → slotAt (getD (now after i) n []) j ≡ slotAt (getD (now ws i) n []) j
-      → threeWords after (firstSlot m i + (n * m + j)) ≡ threeWords ws (firstSlot m i + (n * m + j))
+      → fourWords after (firstSlot m i + (n * m + j)) ≡ fourWords ws (firstSlot m i + (n * m + j))
   same-there i n j hi hn hj e =
       let at : firstSlot m i + (n * m + j) ≡ firstSlot m i + n * m + j = omega arith in
       rw at (sym (lies m (suc k) after i n j hi hn hj) ∙ e ∙ lies m (suc k) ws i n j hi hn hj)
 
-  others : (i q : ℕ) → i < suc k → q < m ^ suc i → (q ≡ slot-of i → ⊥) → threeWords after (firstSlot m i + q) ≡ threeWords ws (firstSlot m i + q)
+  others : (i q : ℕ) → i < suc k → q < m ^ suc i → (q ≡ slot-of i → ⊥) → fourWords after (firstSlot m i + q) ≡ fourWords ws (firstSlot m i + q)
   others i q hi hq =
-      by-place (λ q. (q ≡ slot-of i → ⊥) → threeWords after (firstSlot m i + q) ≡ threeWords ws (firstSlot m i + q)) i q hq (λ n j hn hj apart.
+      by-place (λ q. (q ≡ slot-of i → ⊥) → fourWords after (firstSlot m i + q) ≡ fourWords ws (firstSlot m i + q)) i q hq (λ n j hn hj apart.
       same-there i n j hi hn hj (ap (λ (l : Level). slotAt (getD l n []) j) (each i hi)
       ∙ step-slot m (levelWork m (suc k) r s ws i) (now ws i) (now ws (suc i)) n j (omega (arith, level-wide m (suc k) ws i hi)) (λ a b. apart (ap₂ (λ (n j : ℕ). n * m + j) a b))))
 
-  still : (i q : ℕ) → i < suc k → q < m ^ suc i → levelWork m (suc k) r s ws i .op ≡ Nothing → threeWords after (firstSlot m i + q) ≡ threeWords ws (firstSlot m i + q)
+  still : (i q : ℕ) → i < suc k → q < m ^ suc i → levelWork m (suc k) r s ws i .op ≡ Nothing → fourWords after (firstSlot m i + q) ≡ fourWords ws (firstSlot m i + q)
   still i q hi hq e =
-      by-place (λ q. threeWords after (firstSlot m i + q) ≡ threeWords ws (firstSlot m i + q)) i q hq (λ n j hn hj.
+      by-place (λ q. fourWords after (firstSlot m i + q) ≡ fourWords ws (firstSlot m i + q)) i q hq (λ n j hn hj.
       same-there i n j hi hn hj (ap (λ (l : Level). slotAt (getD l n []) j) (each i hi ∙ step-none m (levelWork m (suc k) r s ws i) (now ws i) (now ws (suc i)) e)))
 
   left-is : (i : ℕ) → left-for m k (restWords m k (work (g .op) 0) 0 1 ws) 0 (s .records) (under m k ws 0 1) i ≡ leaveBelow m (suc k) ws i (levelWork m (suc k) r s ws i)

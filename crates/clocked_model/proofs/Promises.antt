@@ -18,7 +18,7 @@ use Rattle.clocked_model.specs.declared.State.{State}
 use Rattle.laws.specs.Means.{means-off}
 use Rattle.laws.specs.Tests.{and-true, cond-both}
 use Rattle.promise.specs.Queue.{leaves, pins}
-use Rattle.promise.specs.Served.{all-sum, allBrought, allGiven, always, brought, given, Holds, Least, same}
+use Rattle.promise.specs.Served.{all-sum, allBrought, allGiven, always, brought, given, Holds, Least, same, triple}
 use Rattle.promise.specs.Tagged.{Tagged, tagged-by}
 use Rattle.strip.specs.Answers.{countNumber, countOf, numberOf}
 use Rattle.strip.specs.declared.Answer.{Answer}
@@ -158,6 +158,11 @@ module _ (m : ℕ) (ws : List ℕ) (rs : List Request) where
   pub pairs : (levels : ℕ) → Shape m levels (length ws) → (n : ℕ) → Idled levels n → (e : Element)
       → stored (room m levels) (at-rest-after levels n) (same e) + allGiven rs (cycleAnswers m levels rs ws) (same e) ≡ allBrought rs (cycleAnswers m levels rs ws) (same e)
   pairs levels sh n q e = holds levels sh n q (same e)
+
+  -- .. and each triple of rank, tag and length
+  pub triples : (levels : ℕ) → Shape m levels (length ws) → (n : ℕ) → Idled levels n → (e : Element)
+      → stored (room m levels) (at-rest-after levels n) (triple e) + allGiven rs (cycleAnswers m levels rs ws) (triple e) ≡ allBrought rs (cycleAnswers m levels rs ws) (triple e)
+  triples levels sh n q e = holds levels sh n q (triple e)
 
   -- TAGGED: once idled no element of tag 0 is stored, and none has come out
   pub tagged : (levels : ℕ) → Shape m levels (length ws) → (n : ℕ) → Idled levels n → Tagged (stored (room m levels) (at-rest-after levels n)) rs (cycleAnswers m levels rs ws)

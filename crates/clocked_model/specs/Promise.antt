@@ -27,7 +27,7 @@ use Rattle.tree_model.specs.Calls.{called, heldCount, outcome, Outcome, rootOf}
 use Rattle.tree_model.specs.Damage.{room}
 use Rattle.tree_model.specs.Levels.{idle, Level, Levels, stepLevel, stepWork, top, work}
 use Rattle.tree_model.specs.Node.{sumCounts}
-use Rattle.tree_model.specs.Promise.{Agree, levelAt, NodeDamaged, Shape, Some, start, stored, threeWords, WorkDamaged}
+use Rattle.tree_model.specs.Promise.{Agree, levelAt, NodeDamaged, Shape, Some, start, stored, fourWords, WorkDamaged}
 use Rattle.tree_model.specs.Words.{levelsOf}
 use Rattle.tree_model.specs.declared.Op.the-variants.{Nothing}
 use Rattle.tree_model.specs.declared.Work.{Work}
@@ -198,11 +198,11 @@ pub record OneStep (m levels : ℕ) (r : Request) (s : State) (ws : List ℕ) : 
   pub each : (i : ℕ) → i < levels → levelNow m levels (cycled m levels r s ws .words) i ≡ stepLevel m (levelWork m levels r s ws i) (levelNow m levels ws i) (levelNow m levels ws (suc i))
   -- .. that is one slot at the most: every other one stands
   pub slot : ℕ → ℕ
-  pub others : (i q : ℕ) → i < levels → q < m ^ suc i → (q ≡ slot i → ⊥) → threeWords (cycled m levels r s ws .words) (firstSlot m i + q) ≡ threeWords ws (firstSlot m i + q)
+  pub others : (i q : ℕ) → i < levels → q < m ^ suc i → (q ≡ slot i → ⊥) → fourWords (cycled m levels r s ws .words) (firstSlot m i + q) ≡ fourWords ws (firstSlot m i + q)
   -- .. and none of a level with nothing to do
-  pub still : (i q : ℕ) → i < levels → q < m ^ suc i → levelWork m levels r s ws i .op ≡ Nothing → threeWords (cycled m levels r s ws .words) (firstSlot m i + q) ≡ threeWords ws (firstSlot m i + q)
+  pub still : (i q : ℕ) → i < levels → q < m ^ suc i → levelWork m levels r s ws i .op ≡ Nothing → fourWords (cycled m levels r s ws .words) (firstSlot m i + q) ≡ fourWords ws (firstSlot m i + q)
   -- no word past the capacity changes
-  pub past : (a : ℕ) → 3 * room m levels ≤ a → getD (cycled m levels r s ws .words) a 0 ≡ getD ws a 0
+  pub past : (a : ℕ) → 4 * room m levels ≤ a → getD (cycled m levels r s ws .words) a 0 ≡ getD ws a 0
   -- each record is what the level above leaves for it, or is done with, or stands
   pub records : (i : ℕ) → suc i < levels → Recorded (leaveBelow m levels ws i (levelWork m levels r s ws i)) (getD (s .records) i idle) (getD (cycled m levels r s ws .state .records) i idle)
   -- the last level leaves nothing

@@ -152,7 +152,7 @@ pub record Turning (m left b c i n r : ℕ) (ws : List ℕ) (l : List Write) (q 
   pub fits : RoomIs m (pred left) r
   pub few : n ≤ suc i
   pub spare : length l ≡ suc recordCount
-  pub inside : (j : ℕ) → j < n → slotWords * (getD l j noWrite .at) + 3 ≤ length ws
+  pub inside : (j : ℕ) → j < n → slotWords * (getD l j noWrite .at) + slotWords ≤ length ws
   pub stands : levelsOf m left (written n l ws) b c ≡ levelsOf m left ws b c
   pub tests : cycleOk m left (worksOf left rs i) (levelsOf m left ws b c) ≡ t
   pub records : recordsAfter m left q i rs (levelsOf m left ws b c) ≡ rs′
@@ -255,7 +255,7 @@ module _ (m k b c i n r : ℕ) (ws : List ℕ) (l : List Write) (q : Work) (rs :
     -- what is left once the level's step is planned, and its words are those of the first n′ of the writes l′
     turn-on : (q′ : Work) (n′ : ℕ) (l′ : List Write) → workOk m k w here (top k deep) ≡ true → q′ ≡ restWords m k w b c ws
         → written n′ l′ ws ≡ stepWords m k w b c (written n l ws) → levelsOf m k (written n′ l′ ws) (b + c * m) (c * m) ≡ deep
-        → n′ ≤ suc (i + 1) → length l′ ≡ suc recordCount → ((j : ℕ) → j < n′ → slotWords * (getD l′ j noWrite .at) + 3 ≤ length ws)
+        → n′ ≤ suc (i + 1) → length l′ ≡ suc recordCount → ((j : ℕ) → j < n′ → slotWords * (getD l′ j noWrite .at) + slotWords ≤ length ws)
         → Turning m k (b + c * m) (c * m) (i + 1) n′ u ws l′ q′ (set rs i landing) t rs′ ws′
     turn-on q′ n′ l′ ok eq ew stand few spare inside = record {
       lies = next-lies;
@@ -300,8 +300,8 @@ module _ (m k b c i n r : ℕ) (ws : List ℕ) (l : List Write) (q : Work) (rs :
         (ap (λ (v : List ℕ). levelsOf m k v (b + c * m) (c * m)) more ∙ levels-before m k (written n l ws) (b + c * m) (c * m) (s .write .at) (s .write .slot) (d .own) ∙ deep-stands)
         (omega (arith, now .few)) (length-set l n (s .write) ∙ now .spare)
         (λ j h. ⊎-elim
-        (λ z. subst (λ (w : Write). slotWords * (w .at) + 3 ≤ length ws) (sym (ap (λ (j : ℕ). getD (set l n (s .write)) j noWrite) z ∙ getD-set-same l n (s .write) noWrite fit)) (omega (arith, d .own, level-words)))
-        (λ z. subst (λ (w : Write). slotWords * (w .at) + 3 ≤ length ws) (sym (getD-set-other l n j (s .write) noWrite (λ g. omega arith))) (now .inside j z))
+        (λ z. subst (λ (w : Write). slotWords * (w .at) + slotWords ≤ length ws) (sym (ap (λ (j : ℕ). getD (set l n (s .write)) j noWrite) z ∙ getD-set-same l n (s .write) noWrite fit)) (omega (arith, d .own, level-words)))
+        (λ z. subst (λ (w : Write). slotWords * (w .at) + slotWords ≤ length ws) (sym (getD-set-other l n j (s .write) noWrite (λ g. omega arith))) (now .inside j z))
         (either j n (omega arith)))
       where
         either : (j n : ℕ) → j < suc n → (j ≡ n) ⊎ (j < n)
@@ -388,13 +388,13 @@ module _ (m k : ℕ) (ws : List ℕ) (rooted : Rooted m k ws) (h : RootStep) (pl
     pub few : n ≤ 1
     pub words : written n (replicate (suc recordCount) first) ws ≡ stepWords m k (work o 0) 0 1 ws
     pub stands : levelsOf m k (written n (replicate (suc recordCount) first) ws) m m ≡ levelsOf m k ws m m
-    pub inside : (j : ℕ) → j < n → slotWords * (getD (replicate (suc recordCount) first) j noWrite .at) + 3 ≤ length ws
+    pub inside : (j : ℕ) → j < n → slotWords * (getD (replicate (suc recordCount) first) j noWrite .at) + slotWords ≤ length ws
 
   begun : (n : ℕ) → n ≡ cond (isNothing o) 0 1 → Begun n
   unfolding written stepWords
   begun n e = subst Begun (sym e) (go (isNothing o) refl)
     where
-      none-at : (j : ℕ) → j < 0 → slotWords * (getD (replicate (suc recordCount) first) j noWrite .at) + 3 ≤ length ws
+      none-at : (j : ℕ) → j < 0 → slotWords * (getD (replicate (suc recordCount) first) j noWrite .at) + slotWords ≤ length ws
       none-at j h = absurd (not-suc-le-zero h)
 
       go : (b : Bool) → isNothing o ≡ b → Begun (cond b 0 1)

@@ -105,7 +105,7 @@ LevelPlanned m b c r u w ws s =
 
 -- ---- the writes
 abbrev pub noWrite : Write
-noWrite = record { at = 0; slot = record { element = element 0 0; count = 0 } }
+noWrite = record { at = 0; slot = record { element = element 0 0 0; count = 0 } }
 
 -- the first n of them done, one after the other
 unfoldable pub written : ℕ → List Write → List ℕ → List ℕ
@@ -115,7 +115,7 @@ written (suc n) l ws = write (written n l ws) (getD l n noWrite .at) (getD l n n
 -- .. and all of them lie within the words
 pub record Within (n : ℕ) (l : List Write) (ws : List ℕ) : Type 0 where
   pub few : n ≤ suc recordCount
-  pub inside : (j : ℕ) → j < n → slotWords * (getD l j noWrite .at) + 3 ≤ length ws
+  pub inside : (j : ℕ) → j < n → slotWords * (getD l j noWrite .at) + slotWords ≤ length ws
 
 -- ---- all levels: the root with k levels below it, and a record for each of them
 pub record Rooted (m k : ℕ) (ws : List ℕ) : Type 0 where

@@ -21,6 +21,7 @@ use clocked_model::Drained;
 use clocked_model::RECORDS;
 use clocked_model::State;
 use levels::turn;
+use node::SLOT_WORDS;
 use node::zero_words;
 use records::is_nothing;
 use records::is_quiet;
@@ -96,7 +97,7 @@ pub fn clear_shaped(store: &mut [u32], slots: usize) -> State
     requires { ⌜ slotWords * slots ≤ length (now store) ⌝ }
     ensures { λ r. ⌜ (now (store .exit) ≡ wipe slots (now (store .entry))) × (r ≡ fresh) ⌝ }
 {
-    zero_words(store, slots * 3);
+    zero_words(store, slots * SLOT_WORDS);
     fresh_state()
 }
 

@@ -40,7 +40,7 @@ module _ (m levels : ℕ) (ok : Bool) (order : ok ≡ orderOk m) (s : Shape) whe
     -- ---- a tree
     module _ (h : r ≤ slotLimit) where
       tree : isTree m levels ≡ true
-      tree = sym (shape-slice m levels (slotWords * slotLimit) ok order r e ne heldCount h) ∙ le-leb (3 * r) (slotWords * slotLimit) (omega arith)
+      tree = sym (shape-slice m levels (slotWords * slotLimit) ok order r e ne heldCount h) ∙ le-leb (slotWords * r) (slotWords * slotLimit) (omega arith)
 
       slots-are : r ≡ room m levels
       slots-are = heldCount .within (shape-is m levels (slotWords * slotLimit) tree .capacity)
@@ -73,19 +73,19 @@ tree-slice m levels len e =
     let last = and-right (leb 1 levels) (leb (room m levels) slotLimit && leb (slotWords * room m levels) (slotWords * slotLimit)) rest in
     rw (first, and-left (leb 1 levels) _ rest, and-left (leb (room m levels) slotLimit) _ last)
 
-pub fits-is : (m levels len : ℕ) (s : Shape) → Shaped m levels s → (not (eqb (s .slots) 0) && leb (3 * s .slots) len) ≡ shapeOk m levels len
+pub fits-is : (m levels len : ℕ) (s : Shape) → Shaped m levels s → (not (eqb (s .slots) 0) && leb (slotWords * s .slots) len) ≡ shapeOk m levels len
 fits-is m levels len s sh = go (isTree m levels) refl
   where
     no : isTree m levels ≡ false → (d : Bool) → shapeOk m levels len ≡ d → false ≡ d
     no e true f = absurd (true≢false (sym (held-tree m levels len f) ∙ e))
     no e false f = refl
 
-    go : (b : Bool) → isTree m levels ≡ b → (not (eqb (s .slots) 0) && leb (3 * s .slots) len) ≡ shapeOk m levels len
+    go : (b : Bool) → isTree m levels ≡ b → (not (eqb (s .slots) 0) && leb (slotWords * s .slots) len) ≡ shapeOk m levels len
     go true e =
         let tr = shape-is m levels (slotWords * slotLimit) e in
         let is : s .slots ≡ room m levels = sh .slots ∙ ap (λ (b : Bool). cond b (room m levels) 0) e in
         let more : s .slots ≡ 0 → ⊥ = λ z. omega (arith, room-some m levels (order-pos tr) (tr .some)) in
-        rw (ne-eqb (s .slots) 0 more) (ap (λ (n : ℕ). leb (3 * n) len) is ∙ tree-slice m levels len e)
+        rw (ne-eqb (s .slots) 0 more) (ap (λ (n : ℕ). leb (slotWords * n) len) is ∙ tree-slice m levels len e)
     go false e =
         let is : s .slots ≡ 0 = sh .slots ∙ ap (λ (b : Bool). cond b (room m levels) 0) e in
         rw (eq-eqb (s .slots) 0 is) (no e (shapeOk m levels len) refl)

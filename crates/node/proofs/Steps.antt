@@ -273,7 +273,7 @@ module _ (m levels len : ℕ) (ok : Bool) (order : ok ≡ orderOk m) where
       go true p = absurd (omega (arith, c .within (leb-true (room m levels) slotLimit p), leb-true (room m levels) slotLimit p))
       go false p = leb-false (room m levels) slotLimit p
 
-  pub shape-slice : (r : ℕ) → not ok ≡ false → (levels ≡ 0 → ⊥) → Capacity m levels r → r ≤ slotLimit → leb (3 * r) len ≡ shapeOk m levels len
+  pub shape-slice : (r : ℕ) → not ok ≡ false → (levels ≡ 0 → ⊥) → Capacity m levels r → r ≤ slotLimit → leb (slotWords * r) len ≡ shapeOk m levels len
   unfolding shapeOk
   shape-slice r e n c h =
       let low : room m levels ≤ slotLimit = go (leb (room m levels) slotLimit) refl in

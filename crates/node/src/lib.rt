@@ -15,6 +15,7 @@ ghost use Rattle.node.specs.Scan.{turnOr, Led, FirstFilled, NodeIn, Capa
 pub mod shape;
 
 use strip::Element;
+use strip::Length;
 use strip::Rank;
 use strip::Tag;
 use strip::no_element;
@@ -28,34 +29,46 @@ const ORDER_LIMIT: usize = 8;
 
 // ---- words
 
+// A slot's words: its rank, and behind it the others.
+const TAG: usize = 1;
+
+const LENGTH: usize = TAG + 1;
+
+const COUNT: usize = LENGTH + 1;
+
+// How many words a slot has.
+pub const SLOT_WORDS: usize = COUNT + 1;
+
 pub fn slot_at(s: &[u32], i: usize) -> Slot
-    requires { ⌜ slotWords * i + 3 ≤ length (now s) ⌝ }
+    requires { ⌜ slotWords * i + slotWords ≤ length (now s) ⌝ }
     ensures { λ r. ⌜ r ≡ slotOf (now (s .entry)) i ⌝ }
 {
-    let at = 3 * i;
+    let at = SLOT_WORDS * i;
     let r = s[at];
-    let t = s[at + 1];
+    let t = s[at + TAG];
+    let l = s[at + LENGTH];
+    let count = s[at + COUNT];
     let element = Element {
         rank: Rank(r),
         tag: Tag(t),
+        length: Length(l),
     };
-    Slot {
-        element,
-        count: s[at + 2],
-    }
+    Slot { element, count }
 }
 
 pub fn write_slot(s: &mut [u32], i: usize, slot: Slot)
-    requires { ⌜ slotWords * i + 3 ≤ length (now s) ⌝ }
+    requires { ⌜ slotWords * i + slotWords ≤ length (now s) ⌝ }
     ensures { λ _. ⌜ now (s .exit) ≡ write (now (s .entry)) i slot ⌝ }
 {
-    let at = 3 * i;
+    let at = SLOT_WORDS * i;
     let element = slot.element;
     let rank = element.rank;
     let tag = element.tag;
+    let length = element.length;
     s[at] = rank.0;
-    s[at + 1] = tag.0;
-    s[at + 2] = slot.count;
+    s[at + TAG] = tag.0;
+    s[at + LENGTH] = length.0;
+    s[at + COUNT] = slot.count;
 }
 
 // Writes zeros to the first n words.
@@ -111,8 +124,9 @@ fn slot_ok(a: Slot, room: usize) -> bool
     let element = a.element;
     let rank = element.rank;
     let tag = element.tag;
+    let length = element.length;
     let count = a.count as usize;
-    (count <= room + 1) & ((count != 0) | ((rank.0 == 0) & (tag.0 == 0)))
+    (count <= room + 1) & ((count != 0) | ((rank.0 == 0) & ((tag.0 == 0) & (length.0 == 0))))
 }
 
 // Whether no slot of the node is damaged, and the chosen place.
@@ -335,7 +349,7 @@ pub fn shape_ok(order: usize, levels: usize, len: usize) -> bool
     if SLOT_LIMIT < slots {
         return false;
     }
-    3 * slots <= len
+    SLOT_WORDS * slots <= len
 }
 
 // The room below a slot of the next level, by the room below a slot of this one.

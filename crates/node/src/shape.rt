@@ -4,6 +4,7 @@ ghost use Prim.Native.Nat.{_≤_, ℕ};
 ghost use Rattle.tree_model.specs.Calls.{shapeOk, slotLimit};
 ghost use Rattle.node.specs.Shaping.{Shaped};
 use crate::SLOT_LIMIT;
+use crate::SLOT_WORDS;
 use crate::capacity;
 use crate::order_ok;
 use crate::room_under;
@@ -53,5 +54,5 @@ pub fn shape_fits(shape: Shape, len: usize) -> bool
     ensures { λ r. ⌜ ((m levels : ℕ) → Shaped m levels shape → r ≡ shapeOk m levels len) ⌝ }
 {
     let slots = shape.slots;
-    (slots != 0) & (3 * slots <= len)
+    (slots != 0) & (SLOT_WORDS * slots <= len)
 }

@@ -1,24 +1,25 @@
-// Plays a trace from standard input to standard output, in pieces of 4,096 records, whatever the input's length. The work is `trace`'s,
-// with every choice in it; here it is read and written. Where a read or a write fails nothing more is read, and standard error says so.
+// Plays a trace from standard input to standard output, in pieces of whole records of either version, whatever the input's length. The
+// work is `trace`'s, with every choice in it; here it is read and written. Where a read or a write fails nothing more is read, and
+// standard error says so.
 ghost use Prim.Native.Nat.{_≤_};
 ghost use mathlib.Core.Path.{_≡_};
 ghost use lib.Dec.{ltb};
 ghost use lib.ListN.{length};
 ghost use Rattle.io.specs.Counts.{Counts};
-ghost use Rattle.trace.specs.Play.{Makes, outBytes, pieceBytes, pieceRun, programRecords};
+ghost use Rattle.trace.specs.Play.{Makes, outBytes, pieceBytes, pieceRun, programLots};
 use trace::Piece;
 use trace::Playing;
 
 // A store for every shape that the program takes.
-const STORE: usize = 12282;
+const STORE: usize = 16376;
 
 // The header's bytes.
 const HEAD: usize = 7;
 
-// The bytes of 4,096 records, and room for a line of each and one more.
-const BYTES: usize = 36864;
+// The bytes of a piece: 4,095 records of version 1 or 2,835 of version 2. Room for a line of each and one more.
+const BYTES: usize = 36855;
 
-const OUT: usize = 294984;
+const OUT: usize = 393216;
 
 // How many bytes were read, and whether no read failed.
 struct Filled {
@@ -56,8 +57,10 @@ fn write_first(out: &[u8], n: usize) -> bool {
 // The play, ended where a read or a write failed.
 fn stopped(play: Playing, why: &[u8]) -> Playing {
     io::write_all(2, why);
+    let version = play.version;
     let state = play.state;
     Playing {
+        version,
         order: play.order,
         levels: play.levels,
         state,
@@ -68,15 +71,15 @@ fn stopped(play: Playing, why: &[u8]) -> Playing {
 
 // Plays what was read. A piece that is not full is the last, and the buffer has room for all its lines.
 fn play_read(store: &mut [u32], play: Playing, bytes: &[u8], out: &mut [u8]) -> Piece
-    requires { ⌜ (length (now bytes) ≤ pieceBytes programRecords) × (length (now out) ≡ outBytes programRecords) ⌝ }
-    ensures { λ r. ⌜ Makes (pieceRun (now (bytes .entry)) (ltb (length (now (bytes .entry))) (pieceBytes programRecords)) play (now (store .entry))) 0 (now (out .entry)) r (now (store .exit)) (now (out .exit)) ⌝ }
+    requires { ⌜ (length (now bytes) ≤ pieceBytes programLots) × (length (now out) ≡ outBytes programLots) ⌝ }
+    ensures { λ r. ⌜ Makes (pieceRun (now (bytes .entry)) (ltb (length (now (bytes .entry))) (pieceBytes programLots)) play (now (store .entry))) 0 (now (out .entry)) r (now (store .exit)) (now (out .exit)) ⌝ }
 {
     trace::play(store, play, bytes, bytes.len() < BYTES, out)
 }
 
 // Reads a piece, plays it and writes its lines.
 fn piece(store: &mut [u32], play: Playing, bytes: &mut [u8], out: &mut [u8]) -> Playing
-    requires { ⌜ (length (now bytes) ≡ pieceBytes programRecords) × (length (now out) ≡ outBytes programRecords) ⌝ }
+    requires { ⌜ (length (now bytes) ≡ pieceBytes programLots) × (length (now out) ≡ outBytes programLots) ⌝ }
 {
     let read = fill(bytes);
     if !read.good {

@@ -2,3 +2,4 @@ pub mod Queue
 pub mod Served
 pub mod Refused
 pub mod Tagged
+pub mod Lengths

@@ -25,6 +25,10 @@ always e = true
 abbrev pub same : Element → Element → Bool
 same e x = eqb (e .rank .0) (x .rank .0) && eqb (e .tag .0) (x .tag .0)
 
+-- .. for one triple: "Demand 2's pairs become triples" (02 [9])
+abbrev pub triple : Element → Element → Bool
+triple e x = same e x && eqb (e .length .0) (x .length .0)
+
 -- .. and for the ranks below r
 abbrev pub lower : ℕ → Element → Bool
 lower r e = ltb (e .rank .0) r
@@ -41,7 +45,7 @@ brought (Push x) a f = unrefused (numberOf a) (hit (f x))
 brought Pop a f = 0
 brought (Replace x) a f = unrefused (numberOf a) (hit (f x))
 
--- .. and of those that it gives out: a pop and a replace that are not refused give the answer's rank and tag
+-- .. and of those that it gives out: a pop and a replace that are not refused give the answer's rank, tag and length
 abbrev pub given : Request → Answer → (Element → Bool) → ℕ
 given Idle a f = 0
 given (Push x) a f = 0

@@ -10,13 +10,13 @@ use Rattle.strip.specs.declared.Answer.the-variants.{Done, Out, Refused}
 use Rattle.strip.specs.declared.Count.{Count}
 use Rattle.strip.specs.declared.Count.the-variants.{Held, Unknown}
 
--- an element of this rank and tag
-abbrev pub element : ℕ → ℕ → Element
-element r t = record { rank = record { 0 = r }; tag = record { 0 = t } }
+-- an element of this rank, tag and length
+abbrev pub element : ℕ → ℕ → ℕ → Element
+element r t l = record { rank = record { 0 = r }; tag = record { 0 = t }; length = record { 0 = l } }
 
--- the element that stands where there is none: "A refusal, idle cycle or push answers rank 0, tag 0"
+-- the element that stands where there is none: "A refusal, idle cycle or push answers rank 0, tag 0"; "Every answer and refusal has the length (0 on refusal)" (02 [9])
 unfoldable pub blank : Element
-blank = element 0 0
+blank = element 0 0 0
 
 -- what the order goes by: "Lower rank leaves first". Comparisons with a carried element are by this alone
 unfoldable pub key : Element → ℕ
@@ -60,6 +60,9 @@ rankOf a = elementOf a .rank .0
 
 abbrev pub tagOf : Answer → ℕ
 tagOf a = elementOf a .tag .0
+
+abbrev pub lengthOf : Answer → ℕ
+lengthOf a = elementOf a .length .0
 
 -- held: its number, and what it answers. "In every queue a refused held answers 0"
 abbrev pub countNumber : Count → ℕ

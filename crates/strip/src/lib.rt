@@ -8,10 +8,14 @@ pub struct Rank(pub u32);
 // Which strip it is.
 pub struct Tag(pub u32);
 
-// An element: rank and tag are numbers of two different kinds, so that neither can be passed where the other is meant.
+// How many bytes it has. It travels with the strip and decides nothing.
+pub struct Length(pub u32);
+
+// An element: rank, tag and length are numbers of three different kinds, so that none can be passed where another is meant.
 pub struct Element {
     pub rank: Rank,
     pub tag: Tag,
+    pub length: Length,
 }
 
 // Why a queue says no.
@@ -81,7 +85,7 @@ pub fn number(a: Answer) -> u32
     }
 }
 
-// The element that an answer gives: rank 0, tag 0 where it gives none.
+// The element that an answer gives: rank, tag and length 0 where it gives none.
 pub fn given(a: Answer) -> Element
     ensures { λ e. ⌜ e ≡ elementOf a ⌝ }
 {
@@ -98,6 +102,7 @@ pub fn no_element() -> Element
     Element {
         rank: Rank(0),
         tag: Tag(0),
+        length: Length(0),
     }
 }
 

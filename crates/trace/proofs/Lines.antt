@@ -1,5 +1,5 @@
 -- The lengths of words and lines, the header and a record by what the code has read. Assumes nothing.
-use Prim.Native.Nat.{_<_, _≤_, ℕ}
+use Prim.Native.Nat.{_+_, _<_, _≤_, ℕ}
 use native.Mathlib.Omega.{arith}
 use mathlib.Core.Bool.{_&&_, Bool, false, not, true}
 use mathlib.Core.List.{List}
@@ -8,6 +8,7 @@ use lib.Dec.{leb}
 use lib.ListN.{length, length-append}
 use borrow.Author.Tests.{le-leb, leb-false, leb-true, lt-leb, ne-eqb, not-false, not-true}
 use Rattle.node.specs.Scan.{Capacity}
+use Rattle.strip.specs.Answers.{element}
 use Rattle.strip.specs.declared.Answer.{Answer}
 use Rattle.strip.specs.declared.Answer.the-variants.{Done, Out, Refused}
 use Rattle.strip.specs.declared.Element.{Element}
@@ -16,36 +17,45 @@ use Rattle.strip.specs.declared.Request.{Request}
 use Rattle.strip.specs.declared.Request.the-variants.{Idle, Pop, Push, Replace}
 use Rattle.text.proofs.Laws.{decimal-short}
 use Rattle.text.specs.Text.{decimal}
-use Rattle.trace.specs.Format.{badLine, byteAt, doneWord, endLine, entryOf, headerOf, lineOf, longestLine, longestWord, markOk, onlyBlank, outWord, refusalWord, traceLimit, traceShape, wordOf}
+use Rattle.trace.specs.Format.{badLine, byteAt, doneWord, endLine, entryAt, entryOf, headed, headerOf, lengthAt, lengthWord, lineOf, longestLine, longestWord, markOk, numberAt, onlyBlank, outWord, refusalWord, traceLimit, traceShape, versionAt, wordOf}
+use Rattle.trace.specs.declared.Header.{Header}
 use Rattle.trace.specs.declared.Header.the-variants.{Shape, Wrong}
 use Rattle.trace.specs.declared.Record.{Record}
 use Rattle.trace.specs.declared.Record.the-variants.{Bad, Good}
+use Rattle.trace.specs.declared.Version.{Version}
+use Rattle.trace.specs.declared.Version.the-variants.{One, Two}
 use Rattle.tree_model.specs.Calls.{orderOk, slotLimit}
 use Rattle.tree_model.specs.Damage.{room}
 
-out-short : (e : Element) → length (outWord e) ≤ 45
+third-short : (v : Version) (l : ℕ) → length (lengthWord v l) ≤ 21
+unfolding lengthWord decimal
+third-short One l = omega arith
+third-short Two l = rw length-append (omega (arith, decimal-short 20 l))
+
+out-short : (v : Version) (e : Element) → length (outWord v e) ≤ 66
 unfolding outWord decimal
-out-short e =
-    rw (length-append, length-append, length-append) (omega (arith, decimal-short 20 (e .rank .0), decimal-short 20 (e .tag .0)))
+out-short v e =
+    rw (length-append, length-append, length-append, length-append)
+    (omega (arith, decimal-short 20 (e .rank .0), decimal-short 20 (e .tag .0), third-short v (e .length .0)))
 
-pub word-short : (r : Request) (a : Answer) → length (wordOf r a) ≤ longestWord
+pub word-short : (v : Version) (r : Request) (a : Answer) → length (wordOf v r a) ≤ longestWord
 unfolding wordOf doneWord refusalWord
-word-short Idle Done = omega arith
-word-short (Push x) Done = omega arith
-word-short Pop Done = omega arith
-word-short (Replace x) Done = omega arith
-word-short r (Out e) = omega (arith, out-short e)
-word-short r (Refused BadShape) = omega arith
-word-short r (Refused Damaged) = omega arith
-word-short r (Refused TooSoon) = omega arith
-word-short r (Refused BadRank) = omega arith
-word-short r (Refused Full) = omega arith
-word-short r (Refused Empty) = omega arith
-word-short r (Refused NoTag) = omega arith
+word-short v Idle Done = omega arith
+word-short v (Push x) Done = omega arith
+word-short v Pop Done = omega arith
+word-short v (Replace x) Done = omega arith
+word-short v r (Out e) = omega (arith, out-short v e)
+word-short v r (Refused BadShape) = omega arith
+word-short v r (Refused Damaged) = omega arith
+word-short v r (Refused TooSoon) = omega arith
+word-short v r (Refused BadRank) = omega arith
+word-short v r (Refused Full) = omega arith
+word-short v r (Refused Empty) = omega arith
+word-short v r (Refused NoTag) = omega arith
 
-pub line-short : (n : ℕ) (r : Request) (a : Answer) → length (lineOf n r a) ≤ longestLine
+pub line-short : (v : Version) (n : ℕ) (r : Request) (a : Answer) → length (lineOf v n r a) ≤ longestLine
 unfolding lineOf decimal
-line-short n r a = rw (length-append, length-append, length-append) (omega (arith, decimal-short 20 n, word-short r a))
+line-short v n r a = rw (length-append, length-append, length-append) (omega (arith, decimal-short 20 n, word-short v r a))
 
 pub bad-short : (n : ℕ) → length (badLine n) ≤ longestLine
 unfolding badLine decimal
@@ -84,9 +94,25 @@ module _ (bs : List ℕ) where
     unfolding headerOf
     header-shape p u e q = rw (le-leb 7 (length bs) long, ← mark, not-false t p, ← e, not-true u q)
 
-    pub header-taken : not t ≡ false → (u : Bool) → u ≡ traceShape (byteAt bs 5) (byteAt bs 6) → not u ≡ false → Shape (byteAt bs 5) (byteAt bs 6) ≡ headerOf bs
+    pub header-taken : not t ≡ false → (u : Bool) → u ≡ traceShape (byteAt bs 5) (byteAt bs 6) → not u ≡ false
+        → (n : ℕ) → n ≡ versionAt bs 3 → (h : Header) → h ≡ headed n (byteAt bs 5) (byteAt bs 6) → h ≡ headerOf bs
     unfolding headerOf
-    header-taken p u e q = rw (le-leb 7 (length bs) long, ← mark, not-false t p, ← e, not-false u q)
+    header-taken p u e q n en h eh =
+        rw (le-leb 7 (length bs) long, ← mark, not-false t p, ← e, not-false u q) (eh ∙ ap (λ (n : ℕ). headed n (byteAt bs 5) (byteAt bs 6)) en)
+
+-- the version's number
+module _ (n m levels : ℕ) where
+  pub headed-one : n ≡ 1 → Shape One m levels ≡ headed n m levels
+  unfolding headed
+  headed-one e = rw e
+
+  pub headed-two : n ≡ 2 → Shape Two m levels ≡ headed n m levels
+  unfolding headed
+  headed-two e = rw e
+
+  pub headed-other : (n ≡ 1 → ⊥) → (n ≡ 2 → ⊥) → Wrong ≡ headed n m levels
+  unfolding headed
+  headed-other one two = rw (ne-eqb n 1 one, ne-eqb n 2 two)
 
 -- ---- a record's code
 module _ (code : ℕ) (e : Element) where
@@ -109,3 +135,9 @@ module _ (code : ℕ) (e : Element) where
   pub entry-other : 4 ≤ code → Bad ≡ entryOf code e
   unfolding entryOf
   entry-other h = rw (ne-eqb code 0 (λ z. omega arith), ne-eqb code 1 (λ z. omega arith), ne-eqb code 2 (λ z. omega arith), ne-eqb code 3 (λ z. omega arith))
+
+-- .. and its numbers
+pub entry-made : (v : Version) (bs : List ℕ) (i r t l : ℕ) → r ≡ numberAt bs (i + 1) → t ≡ numberAt bs (i + 5) → l ≡ lengthAt v bs i
+    → entryOf (byteAt bs i) (element r t l) ≡ entryAt v bs i
+unfolding entryAt
+entry-made v bs i r t l er et el = λ k. entryOf (byteAt bs i) (element (er k) (et k) (el k))

@@ -1,6 +1,7 @@
 -- Played in the program's pieces, a trace gives the text that the whole program is defined by. Assumes nothing.
 use Prim.Native.Nat.{_%_, _*_, _+_, _/_, _<_, _≤_, suc, zero, ℕ}
 use native.Mathlib.Nat.{add-assoc, add-zero, le-of-lt, zero-add}
+use native.Mathlib.Numerals.{add-one}
 use native.Mathlib.Omega.{arith}
 use mathlib.Core.Bool.{_&&_, Bool, cond, false, not, true}
 use mathlib.Core.List.{[], _++_, _∷_, append-assoc, append-nil, List}
@@ -10,17 +11,20 @@ use lib.ListN.{drop, getD, length, length-append, length-drop, List·getD-append
 use lib.Seq.{getD-append-add, getD-take, length-take-le, take-all}
 use borrow.Author.Tests.{le-leb, leb-false, leb-true, lt-ltb, ltb-false, ltb-true}
 use Rattle.strip.specs.Answers.{element}
-use Rattle.trace.proofs.Runs.{after-after, after-stands, closing-ended, played-append, played-ended, stands-after}
-use Rattle.trace.specs.Format.{cutRecord, entryAt, entryOf, headerBytes, headerOf, longestLine, markOk, numberAt, recordBytes, recordsFrom, recordsOf, traceShape}
-use Rattle.trace.specs.Play.{after, begun, closing, ending, inPieces, opening, outBytes, pieceBytes, pieceOf, pieceRun, piecesText, played, programRecords, run, Run, shut, stands, Step, turn, whileLive}
+use Rattle.trace.proofs.Runs.{after-after, after-stands, closing-ended, played-append, played-ended, played-version, stands-after}
+use Rattle.trace.proofs.Sizes.{lot, lots-room, lots-whole, more-records, records-step, size-least, whole-records}
+use Rattle.trace.specs.Format.{cutRecord, entryAt, entryOf, headed, headerBytes, headerOf, lengthAt, longestLine, markOk, numberAt, recordBytes, recordsFrom, recordsOf, traceShape}
+use Rattle.trace.specs.Play.{after, begun, closing, ending, inPieces, opening, outBytes, pieceBytes, pieceOf, pieceRun, piecesText, played, programLots, run, Run, shut, stands, Step, turn, whileLive}
 use Rattle.trace.specs.Program.{emptyStore, endOf, textFrom, textOf, traceText}
 use Rattle.trace.specs.declared.Header.{Header}
 use Rattle.trace.specs.declared.Header.the-variants.{Shape, Wrong}
 use Rattle.trace.specs.declared.Playing.{Playing}
 use Rattle.trace.specs.declared.Record.{Record}
 use Rattle.trace.specs.declared.Record.the-variants.{Bad, Good}
+use Rattle.trace.specs.declared.Version.{Version}
+use Rattle.trace.specs.declared.Version.the-variants.{One, Two}
 
--- ---- a record by its nine bytes
+-- ---- a record by its bytes
 number-ext : (bs cs : List ℕ) (i j : ℕ) → ((d : ℕ) → d < 4 → getD bs (i + d) 0 ≡ getD cs (j + d) 0) → numberAt bs i ≡ numberAt cs j
 number-ext bs cs i j h =
     let e : getD bs i 0 ≡ getD cs j 0 = rw (add-zero i, add-zero j) at (h 0 (omega arith)) in
@@ -29,67 +33,73 @@ number-ext bs cs i j h =
 shift : (bs cs : List ℕ) (i j e d : ℕ) → getD bs (i + (e + d)) 0 ≡ getD cs (j + (e + d)) 0 → getD bs (i + e + d) 0 ≡ getD cs (j + e + d) 0
 shift bs cs i j e d p = ap (λ (k : ℕ). getD bs k 0) (add-assoc i e d) ∙ p ∙ sym (ap (λ (k : ℕ). getD cs k 0) (add-assoc j e d))
 
-entry-ext : (bs cs : List ℕ) (i j : ℕ) → ((d : ℕ) → d < 9 → getD bs (i + d) 0 ≡ getD cs (j + d) 0) → entryAt bs i ≡ entryAt cs j
+length-ext : (v : Version) (bs cs : List ℕ) (i j : ℕ) → ((d : ℕ) → d < recordBytes v → getD bs (i + d) 0 ≡ getD cs (j + d) 0) → lengthAt v bs i ≡ lengthAt v cs j
+unfolding lengthAt
+length-ext One bs cs i j h = refl
+length-ext Two bs cs i j h = number-ext bs cs (i + 9) (j + 9) (λ d l. shift bs cs i j 9 d (h (9 + d) (omega arith)))
+
+entry-ext : (v : Version) (bs cs : List ℕ) (i j : ℕ) → ((d : ℕ) → d < recordBytes v → getD bs (i + d) 0 ≡ getD cs (j + d) 0) → entryAt v bs i ≡ entryAt v cs j
 unfolding entryAt
-entry-ext bs cs i j h =
+entry-ext v bs cs i j h =
+    let nine : 9 ≤ recordBytes v = size-least v in
     let c : getD bs i 0 ≡ getD cs j 0 = rw (add-zero i, add-zero j) at (h 0 (omega arith)) in
     let r : numberAt bs (i + 1) ≡ numberAt cs (j + 1) = number-ext bs cs (i + 1) (j + 1) (λ d l. shift bs cs i j 1 d (h (1 + d) (omega arith))) in
     let t : numberAt bs (i + 5) ≡ numberAt cs (j + 5) = number-ext bs cs (i + 5) (j + 5) (λ d l. shift bs cs i j 5 d (h (5 + d) (omega arith))) in
-    λ k. entryOf (c k) (element (r k) (t k))
+    let l : lengthAt v bs i ≡ lengthAt v cs j = length-ext v bs cs i j h in
+    λ k. entryOf (c k) (element (r k) (t k) (l k))
 
-module _ (a b : List ℕ) where
-  entry-first : (i : ℕ) → i + 9 ≤ length a → entryAt (a ++ b) i ≡ entryAt a i
-  entry-first i h = entry-ext (a ++ b) a i i (λ d l. List·getD-append a b 0 (i + d) (omega arith))
+module _ (v : Version) (a b : List ℕ) where
+  entry-first : (i : ℕ) → i + recordBytes v ≤ length a → entryAt v (a ++ b) i ≡ entryAt v a i
+  entry-first i h = entry-ext v (a ++ b) a i i (λ d l. List·getD-append a b 0 (i + d) (omega arith))
 
-  entry-second : (i : ℕ) → entryAt (a ++ b) (length a + i) ≡ entryAt b i
-  entry-second i = entry-ext (a ++ b) b (length a + i) i (λ d l. ap (λ (k : ℕ). getD (a ++ b) k 0) (add-assoc (length a) i d) ∙ getD-append-add a b (i + d) 0)
+  entry-second : (i : ℕ) → entryAt v (a ++ b) (length a + i) ≡ entryAt v b i
+  entry-second i = entry-ext v (a ++ b) b (length a + i) i (λ d l. ap (λ (k : ℕ). getD (a ++ b) k 0) (add-assoc (length a) i d) ∙ getD-append-add a b (i + d) 0)
 
-  records-first : (k i : ℕ) → i + 9 * k ≤ length a → recordsFrom k i (a ++ b) ≡ recordsFrom k i a
+  records-first : (k i : ℕ) → i + recordBytes v * k ≤ length a → recordsFrom v k i (a ++ b) ≡ recordsFrom v k i a
   unfolding recordsFrom
   records-first zero i h = refl
-  records-first (suc k) i h = ap₂ (λ (e : Record) (es : List Record). e ∷ es) (entry-first i (omega arith)) (records-first k (i + recordBytes) (omega arith))
+  records-first (suc k) i h =
+      let step : i + recordBytes v + recordBytes v * k ≤ length a = rw (records-step v i k, add-one) h in
+      ap₂ (λ (e : Record) (es : List Record). e ∷ es) (entry-first i (omega arith)) (records-first k (i + recordBytes v) step)
 
-  records-second : (k i : ℕ) → recordsFrom k (length a + i) (a ++ b) ≡ recordsFrom k i b
+  records-second : (k i : ℕ) → recordsFrom v k (length a + i) (a ++ b) ≡ recordsFrom v k i b
   unfolding recordsFrom
   records-second zero i = refl
   records-second (suc k) i =
       ap₂ (λ (e : Record) (es : List Record). e ∷ es) (entry-second i)
-      (ap (λ (j : ℕ). recordsFrom k j (a ++ b)) (add-assoc (length a) i recordBytes) ∙ records-second k (i + recordBytes))
+      (ap (λ (j : ℕ). recordsFrom v k j (a ++ b)) (add-assoc (length a) i (recordBytes v)) ∙ records-second k (i + recordBytes v))
 
-records-more : (k j i : ℕ) (bs : List ℕ) → recordsFrom (k + j) i bs ≡ recordsFrom k i bs ++ recordsFrom j (i + 9 * k) bs
+records-more : (v : Version) (k j i : ℕ) (bs : List ℕ) → recordsFrom v (k + j) i bs ≡ recordsFrom v k i bs ++ recordsFrom v j (i + recordBytes v * k) bs
 unfolding recordsFrom
-records-more zero j i bs =
-    let e : i + 9 * 0 ≡ i = omega arith in
-    ap (λ (k : ℕ). recordsFrom k i bs) (zero-add j) ∙ ap (λ (i : ℕ). recordsFrom j i bs) (sym e)
-records-more (suc k) j i bs =
+records-more v zero j i bs =
+    let e : i + recordBytes v * 0 ≡ i = omega arith in
+    ap (λ (k : ℕ). recordsFrom v k i bs) (zero-add j) ∙ ap (λ (i : ℕ). recordsFrom v j i bs) (sym e)
+records-more v (suc k) j i bs =
     let s : suc k + j ≡ suc (k + j) = omega arith in
-    let e : i + recordBytes + 9 * k ≡ i + 9 * suc k = omega arith in
-    ap (λ (n : ℕ). recordsFrom n i bs) s
-    ∙ ap (λ (es : List Record). entryAt bs i ∷ es) (records-more k j (i + recordBytes) bs ∙ ap (λ (n : ℕ). recordsFrom k (i + recordBytes) bs ++ recordsFrom j n bs) e)
+    let e : i + recordBytes v + recordBytes v * k ≡ i + recordBytes v * suc k = rw (← add-one k) (records-step v i k) in
+    ap (λ (n : ℕ). recordsFrom v n i bs) s
+    ∙ ap (λ (es : List Record). entryAt v bs i ∷ es) (records-more v k j (i + recordBytes v) bs ∙ ap (λ (n : ℕ). recordsFrom v k (i + recordBytes v) bs ++ recordsFrom v j n bs) e)
 
 -- the records of whole records and what comes behind them
-module _ (a b : List ℕ) (k : ℕ) (whole : length a ≡ 9 * k) where
-  records-whole : recordsOf a ≡ recordsFrom k 0 a
+module _ (v : Version) (a b : List ℕ) (k : ℕ) (whole : length a ≡ recordBytes v * k) where
+  records-whole : recordsOf v a ≡ recordsFrom v k 0 a
   unfolding recordsOf cutRecord
-  records-whole =
-      let q : length a / 9 ≡ k = omega arith in
-      let r : length a % 9 ≡ 0 = omega arith in
-      rw (q, r) (append-nil (recordsFrom k 0 a))
+  records-whole = let w = whole-records v (length a) k whole in rw (w .0, w .1) (append-nil (recordsFrom v k 0 a))
 
-  records-append : recordsOf (a ++ b) ≡ recordsOf a ++ recordsOf b
+  records-append : recordsOf v (a ++ b) ≡ recordsOf v a ++ recordsOf v b
   unfolding recordsOf
   records-append =
-      let long : length (a ++ b) ≡ 9 * k + length b = length-append a b ∙ ap (λ (n : ℕ). n + length b) whole in
-      let q : length (a ++ b) / 9 ≡ k + length b / 9 = omega arith in
-      let r : length (a ++ b) % 9 ≡ length b % 9 = omega arith in
-      let from : 0 + 9 * k ≡ length a + 0 = omega arith in
-      let c : List Record = cutRecord (not (eqb (length b % 9) 0)) in
-      ap₂ (λ (n m : ℕ). recordsFrom n 0 (a ++ b) ++ cutRecord (not (eqb m 0))) q r
+      let long : length (a ++ b) ≡ recordBytes v * k + length b = length-append a b ∙ ap (λ (n : ℕ). n + length b) whole in
+      let w = more-records v (length (a ++ b)) k (length b) long in
+      let from : 0 + recordBytes v * k ≡ length a + 0 = omega arith in
+      let n : ℕ = length b / recordBytes v in
+      let c : List Record = cutRecord (not (eqb (length b % recordBytes v) 0)) in
+      ap₂ (λ (n m : ℕ). recordsFrom v n 0 (a ++ b) ++ cutRecord (not (eqb m 0))) (w .0) (w .1)
       ∙ ap (λ (es : List Record). es ++ c)
-      (records-more k (length b / 9) 0 (a ++ b)
-      ∙ ap₂ (λ (es fs : List Record). es ++ fs) (records-first a b k 0 (omega arith)) (ap (λ (i : ℕ). recordsFrom (length b / 9) i (a ++ b)) from ∙ records-second a b (length b / 9) 0))
-      ∙ append-assoc (recordsFrom k 0 a) (recordsFrom (length b / 9) 0 b) c
-      ∙ ap (λ (es : List Record). es ++ recordsOf b) (sym records-whole)
+      (records-more v k n 0 (a ++ b)
+      ∙ ap₂ (λ (es fs : List Record). es ++ fs) (records-first v a b k 0 (omega arith)) (ap (λ (i : ℕ). recordsFrom v n i (a ++ b)) from ∙ records-second v a b n 0))
+      ∙ append-assoc (recordsFrom v k 0 a) (recordsFrom v n 0 b) c
+      ∙ ap (λ (es : List Record). es ++ recordsOf v b) (sym records-whole)
 
 -- ---- steps
 after-same : (u : Run) (f g : Step) → f (u .play) (u .words) ≡ g (u .play) (u .words) → after u f ≡ after u g
@@ -108,7 +118,7 @@ live-same f g p ws e = ap (λ (u : Run). cond (p .live) u (stands p ws)) e
 -- a piece that is the last ends the play
 last-ends : (bs : List ℕ) (p : Playing) (ws : List ℕ) → pieceRun bs true p ws .play .live ≡ false
 unfolding pieceRun after closing whileLive ending
-last-ends bs p ws = let u : Run = played (recordsOf bs) p ws in closing-ends (u .play) (u .words)
+last-ends bs p ws = let u : Run = played (recordsOf (p .version) bs) p ws in closing-ends (u .play) (u .words)
   where
     closing-ends : (p : Playing) (ws : List ℕ) → closing true p ws .play .live ≡ false
     closing-ends p ws = go (p .live) refl
@@ -121,7 +131,7 @@ last-ends bs p ws = let u : Run = played (recordsOf bs) p ws in closing-ends (u 
 piece-ended : (bs : List ℕ) (last : Bool) (p : Playing) (ws : List ℕ) → p .live ≡ false → pieceRun bs last p ws ≡ stands p ws
 unfolding pieceRun
 piece-ended bs last p ws e =
-    ap (λ (u : Run). after u (closing last)) (played-ended (recordsOf bs) p ws e) ∙ stands-after p ws (closing last) ∙ closing-ended last p ws e
+    ap (λ (u : Run). after u (closing last)) (played-ended (recordsOf (p .version) bs) p ws e) ∙ stands-after p ws (closing last) ∙ closing-ended last p ws e
 
 live-piece : (bs : List ℕ) (last : Bool) (p : Playing) (ws : List ℕ) → whileLive (pieceRun bs last) p ws ≡ pieceRun bs last p ws
 unfolding whileLive
@@ -132,23 +142,27 @@ live-piece bs last p ws = go (p .live) refl
     go false e = sym (piece-ended bs last p ws e)
 
 -- TWO PIECES: whole records, and what comes behind them
-pub two-pieces : (a b : List ℕ) (k : ℕ) → length a ≡ 9 * k → (last : Bool) (p : Playing) (ws : List ℕ)
+pub two-pieces : (a b : List ℕ) (k : ℕ) (p : Playing) → length a ≡ recordBytes (p .version) * k → (last : Bool) (ws : List ℕ)
     → pieceRun (a ++ b) last p ws ≡ after (pieceRun a false p ws) (pieceRun b last)
 unfolding pieceRun closing
-two-pieces a b k whole last p ws =
-    ap (λ (es : List Record). after (played es p ws) (closing last)) (records-append a b k whole)
-    ∙ ap (λ (u : Run). after u (closing last)) (played-append (recordsOf a) (recordsOf b) p ws)
-    ∙ after-after (played (recordsOf a) p ws) (played (recordsOf b)) (closing last)
-    ∙ ap (λ (u : Run). after u (pieceRun b last)) (sym (after-stands (played (recordsOf a) p ws)))
+two-pieces a b k p whole last ws =
+    let v : Version = p .version in
+    let u : Run = played (recordsOf v a) p ws in
+    ap (λ (es : List Record). after (played es p ws) (closing last)) (records-append v a b k whole)
+    ∙ ap (λ (u : Run). after u (closing last)) (played-append (recordsOf v a) (recordsOf v b) p ws)
+    ∙ after-after u (played (recordsOf v b)) (closing last)
+    ∙ after-same u (λ q vs. after (played (recordsOf v b) q vs) (closing last)) (pieceRun b last)
+    (ap (λ (v : Version). after (played (recordsOf v b) (u .play) (u .words)) (closing last)) (sym (played-version (recordsOf v a) p ws)))
+    ∙ ap (λ (u : Run). after u (pieceRun b last)) (sym (after-stands u))
 
--- ---- in pieces of r records
+-- ---- in pieces of r lots
 module _ (r : ℕ) (some : 0 < r) where
   -- ROOM: the buffer has room for every piece
   pub room-enough : (bs : List ℕ) (last : Bool) (p : Playing) (ws : List ℕ) → length bs ≤ pieceBytes r → pieceOf bs last (outBytes r) p ws ≡ pieceRun bs last p ws
   unfolding pieceOf
   room-enough bs last p ws h =
-      let few : length bs / recordBytes < outBytes r / longestLine = omega arith in
-      ap (λ (b : Bool). cond b (pieceRun bs last p ws) (stands p ws)) (lt-ltb (length bs / recordBytes) (outBytes r / longestLine) few)
+      ap (λ (b : Bool). cond b (pieceRun bs last p ws) (stands p ws))
+      (lt-ltb (length bs / recordBytes (p .version)) (outBytes r / longestLine) (lots-room (p .version) r (length bs) h))
 
   pieces-run : (k : ℕ) (bs : List ℕ) (p : Playing) (ws : List ℕ) → length bs < k → inPieces r k bs p ws ≡ pieceRun bs true p ws
   unfolding inPieces
@@ -177,7 +191,7 @@ module _ (r : ℕ) (some : 0 < r) where
           ∙ after-same u (whileLive (inPieces r k b)) (pieceRun b true)
           (live-same (inPieces r k b) (pieceRun b true) (u .play) (u .words) (ih (u .play) (u .words) (omega (arith, length-drop (pieceBytes r) bs)))
           ∙ live-piece b true (u .play) (u .words))
-          ∙ sym (two-pieces a b r (omega arith) true p ws)
+          ∙ sym (two-pieces a b (r * lot (p .version)) p (lots-whole (p .version) r (length a) whole) true ws)
           ∙ ap (λ (bs : List ℕ). pieceRun bs true p ws) (take-append-drop (pieceBytes r) bs)
 
 -- ---- the whole text
@@ -198,7 +212,7 @@ text-next x es p ws e =
     ∙ after-text (turn x p ws) (λ q vs. after (played es q vs) (closing true))
 
 text-from : (es : List Record) (p : Playing) (ws : List ℕ) → p .live ≡ true
-    → after (played es p ws) (closing true) .text ≡ textFrom (p .order) (p .levels) (p .number) (p .state) ws es
+    → after (played es p ws) (closing true) .text ≡ textFrom (p .order) (p .levels) (p .version) (p .number) (p .state) ws es
 unfolding played textFrom turn
 text-from [] p ws e = ap (λ (u : Run). u .text) (stands-after p ws (closing true)) ∙ closing-text p ws e
 text-from (Bad ∷ es) p ws e =
@@ -223,7 +237,7 @@ header-long bs h =
     let b4 = same 4 (omega arith) in
     let b5 = same 5 (omega arith) in
     let b6 = same 6 (omega arith) in
-    λ k. cond (long k && ((eqb (b0 k) 80 && (eqb (b1 k) 70 && (eqb (b2 k) 84 && (eqb (b3 k) 1 && eqb (b4 k) 0)))) && traceShape (b5 k) (b6 k))) (Shape (b5 k) (b6 k)) Wrong
+    λ k. cond (long k && ((eqb (b0 k) 80 && (eqb (b1 k) 70 && eqb (b2 k) 84)) && traceShape (b5 k) (b6 k))) (headed (b3 k + 256 * b4 k) (b5 k) (b6 k)) Wrong
 
 -- the header's bytes are enough for the header
 header-first : (bs : List ℕ) → headerOf (take headerBytes bs) ≡ headerOf bs
@@ -233,23 +247,23 @@ header-first bs = go (leb headerBytes (length bs)) refl
     go true e = header-long bs (leb-true headerBytes (length bs) e)
     go false e = ap headerOf (take-all headerBytes bs (le-of-lt (leb-false headerBytes (length bs) e)))
 
-whole-text : (bs : List ℕ) (p : Playing) (ws : List ℕ) → p .live ≡ true → pieceRun bs true p ws .text ≡ textFrom (p .order) (p .levels) (p .number) (p .state) ws (recordsOf bs)
+whole-text : (bs : List ℕ) (p : Playing) (ws : List ℕ) → p .live ≡ true → pieceRun bs true p ws .text ≡ textFrom (p .order) (p .levels) (p .version) (p .number) (p .state) ws (recordsOf (p .version) bs)
 unfolding pieceRun
-whole-text bs p ws e = text-from (recordsOf bs) p ws e
+whole-text bs p ws e = text-from (recordsOf (p .version) bs) p ws e
 
 by-header : (r : ℕ) → 0 < r → (h : Header) (rest : List ℕ)
-    → after (opening h emptyStore) (whileLive (inPieces r (suc (length rest)) rest)) .text ≡ textOf h (recordsOf rest)
+    → after (opening h emptyStore) (whileLive (inPieces r (suc (length rest)) rest)) .text ≡ textOf h rest
 unfolding opening textOf
 by-header r some Wrong rest = ap (λ (u : Run). u .text) (ended-after (opening Wrong emptyStore) (inPieces r (suc (length rest)) rest) refl)
-by-header r some (Shape m levels) rest =
-    let u : Run = opening (Shape m levels) emptyStore in
+by-header r some (Shape v m levels) rest =
+    let u : Run = opening (Shape v m levels) emptyStore in
     ap (λ (v : Run). v .text) (after-same u (whileLive (inPieces r (suc (length rest)) rest)) (pieceRun rest true)
     (live-same (inPieces r (suc (length rest)) rest) (pieceRun rest true) (u .play) (u .words) (pieces-run r some (suc (length rest)) rest (u .play) (u .words) (omega arith))
     ∙ live-piece rest true (u .play) (u .words)))
     ∙ after-text u (pieceRun rest true)
     ∙ whole-text rest (u .play) (u .words) refl
 
--- THE PROGRAM: read in pieces of any number of records, it writes the text that the whole is defined by
+-- THE PROGRAM: read in pieces of any number of lots, in either version, it writes the text that the whole is defined by
 pub pieces : (r : ℕ) → 0 < r → (bs : List ℕ) → piecesText r bs ≡ traceText bs
 unfolding piecesText traceText begun
 pieces r some bs =
@@ -261,5 +275,5 @@ pieces r some bs =
     ∙ by-header r some (headerOf bs) rest
 
 -- .. and so with the program's own pieces
-pub program : (bs : List ℕ) → piecesText programRecords bs ≡ traceText bs
-program bs = pieces programRecords (omega arith) bs
+pub program : (bs : List ℕ) → piecesText programLots bs ≡ traceText bs
+program bs = pieces programLots (omega arith) bs

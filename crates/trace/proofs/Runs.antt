@@ -25,6 +25,8 @@ use Rattle.trace.specs.declared.Piece.{Piece}
 use Rattle.trace.specs.declared.Playing.{Playing}
 use Rattle.trace.specs.declared.Record.{Record}
 use Rattle.trace.specs.declared.Record.the-variants.{Bad, Good}
+use Rattle.trace.specs.declared.Version.{Version}
+use Rattle.trace.specs.declared.Version.the-variants.{One}
 use Rattle.tree_model.specs.Calls.{heldCount}
 
 -- ---- a step after a run
@@ -85,15 +87,15 @@ module _ (f : Step) (p : Playing) (ws : List ℕ) where
 -- ---- one record
 module _ (p : Playing) (ws : List ℕ) (i : ℕ) (out : List ℕ) (room : i + longestLine ≤ length out) (q : Piece) where
   pub good-made : (r : Request) (a : Answer) (vs : List ℕ) (s : State) (n w : ℕ) (o : List ℕ)
-      → cycleOutcome a vs s ≡ cycled (p .order) (p .levels) r (p .state) ws → n ≡ nextNumber (p .number) → Laid out i (lineOf n r a) o w
+      → cycleOutcome a vs s ≡ cycled (p .order) (p .levels) r (p .state) ws → n ≡ nextNumber (p .number) → Laid out i (lineOf (p .version) n r a) o w
       → (q .play ≡ carry p s n true) × (q .written ≡ w) → Makes (turn (Good r) p ws) i out q vs o
   unfolding turn
   good-made r a vs s n w o e en l c =
-      let done : run vs (carry p s n true) (lineOf n r a) ≡ turn (Good r) p ws =
-      ap (λ (n : ℕ). run vs (carry p s n true) (lineOf n r a)) en
-      ∙ ap (λ (o : CycleOutcome). run (o .words) (carry p (o .state) (nextNumber (p .number)) true) (lineOf (nextNumber (p .number)) r (o .answer))) e in
+      let done : run vs (carry p s n true) (lineOf (p .version) n r a) ≡ turn (Good r) p ws =
+      ap (λ (n : ℕ). run vs (carry p s n true) (lineOf (p .version) n r a)) en
+      ∙ ap (λ (o : CycleOutcome). run (o .words) (carry p (o .state) (nextNumber (p .number)) true) (lineOf (p .version) (nextNumber (p .number)) r (o .answer))) e in
       makes-same _ i out q vs o _ done
-      (makes-laid (run vs (carry p s n true) (lineOf n r a)) i out q vs o (c .0) refl (c .1 ∙ l .0, l .1) (omega (arith, line-short n r a)))
+      (makes-laid (run vs (carry p s n true) (lineOf (p .version) n r a)) i out q vs o (c .0) refl (c .1 ∙ l .0, l .1) (omega (arith, line-short (p .version) n r a)))
 
   pub bad-made : (o : List ℕ) → (q .play ≡ carry p (p .state) (p .number) false) × Laid out i (badLine (nextNumber (p .number))) o (q .written) → Makes (turn Bad p ws) i out q ws o
   unfolding turn
@@ -103,18 +105,18 @@ module _ (q : Piece) (ws out : List ℕ) (room : q .written + longestLine ≤ le
   pub record-ended : (f : Step) → not (q .play .live) ≡ true → Makes (whileLive f (q .play) ws) (q .written) out q ws out
   record-ended f e = makes-same _ (q .written) out q ws out _ (sym (live-off f (q .play) ws e)) (makes-none (q .play) ws (q .written) out q refl refl (omega arith))
 
-  module _ (bs : List ℕ) (at : ℕ) (lives : not (q .play .live) ≡ false) (x : Record) (found : x ≡ entryAt bs at) (r : Piece) where
+  module _ (bs : List ℕ) (at : ℕ) (lives : not (q .play .live) ≡ false) (x : Record) (found : x ≡ entryAt (q .play .version) bs at) (r : Piece) where
     pub record-bad : (o : List ℕ) → x ≡ Bad
         → (r .play ≡ carry (q .play) (q .play .state) (q .play .number) false) × Laid out (q .written) (badLine (nextNumber (q .play .number))) o (r .written)
-        → Makes (whileLive (turn (entryAt bs at)) (q .play) ws) (q .written) out r ws o
+        → Makes (whileLive (turn (entryAt (q .play .version) bs at)) (q .play) ws) (q .written) out r ws o
     record-bad o e c =
-        makes-same _ (q .written) out r ws o _ (ap (λ (x : Record). turn x (q .play) ws) (sym e ∙ found) ∙ sym (live-on (turn (entryAt bs at)) (q .play) ws lives))
+        makes-same _ (q .written) out r ws o _ (ap (λ (x : Record). turn x (q .play) ws) (sym e ∙ found) ∙ sym (live-on (turn (entryAt (q .play .version) bs at)) (q .play) ws lives))
         (bad-made (q .play) ws (q .written) out room r o c)
 
     pub record-good : (request : Request) (vs o : List ℕ) → x ≡ Good request → Makes (turn (Good request) (q .play) ws) (q .written) out r vs o
-        → Makes (whileLive (turn (entryAt bs at)) (q .play) ws) (q .written) out r vs o
+        → Makes (whileLive (turn (entryAt (q .play .version) bs at)) (q .play) ws) (q .written) out r vs o
     record-good request vs o e c =
-        makes-same _ (q .written) out r vs o _ (ap (λ (x : Record). turn x (q .play) ws) (sym e ∙ found) ∙ sym (live-on (turn (entryAt bs at)) (q .play) ws lives)) c
+        makes-same _ (q .written) out r vs o _ (ap (λ (x : Record). turn x (q .play) ws) (sym e ∙ found) ∙ sym (live-on (turn (entryAt (q .play .version) bs at)) (q .play) ws lives)) c
 
 -- ---- so many records
 turn-short : (e : Record) (p : Playing) (ws : List ℕ) → length (whileLive (turn e) p ws .text) ≤ longestLine
@@ -124,45 +126,77 @@ turn-short e p ws = go (p .live) e
     go : (b : Bool) (e : Record) → length (cond b (turn e p ws) (stands p ws) .text) ≤ longestLine
     go false e = omega arith
     go true Bad = bad-short (nextNumber (p .number))
-    go true (Good r) = line-short (nextNumber (p .number)) r (cycled (p .order) (p .levels) r (p .state) ws .answer)
+    go true (Good r) = line-short (p .version) (nextNumber (p .number)) r (cycled (p .order) (p .levels) r (p .state) ws .answer)
 
 pub written-next : (e : Record) (q : Piece) (ws o : List ℕ) (r : Piece) (ws′ o′ : List ℕ)
     → Makes (whileLive (turn e) (q .play) ws) (q .written) o r ws′ o′ → r .written ≤ q .written + longestLine
 written-next e q ws o r ws′ o′ m = omega (arith, m .written, turn-short e (q .play) ws)
 
-records-next : (left at : ℕ) (bs : List ℕ) → 0 < left → recordsFrom left at bs ≡ entryAt bs at ∷ recordsFrom (left - 1) (at + recordBytes) bs
+-- no step changes the version
+turn-version : (e : Record) (p : Playing) (ws : List ℕ) → whileLive (turn e) p ws .play .version ≡ p .version
+unfolding whileLive turn
+turn-version e p ws = go (p .live) e
+  where
+    go : (b : Bool) (e : Record) → cond b (turn e p ws) (stands p ws) .play .version ≡ p .version
+    go false e = refl
+    go true Bad = refl
+    go true (Good r) = refl
+
+pub played-version : (es : List Record) (p : Playing) (ws : List ℕ) → played es p ws .play .version ≡ p .version
+unfolding played after
+played-version [] p ws = refl
+played-version (e ∷ es) p ws = let u : Run = whileLive (turn e) p ws in played-version es (u .play) (u .words) ∙ turn-version e p ws
+
+records-next : (v : Version) (left at : ℕ) (bs : List ℕ) → 0 < left → recordsFrom v left at bs ≡ entryAt v bs at ∷ recordsFrom v (left - 1) (at + recordBytes v) bs
 unfolding recordsFrom
-records-next zero at bs h = absurd (omega arith)
-records-next (suc k) at bs h = let e : k ≡ suc k - 1 = omega arith in ap (λ (k : ℕ). entryAt bs at ∷ recordsFrom k (at + recordBytes) bs) e
+records-next v zero at bs h = absurd (omega arith)
+records-next v (suc k) at bs h = let e : k ≡ suc k - 1 = omega arith in ap (λ (k : ℕ). entryAt v bs at ∷ recordsFrom v k (at + recordBytes v) bs) e
 
 module _ (bs : List ℕ) (p₀ : Playing) (ws₀ out₀ : List ℕ) where
+  abbrev v : Version
+  v = p₀ .version
+
   abbrev all : Run
-  all = played (recordsFrom (length bs / recordBytes) 0 bs) p₀ ws₀
+  all = played (recordsFrom v (length bs / recordBytes v) 0 bs) p₀ ws₀
 
   -- where the loop stands with so many records left, the next of them at this place
   pub record At (left at : ℕ) (q : Piece) (ws o : List ℕ) : Type 0 where
     pub done : Run
     pub made : Makes done 0 out₀ q ws o
-    pub rest : after done (played (recordsFrom left at bs)) ≡ all
+    pub same : q .play .version ≡ v
+    pub rest : after done (played (recordsFrom v left at bs)) ≡ all
 
-  pub at-start : (q : Piece) → q .play ≡ p₀ → q .written ≡ 0 → At (length bs / recordBytes) 0 q ws₀ out₀
-  at-start q e w = record { done = stands p₀ ws₀; made = makes-none p₀ ws₀ 0 out₀ q e w (omega arith); rest = stands-after p₀ ws₀ _ }
+  -- by the size that the code has read
+  module _ (size : ℕ) (read : size ≡ recordBytes v) where
+    pub at-start : (q : Piece) → q .play ≡ p₀ → q .written ≡ 0 → At (length bs / size) 0 q ws₀ out₀
+    at-start q e w =
+        record {
+          done = stands p₀ ws₀;
+          made = makes-none p₀ ws₀ 0 out₀ q e w (omega arith);
+          same = ap (λ (p : Playing). p .version) e;
+          rest = stands-after p₀ ws₀ _ ∙ ap (λ (n : ℕ). played (recordsFrom v (length bs / n) 0 bs) p₀ ws₀) read;
+        }
 
-  pub at-next : (left at : ℕ) (q : Piece) (ws o : List ℕ) → At left at q ws o → 0 < left → (r : Piece) (ws′ o′ : List ℕ)
-      → Makes (whileLive (turn (entryAt bs at)) (q .play) ws) (q .written) o r ws′ o′ → At (left - 1) (at + recordBytes) r ws′ o′
-  unfolding played
-  at-next left at q ws o a h r ws′ o′ m =
-      record {
-        done = after (a .done) (whileLive (turn (entryAt bs at)));
-        made = makes-after (a .done) 0 out₀ q ws o (a .made) (whileLive (turn (entryAt bs at))) r ws′ o′ m;
-        rest = after-after (a .done) (whileLive (turn (entryAt bs at))) (played (recordsFrom (left - 1) (at + recordBytes) bs))
-            ∙ ap (λ (es : List Record). after (a .done) (played es)) (sym (records-next left at bs h)) ∙ a .rest;
-      }
+    pub at-next : (left at : ℕ) (q : Piece) (ws o : List ℕ) → At left at q ws o → 0 < left → (r : Piece) (ws′ o′ : List ℕ)
+        → Makes (whileLive (turn (entryAt (q .play .version) bs at)) (q .play) ws) (q .written) o r ws′ o′ → At (left - 1) (at + size) r ws′ o′
+    unfolding played
+    at-next left at q ws o a h r ws′ o′ m =
+        let x : Record = entryAt v bs at in
+        let m′ : Makes (whileLive (turn x) (q .play) ws) (q .written) o r ws′ o′ =
+        subst (λ (w : Version). Makes (whileLive (turn (entryAt w bs at)) (q .play) ws) (q .written) o r ws′ o′) (a .same) m in
+        record {
+          done = after (a .done) (whileLive (turn x));
+          made = makes-after (a .done) 0 out₀ q ws o (a .made) (whileLive (turn x)) r ws′ o′ m′;
+          same = ap (λ (p : Playing). p .version) (m′ .play) ∙ turn-version x (q .play) ws ∙ a .same;
+          rest = after-after (a .done) (whileLive (turn x)) (played (recordsFrom v (left - 1) (at + size) bs))
+              ∙ ap (λ (n : ℕ). after (a .done) (played (x ∷ recordsFrom v (left - 1) (at + n) bs))) read
+              ∙ ap (λ (es : List Record). after (a .done) (played es)) (sym (records-next v left at bs h)) ∙ a .rest;
+        }
 
   pub at-end : (left at : ℕ) (q : Piece) (ws o : List ℕ) → At left at q ws o → left ≡ 0 → Makes all 0 out₀ q ws o
   unfolding played recordsFrom
   at-end left at q ws o a e =
-      makes-same _ 0 out₀ q ws o _ (sym (after-stands (a .done)) ∙ subst (λ (k : ℕ). after (a .done) (played (recordsFrom k at bs)) ≡ all) e (a .rest)) (a .made)
+      makes-same _ 0 out₀ q ws o _ (sym (after-stands (a .done)) ∙ subst (λ (k : ℕ). after (a .done) (played (recordsFrom v k at bs)) ≡ all) e (a .rest)) (a .made)
 
 -- ---- behind the whole records
 pub played-ended : (es : List Record) (p : Playing) (ws : List ℕ) → p .live ≡ false → played es p ws ≡ stands p ws
@@ -247,16 +281,16 @@ end-made p ws i out room a n left vs s c h w o q e ec eh l k =
     (makes-laid (run vs (carry p s (p .number) false) (endLine h n)) i out q vs o (k .0) refl (k .1 ∙ l .0, l .1) (omega (arith, end-short h n)))
 
 -- ---- the two calls
-pub opened-made : (m levels : ℕ) (ws : List ℕ) (a : Answer) (vs : List ℕ) (s : State) → cycleOutcome a vs s ≡ clearedMachine m levels ws
-    → (_≡_ {A = Playing} (record { order = m; levels = levels; state = s; number = 0; live = true }) (opening (Shape m levels) ws .play)) × (vs ≡ opening (Shape m levels) ws .words)
+pub opened-made : (v : Version) (m levels : ℕ) (ws : List ℕ) (a : Answer) (vs : List ℕ) (s : State) → cycleOutcome a vs s ≡ clearedMachine m levels ws
+    → (_≡_ {A = Playing} (record { version = v; order = m; levels = levels; state = s; number = 0; live = true }) (opening (Shape v m levels) ws .play)) × (vs ≡ opening (Shape v m levels) ws .words)
 unfolding opening
-opened-made m levels ws a vs s e = (
-  ap (λ (o : CycleOutcome). record { order = m; levels = levels; state = o .state; number = 0; live = true }) e,
+opened-made v m levels ws a vs s e = (
+  ap (λ (o : CycleOutcome). record { version = v; order = m; levels = levels; state = o .state; number = 0; live = true }) e,
   ap (λ (o : CycleOutcome). o .words) e,
 )
 
-pub closed-made : (s : State) → s ≡ fresh → _≡_ {A = Playing} (record { order = 0; levels = 0; state = s; number = 0; live = false }) shut
-closed-made s e = ap (λ (s : State). record { order = 0; levels = 0; state = s; number = 0; live = false }) e
+pub closed-made : (s : State) → s ≡ fresh → _≡_ {A = Playing} (record { version = One; order = 0; levels = 0; state = s; number = 0; live = false }) shut
+closed-made s e = ap (λ (s : State). record { version = One; order = 0; levels = 0; state = s; number = 0; live = false }) e
 
 module _ (head ws out : List ℕ) (q : Piece) where
   pub begun-none : length out < longestLine → (q .play ≡ shut) × (q .written ≡ 0) → Makes (begun head (length out) ws) 0 out q ws out
@@ -272,11 +306,11 @@ module _ (head ws out : List ℕ) (q : Piece) where
     unfolding opening
     begun-wrong w o e l c = makes-same _ 0 out q ws o _ (begun-as Wrong e) (makes-laid _ 0 out q ws o (c .0) refl (c .1 ∙ l .0, l .1) (omega arith))
 
-    pub begun-shape : (m levels : ℕ) (vs : List ℕ) → h ≡ Shape m levels
-        → (q .play ≡ opening (Shape m levels) ws .play) × (vs ≡ opening (Shape m levels) ws .words) × (q .written ≡ 0) → Makes (begun head (length out) ws) 0 out q vs out
+    pub begun-shape : (v : Version) (m levels : ℕ) (vs : List ℕ) → h ≡ Shape v m levels
+        → (q .play ≡ opening (Shape v m levels) ws .play) × (vs ≡ opening (Shape v m levels) ws .words) × (q .written ≡ 0) → Makes (begun head (length out) ws) 0 out q vs out
     unfolding opening overlay
-    begun-shape m levels vs e c =
-        makes-same _ 0 out q vs out _ (begun-as (Shape m levels) e)
+    begun-shape v m levels vs e c =
+        makes-same _ 0 out q vs out _ (begun-as (Shape v m levels) e)
         (record { play = c .0; words = c .1; written = c .2; text = refl; within = omega (arith, c .2) })
 
 pub played-append : (es fs : List Record) (p : Playing) (ws : List ℕ) → played (es ++ fs) p ws ≡ after (played es p ws) (played fs)
@@ -290,11 +324,17 @@ played-append (x ∷ es) fs p ws =
     after₁ u v = run (v .words) (v .play) (u .text ++ v .text)
 
 module _ (bs : List ℕ) (last : Bool) (p : Playing) (ws out : List ℕ) where
+  abbrev size : ℕ
+  size = recordBytes (p .version)
+
   abbrev whole : List Record
-  whole = recordsFrom (length bs / recordBytes) 0 bs
+  whole = recordsFrom (p .version) (length bs / size) 0 bs
+
+  abbrev cutBy : ℕ → Bool
+  cutBy n = not (eqb (length bs % n) 0)
 
   abbrev cut : Bool
-  cut = not (eqb (length bs % recordBytes) 0)
+  cut = cutBy size
 
   piece-parts : pieceRun bs last p ws ≡ after (played whole p ws) (restOf cut last)
   unfolding pieceRun recordsOf
@@ -302,13 +342,20 @@ module _ (bs : List ℕ) (last : Bool) (p : Playing) (ws out : List ℕ) where
       ap (λ (u : Run). after u (closing last)) (played-append whole (cutRecord cut) p ws)
       ∙ after-after (played whole p ws) (played (cutRecord cut)) (closing last)
 
-  pub piece-none : length out / longestLine ≤ length bs / recordBytes → (q : Piece) → q .play ≡ p → q .written ≡ 0 → Makes (pieceOf bs last (length out) p ws) 0 out q ws out
-  unfolding pieceOf
-  piece-none h q e w = rw (le-ltb (length bs / recordBytes) (length out / longestLine) h) (makes-none p ws 0 out q e w (omega arith))
+  -- by the size that the code has read
+  module _ (n : ℕ) (read : n ≡ size) where
+    pub piece-none : length out / longestLine ≤ length bs / n → (q : Piece) → q .play ≡ p → q .written ≡ 0 → Makes (pieceOf bs last (length out) p ws) 0 out q ws out
+    unfolding pieceOf
+    piece-none h q e w =
+        let h′ : length out / longestLine ≤ length bs / size = subst (λ (n : ℕ). length out / longestLine ≤ length bs / n) read h in
+        rw (le-ltb (length bs / size) (length out / longestLine) h′) (makes-none p ws 0 out q e w (omega arith))
 
-  pub piece-made : length bs / recordBytes < length out / longestLine → (r : Piece) (vs o : List ℕ) → Makes (played whole p ws) 0 out r vs o
-      → (q : Piece) (us o′ : List ℕ) → Makes (restOf cut last (r .play) vs) (r .written) o q us o′ → Makes (pieceOf bs last (length out) p ws) 0 out q us o′
-  unfolding pieceOf
-  piece-made h r vs o m q us o′ n =
-      rw (lt-ltb (length bs / recordBytes) (length out / longestLine) h)
-      (makes-same _ 0 out q us o′ _ (sym piece-parts) (makes-after (played whole p ws) 0 out r vs o m (restOf cut last) q us o′ n))
+    pub piece-made : length bs / n < length out / longestLine → (r : Piece) (vs o : List ℕ) → Makes (played whole p ws) 0 out r vs o
+        → (q : Piece) (us o′ : List ℕ) → Makes (restOf (cutBy n) last (r .play) vs) (r .written) o q us o′ → Makes (pieceOf bs last (length out) p ws) 0 out q us o′
+    unfolding pieceOf
+    piece-made h r vs o m q us o′ k =
+        let h′ : length bs / size < length out / longestLine = subst (λ (n : ℕ). length bs / n < length out / longestLine) read h in
+        let k′ : Makes (restOf cut last (r .play) vs) (r .written) o q us o′ =
+        subst (λ (n : ℕ). Makes (restOf (cutBy n) last (r .play) vs) (r .written) o q us o′) read k in
+        rw (lt-ltb (length bs / size) (length out / longestLine) h′)
+        (makes-same _ 0 out q us o′ _ (sym piece-parts) (makes-after (played whole p ws) 0 out r vs o m (restOf cut last) q us o′ k′))

@@ -6,7 +6,7 @@ use mathlib.Core.Bool.{_&&_, Bool, cond, false, true}
 use mathlib.Core.List.{[], _++_, _∷_, List}
 use mathlib.Core.Logic.{_⊎_, ⊎-elim}
 use mathlib.Core.Path.{_∙_, _≡_, ap, ap₂, refl, subst, sym}
-use lib.Dec.{leb}
+use lib.Dec.{eqb, leb}
 use lib.ListN.{drop, length, length-replicate}
 use borrow.Author.Tests.{le-leb, leb-true}
 use Rattle.clocked_model.proofs.Drain.{drain-left, drain-state}
@@ -23,13 +23,15 @@ use Rattle.strip.specs.declared.Answer.the-variants.{Refused}
 use Rattle.strip.specs.declared.Refusal.{Refusal}
 use Rattle.strip.specs.declared.Refusal.the-variants.{BadRank, BadShape, Damaged, Empty, Full, NoTag, TooSoon}
 use Rattle.strip.specs.declared.Request.{Request}
-use Rattle.trace.specs.Format.{byteAt, doneWord, endLine, headerBytes, headerOf, markOk, outWord, recordsOf, refusalWord, traceLimit, traceShape, wordOf}
+use Rattle.trace.specs.Format.{byteAt, doneWord, endLine, headed, headerBytes, headerOf, markOk, outWord, recordsOf, refusalWord, traceLimit, traceShape, versionAt, wordOf}
 use Rattle.trace.specs.Program.{emptyStore, endOf, storeWords}
 use Rattle.trace.specs.Promise.{Silent, TraceWorded, Worded, WordedBy}
 use Rattle.trace.specs.declared.Header.{Header}
 use Rattle.trace.specs.declared.Header.the-variants.{Shape as Shaped, Wrong}
 use Rattle.trace.specs.declared.Record.{Record}
 use Rattle.trace.specs.declared.Record.the-variants.{Bad, Good}
+use Rattle.trace.specs.declared.Version.{Version}
+use Rattle.trace.specs.declared.Version.the-variants.{One, Two}
 use Rattle.tree_model.proofs.Exactly.{is-shape, shape-is}
 use Rattle.tree_model.proofs.Rules.{comes}
 use Rattle.tree_model.specs.Calls.{heldCount, orderOk, rule, ruling, Ruling, shapeOk, slotLimit}
@@ -41,22 +43,22 @@ use Rattle.tree_model.specs.declared.Op.the-variants.{Nothing}
 use Rattle.tree_model.specs.declared.Slot.{Slot}
 
 -- ---- what a request comes to has a word
-comes-word : (c : ℕ) (nd : List Slot) (r : Request) (g : Ruling) → Comes c nd r g → wordOf r (g .answer) ≡ [] → ⊥
+comes-word : (v : Version) (c : ℕ) (nd : List Slot) (r : Request) (g : Ruling) → Comes c nd r g → wordOf v r (g .answer) ≡ [] → ⊥
 unfolding wordOf doneWord refusalWord outWord
-comes-word c nd r g idles e = omega (arith, ap length e)
-comes-word c nd r g (no-tag r′ u) e = omega (arith, ap length e)
-comes-word c nd r g (puts x u h) e = omega (arith, ap length e)
-comes-word c nd r g (full x u h) e = omega (arith, ap length e)
-comes-word c nd r g (takes h) e = omega (arith, ap length e)
-comes-word c nd r g (empty h) e = omega (arith, ap length e)
-comes-word c nd r g (swaps x u h) e = omega (arith, ap length e)
-comes-word c nd r g (lacks x u h) e = omega (arith, ap length e)
+comes-word v c nd r g idles e = omega (arith, ap length e)
+comes-word v c nd r g (no-tag r′ u) e = omega (arith, ap length e)
+comes-word v c nd r g (puts x u h) e = omega (arith, ap length e)
+comes-word v c nd r g (full x u h) e = omega (arith, ap length e)
+comes-word v c nd r g (takes h) e = omega (arith, ap length e)
+comes-word v c nd r g (empty h) e = omega (arith, ap length e)
+comes-word v c nd r g (swaps x u h) e = omega (arith, ap length e)
+comes-word v c nd r g (lacks x u h) e = omega (arith, ap length e)
 
-ruleMarked-word : (mark : Bool) (r : Request) (c : ℕ) (nd : List Slot) → wordOf r (ruleMarked mark r (rule c r nd) .answer) ≡ [] → ⊥
+ruleMarked-word : (v : Version) (mark : Bool) (r : Request) (c : ℕ) (nd : List Slot) → wordOf v r (ruleMarked mark r (rule c r nd) .answer) ≡ [] → ⊥
 unfolding ruleMarked wordOf refusalWord
-ruleMarked-word mark r c nd =
-    cond-both (λ (g : Ruling). wordOf r (g .answer) ≡ [] → ⊥) (mark && popsOrReplaces r) (ruling (Refused TooSoon) Nothing) (rule c r nd) (λ t e. omega (arith, ap length e))
-    (λ t. comes-word c nd r (rule c r nd) (comes c r nd))
+ruleMarked-word v mark r c nd =
+    cond-both (λ (g : Ruling). wordOf v r (g .answer) ≡ [] → ⊥) (mark && popsOrReplaces r) (ruling (Refused TooSoon) Nothing) (rule c r nd) (λ t e. omega (arith, ap length e))
+    (λ t. comes-word v c nd r (rule c r nd) (comes c r nd))
 
 pred-le : (n : ℕ) → pred n ≤ n
 pred-le zero = omega arith
@@ -95,20 +97,20 @@ module _ (m levels : ℕ) (ws : List ℕ) (sh : Shape m levels (length ws)) wher
       go Empty q h = absurd q
       go NoTag q h = absurd q
 
-  word-some : (rs : List Request) (r : Request) → wordOf r (cycled m levels r (stateAt rs) (wordsAt rs) .answer) ≡ [] → ⊥
+  word-some : (v : Version) (rs : List Request) (r : Request) → wordOf v r (cycled m levels r (stateAt rs) (wordsAt rs) .answer) ≡ [] → ⊥
   unfolding cycleRun
-  word-some rs r e =
-      ruleMarked-word (stateAt rs .mark) r (room m levels) _
-      (sym (ap (λ (o : CycleOutcome). wordOf r (o .answer)) (cycled-fine m levels r (stateAt rs) (wordsAt rs)
+  word-some v rs r e =
+      ruleMarked-word v (stateAt rs .mark) r (room m levels) _
+      (sym (ap (λ (o : CycleOutcome). wordOf v r (o .answer)) (cycled-fine m levels r (stateAt rs) (wordsAt rs)
       (is-shape m levels (length (wordsAt rs)) (shape-kept m ws rs levels sh))
       (no-damage-sound m levels r (stateAt rs) (wordsAt rs) (undamaged m ws rs levels sh r)))) ∙ e)
 
-  worded-from : (es : List Record) (rs : List Request) → Worded m levels (stateAt rs) (wordsAt rs) es
-  worded-from [] rs = tt
-  worded-from (Bad ∷ es) rs = tt
-  worded-from (Good r ∷ es) rs =
+  worded-from : (v : Version) (es : List Record) (rs : List Request) → Worded v m levels (stateAt rs) (wordsAt rs) es
+  worded-from v [] rs = tt
+  worded-from v (Bad ∷ es) rs = tt
+  worded-from v (Good r ∷ es) rs =
       let n = run-next m levels rs r (clearedMachine m levels ws .state) (clearedMachine m levels ws .words) in
-      (word-some rs r, subst (λ (x : State × List ℕ). Worded m levels (x .0) (x .1) es) (ap₂ (λ (s : State) (w : List ℕ). (s, w)) (n .0) (n .1)) (worded-from es (rs ++ (r ∷ []))))
+      (word-some v rs r, subst (λ (x : State × List ℕ). Worded v m levels (x .0) (x .1) es) (ap₂ (λ (s : State) (w : List ℕ). (s, w)) (n .0) (n .1)) (worded-from v es (rs ++ (r ∷ []))))
 
   -- THE LAST LINE: after any list of cycles the drain is not refused and leaves no work, and the line says how many are stored
   abbrev drained : List Request → DrainOutcome
@@ -141,30 +143,39 @@ trace-shape m levels e =
     (and-true (leb (room m levels) slotLimit) (leb (slotWords * room m levels) storeWords) (le-leb (room m levels) slotLimit (omega arith)) (le-leb (slotWords * room m levels) storeWords (omega arith)))))
 
 -- a header of a shape is one of the program's
-pub header-shaped : (bs : List ℕ) (m levels : ℕ) → headerOf bs ≡ Shaped m levels → Shape m levels storeWords
-unfolding headerOf
-header-shaped bs m levels e = go (leb headerBytes (length bs) && (markOk bs && traceShape (byteAt bs 5) (byteAt bs 6))) refl e
+headed-shape : (n a b : ℕ) (v : Version) (m levels : ℕ) → headed n a b ≡ Shaped v m levels → (a ≡ m) × (b ≡ levels)
+unfolding headed
+headed-shape n a b v m levels e = go (eqb n 1) (eqb n 2) e
   where
-    go : (b : Bool) → (leb headerBytes (length bs) && (markOk bs && traceShape (byteAt bs 5) (byteAt bs 6))) ≡ b → cond b (Shaped (byteAt bs 5) (byteAt bs 6)) Wrong ≡ Shaped m levels → Shape m levels storeWords
+    go : (s t : Bool) → cond s (Shaped One a b) (cond t (Shaped Two a b) Wrong) ≡ Shaped v m levels → (a ≡ m) × (b ≡ levels)
+    go true t p = (cc, cc)
+    go false true p = (cc, cc)
+    go false false p = let z : _≡_ {A = ℕ} 0 1 = cc in absurd (omega arith)
+
+pub header-shaped : (bs : List ℕ) (v : Version) (m levels : ℕ) → headerOf bs ≡ Shaped v m levels → Shape m levels storeWords
+unfolding headerOf
+header-shaped bs v m levels e = go (leb headerBytes (length bs) && (markOk bs && traceShape (byteAt bs 5) (byteAt bs 6))) refl e
+  where
+    go : (b : Bool) → (leb headerBytes (length bs) && (markOk bs && traceShape (byteAt bs 5) (byteAt bs 6))) ≡ b
+        → cond b (headed (versionAt bs 3) (byteAt bs 5) (byteAt bs 6)) Wrong ≡ Shaped v m levels → Shape m levels storeWords
     go true t p =
-        let e5 : byteAt bs 5 ≡ m = cc in
-        let e6 : byteAt bs 6 ≡ levels = cc in
+        let is = headed-shape (versionAt bs 3) (byteAt bs 5) (byteAt bs 6) v m levels p in
         let ok = and-right (markOk bs) (traceShape (byteAt bs 5) (byteAt bs 6)) (and-right (leb headerBytes (length bs)) (markOk bs && traceShape (byteAt bs 5) (byteAt bs 6)) t) in
-        trace-shape m levels (sym (ap₂ traceShape e5 e6) ∙ ok)
+        trace-shape m levels (sym (ap₂ traceShape (is .0) (is .1)) ∙ ok)
     go false t p = let z : _≡_ {A = ℕ} 0 1 = cc in absurd (omega arith)
 
 store-length : length emptyStore ≡ storeWords
 unfolding emptyStore
 store-length = length-replicate {A = ℕ} storeWords 0
 
-at-first : (m levels : ℕ) (ws : List ℕ) → Shape m levels (length ws) → (es : List Record) → Worded m levels (clearedMachine m levels ws .state) (clearedMachine m levels ws .words) es
+at-first : (v : Version) (m levels : ℕ) (ws : List ℕ) → Shape m levels (length ws) → (es : List Record) → Worded v m levels (clearedMachine m levels ws .state) (clearedMachine m levels ws .words) es
 unfolding leaves
-at-first m levels ws sh es = worded-from m levels ws sh es []
+at-first v m levels ws sh es = worded-from m levels ws sh v es []
 
 -- WORDED: every line of every trace has a word
 pub worded : (bs : List ℕ) → TraceWorded bs
 worded bs = go (headerOf bs) refl
   where
-    go : (h : Header) → headerOf bs ≡ h → WordedBy h (recordsOf (drop headerBytes bs))
+    go : (h : Header) → headerOf bs ≡ h → WordedBy h (drop headerBytes bs)
     go Wrong e = tt
-    go (Shaped m levels) e = at-first m levels emptyStore (subst (Shape m levels) (sym store-length) (header-shaped bs m levels e)) (recordsOf (drop headerBytes bs))
+    go (Shaped v m levels) e = at-first v m levels emptyStore (subst (Shape m levels) (sym store-length) (header-shaped bs v m levels e)) (recordsOf v (drop headerBytes bs))

@@ -1,4 +1,5 @@
--- 01's worked trace, one of replaces and one of elements without a tag, and what they give. Assumes nothing: these are definitions.
+-- 01's worked trace, one of replaces, one of elements without a tag and two of version 2, and what they give. Assumes nothing: these are
+-- definitions.
 use Prim.Native.Nat.{ℕ}
 use mathlib.Core.List.{[], _++_, _∷_, List}
 use Rattle.text.specs.Text.{bytesOf}
@@ -27,3 +28,22 @@ untaggedOnes = bytesOf "PFT" ++ ((1 ∷ 0 ∷ 2 ∷ 2 ∷ []) ++ (small 1 5 0 ++
 
 abbrev pub untaggedSays : List ℕ
 untaggedSays = bytesOf "1 no tag\n2 empty\n3 pushed\n4 too soon\n5 no tag\n6 out 5 50\nheld 0 drained 0\n"
+
+-- ---- version 2
+-- .. of thirteen bytes, with a small length
+abbrev sized : ℕ → ℕ → ℕ → ℕ → List ℕ
+sized code rank tag len = small code rank tag ++ (len ∷ 0 ∷ 0 ∷ 0 ∷ [])
+
+-- 01's records with a length
+abbrev pub lengths : List ℕ
+lengths = bytesOf "PFT" ++ ((2 ∷ 0 ∷ 2 ∷ 2 ∷ []) ++ (sized 1 5 50 64 ++ (sized 2 0 0 0 ++ (sized 2 0 0 0 ++ sized 2 0 0 0))))
+
+abbrev pub lengthsSay : List ℕ
+lengthsSay = bytesOf "1 pushed\n2 too soon\n3 out 5 50 64\n4 too soon\nheld 0 drained 0\n"
+
+-- "an `out` line with a third number", also where it is 0; "length 0 too on codes 0 and 2"
+abbrev pub lengthless : List ℕ
+lengthless = bytesOf "PFT" ++ ((2 ∷ 0 ∷ 2 ∷ 2 ∷ []) ++ (sized 1 5 50 0 ++ (sized 0 0 0 0 ++ (sized 3 4 7 9 ++ (sized 0 0 0 0 ++ sized 2 0 0 9)))))
+
+abbrev pub lengthlessSays : List ℕ
+lengthlessSays = bytesOf "1 pushed\n2 idle\n3 out 5 50 0\n4 idle\nbad record 5\n"

@@ -17,6 +17,8 @@ use Rattle.trace.specs.declared.Header.{Header}
 use Rattle.trace.specs.declared.Header.the-variants.{Shape, Wrong}
 use Rattle.trace.specs.declared.Record.{Record}
 use Rattle.trace.specs.declared.Record.the-variants.{Bad, Good}
+use Rattle.trace.specs.declared.Version.{Version}
+use Rattle.trace.specs.declared.Version.the-variants.{One, Two}
 use Rattle.tree_model.specs.Calls.{orderOk}
 use Rattle.tree_model.specs.Damage.{room}
 
@@ -38,18 +40,22 @@ refusalWord Full = bytesOf "full"
 refusalWord Empty = bytesOf "empty"
 refusalWord NoTag = bytesOf "no tag"
 
--- out R T
-unfoldable pub outWord : Element → List ℕ
-outWord e = bytesOf "out " ++ (decimal (e .rank .0) ++ (bytesOf " " ++ decimal (e .tag .0)))
+-- out R T; "an `out` line with a third number" in version 2, "the old lines" in version 1 (02 [9])
+unfoldable pub lengthWord : Version → ℕ → List ℕ
+lengthWord One l = []
+lengthWord Two l = bytesOf " " ++ decimal l
 
-unfoldable pub wordOf : Request → Answer → List ℕ
-wordOf r Done = doneWord r
-wordOf r (Out e) = outWord e
-wordOf r (Refused n) = refusalWord n
+unfoldable pub outWord : Version → Element → List ℕ
+outWord v e = bytesOf "out " ++ (decimal (e .rank .0) ++ (bytesOf " " ++ (decimal (e .tag .0) ++ lengthWord v (e .length .0))))
+
+unfoldable pub wordOf : Version → Request → Answer → List ℕ
+wordOf v r Done = doneWord r
+wordOf v r (Out e) = outWord v e
+wordOf v r (Refused n) = refusalWord n
 
 -- a record's number, a space, the word, and a newline
-unfoldable pub lineOf : ℕ → Request → Answer → List ℕ
-lineOf n r a = decimal n ++ (bytesOf " " ++ (wordOf r a ++ bytesOf "\n"))
+unfoldable pub lineOf : Version → ℕ → Request → Answer → List ℕ
+lineOf v n r a = decimal n ++ (bytesOf " " ++ (wordOf v r a ++ bytesOf "\n"))
 
 -- held H drained D
 unfoldable pub endLine : ℕ → ℕ → List ℕ
@@ -64,12 +70,13 @@ badTrace = bytesOf "bad trace\n"
 
 -- more than any word and any line has
 abbrev pub longestWord : ℕ
-longestWord = 48
+longestWord = 72
 
 abbrev pub longestLine : ℕ
-longestLine = 72
+longestLine = 96
 
--- ---- the header: "PFT", a 16-bit version 1 (low byte first), one byte order, one byte levels
+-- ---- the header: "PFT", a 16-bit version 1 (low byte first), one byte order, one byte levels; "Trace version 2 ..; version 1 is still
+-- read" (02 [9])
 abbrev pub headerBytes : ℕ
 headerBytes = 7
 
@@ -81,24 +88,38 @@ abbrev pub traceLimit : ℕ
 traceLimit = 4094
 
 unfoldable pub markOk : List ℕ → Bool
-markOk bs = eqb (byteAt bs 0) 80 && (eqb (byteAt bs 1) 70 && (eqb (byteAt bs 2) 84 && (eqb (byteAt bs 3) 1 && eqb (byteAt bs 4) 0)))
+markOk bs = eqb (byteAt bs 0) 80 && (eqb (byteAt bs 1) 70 && eqb (byteAt bs 2) 84)
 
 unfoldable pub traceShape : ℕ → ℕ → Bool
 traceShape m levels = orderOk m && (leb 1 levels && leb (room m levels) traceLimit)
 
-unfoldable pub headerOf : List ℕ → Header
-headerOf bs = cond (leb headerBytes (length bs) && (markOk bs && traceShape (byteAt bs 5) (byteAt bs 6))) (Shape (byteAt bs 5) (byteAt bs 6)) Wrong
+abbrev pub versionAt : List ℕ → ℕ → ℕ
+versionAt bs i = byteAt bs i + 256 * byteAt bs (i + 1)
 
--- ---- records "of 9 bytes: code, rank, tag, low bytes first"
-abbrev pub recordBytes : ℕ
-recordBytes = 9
+-- a shape in the version of this number; there are two
+unfoldable pub headed : ℕ → ℕ → ℕ → Header
+headed n m levels = cond (eqb n 1) (Shape One m levels) (cond (eqb n 2) (Shape Two m levels) Wrong)
+
+unfoldable pub headerOf : List ℕ → Header
+headerOf bs = cond (leb headerBytes (length bs) && (markOk bs && traceShape (byteAt bs 5) (byteAt bs 6))) (headed (versionAt bs 3) (byteAt bs 5) (byteAt bs 6)) Wrong
+
+-- ---- records "of 9 bytes: code, rank, tag, low bytes first"; "Trace version 2 has 13-byte records" (02 [9])
+abbrev pub recordBytes : Version → ℕ
+recordBytes One = 9
+recordBytes Two = 13
 
 abbrev pub numberAt : List ℕ → ℕ → ℕ
 numberAt bs i = byteAt bs i + 256 * byteAt bs (i + 1) + 65536 * byteAt bs (i + 2) + 16777216 * byteAt bs (i + 3)
 
--- "Codes are 0 idle, 1 push, 2 pop, 3 replace; every other code is a bad record, and so is a 0 or 2 with rank or tag not 0"
+-- behind the tag in version 2; "version 1 is still read, with length 0"
+unfoldable pub lengthAt : Version → List ℕ → ℕ → ℕ
+lengthAt One bs i = 0
+lengthAt Two bs i = numberAt bs (i + 9)
+
+-- "Codes are 0 idle, 1 push, 2 pop, 3 replace; every other code is a bad record, and so is a 0 or 2 with rank or tag not 0"; "length 0
+-- too on codes 0 and 2"
 abbrev pub onlyBlank : Element → Request → Record
-onlyBlank e r = cond (eqb (e .rank .0) 0 && eqb (e .tag .0) 0) (Good r) Bad
+onlyBlank e r = cond (eqb (e .rank .0) 0 && (eqb (e .tag .0) 0 && eqb (e .length .0) 0)) (Good r) Bad
 
 unfoldable pub entryOf : ℕ → Element → Record
 entryOf code e =
@@ -107,18 +128,18 @@ entryOf code e =
     (cond (eqb code 2) (onlyBlank e Pop)
     (cond (eqb code 3) (Good (Replace e)) Bad)))
 
-unfoldable pub entryAt : List ℕ → ℕ → Record
-entryAt bs i = entryOf (byteAt bs i) (element (numberAt bs (i + 1)) (numberAt bs (i + 5)))
+unfoldable pub entryAt : Version → List ℕ → ℕ → Record
+entryAt v bs i = entryOf (byteAt bs i) (element (numberAt bs (i + 1)) (numberAt bs (i + 5)) (lengthAt v bs i))
 
 -- so many whole records, the first of them at i
-unfoldable pub recordsFrom : ℕ → ℕ → List ℕ → List Record
-recordsFrom zero i bs = []
-recordsFrom (suc k) i bs = entryAt bs i ∷ recordsFrom k (i + recordBytes) bs
+unfoldable pub recordsFrom : Version → ℕ → ℕ → List ℕ → List Record
+recordsFrom v zero i bs = []
+recordsFrom v (suc k) i bs = entryAt v bs i ∷ recordsFrom v k (i + recordBytes v) bs
 
 -- "and so is .. a cut record"
 unfoldable pub cutRecord : Bool → List Record
 cutRecord cut = cond cut (Bad ∷ []) []
 
 -- all records of these bytes; what is left over is one that is cut
-unfoldable pub recordsOf : List ℕ → List Record
-recordsOf bs = recordsFrom (length bs / recordBytes) 0 bs ++ cutRecord (not (eqb (length bs % recordBytes) 0))
+unfoldable pub recordsOf : Version → List ℕ → List Record
+recordsOf v bs = recordsFrom v (length bs / recordBytes v) 0 bs ++ cutRecord (not (eqb (length bs % recordBytes v) 0))

@@ -16,6 +16,7 @@ use Rattle.trace.specs.declared.Piece.{Piece}
 use Rattle.trace.specs.declared.Playing.{Playing}
 use Rattle.trace.specs.declared.Record.{Record}
 use Rattle.trace.specs.declared.Record.the-variants.{Bad, Good}
+use Rattle.trace.specs.declared.Version.the-variants.{One}
 
 -- what a step leaves: the words of the store, the play that is carried on, and the text that it writes
 pub record Run : Type 0 where
@@ -46,7 +47,7 @@ whileLive f p ws = cond (p .live) (f p ws) (stands p ws)
 -- ---- the records
 -- the play with this state, behind so many records, live or ended
 abbrev pub carry : Playing → State → ℕ → Bool → Playing
-carry p s n live = record { order = p .order; levels = p .levels; state = s; number = n; live = live }
+carry p s n live = record { version = p .version; order = p .order; levels = p .levels; state = s; number = n; live = live }
 
 -- a good record is a cycle and its line; a bad one ends the play
 unfoldable pub turn : Record → Step
@@ -54,7 +55,7 @@ turn Bad p ws = run ws (carry p (p .state) (p .number) false) (badLine (nextNumb
 turn (Good r) p ws =
     let o = cycled (p .order) (p .levels) r (p .state) ws in
     let n = nextNumber (p .number) in
-    run (o .words) (carry p (o .state) n true) (lineOf n r (o .answer))
+    run (o .words) (carry p (o .state) n true) (lineOf (p .version) n r (o .answer))
 
 unfoldable pub played : List Record → Step
 played [] p ws = stands p ws
@@ -73,26 +74,26 @@ closing last p ws = cond last (whileLive ending p ws) (stands p ws)
 -- ---- the two calls
 -- a play that was never live
 abbrev pub shut : Playing
-shut = record { order = 0; levels = 0; state = fresh; number = 0; live = false }
+shut = record { version = One; order = 0; levels = 0; state = fresh; number = 0; live = false }
 
 -- the header: the line bad trace, or a cleared machine
 unfoldable pub opening : Header → List ℕ → Run
 opening Wrong ws = run ws shut badTrace
-opening (Shape m levels) ws =
+opening (Shape v m levels) ws =
     let c = clearedMachine m levels ws in
-    run (c .words) (record { order = m; levels = levels; state = c .state; number = 0; live = true }) []
+    run (c .words) (record { version = v; order = m; levels = levels; state = c .state; number = 0; live = true }) []
 
 -- the buffer has room for any line; without it nothing is begun
 unfoldable pub begun : List ℕ → ℕ → List ℕ → Run
 begun bs room ws = cond (leb longestLine room) (opening (headerOf bs) ws) (run ws shut [])
 
--- a piece of the input, whole records or the last of it: its records, and the drain where it is the last
+-- a piece of the input, whole records of the play's version or the last of it: its records, and the drain where it is the last
 unfoldable pub pieceRun : List ℕ → Bool → Step
-pieceRun bs last p ws = after (played (recordsOf bs) p ws) (closing last)
+pieceRun bs last p ws = after (played (recordsOf (p .version) bs) p ws) (closing last)
 
 -- the buffer has room for a line of each record and one more; without it nothing is played
 unfoldable pub pieceOf : List ℕ → Bool → ℕ → Step
-pieceOf bs last room p ws = cond (ltb (length bs / recordBytes) (room / longestLine)) (pieceRun bs last p ws) (stands p ws)
+pieceOf bs last room p ws = cond (ltb (length bs / recordBytes (p .version)) (room / longestLine)) (pieceRun bs last p ws) (stands p ws)
 
 -- a call that answers r and leaves these words and this buffer makes the run u, with its text in the buffer out from i on
 pub record Makes (u : Run) (i : ℕ) (out : List ℕ) (r : Piece) (ws after : List ℕ) : Type 0 where
@@ -102,13 +103,21 @@ pub record Makes (u : Run) (i : ℕ) (out : List ℕ) (r : Piece) (ws after : Li
   pub text : after ≡ overlay out i (u .text)
   pub within : r .written ≤ length out
 
--- ---- in pieces of r records: the header's bytes are read first, and a piece that is not full is the last
+-- so many bytes are whole records of either version: 13 of version 1, 9 of version 2
+abbrev pub lotBytes : ℕ
+lotBytes = 117
+
+-- .. and not more than so many
+abbrev pub lotRecords : ℕ
+lotRecords = 13
+
+-- ---- in pieces of r such lots: the header's bytes are read first, and a piece that is not full is the last
 module _ (r : ℕ) where
   abbrev pub pieceBytes : ℕ
-  pieceBytes = r * recordBytes
+  pieceBytes = r * lotBytes
 
   abbrev pub outBytes : ℕ
-  outBytes = suc r * longestLine
+  outBytes = suc (r * lotRecords) * longestLine
 
   -- so many pieces, unless the play ends before
   unfoldable pub inPieces : ℕ → List ℕ → Step
@@ -122,5 +131,5 @@ module _ (r : ℕ) where
       after (begun (take headerBytes bs) outBytes emptyStore) (whileLive (inPieces (suc (length rest)) rest)) .text
 
 -- the program's pieces
-abbrev pub programRecords : ℕ
-programRecords = 4096
+abbrev pub programLots : ℕ
+programLots = 315

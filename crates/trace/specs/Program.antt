@@ -10,6 +10,7 @@ use Rattle.trace.specs.declared.Header.{Header}
 use Rattle.trace.specs.declared.Header.the-variants.{Shape, Wrong}
 use Rattle.trace.specs.declared.Record.{Record}
 use Rattle.trace.specs.declared.Record.the-variants.{Bad, Good}
+use Rattle.trace.specs.declared.Version.{Version}
 use Rattle.tree_model.specs.Calls.{heldCount}
 use Rattle.tree_model.specs.Words.{slotWords}
 
@@ -33,20 +34,21 @@ module _ (m levels : ℕ) where
 
   -- "It runs one cycle a record and writes a line each; then it drains"; "a bad record, after the lines of those before it, gives
   -- bad record N (counted from 1) and no more". Behind n records, with this state and these words
-  unfoldable pub textFrom : ℕ → State → List ℕ → List Record → List ℕ
-  textFrom n s ws [] = endOf s ws
-  textFrom n s ws (Bad ∷ es) = badLine (nextNumber n)
-  textFrom n s ws (Good r ∷ es) =
+  unfoldable pub textFrom : Version → ℕ → State → List ℕ → List Record → List ℕ
+  textFrom v n s ws [] = endOf s ws
+  textFrom v n s ws (Bad ∷ es) = badLine (nextNumber n)
+  textFrom v n s ws (Good r ∷ es) =
       let o = cycled m levels r s ws in
-      lineOf (nextNumber n) r (o .answer) ++ textFrom (nextNumber n) (o .state) (o .words) es
+      lineOf v (nextNumber n) r (o .answer) ++ textFrom v (nextNumber n) (o .state) (o .words) es
 
--- "A cut or wrong header, or any other shape, gives the one line bad trace"; else the records are played on a cleared machine
-unfoldable pub textOf : Header → List Record → List ℕ
-textOf Wrong es = badTrace
-textOf (Shape m levels) es =
+-- "A cut or wrong header, or any other shape, gives the one line bad trace"; else the records of the bytes behind it, in the header's
+-- version, are played on a cleared machine
+unfoldable pub textOf : Header → List ℕ → List ℕ
+textOf Wrong rest = badTrace
+textOf (Shape v m levels) rest =
     let c = clearedMachine m levels emptyStore in
-    textFrom m levels 0 (c .state) (c .words) es
+    textFrom m levels v 0 (c .state) (c .words) (recordsOf v rest)
 
 -- THE PROGRAM
 unfoldable pub traceText : List ℕ → List ℕ
-traceText bs = textOf (headerOf bs) (recordsOf (drop headerBytes bs))
+traceText bs = textOf (headerOf bs) (drop headerBytes bs)

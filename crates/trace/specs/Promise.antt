@@ -13,6 +13,7 @@ use Rattle.trace.specs.declared.Header.{Header}
 use Rattle.trace.specs.declared.Header.the-variants.{Shape, Wrong}
 use Rattle.trace.specs.declared.Record.{Record}
 use Rattle.trace.specs.declared.Record.the-variants.{Bad, Good}
+use Rattle.trace.specs.declared.Version.{Version}
 
 -- refusals 1, 2 and 4, which have no word
 abbrev pub Silent : Refusal → Type 0
@@ -25,17 +26,17 @@ Silent Empty = ⊥
 Silent NoTag = ⊥
 
 -- every line that these records write has a word
-abbrev pub Worded : ℕ → ℕ → State → List ℕ → List Record → Type 0
-Worded m levels s ws [] = Unit {0}
-Worded m levels s ws (Bad ∷ es) = Unit {0}
-Worded m levels s ws (Good r ∷ es) =
-    (wordOf r (cycled m levels r s ws .answer) ≡ [] → ⊥) × Worded m levels (cycled m levels r s ws .state) (cycled m levels r s ws .words) es
+abbrev pub Worded : Version → ℕ → ℕ → State → List ℕ → List Record → Type 0
+Worded v m levels s ws [] = Unit {0}
+Worded v m levels s ws (Bad ∷ es) = Unit {0}
+Worded v m levels s ws (Good r ∷ es) =
+    (wordOf v r (cycled m levels r s ws .answer) ≡ [] → ⊥) × Worded v m levels (cycled m levels r s ws .state) (cycled m levels r s ws .words) es
 
-abbrev pub WordedBy : Header → List Record → Type 0
-WordedBy Wrong es = Unit {0}
-WordedBy (Shape m levels) es =
-    Worded m levels (clearedMachine m levels emptyStore .state) (clearedMachine m levels emptyStore .words) es
+abbrev pub WordedBy : Header → List ℕ → Type 0
+WordedBy Wrong rest = Unit {0}
+WordedBy (Shape v m levels) rest =
+    Worded v m levels (clearedMachine m levels emptyStore .state) (clearedMachine m levels emptyStore .words) (recordsOf v rest)
 
 -- .. of a whole trace
 abbrev pub TraceWorded : List ℕ → Type 0
-TraceWorded bs = WordedBy (headerOf bs) (recordsOf (drop headerBytes bs))
+TraceWorded bs = WordedBy (headerOf bs) (drop headerBytes bs)

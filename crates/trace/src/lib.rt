@@ -5,8 +5,8 @@ ghost use mathlib.Core.Bool.{false};
 ghost use Prim.Native.Nat.{_+_, _*_, _/_, _<_, _≤_};
 ghost use lib.ListN.{length};
 ghost use Rattle.clocked_model.specs.Calls.{fresh};
-ghost use Rattle.text.specs.Text.{overlay, Laid};
-ghost use Rattle.trace.specs.Format.{longestLine, longestWord, headerBytes, recordBytes, numberAt, markOk, traceShape, headerOf, onlyBlank, entryAt, entryOf, recordsFrom, cutRecord, doneWord, refusalWord, outWord, wordOf, lineOf, badLine, badTrace, endLine};
+ghost use Rattle.text.specs.Text.{overlay, longest, Laid};
+ghost use Rattle.trace.specs.Format.{longestLine, longestWord, headerBytes, recordBytes, numberAt, lengthAt, markOk, traceShape, headed, headerOf, onlyBlank, entryAt, entryOf, recordsFrom, cutRecord, doneWord, refusalWord, lengthWord, outWord, wordOf, lineOf, badLine, badTrace, endLine};
 ghost use Rattle.trace.specs.Play.{Makes, after, carry, whileLive, turn, played, ending, closing, shut, opening, begun, pieceOf};
 ghost use Rattle.trace.specs.Program.{nextNumber};
 use clocked::fresh_state;
@@ -14,6 +14,7 @@ use clocked_model::State;
 use node::capacity;
 use strip::Answer;
 use strip::Element;
+use strip::Length;
 use strip::Rank;
 use strip::Refusal;
 use strip::Request;
@@ -22,15 +23,18 @@ use text::put_bytes;
 use text::put_number;
 
 // More bytes than any line has.
-const LINE: usize = 72;
+const LINE: usize = 96;
 
-// A record's bytes.
-const RECORD: usize = 9;
+// The version of a trace: its records are without a length, or with one.
+pub enum Version {
+    One,
+    Two,
+}
 
-// What a trace's first bytes say: nothing that is a header, or order and levels.
+// What a trace's first bytes say: nothing that is a header, or version, order and levels.
 pub enum Header {
     Wrong,
-    Shape(usize, usize),
+    Shape(Version, usize, usize),
 }
 
 // What a record's bytes say.
@@ -68,48 +72,75 @@ fn put_refusal(out: &mut [u8], at: usize, refusal: Refusal) -> usize
     }
 }
 
-fn put_out(out: &mut [u8], at: usize, e: Element) -> usize
+// The third number, which a line of version 1 does not have.
+fn put_length(out: &mut [u8], at: usize, version: Version, len: Length) -> usize
+    requires { ⌜ at + longest + 1 ≤ length (now out) ⌝ }
+    ensures { λ r. ⌜ Laid (now (out .entry)) at (lengthWord version (len .0)) (now (out .exit)) r ⌝ }
+{
+    match version {
+        Version::One => at,
+        Version::Two => {
+            let a = put_bytes(out, at, b" ");
+            put_number(out, a, len.0 as u64)
+        }
+    }
+}
+
+fn put_out(out: &mut [u8], at: usize, version: Version, e: Element) -> usize
     requires { ⌜ at + longestWord ≤ length (now out) ⌝ }
-    ensures { λ r. ⌜ (r ≡ at + length (outWord e)) × (now (out .exit) ≡ overlay (now (out .entry)) at (outWord e)) ⌝ }
+    ensures { λ r. ⌜ Laid (now (out .entry)) at (outWord version e) (now (out .exit)) r ⌝ }
 {
     let rank = e.rank;
     let tag = e.tag;
     let a = put_bytes(out, at, b"out ");
     let b = put_number(out, a, rank.0 as u64);
     let c = put_bytes(out, b, b" ");
-    put_number(out, c, tag.0 as u64)
+    let d = put_number(out, c, tag.0 as u64);
+    put_length(out, d, version, e.length)
 }
 
-fn put_word(out: &mut [u8], at: usize, request: Request, answer: Answer) -> usize
+fn put_word(out: &mut [u8], at: usize, version: Version, request: Request, answer: Answer) -> usize
     requires { ⌜ at + longestWord ≤ length (now out) ⌝ }
-    ensures { λ r. ⌜ (r ≡ at + length (wordOf request answer)) × (now (out .exit) ≡ overlay (now (out .entry)) at (wordOf request answer)) ⌝ }
+    ensures { λ r. ⌜ Laid (now (out .entry)) at (wordOf version request answer) (now (out .exit)) r ⌝ }
 {
     match answer {
         Answer::Done => put_done(out, at, request),
-        Answer::Out(e) => put_out(out, at, e),
+        Answer::Out(e) => put_out(out, at, version, e),
         Answer::Refused(r) => put_refusal(out, at, r),
     }
 }
 
 // The line of one record: its number and what the cycle answered.
-fn put_line(out: &mut [u8], at: usize, number: u64, request: Request, answer: Answer) -> usize
+fn put_line(
+    out: &mut [u8],
+    at: usize,
+    version: Version,
+    number: u64,
+    request: Request,
+    answer: Answer,
+) -> usize
     requires { ⌜ at + longestLine ≤ length (now out) ⌝ }
-    ensures { λ r. ⌜ (r ≡ at + length (lineOf number request answer)) × (now (out .exit) ≡ overlay (now (out .entry)) at (lineOf number request answer)) ⌝ }
+    ensures { λ r. ⌜ Laid (now (out .entry)) at (lineOf version number request answer) (now (out .exit)) r ⌝ }
 {
     let a = put_number(out, at, number);
     let b = put_bytes(out, a, b" ");
-    let c = put_word(out, b, request, answer);
+    let c = put_word(out, b, version, request, answer);
     put_bytes(out, c, b"\n")
 }
 
 // ---- the header
 
+fn wide(b: u8) -> u32
+    ensures { λ r. ⌜ (r ≡ b) × (r < 256) ⌝ }
+{
+    b as u32
+}
+
 fn mark_ok(bytes: &[u8]) -> bool
     requires { ⌜ 7 ≤ length (now bytes) ⌝ }
     ensures { λ r. ⌜ r ≡ markOk (now (bytes .entry)) ⌝ }
 {
-    (bytes[0] == b'P')
-        & ((bytes[1] == b'F') & ((bytes[2] == b'T') & ((bytes[3] == 1) & (bytes[4] == 0))))
+    (bytes[0] == b'P') & ((bytes[1] == b'F') & (bytes[2] == b'T'))
 }
 
 // Whether a shape is one that the program takes.
@@ -120,6 +151,19 @@ fn shape_taken(order: usize, levels: usize) -> bool
         return false;
     }
     (1 <= levels) & (capacity(order, levels) <= 4094)
+}
+
+// A shape in the version of this number, of which there are two.
+fn headed(version: u32, order: usize, levels: usize) -> Header
+    ensures { λ r. ⌜ r ≡ headed version order levels ⌝ }
+{
+    if version == 1 {
+        return Header::Shape(Version::One, order, levels);
+    }
+    if version == 2 {
+        return Header::Shape(Version::Two, order, levels);
+    }
+    Header::Wrong
 }
 
 fn read_header(bytes: &[u8]) -> Header
@@ -136,15 +180,18 @@ fn read_header(bytes: &[u8]) -> Header
     if !shape_taken(order, levels) {
         return Header::Wrong;
     }
-    Header::Shape(order, levels)
+    headed(wide(bytes[3]) + 256 * wide(bytes[4]), order, levels)
 }
 
 // ---- a record
 
-fn wide(b: u8) -> u32
-    ensures { λ r. ⌜ (r ≡ b) × (r < 256) ⌝ }
+fn record_bytes(version: Version) -> usize
+    ensures { λ r. ⌜ r ≡ recordBytes version ⌝ }
 {
-    b as u32
+    match version {
+        Version::One => 9,
+        Version::Two => 13,
+    }
 }
 
 // A number of four bytes, the low byte first.
@@ -163,7 +210,8 @@ fn only_blank(e: Element, request: Request) -> Record
 {
     let rank = e.rank;
     let tag = e.tag;
-    if (rank.0 == 0) & (tag.0 == 0) {
+    let length = e.length;
+    if (rank.0 == 0) & ((tag.0 == 0) & (length.0 == 0)) {
         return Record::Good(request);
     }
     Record::Bad
@@ -181,21 +229,35 @@ fn record_of(code: u8, e: Element) -> Record
     }
 }
 
-fn record_at(bytes: &[u8], at: usize) -> Record
-    requires { ⌜ at + recordBytes ≤ length (now bytes) ⌝ }
-    ensures { λ r. ⌜ r ≡ entryAt (now (bytes .entry)) at ⌝ }
+// The length of the record at a place: 0 in version 1, which has none.
+fn length_at(version: Version, bytes: &[u8], at: usize) -> u32
+    requires { ⌜ at + recordBytes version ≤ length (now bytes) ⌝ }
+    ensures { λ r. ⌜ r ≡ lengthAt version (now (bytes .entry)) at ⌝ }
+{
+    match version {
+        Version::One => 0,
+        Version::Two => number_at(bytes, at + 9),
+    }
+}
+
+fn record_at(version: Version, bytes: &[u8], at: usize) -> Record
+    requires { ⌜ at + recordBytes version ≤ length (now bytes) ⌝ }
+    ensures { λ r. ⌜ r ≡ entryAt version (now (bytes .entry)) at ⌝ }
 {
     let e = Element {
         rank: Rank(number_at(bytes, at + 1)),
         tag: Tag(number_at(bytes, at + 5)),
+        length: Length(length_at(version, bytes, at)),
     };
     record_of(bytes[at], e)
 }
 
 // ---- the play
 
-// What is carried from piece to piece: the shape, the machine's state, how many records were played, and whether the play goes on.
+// What is carried from piece to piece: the version, the shape, the machine's state, how many records were played, and whether the play
+// goes on.
 pub struct Playing {
+    pub version: Version,
     pub order: usize,
     pub levels: usize,
     pub state: State,
@@ -213,7 +275,9 @@ pub struct Piece {
 fn carried(play: Playing, state: State, number: u64, live: bool, written: usize) -> Piece
     ensures { λ r. ⌜ (r .play ≡ carry play state number live) × (r .written ≡ written) ⌝ }
 {
+    let version = play.version;
     let play = Playing {
+        version,
         order: play.order,
         levels: play.levels,
         state,
@@ -235,7 +299,8 @@ fn play_good(store: &mut [u32], play: Playing, request: Request, at: usize, out:
     let answer = done.answer;
     let next = done.state;
     let number = std::num::wrapping_add_u64(play.number, 1);
-    let written = put_line(out, at, number, request, answer);
+    let version = play.version;
+    let written = put_line(out, at, version, number, request, answer);
     carried(play, next, number, true, written)
 }
 
@@ -254,14 +319,15 @@ fn play_bad(play: Playing, at: usize, out: &mut [u8]) -> Piece
 
 // The record at a place of the input, unless the play has ended.
 fn play_record(store: &mut [u32], piece: Piece, bytes: &[u8], at: usize, out: &mut [u8]) -> Piece
-    requires { ⌜ (at + recordBytes ≤ length (now bytes)) × (piece .written + longestLine ≤ length (now out)) ⌝ }
-    ensures { λ r. ⌜ Makes (whileLive (turn (entryAt (now (bytes .entry)) at)) (piece .play) (now (store .entry))) (piece .written) (now (out .entry)) r (now (store .exit)) (now (out .exit)) ⌝ }
+    requires { ⌜ (at + recordBytes (piece .play .version) ≤ length (now bytes)) × (piece .written + longestLine ≤ length (now out)) ⌝ }
+    ensures { λ r. ⌜ Makes (whileLive (turn (entryAt (piece .play .version) (now (bytes .entry)) at)) (piece .play) (now (store .entry))) (piece .written) (now (out .entry)) r (now (store .exit)) (now (out .exit)) ⌝ }
 {
     let play = piece.play;
     if !play.live {
         return piece;
     }
-    let found = record_at(bytes, at);
+    let version = play.version;
+    let found = record_at(version, bytes, at);
     match found {
         Record::Bad => play_bad(play, piece.written, out),
         Record::Good(request) => play_good(store, play, request, piece.written, out),
@@ -270,16 +336,18 @@ fn play_record(store: &mut [u32], piece: Piece, bytes: &[u8], at: usize, out: &m
 
 // The whole records, one after the other.
 fn play_records(store: &mut [u32], play: Playing, bytes: &[u8], out: &mut [u8]) -> Piece
-    requires { ⌜ longestLine * (length (now bytes) / recordBytes) ≤ length (now out) ⌝ }
-    ensures { λ r. ⌜ Makes (played (recordsFrom (length (now (bytes .entry)) / recordBytes) 0 (now (bytes .entry))) play (now (store .entry))) 0 (now (out .entry)) r (now (store .exit)) (now (out .exit)) ⌝ }
-    ensures { λ r. ⌜ r .written ≤ longestLine * (length (now (bytes .entry)) / recordBytes) ⌝ }
+    requires { ⌜ longestLine * (length (now bytes) / recordBytes (play .version)) ≤ length (now out) ⌝ }
+    ensures { λ r. ⌜ Makes (played (recordsFrom (play .version) (length (now (bytes .entry)) / recordBytes (play .version)) 0 (now (bytes .entry))) play (now (store .entry))) 0 (now (out .entry)) r (now (store .exit)) (now (out .exit)) ⌝ }
+    ensures { λ r. ⌜ r .written ≤ longestLine * (length (now (bytes .entry)) / recordBytes (play .version)) ⌝ }
 {
+    let version = play.version;
+    let size = record_bytes(version);
     let mut piece = Piece { play, written: 0 };
     let mut at = 0;
-    let mut left = bytes.len() / RECORD;
+    let mut left = bytes.len() / size;
     while left > 0 {
         piece = play_record(store, piece, bytes, at, out);
-        at += RECORD;
+        at += size;
         left -= 1;
     }
     piece
@@ -339,6 +407,7 @@ fn closed(written: usize) -> Piece
 {
     let state = fresh_state();
     let play = Playing {
+        version: Version::One,
         order: 0,
         levels: 0,
         state,
@@ -349,13 +418,14 @@ fn closed(written: usize) -> Piece
 }
 
 // A play on a cleared machine.
-fn opened(store: &mut [u32], order: usize, levels: usize) -> Piece
-    ensures { λ r. ⌜ (r .play ≡ opening (Header.Shape order levels) (now (store .entry)) .play) × (now (store .exit) ≡ opening (Header.Shape order levels) (now (store .entry)) .words) × (r .written ≡ 0) ⌝ }
+fn opened(store: &mut [u32], version: Version, order: usize, levels: usize) -> Piece
+    ensures { λ r. ⌜ (r .play ≡ opening (Header.Shape version order levels) (now (store .entry)) .play) × (now (store .exit) ≡ opening (Header.Shape version order levels) (now (store .entry)) .words) × (r .written ≡ 0) ⌝ }
 {
     let none = fresh_state();
     let cleared = clocked::clear(store, order, levels, none);
     let state = cleared.state;
     let play = Playing {
+        version,
         order,
         levels,
         state,
@@ -375,7 +445,7 @@ pub fn begin(store: &mut [u32], head: &[u8], out: &mut [u8]) -> Piece
     let header = read_header(head);
     match header {
         Header::Wrong => closed(put_bytes(out, 0, b"bad trace\n")),
-        Header::Shape(order, levels) => opened(store, order, levels),
+        Header::Shape(version, order, levels) => opened(store, version, order, levels),
     }
 }
 
@@ -384,9 +454,11 @@ pub fn begin(store: &mut [u32], head: &[u8], out: &mut [u8]) -> Piece
 pub fn play(store: &mut [u32], play: Playing, bytes: &[u8], last: bool, out: &mut [u8]) -> Piece
     ensures { λ r. ⌜ Makes (pieceOf (now (bytes .entry)) last (length (now (out .entry))) play (now (store .entry))) 0 (now (out .entry)) r (now (store .exit)) (now (out .exit)) ⌝ }
 {
-    if out.len() / LINE <= bytes.len() / RECORD {
+    let version = play.version;
+    let size = record_bytes(version);
+    if out.len() / LINE <= bytes.len() / size {
         return Piece { play, written: 0 };
     }
     let whole = play_records(store, play, bytes, out);
-    play_rest(store, whole, bytes.len() % RECORD != 0, last, out)
+    play_rest(store, whole, bytes.len() % size != 0, last, out)
 }

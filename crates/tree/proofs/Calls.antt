@@ -33,7 +33,7 @@ use Rattle.tree_model.specs.Damage.{hasRoom, hasSome, nodeOk, readOk, room, ste
 use Rattle.tree_model.specs.Levels.{work}
 use Rattle.tree_model.specs.Node.{isNothing, low, lowest, sumCounts}
 use Rattle.tree_model.specs.Promise.{Shape}
-use Rattle.tree_model.specs.Words.{applyWords, levelsOf, nodeOf, slotOf, wipe}
+use Rattle.tree_model.specs.Words.{applyWords, levelsOf, nodeOf, slotOf, slotWords, wipe}
 use Rattle.tree_model.specs.declared.Op.{Op}
 use Rattle.tree_model.specs.declared.Op.the-variants.{Nothing, Put, Swap, Take}
 use Rattle.tree_model.specs.declared.Slot.{Slot}
@@ -124,12 +124,12 @@ module _ (m levels : ℕ) (ws : List ℕ) (t : Bool) (shaped : t ≡ shapeOk m l
     all-is : all ≡ room m levels
     all-is = count .within (shape-here .capacity)
 
-    pub clear-fits : (all * 3 ≤ length ws) × (all ≤ slotLimit)
+    pub clear-fits : (all * slotWords ≤ length ws) × (all ≤ slotLimit)
     clear-fits = (omega (arith, all-is, shape-here .slice), omega (arith, all-is, shape-here .capacity))
 
-    pub clear-done : (q : List ℕ) → q ≡ replicate (all * 3) 0 ++ drop (all * 3) ws → outcome Done q ≡ cleared m levels ws
+    pub clear-done : (q : List ℕ) → q ≡ replicate (all * slotWords) 0 ++ drop (all * slotWords) ws → outcome Done q ≡ cleared m levels ws
     unfolding cleared wipe
-    clear-done q e = rw (← shaped, not-false t yes) (ap (outcome Done) (e ∙ ap (λ (n : ℕ). replicate (n * 3) 0 ++ drop (n * 3) ws) all-is))
+    clear-done q e = rw (← shaped, not-false t yes) (ap (outcome Done) (e ∙ ap (λ (n : ℕ). replicate (n * slotWords) 0 ++ drop (n * slotWords) ws) all-is))
 
 module _ {m levels cap : ℕ} {ws : List ℕ} (f : Fit m levels cap ws) where
   -- ---- the root

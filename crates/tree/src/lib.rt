@@ -2,6 +2,7 @@
 ghost use mathlib.Core.Path.{_≡_};
 ghost use Rattle.tree_model.specs.Calls.{outcome, called, cleared, heldCount};
 ghost use Rattle.tree.specs.Down.{Bars, Carried, Looked, Stands};
+use node::SLOT_WORDS;
 use node::capacity;
 use node::goes_down;
 use node::look_least;
@@ -254,6 +255,6 @@ pub fn clear(store: &mut [u32], order: usize, levels: usize) -> Answer
     if !shape_ok(order, levels, store.len()) {
         return Answer::Refused(Refusal::BadShape);
     }
-    zero_words(store, capacity(order, levels) * 3);
+    zero_words(store, capacity(order, levels) * SLOT_WORDS);
     Answer::Done
 }

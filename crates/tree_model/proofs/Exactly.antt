@@ -44,14 +44,17 @@ use Rattle.tree_model.specs.declared.Op.the-variants.{Nothing, Put, Swap
 use Rattle.tree_model.specs.declared.Slot.{Slot}
 use Rattle.tree_model.specs.declared.Work.{Work}
 
-blank-fails : (e : Element) → Fails (isBlank e) ((e .rank .0 ≡ 0) × (e .tag .0 ≡ 0) → ⊥)
+blank-fails : (e : Element) → Fails (isBlank e) ((e .rank .0 ≡ 0) × (e .tag .0 ≡ 0) × (e .length .0 ≡ 0) → ⊥)
 unfolding isBlank
-blank-fails e = go (eqb (e .rank .0) 0) refl (eqb (e .tag .0) 0) refl
+blank-fails e = go (eqb (e .rank .0) 0) refl (eqb (e .tag .0) 0) refl (eqb (e .length .0) 0) refl
   where
-    go : (a : Bool) → eqb (e .rank .0) 0 ≡ a → (b : Bool) → eqb (e .tag .0) 0 ≡ b → Fails (a && b) ((e .rank .0 ≡ 0) × (e .tag .0 ≡ 0) → ⊥)
-    go true p true q = record { found = λ z. absurd (true≢false z); shown = λ h. absurd (h (eqb-true (e .rank .0) 0 p, eqb-true (e .tag .0) 0 q)) }
-    go true p false q = record { found = λ z d. eqb-false (e .tag .0) 0 q (d .1); shown = λ h. refl }
-    go false p b q = record { found = λ z d. eqb-false (e .rank .0) 0 p (d .0); shown = λ h. refl }
+    go : (a : Bool) → eqb (e .rank .0) 0 ≡ a → (b : Bool) → eqb (e .tag .0) 0 ≡ b → (c : Bool) → eqb (e .length .0) 0 ≡ c
+        → Fails (a && (b && c)) ((e .rank .0 ≡ 0) × (e .tag .0 ≡ 0) × (e .length .0 ≡ 0) → ⊥)
+    go true p true q true u =
+        record { found = λ z. absurd (true≢false z); shown = λ h. absurd (h (eqb-true (e .rank .0) 0 p, eqb-true (e .tag .0) 0 q, eqb-true (e .length .0) 0 u)) }
+    go true p true q false u = record { found = λ z d. eqb-false (e .length .0) 0 u (d .2); shown = λ h. refl }
+    go true p false q c u = record { found = λ z d. eqb-false (e .tag .0) 0 q (d .1); shown = λ h. refl }
+    go false p b q c u = record { found = λ z d. eqb-false (e .rank .0) 0 p (d .0); shown = λ h. refl }
 
 slot-fails : (r : ℕ) (s : Slot) → Fails (slotOk r s) (SlotDamaged r s)
 unfolding slotOk isEmpty
@@ -138,7 +141,7 @@ order-means m =
 pub shape-means : (m levels len : ℕ) → Means (shapeOk m levels len) (Shape m levels len)
 unfolding shapeOk
 shape-means m levels len =
-    means-by (means-and (order-means m) (means-and (means-leb 1 levels) (means-and (means-leb (room m levels) slotLimit) (means-leb (3 * room m levels) len))))
+    means-by (means-and (order-means m) (means-and (means-leb 1 levels) (means-and (means-leb (room m levels) slotLimit) (means-leb (4 * room m levels) len))))
     (λ p. record { order = p .0; some = p .1 .0; capacity = p .1 .1 .0; slice = p .1 .1 .1 }) (λ s. (s .order, (s .some, (s .capacity, s .slice))))
 
 pub shape-is : (m levels len : ℕ) → shapeOk m levels len ≡ true → Shape m levels len

@@ -16,4 +16,6 @@ pub mod Agreement
 pub mod Unread
 pub mod Replace
 pub mod Tags
+pub mod Cases
 pub mod Edge
+pub mod Lengths

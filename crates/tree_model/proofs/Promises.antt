@@ -11,9 +11,9 @@ use lib.ListN.{getD, length, replicate}
 use Rattle.laws.specs.Lists.{sumOf}
 use Rattle.laws.specs.Sums.{grid, sum-index, sumTo, to-add, to-append, to-ext, to-zero}
 use Rattle.promise.specs.Queue.{answers, leaves, leaves-keep, pins}
-use Rattle.promise.specs.Served.{all-sum, allBrought, allGiven, always, brought, given, Holds, Least, least-same, same}
+use Rattle.promise.specs.Served.{all-sum, allBrought, allGiven, always, brought, given, Holds, Least, least-same, same, triple}
 use Rattle.promise.specs.Tagged.{Tagged, tagged-by}
-use Rattle.strip.specs.Answers.{blank, countNumber, countOf, element, numberOf}
+use Rattle.strip.specs.Answers.{blank, countNumber, countOf, numberOf}
 use Rattle.strip.specs.declared.Answer.{Answer}
 use Rattle.strip.specs.declared.Element.{Element}
 use Rattle.strip.specs.declared.Request.{Request}
@@ -23,7 +23,7 @@ use Rattle.tree_model.proofs.Path.{node-ok, root-path}
 use Rattle.tree_model.proofs.Rules.{comes}
 use Rattle.tree_model.proofs.Serve.{answered, cleared-holds, cleared-store, root-slots, root-sum}
 use Rattle.tree_model.proofs.Slice.{wiped}
-use Rattle.tree_model.proofs.Words.{apply-length, level-node, node-length, node-slot, size-room, tab-ext, words-apply}
+use Rattle.tree_model.proofs.Words.{apply-length, level-node, node-length, node-slot, size-room, slot-path, tab-ext, words-apply}
 use Rattle.tree_model.specs.Calls.{called, heldCount, Outcome, outcome, rootOf, rootOk, rule, Ruling, ruleAt, wayOk}
 use Rattle.tree_model.specs.Damage.{nodeOk, room}
 use Rattle.tree_model.specs.Levels.{apply, Level, Levels, work}
@@ -77,22 +77,19 @@ levels-sum f m (suc k) ws b c =
         ∙ ap₂ (λ (a n : ℕ). a + sumTo n (λ j. many f k (G j))) own-sum (node-length m ws (b + n * m))
 
 -- ---- a cleared store
-wiped-slot : (n : ℕ) (ws : List ℕ) → 3 * n ≤ length ws → (i : ℕ) → i < n → slotOf (wipe n ws) i ≡ vacant
+wiped-slot : (n : ℕ) (ws : List ℕ) → 4 * n ≤ length ws → (i : ℕ) → i < n → slotOf (wipe n ws) i ≡ vacant
 unfolding slotOf vacant blank
-wiped-slot n ws fits i h = slot-zero (z .zeros (3 * i) 0 (omega arith)) (z .zeros (3 * i + 1) 0 (omega arith)) (z .zeros (3 * i + 2) 0 (omega arith))
+wiped-slot n ws fits i h = slot-path (z .zeros (4 * i) 0 (omega arith)) (z .zeros (4 * i + 1) 0 (omega arith)) (z .zeros (4 * i + 2) 0 (omega arith)) (z .zeros (4 * i + 3) 0 (omega arith))
   where
     z : Zeroed n ws (wipe n ws)
     z = wiped n ws fits
-
-    slot-zero : {r t c : ℕ} → r ≡ 0 → t ≡ 0 → c ≡ 0 → _≡_ {A = Slot} (record { element = element r t; count = c }) (record { element = element 0 0; count = 0 })
-    slot-zero p q o = λ i. record { element = record { rank = record { 0 = p i }; tag = record { 0 = q i } }; count = o i }
 
 tab-same : {A : Type 0} (n : ℕ) (a : A) → tabulate n (λ i. a) ≡ replicate n a
 unfolding tabulate
 tab-same zero a = refl
 tab-same (suc n) a = ap (λ (l : List _). a ∷ l) (tab-same n a)
 
-wiped-levels : (m k n : ℕ) (ws : List ℕ) → 3 * n ≤ length ws → (b c : ℕ) → b + size m k c ≤ n → levelsOf m k (wipe n ws) b c ≡ bareLevels m k c
+wiped-levels : (m k n : ℕ) (ws : List ℕ) → 4 * n ≤ length ws → (b c : ℕ) → b + size m k c ≤ n → levelsOf m k (wipe n ws) b c ≡ bareLevels m k c
 unfolding levelsOf bareLevels size levelOf nodeOf
 wiped-levels m zero n ws fits b c h = refl
 wiped-levels m (suc k) n ws fits b c h =
@@ -162,7 +159,7 @@ pub called-length : (m levels : ℕ) (r : Request) (ws : List ℕ) → length (c
 called-length m levels r ws = called-either m levels r ws (λ o. length (o .words) ≡ length ws) (λ x. refl) (λ s o w. apply-length m levels _ 0 1 ws)
 
 -- PAST: no call touches a word past the capacity, whatever the words
-pub past-stands : (m levels : ℕ) (r : Request) (ws : List ℕ) (p : ℕ) → 3 * room m levels ≤ p → getD (called m levels r ws .words) p 0 ≡ getD ws p 0
+pub past-stands : (m levels : ℕ) (r : Request) (ws : List ℕ) (p : ℕ) → 4 * room m levels ≤ p → getD (called m levels r ws .words) p 0 ≡ getD ws p 0
 past-stands m levels r ws p h =
     called-either m levels r ws (λ o. getD (o .words) p 0 ≡ getD ws p 0) (λ x. refl) (λ s o w.
     let sh = shape-is m levels (length ws) s in
@@ -191,7 +188,7 @@ module _ (m k : ℕ) (ws : List ℕ) (sh : Shape m (suc k) (length ws)) where
   start-is : start m (suc k) ws ≡ wipe (room m (suc k)) ws
   start-is = ap (λ (o : Outcome). o .words) (cleared-fine m (suc k) ws (is-shape m (suc k) (length ws) sh))
 
-  start-bare : levelsOf m (suc k) (start m (suc k) ws) 0 1 ≡ bareLevels m (suc k) 1
+  pub start-bare : levelsOf m (suc k) (start m (suc k) ws) 0 1 ≡ bareLevels m (suc k) 1
   start-bare =
       ap (λ (v : List ℕ). levelsOf m (suc k) v 0 1) start-is
       ∙ wiped-levels m (suc k) (room m (suc k)) ws (sh .slice) 0 1 (omega (arith, size-room m (suc k) 1))
@@ -227,6 +224,11 @@ module _ (m : ℕ) (ws : List ℕ) (rs : List Request) where
   pub pairs : (levels : ℕ) → Shape m levels (length ws) → (e : Element)
       → stored (room m levels) (after m levels rs ws) (same e) + allGiven rs (said levels) (same e) ≡ allBrought rs (said levels) (same e)
   pairs levels sh e = holds levels sh (same e)
+
+  -- .. and each triple of rank, tag and length
+  pub triples : (levels : ℕ) → Shape m levels (length ws) → (e : Element)
+      → stored (room m levels) (after m levels rs ws) (triple e) + allGiven rs (said levels) (triple e) ≡ allBrought rs (said levels) (triple e)
+  triples levels sh e = holds levels sh (triple e)
 
   -- TAGGED: no element of tag 0 is stored, and none has come out
   pub tagged : (levels : ℕ) → Shape m levels (length ws) → Tagged (stored (room m levels) (after m levels rs ws)) rs (said levels)

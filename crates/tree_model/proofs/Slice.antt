@@ -16,7 +16,7 @@ use Rattle.tree_model.specs.Calls.{cleared, heldCount, Outcome, rootOf}
 use Rattle.tree_model.specs.Damage.{room}
 use Rattle.tree_model.specs.Levels.{Level}
 use Rattle.tree_model.specs.Node.{slotAt, sumCounts}
-use Rattle.tree_model.specs.Promise.{levelAt, Shape, threeWords, Zeroed}
+use Rattle.tree_model.specs.Promise.{levelAt, Shape, fourWords, Zeroed}
 use Rattle.tree_model.specs.Words.{levelOf, levelsOf, nodeOf, size, slotOf, tabulate, wipe}
 use Rattle.tree_model.specs.declared.Slot.{Slot}
 
@@ -35,7 +35,7 @@ pub capacity : (m levels : ℕ) → room m levels ≡ sumTo levels (λ i. m ^ su
 capacity m levels =
     sym (one-mul (room m levels)) ∙ sym (powers m levels 1) ∙ to-ext levels (λ i. 1 * m ^ suc i) (λ i. m ^ suc i) (λ i l. one-mul (m ^ suc i))
 
--- ---- "Slots lie in one lent slice, level by level, node by node, each as three 32-bit words: rank, tag, count"
+-- ---- "Slots lie in one lent slice, level by level, node by node"; "four words, with length before count"
 level-lies : (m k : ℕ) (ws : List ℕ) (b c i : ℕ) → i < k → levelAt k (levelsOf m k ws b c) i ≡ levelOf m ws (b + size m i c) (c * m ^ i)
 unfolding levelAt levelsOf size
 level-lies m zero ws b c i h = absurd (not-suc-le-zero h)
@@ -50,7 +50,7 @@ level-wide m k ws i h = ap length (level-lies m k ws 0 1 i h) ∙ level-length m
 
 -- slot j of node n of level i stands behind the slots of the levels above, the nodes before and the slots before
 pub lies : (m k : ℕ) (ws : List ℕ) (i n j : ℕ) → i < k → n < m ^ i → j < m
-    → slotAt (getD (levelAt k (levelsOf m k ws 0 1) i) n []) j ≡ threeWords ws (sumTo i (λ a. m ^ suc a) + n * m + j)
+    → slotAt (getD (levelAt k (levelsOf m k ws 0 1) i) n []) j ≡ fourWords ws (sumTo i (λ a. m ^ suc a) + n * m + j)
 unfolding slotOf
 lies m k ws i n j hi hn hj =
     let b : ℕ = sumTo i (λ a. m ^ suc a) in
@@ -59,20 +59,20 @@ lies m k ws i n j hi hn hj =
     ap (λ (l : Level). slotAt (getD l n []) j) level ∙ ap (λ (nd : List Slot). slotAt nd j) (level-node m ws b (m ^ i) n hn) ∙ node-slot m ws (b + n * m) j hj
 
 -- ---- clear
-pub wiped : (n : ℕ) (ws : List ℕ) → 3 * n ≤ length ws → Zeroed n ws (wipe n ws)
+pub wiped : (n : ℕ) (ws : List ℕ) → 4 * n ≤ length ws → Zeroed n ws (wipe n ws)
 unfolding wipe
 wiped n ws h =
     record {
       length = simp (length-append, length-replicate, length-drop) (omega arith);
-      zeros = λ p d l. List·getD-append (replicate (n * 3) 0) (drop (n * 3) ws) d p (rw length-replicate (omega arith)) ∙ getD-replicate (n * 3) p 0 d (omega arith);
+      zeros = λ p d l. List·getD-append (replicate (n * 4) 0) (drop (n * 4) ws) d p (rw length-replicate (omega arith)) ∙ getD-replicate (n * 4) p 0 d (omega arith);
       rest = λ p d l. behind p d l;
     }
   where
-    behind : (p d : ℕ) → 3 * n ≤ p → getD (replicate (n * 3) 0 ++ drop (n * 3) ws) p d ≡ getD ws p d
+    behind : (p d : ℕ) → 4 * n ≤ p → getD (replicate (n * 4) 0 ++ drop (n * 4) ws) p d ≡ getD ws p d
     behind p d l =
-        let z : List ℕ = replicate (n * 3) 0 in
-        let at : p ≡ length z + (p - n * 3) = rw length-replicate (omega arith) in
-        ap (λ (p : ℕ). getD (z ++ drop (n * 3) ws) p d) at ∙ getD-append-add z (drop (n * 3) ws) (p - n * 3) d ∙ getD-drop (n * 3) ws (p - n * 3) d
+        let z : List ℕ = replicate (n * 4) 0 in
+        let at : p ≡ length z + (p - n * 4) = rw length-replicate (omega arith) in
+        ap (λ (p : ℕ). getD (z ++ drop (n * 4) ws) p d) at ∙ getD-append-add z (drop (n * 4) ws) (p - n * 4) d ∙ getD-drop (n * 4) ws (p - n * 4) d
         ∙ ap (λ (p : ℕ). getD ws p d) (omega arith)
 
 pub clear-zeroes : (m levels : ℕ) (ws : List ℕ) → Shape m levels (length ws) → (cleared m levels ws .answer ≡ Done) × Zeroed (room m levels) ws (cleared m levels ws .words)
@@ -82,17 +82,17 @@ clear-zeroes m levels ws sh =
       rw e (wiped (room m levels) ws (sh .slice)),
     )
 
--- ---- held: "the sum of the root's counts", each the third word of a slot
+-- ---- held: "the sum of the root's counts", each the last word of a slot
 sum-tabulate : (m : ℕ) (f : ℕ → Slot) → sumCounts (tabulate m f) ≡ sumTo m (λ j. f j .count)
 unfolding sumCounts tabulate sumTo
 sum-tabulate zero f = refl
 sum-tabulate (suc m) f = ap (λ (n : ℕ). f 0 .count + n) (sum-tabulate m (λ i. f (suc i)))
 
-root-counts : (m : ℕ) (ws : List ℕ) → sumCounts (rootOf m ws) ≡ sumTo m (λ j. getD ws (3 * j + 2) 0)
+root-counts : (m : ℕ) (ws : List ℕ) → sumCounts (rootOf m ws) ≡ sumTo m (λ j. getD ws (4 * j + 3) 0)
 unfolding nodeOf slotOf
 root-counts m ws =
-    sum-tabulate m (λ j. slotOf ws (0 + j)) ∙ to-ext m (λ j. getD ws (3 * (0 + j) + 2) 0) (λ j. getD ws (3 * j + 2) 0) (λ j l. ap (λ (i : ℕ). getD ws (3 * i + 2) 0) (zero-add j))
+    sum-tabulate m (λ j. slotOf ws (0 + j)) ∙ to-ext m (λ j. getD ws (4 * (0 + j) + 3) 0) (λ j. getD ws (4 * j + 3) 0) (λ j l. ap (λ (i : ℕ). getD ws (4 * i + 3) 0) (zero-add j))
 
-pub held-counts : (m levels : ℕ) (ws : List ℕ) → countNumber (heldCount m levels ws) ≡ 0 → countOf (heldCount m levels ws) ≡ sumTo m (λ j. getD ws (3 * j + 2) 0)
+pub held-counts : (m levels : ℕ) (ws : List ℕ) → countNumber (heldCount m levels ws) ≡ 0 → countOf (heldCount m levels ws) ≡ sumTo m (λ j. getD ws (4 * j + 3) 0)
 held-counts m levels ws =
-    counted-either m levels ws (λ c. countNumber c ≡ 0 → countOf c ≡ sumTo m (λ j. getD ws (3 * j + 2) 0)) (λ x e. absurd (zero-told x (sym e))) (λ e. root-counts m ws)
+    counted-either m levels ws (λ c. countNumber c ≡ 0 → countOf c ≡ sumTo m (λ j. getD ws (4 * j + 3) 0)) (λ x e. absurd (zero-told x (sym e))) (λ e. root-counts m ws)

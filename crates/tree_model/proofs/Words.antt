@@ -67,54 +67,76 @@ pub write-length : (ws : List ℕ) (i : ℕ) (s : Slot) → length (write ws i s
 unfolding write
 write-length ws i s = simp length-set
 
--- a slot by its three words
-slot-path : {r r′ t t′ c c′ : ℕ} → r ≡ r′ → t ≡ t′ → c ≡ c′
-    → _≡_ {A = Slot} (record { element = element r t; count = c }) (record { element = element r′ t′; count = c′ })
-slot-path p q o = λ i. record { element = record { rank = record { 0 = p i }; tag = record { 0 = q i } }; count = o i }
+-- a slot by its four words
+pub slot-path : {r r′ t t′ l l′ c c′ : ℕ} → r ≡ r′ → t ≡ t′ → l ≡ l′ → c ≡ c′
+    → _≡_ {A = Slot} (record { element = element r t l; count = c }) (record { element = element r′ t′ l′; count = c′ })
+slot-path p q u o = λ i. record { element = record { rank = record { 0 = p i }; tag = record { 0 = q i }; length = record { 0 = u i } }; count = o i }
 
-pub write-same : (ws : List ℕ) (i : ℕ) (s : Slot) → slotWords * i + 2 < length ws → slotOf (write ws i s) i ≡ s
+pub write-same : (ws : List ℕ) (i : ℕ) (s : Slot) → slotWords * i + slotWords ≤ length ws → slotOf (write ws i s) i ≡ s
 unfolding write slotOf
 write-same ws i s h =
-    let a : List ℕ = set ws (3 * i) (s .element .rank .0) in
-    let b : List ℕ = set a (3 * i + 1) (s .element .tag .0) in
+    let a : List ℕ = set ws (4 * i) (s .element .rank .0) in
+    let b : List ℕ = set a (4 * i + 1) (s .element .tag .0) in
+    let c : List ℕ = set b (4 * i + 2) (s .element .length .0) in
     let la : length a ≡ length ws = length-set ws _ _ in
     let lb : length b ≡ length a = length-set a _ _ in
+    let lc : length c ≡ length b = length-set b _ _ in
     slot-path
-    (getD-set-other b (3 * i + 2) (3 * i) (s .count) 0 (omega arith) ∙ getD-set-other a (3 * i + 1) (3 * i) (s .element .tag .0) 0 (omega arith) ∙ getD-set-same ws (3 * i) (s .element .rank .0) 0 (omega arith))
-    (getD-set-other b (3 * i + 2) (3 * i + 1) (s .count) 0 (omega arith) ∙ getD-set-same a (3 * i + 1) (s .element .tag .0) 0 (omega arith))
-    (getD-set-same b (3 * i + 2) (s .count) 0 (omega arith))
+    (getD-set-other c (4 * i + 3) (4 * i) (s .count) 0 (omega arith) ∙ getD-set-other b (4 * i + 2) (4 * i) (s .element .length .0) 0 (omega arith)
+    ∙ getD-set-other a (4 * i + 1) (4 * i) (s .element .tag .0) 0 (omega arith) ∙ getD-set-same ws (4 * i) (s .element .rank .0) 0 (omega arith))
+    (getD-set-other c (4 * i + 3) (4 * i + 1) (s .count) 0 (omega arith) ∙ getD-set-other b (4 * i + 2) (4 * i + 1) (s .element .length .0) 0 (omega arith)
+    ∙ getD-set-same a (4 * i + 1) (s .element .tag .0) 0 (omega arith))
+    (getD-set-other c (4 * i + 3) (4 * i + 2) (s .count) 0 (omega arith) ∙ getD-set-same b (4 * i + 2) (s .element .length .0) 0 (omega arith))
+    (getD-set-same c (4 * i + 3) (s .count) 0 (omega arith))
 
-set₃-other : (ws : List ℕ) (a b c x y z p : ℕ) → p ≢ a → p ≢ b → p ≢ c → getD (set (set (set ws a x) b y) c z) p 0 ≡ getD ws p 0
-set₃-other ws a b c x y z p ha hb hc = getD-set-other (set (set ws a x) b y) c p z 0 hc ∙ getD-set-other (set ws a x) b p y 0 hb ∙ getD-set-other ws a p x 0 ha
+-- a word that is none of the slot's own stands
+write-apart : (ws : List ℕ) (i p : ℕ) (s : Slot) → p ≢ 4 * i → p ≢ 4 * i + 1 → p ≢ 4 * i + 2 → p ≢ 4 * i + 3 → getD (write ws i s) p 0 ≡ getD ws p 0
+unfolding write
+write-apart ws i p s ha hb hc hd =
+    let a : List ℕ = set ws (4 * i) (s .element .rank .0) in
+    let b : List ℕ = set a (4 * i + 1) (s .element .tag .0) in
+    let c : List ℕ = set b (4 * i + 2) (s .element .length .0) in
+    getD-set-other c (4 * i + 3) p (s .count) 0 hd ∙ getD-set-other b (4 * i + 2) p (s .element .length .0) 0 hc
+    ∙ getD-set-other a (4 * i + 1) p (s .element .tag .0) 0 hb ∙ getD-set-other ws (4 * i) p (s .element .rank .0) 0 ha
 
 pub write-other : (ws : List ℕ) (i i′ : ℕ) (s : Slot) → i′ ≢ i → slotOf (write ws i s) i′ ≡ slotOf ws i′
-unfolding write slotOf
+unfolding slotOf
 write-other ws i i′ s h =
-    slot-path (set₃-other ws (3 * i) (3 * i + 1) (3 * i + 2) _ _ _ (3 * i′) (omega arith) (omega arith) (omega arith))
-    (set₃-other ws (3 * i) (3 * i + 1) (3 * i + 2) _ _ _ (3 * i′ + 1) (omega arith) (omega arith) (omega arith))
-    (set₃-other ws (3 * i) (3 * i + 1) (3 * i + 2) _ _ _ (3 * i′ + 2) (omega arith) (omega arith) (omega arith))
+    slot-path (write-apart ws i (4 * i′) s (omega arith) (omega arith) (omega arith) (omega arith))
+    (write-apart ws i (4 * i′ + 1) s (omega arith) (omega arith) (omega arith) (omega arith))
+    (write-apart ws i (4 * i′ + 2) s (omega arith) (omega arith) (omega arith) (omega arith))
+    (write-apart ws i (4 * i′ + 3) s (omega arith) (omega arith) (omega arith) (omega arith))
 
--- writes of different slots commute: first one word past three, then three past three
-set₃-past : (ws : List ℕ) (a b c x y z p v : ℕ) → a ≢ p → b ≢ p → c ≢ p → set (set (set (set ws a x) b y) c z) p v ≡ set (set (set (set ws p v) a x) b y) c z
-set₃-past ws a b c x y z p v ha hb hc =
-    set-comm (set (set ws a x) b y) c p z v hc
-    ∙ ap (λ (r : List ℕ). set r c z) (set-comm (set ws a x) b p y v hb)
-    ∙ ap (λ (r : List ℕ). set (set r b y) c z) (set-comm ws a p x v ha)
+-- writes of different slots commute: first one word past a slot's four, then four past four
+set-past : (ws : List ℕ) (i p v : ℕ) (s : Slot) → 4 * i ≢ p → 4 * i + 1 ≢ p → 4 * i + 2 ≢ p → 4 * i + 3 ≢ p → set (write ws i s) p v ≡ write (set ws p v) i s
+unfolding write
+set-past ws i p v s ha hb hc hd =
+    let r : ℕ = s .element .rank .0 in
+    let t : ℕ = s .element .tag .0 in
+    let l : ℕ = s .element .length .0 in
+    let n : ℕ = s .count in
+    set-comm (set (set (set ws (4 * i) r) (4 * i + 1) t) (4 * i + 2) l) (4 * i + 3) p n v hd
+    ∙ ap (λ (q : List ℕ). set q (4 * i + 3) n) (set-comm (set (set ws (4 * i) r) (4 * i + 1) t) (4 * i + 2) p l v hc)
+    ∙ ap (λ (q : List ℕ). set (set q (4 * i + 2) l) (4 * i + 3) n) (set-comm (set ws (4 * i) r) (4 * i + 1) p t v hb)
+    ∙ ap (λ (q : List ℕ). set (set (set q (4 * i + 1) t) (4 * i + 2) l) (4 * i + 3) n) (set-comm ws (4 * i) p r v ha)
 
 pub write-comm : (ws : List ℕ) (i j : ℕ) (s t : Slot) → i ≢ j → write (write ws i s) j t ≡ write (write ws j t) i s
 unfolding write
 write-comm ws i j s t h =
     let r : ℕ = t .element .rank .0 in
     let g : ℕ = t .element .tag .0 in
+    let l : ℕ = t .element .length .0 in
     let n : ℕ = t .count in
-    ap (λ (q : List ℕ). set (set q (3 * j + 1) g) (3 * j + 2) n) (set₃-past ws (3 * i) (3 * i + 1) (3 * i + 2) _ _ _ (3 * j) r (omega arith) (omega arith) (omega arith))
-    ∙ ap (λ (q : List ℕ). set q (3 * j + 2) n) (set₃-past (set ws (3 * j) r) (3 * i) (3 * i + 1) (3 * i + 2) _ _ _ (3 * j + 1) g (omega arith) (omega arith) (omega arith))
-    ∙ set₃-past (set (set ws (3 * j) r) (3 * j + 1) g) (3 * i) (3 * i + 1) (3 * i + 2) _ _ _ (3 * j + 2) n (omega arith) (omega arith) (omega arith)
+    let a : List ℕ = set ws (4 * j) r in
+    let b : List ℕ = set a (4 * j + 1) g in
+    ap (λ (q : List ℕ). set (set (set q (4 * j + 1) g) (4 * j + 2) l) (4 * j + 3) n) (set-past ws i (4 * j) r s (omega arith) (omega arith) (omega arith) (omega arith))
+    ∙ ap (λ (q : List ℕ). set (set q (4 * j + 2) l) (4 * j + 3) n) (set-past a i (4 * j + 1) g s (omega arith) (omega arith) (omega arith) (omega arith))
+    ∙ ap (λ (q : List ℕ). set q (4 * j + 3) n) (set-past b i (4 * j + 2) l s (omega arith) (omega arith) (omega arith) (omega arith))
+    ∙ set-past (set b (4 * j + 2) l) i (4 * j + 3) n s (omega arith) (omega arith) (omega arith) (omega arith)
 
 -- a write changes its own slot's words alone: past that slot every word stands
 write-past : (ws : List ℕ) (i p : ℕ) (s : Slot) → slotWords * suc i ≤ p → getD (write ws i s) p 0 ≡ getD ws p 0
-unfolding write
-write-past ws i p s h = set₃-other ws (3 * i) (3 * i + 1) (3 * i + 2) _ _ _ p (λ q. omega arith) (λ q. omega arith) (λ q. omega arith)
+write-past ws i p s h = write-apart ws i p s (λ q. omega arith) (λ q. omega arith) (λ q. omega arith) (λ q. omega arith)
 
 -- ---- numbers
 pub size-room : (m k c : ℕ) → size m k c ≡ c * room m k
@@ -140,7 +162,7 @@ module _ (m : ℕ) where
   level-node ws b c n h = getD-tab c (λ n. nodeOf m ws (b + n * m)) n [] h
 
   -- a slot of this node is written
-  node-write : (ws : List ℕ) (i j : ℕ) (s : Slot) → slotWords * (i + j) + 2 < length ws → nodeOf m (write ws (i + j) s) i ≡ set (nodeOf m ws i) j s
+  node-write : (ws : List ℕ) (i j : ℕ) (s : Slot) → slotWords * (i + j) + slotWords ≤ length ws → nodeOf m (write ws (i + j) s) i ≡ set (nodeOf m ws i) j s
   unfolding nodeOf
   node-write ws i j s h = tab-set m _ _ j s (λ l. write-same ws (i + j) s h) (λ a l ne. write-other ws (i + j) (i + a) s (λ e. ne (omega arith)))
 
@@ -150,7 +172,7 @@ module _ (m : ℕ) where
   node-other ws i p s h = tab-ext m _ _ (λ j l. write-other ws p (i + j) s (h j l))
 
   -- a slot of this level is written
-  level-write : (ws : List ℕ) (b c n j : ℕ) (s : Slot) → n < c → j < m → slotWords * (b + n * m + j) + 2 < length ws
+  level-write : (ws : List ℕ) (b c n j : ℕ) (s : Slot) → n < c → j < m → slotWords * (b + n * m + j) + slotWords ≤ length ws
       → levelOf m (write ws (b + n * m + j) s) b c ≡ set (levelOf m ws b c) n (set (getD (levelOf m ws b c) n []) j s)
   unfolding levelOf
   level-write ws b c n j s hn hj h =

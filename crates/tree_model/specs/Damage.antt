@@ -19,7 +19,7 @@ room m (suc k) = m * suc (room m k)
 
 -- "the other words are 0"
 unfoldable pub isBlank : Element → Bool
-isBlank e = eqb (e .rank .0) 0 && eqb (e .tag .0) 0
+isBlank e = eqb (e .rank .0) 0 && (eqb (e .tag .0) 0 && eqb (e .length .0) 0)
 
 -- a slot over room for r: not "a count above one plus the room below it", nor "count 0 and another word not 0"
 unfoldable pub slotOk : ℕ → Slot → Bool

@@ -6,8 +6,9 @@ use lib.ListN.{length}
 use Rattle.strip.specs.Answers.{numberOf}
 use Rattle.tree_model.specs.Calls.{cleared}
 use Rattle.tree_model.specs.Damage.{room}
+use Rattle.tree_model.specs.Words.{slotWords}
 
 -- the shape's capacity, and the number that a clear answers on any words that have room for it: where that is 1, the slice is not the cause
 pub record Edge (order levels slots number : ℕ) : Type 0 where
   pub capacity : room order levels ≡ slots
-  pub says : (ws : List ℕ) → 3 * slots ≤ length ws → numberOf (cleared order levels ws .answer) ≡ number
+  pub says : (ws : List ℕ) → slotWords * slots ≤ length ws → numberOf (cleared order levels ws .answer) ≡ number

@@ -7,4 +7,6 @@ pub mod Rules
 pub mod Tree
 pub mod Serve
 pub mod Promise
+pub mod Cases
 pub mod Edge
+pub mod Lengths

@@ -11,7 +11,7 @@ use Rattle.tree_model.specs.declared.Op.{Op}
 use Rattle.tree_model.specs.declared.Op.the-variants.{Nothing, Put, Take, Swap}
 use Rattle.tree_model.specs.declared.Move.{Move}
 
--- "An empty slot is 0, 0, 0"
+-- "an empty slot is four zeros"
 unfoldable pub vacant : Slot
 vacant = record { element = blank; count = 0 }
 

@@ -37,11 +37,11 @@ pub record Shape (m levels len : ℕ) : Type 0 where
   pub order : (m ≡ 2) ⊎ (m ≡ 4) ⊎ (m ≡ 8)
   pub some : 1 ≤ levels
   pub capacity : room m levels ≤ 87380
-  pub slice : 3 * room m levels ≤ len
+  pub slice : 4 * room m levels ≤ len
 
 -- "a count above one plus the room below it, or a slot with count 0 and another word not 0"
 abbrev pub SlotDamaged : ℕ → Slot → Type 0
-SlotDamaged r s = (suc r < s .count) ⊎ ((s .count ≡ 0) × ((s .element .rank .0 ≡ 0) × (s .element .tag .0 ≡ 0) → ⊥))
+SlotDamaged r s = (suc r < s .count) ⊎ ((s .count ≡ 0) × ((s .element .rank .0 ≡ 0) × (s .element .tag .0 ≡ 0) × (s .element .length .0 ≡ 0) → ⊥))
 
 abbrev pub NodeDamaged : ℕ → List Slot → Type 0
 NodeDamaged r nd = Any (SlotDamaged r) nd
@@ -116,19 +116,19 @@ levelAt zero ls i = []
 levelAt (suc k) ls zero = ls .0
 levelAt (suc k) ls (suc i) = levelAt k (ls .1) i
 
--- "three 32-bit words: rank, tag, count": slot i of the slice
-abbrev pub threeWords : List ℕ → ℕ → Slot
-threeWords ws i = record { element = element (getD ws (3 * i) 0) (getD ws (3 * i + 1) 0); count = getD ws (3 * i + 2) 0 }
+-- "four words, with length before count": slot i of the slice
+abbrev pub fourWords : List ℕ → ℕ → Slot
+fourWords ws i = record { element = element (getD ws (4 * i) 0) (getD ws (4 * i + 1) 0) (getD ws (4 * i + 2) 0); count = getD ws (4 * i + 3) 0 }
 
 -- "Clear writes zeros. .. of a longer one the rest is never touched", word by word
 pub record Zeroed (n : ℕ) (ws vs : List ℕ) : Type 0 where
   pub length : length vs ≡ length ws
-  pub zeros : (p d : ℕ) → p < 3 * n → getD vs p d ≡ 0
-  pub rest : (p d : ℕ) → 3 * n ≤ p → getD vs p d ≡ getD ws p d
+  pub zeros : (p d : ℕ) → p < 4 * n → getD vs p d ≡ 0
+  pub rest : (p d : ℕ) → 4 * n ≤ p → getD vs p d ≡ getD ws p d
 
 -- two slices that agree on the words of n slots
 abbrev pub Agree : ℕ → List ℕ → List ℕ → Type 0
-Agree n ws vs = (p : ℕ) → p < 3 * n → getD ws p 0 ≡ getD vs p 0
+Agree n ws vs = (p : ℕ) → p < 4 * n → getD ws p 0 ≡ getD vs p 0
 
 -- ---- what a store holds
 -- how many of the first n slots hold an element that passes the test

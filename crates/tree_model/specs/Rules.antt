@@ -55,7 +55,7 @@ pub data Puts (x : Element) (nd : List Slot) : Move → Type 0 where
 -- "Take: the occupied slot of lowest rank .. gives its element; its count falls by one. At count 0 the slot is cleared. Otherwise it receives what
 -- a take gives at the node below"
 pub data Takes (nd : List Slot) (below : ℕ → Element) : Move → Type 0 where
-  clears : slotAt nd (lowest nd) .count ≤ 1 → Takes nd below (move (lowest nd) (element 0 0) 0 Nothing)
+  clears : slotAt nd (lowest nd) .count ≤ 1 → Takes nd below (move (lowest nd) (element 0 0 0) 0 Nothing)
   receives : 1 < slotAt nd (lowest nd) .count → Takes nd below (move (lowest nd) (below (lowest nd)) (pred (slotAt nd (lowest nd) .count)) Take)
 
 -- "Swap x: the slot that a take would choose gives its element, count unchanged. At count 1, or if the lowest rank in the node below is not strictly

@@ -1,4 +1,5 @@
--- The lent words: "Slots lie in one lent slice, level by level, node by node, each as three 32-bit words: rank, tag, count".
+-- The lent words: "Slots lie in one lent slice, level by level, node by node"; "A tree slot is then four words, with length before count" (02 [9]):
+-- rank, tag, length, count.
 use Prim.Native.Nat.{ℕ, zero, suc, _+_, _*_}
 use mathlib.Core.Bool.{Bool, true, false, cond}
 use mathlib.Core.List.{List, [], _∷_, _++_}
@@ -15,14 +16,15 @@ use Rattle.tree_model.specs.Levels.{Level, Levels, top, levelMove, stepW
 -- ---- a slot's words
 -- how many words a slot has
 abbrev pub slotWords : ℕ
-slotWords = 3
+slotWords = 4
 
 -- slot i of the store
 unfoldable pub slotOf : List ℕ → ℕ → Slot
-slotOf ws i = record { element = element (getD ws (slotWords * i) 0) (getD ws (slotWords * i + 1) 0); count = getD ws (slotWords * i + 2) 0 }
+slotOf ws i = record { element = element (getD ws (slotWords * i) 0) (getD ws (slotWords * i + 1) 0) (getD ws (slotWords * i + 2) 0); count = getD ws (slotWords * i + 3) 0 }
 
 unfoldable pub write : List ℕ → ℕ → Slot → List ℕ
-write ws i s = set (set (set ws (slotWords * i) (s .element .rank .0)) (slotWords * i + 1) (s .element .tag .0)) (slotWords * i + 2) (s .count)
+write ws i s =
+    set (set (set (set ws (slotWords * i) (s .element .rank .0)) (slotWords * i + 1) (s .element .tag .0)) (slotWords * i + 2) (s .element .length .0)) (slotWords * i + 3) (s .count)
 
 -- "Clear writes zeros": the words of the first n slots
 unfoldable pub wipe : ℕ → List ℕ → List ℕ

@@ -4,13 +4,15 @@ use crate::clock::Clock;
 use crate::count::bytes_of;
 use crate::measure::{race, Contestant, Rng, Work};
 use crate::plain::{Ask, Plain};
+use crate::queues::{bare, wrapped, Strip};
 use crate::table::{Plan, Row};
-use card_host::{ClockedTree, Element, Rank, Request, Tag};
+use crate::traces::strip;
+use card_host::{ClockedTree, Request};
 
-/// A machine that runs cycles: its number, rank and tag.
+/// A machine that runs cycles: its number, and what it gives.
 trait Machine {
     fn clear(&mut self);
-    fn cycle(&mut self, ask: Ask) -> (u32, u32, u32);
+    fn cycle(&mut self, ask: Ask) -> (u32, Strip);
 }
 
 impl Machine for Plain {
@@ -18,7 +20,7 @@ impl Machine for Plain {
         Plain::clear(self);
     }
     #[inline]
-    fn cycle(&mut self, ask: Ask) -> (u32, u32, u32) {
+    fn cycle(&mut self, ask: Ask) -> (u32, Strip) {
         Plain::cycle(self, ask)
     }
 }
@@ -28,16 +30,16 @@ impl Machine for ClockedTree {
         ClockedTree::clear(self).expect("clear");
     }
     #[inline]
-    fn cycle(&mut self, ask: Ask) -> (u32, u32, u32) {
+    fn cycle(&mut self, ask: Ask) -> (u32, Strip) {
         let request = match ask {
             Ask::Idle => Request::Idle,
-            Ask::Push(rank, tag) => Request::Push(Element::new(Rank(rank), Tag(tag))),
+            Ask::Push(x) => Request::Push(wrapped(x)),
             Ask::Pop => Request::Pop,
-            Ask::Replace(rank, tag) => Request::Replace(Element::new(Rank(rank), Tag(tag))),
+            Ask::Replace(x) => Request::Replace(wrapped(x)),
         };
         match ClockedTree::cycle(self, request) {
-            Ok(x) => (0, x.rank.0, x.tag.0),
-            Err(refusal) => (refusal.number(), 0, 0),
+            Ok(x) => (0, bare(x)),
+            Err(refusal) => (refusal.number(), Strip::default()),
         }
     }
 }
@@ -49,8 +51,9 @@ struct Runner<M>(M);
 fn run<M: Machine>(machine: &mut M, trace: &[Ask]) -> u64 {
     let mut answers = 0u64;
     for ask in trace {
-        let (number, rank, tag) = machine.cycle(*ask);
-        answers = answers.rotate_left(7) ^ ((rank as u64) << 32 | tag as u64) ^ (number as u64) << 20;
+        let (number, (rank, tag, length)) = machine.cycle(*ask);
+        answers =
+            answers.rotate_left(7) ^ ((rank as u64) << 32 | tag as u64) ^ (length as u64) << 16 ^ (number as u64) << 20;
     }
     answers
 }
@@ -69,7 +72,7 @@ impl<M: Machine> Contestant<Ask> for Runner<M> {
 fn fill(rng: &mut Rng, held: usize) -> Vec<Ask> {
     let mut all = Vec::new();
     for n in 0..held {
-        all.extend([Ask::Push(rng.below(1 << 20), n as u32 + 1), Ask::Idle]);
+        all.extend([Ask::Push(strip(rng.below(1 << 20), n)), Ask::Idle]);
     }
     all.extend([Ask::Idle; 16]);
     all
@@ -77,12 +80,12 @@ fn fill(rng: &mut Rng, held: usize) -> Vec<Ask> {
 
 /// Any of the four requests; pops and replaces that come too soon are refused, as they are on a card.
 fn any(rng: &mut Rng, n: usize) -> Ask {
-    let (rank, tag) = (rng.below(1 << 21), n as u32 + 1);
+    let x = strip(rng.below(1 << 21), n);
     match rng.below(10) {
         0 | 1 => Ask::Idle,
-        2..=4 => Ask::Push(rank, tag),
+        2..=4 => Ask::Push(x),
         5..=7 => Ask::Pop,
-        _ => Ask::Replace(rank, tag),
+        _ => Ask::Replace(x),
     }
 }
 

@@ -80,7 +80,7 @@ fn main() {
         table::print(beside, &rows);
         rows
     };
-    show("bucket queue (N = 4096) beside BTreeMap<u32, VecDeque<u32>>, 4,000 held", traces::buckets(&plan));
+    show("bucket queue (N = 4096) beside BTreeMap<u32, VecDeque<(u32, u32)>>, 4,000 held", traces::buckets(&plan));
     show("bucket queue, three storeys (N = 65,536), beside the same map", traces::deep_buckets(&plan));
     show("tree beside std's BinaryHeap, 4,000 held", traces::trees(&plan));
     show("clocked tree beside a plain machine without damage tests, 4,000 held or three quarters", cycles::rows(&plan));

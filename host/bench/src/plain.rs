@@ -1,10 +1,11 @@
 //! The clocked tree written plainly: the paper's rules on slots, one pass over the levels, and no test for damage.
 
+use crate::queues::Strip;
+
 /// What a slot holds.
 #[derive(Clone, Copy, Default)]
 struct Slot {
-    rank: u32,
-    tag: u32,
+    strip: Strip,
     count: u32,
 }
 
@@ -12,18 +13,18 @@ struct Slot {
 #[derive(Clone, Copy)]
 enum Work {
     Nothing,
-    Put(usize, u32, u32),
+    Put(usize, Strip),
     Take(usize),
-    Swap(usize, u32, u32),
+    Swap(usize, Strip),
 }
 
 /// What a cycle is asked for.
 #[derive(Clone, Copy)]
 pub enum Ask {
     Idle,
-    Push(u32, u32),
+    Push(Strip),
     Pop,
-    Replace(u32, u32),
+    Replace(Strip),
 }
 
 /// The machine: slots level by level, a record for each level from 2, the mark.
@@ -57,7 +58,7 @@ impl Plain {
     fn lowest(&self, first: usize) -> usize {
         let (mut best, mut low) = (first, u128::MAX);
         for (j, slot) in self.slots[first..first + self.order].iter().enumerate() {
-            let turn = (slot.rank as u128) << 32 | slot.tag as u128;
+            let turn = (slot.strip.0 as u128) << 32 | slot.strip.1 as u128;
             if slot.count != 0 && turn < low {
                 low = turn;
                 best = first + j;
@@ -85,78 +86,75 @@ impl Plain {
         (node, next + node * self.order)
     }
 
-    fn put(&mut self, base: usize, next: usize, node: usize, rank: u32, tag: u32) -> Work {
+    fn put(&mut self, base: usize, next: usize, node: usize, x: Strip) -> Work {
         let at = self.fewest(base + node * self.order);
         let slot = self.slots[at];
         if slot.count == 0 {
-            self.slots[at] = Slot { rank, tag, count: 1 };
+            self.slots[at] = Slot { strip: x, count: 1 };
             return Work::Nothing;
         }
         let (below, _) = self.below(base, next, at);
-        if rank < slot.rank {
-            self.slots[at] = Slot { rank, tag, count: slot.count + 1 };
-            Work::Put(below, slot.rank, slot.tag)
+        if x.0 < slot.strip.0 {
+            self.slots[at] = Slot { strip: x, count: slot.count + 1 };
+            Work::Put(below, slot.strip)
         } else {
             self.slots[at].count += 1;
-            Work::Put(below, rank, tag)
+            Work::Put(below, x)
         }
     }
 
-    fn take(&mut self, base: usize, next: usize, node: usize) -> (u32, u32, Work) {
+    fn take(&mut self, base: usize, next: usize, node: usize) -> (Strip, Work) {
         let at = self.lowest(base + node * self.order);
         let slot = self.slots[at];
         if slot.count == 1 {
             self.slots[at] = Slot::default();
-            return (slot.rank, slot.tag, Work::Nothing);
+            return (slot.strip, Work::Nothing);
         }
         let (below, first) = self.below(base, next, at);
         let lifted = self.slots[self.lowest(first)];
         self.slots[at] = Slot { count: slot.count - 1, ..lifted };
-        (slot.rank, slot.tag, Work::Take(below))
+        (slot.strip, Work::Take(below))
     }
 
-    fn swap(&mut self, base: usize, next: usize, node: usize, rank: u32, tag: u32) -> (u32, u32, Work) {
+    fn swap(&mut self, base: usize, next: usize, node: usize, x: Strip) -> (Strip, Work) {
         let at = self.lowest(base + node * self.order);
         let slot = self.slots[at];
         if slot.count > 1 {
             let (below, first) = self.below(base, next, at);
             let lifted = self.slots[self.lowest(first)];
-            if lifted.rank < rank {
+            if lifted.strip.0 < x.0 {
                 self.slots[at] = Slot { count: slot.count, ..lifted };
-                return (slot.rank, slot.tag, Work::Swap(below, rank, tag));
+                return (slot.strip, Work::Swap(below, x));
             }
         }
-        self.slots[at] = Slot { rank, tag, count: slot.count };
-        (slot.rank, slot.tag, Work::Nothing)
+        self.slots[at] = Slot { strip: x, count: slot.count };
+        (slot.strip, Work::Nothing)
     }
 
     /// The root's step: its number (0 where nothing is refused), what it gives, and what it leaves for level 2.
-    fn root(&mut self, ask: Ask) -> (u32, u32, u32, Work) {
+    fn root(&mut self, ask: Ask) -> (u32, Strip, Work) {
+        let refused = |number| (number, Strip::default(), Work::Nothing);
         match ask {
-            Ask::Idle => (0, 0, 0, Work::Nothing),
-            Ask::Push(rank, tag) => {
-                if self.held() as usize == self.slots.len() {
-                    return (5, 0, 0, Work::Nothing);
-                }
-                (0, 0, 0, self.put(0, self.order, 0, rank, tag))
-            }
-            Ask::Pop | Ask::Replace(..) if self.mark => (3, 0, 0, Work::Nothing),
-            Ask::Pop | Ask::Replace(..) if self.held() == 0 => (6, 0, 0, Work::Nothing),
+            Ask::Idle => refused(0),
+            Ask::Push(_) if self.held() as usize == self.slots.len() => refused(5),
+            Ask::Push(x) => (0, Strip::default(), self.put(0, self.order, 0, x)),
+            Ask::Pop | Ask::Replace(..) if self.mark => refused(3),
+            Ask::Pop | Ask::Replace(..) if self.held() == 0 => refused(6),
             Ask::Pop => {
-                let (rank, tag, left) = self.take(0, self.order, 0);
-                (0, rank, tag, left)
+                let (given, left) = self.take(0, self.order, 0);
+                (0, given, left)
             }
-            Ask::Replace(rank, tag) => {
-                let (rank, tag, left) = self.swap(0, self.order, 0, rank, tag);
-                (0, rank, tag, left)
+            Ask::Replace(x) => {
+                let (given, left) = self.swap(0, self.order, 0, x);
+                (0, given, left)
             }
         }
     }
 
-    /// One cycle: its number, rank and tag. From the root down, each level reads the one below before that one writes.
+    /// One cycle: its number and what it gives. From the root down, each level reads the one below before that one writes.
     #[inline]
-    pub fn cycle(&mut self, ask: Ask) -> (u32, u32, u32) {
-        let (number, rank, tag, mut left) = self.root(ask);
+    pub fn cycle(&mut self, ask: Ask) -> (u32, Strip) {
+        let (number, given, mut left) = self.root(ask);
         self.mark = number == 0 && !matches!(ask, Ask::Idle);
         let (mut base, mut width) = (self.order, self.order * self.order);
         for level in 0..self.records.len() {
@@ -164,14 +162,14 @@ impl Plain {
             let next = base + width;
             left = match work {
                 Work::Nothing => Work::Nothing,
-                Work::Put(node, rank, tag) => self.put(base, next, node, rank, tag),
-                Work::Take(node) => self.take(base, next, node).2,
-                Work::Swap(node, rank, tag) => self.swap(base, next, node, rank, tag).2,
+                Work::Put(node, x) => self.put(base, next, node, x),
+                Work::Take(node) => self.take(base, next, node).1,
+                Work::Swap(node, x) => self.swap(base, next, node, x).1,
             };
             base = next;
             width *= self.order;
         }
-        (number, rank, tag)
+        (number, given)
     }
 
     /// Idle cycles until nothing is pending: how many.

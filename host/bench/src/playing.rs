@@ -43,7 +43,7 @@ impl Contestant<Ask> for Writer {
             match (machine.cycle(*ask), ask) {
                 ((0, ..), Ask::Idle) => text.extend_from_slice(b"idle\n"),
                 ((0, ..), Ask::Push(..)) => text.extend_from_slice(b"pushed\n"),
-                ((0, rank, tag), _) => writeln!(text, "out {rank} {tag}").expect("memory"),
+                ((0, (rank, tag, _)), _) => writeln!(text, "out {rank} {tag}").expect("memory"),
                 ((3, ..), _) => text.extend_from_slice(b"too soon\n"),
                 ((5, ..), _) => text.extend_from_slice(b"full\n"),
                 (_, _) => text.extend_from_slice(b"empty\n"),
@@ -59,7 +59,7 @@ fn sum(bytes: &[u8]) -> u64 {
     bytes.iter().fold(0, |sum: u64, b| sum.wrapping_mul(31).wrapping_add(*b as u64))
 }
 
-/// Records of every kind, and their bytes.
+/// Records of every kind, and their bytes: of version 1, which has no lengths.
 fn records(count: usize) -> (Vec<Ask>, Vec<u8>) {
     let mut rng = Rng::new(4);
     let mut bytes = vec![b'P', b'F', b'T', 1, 0, ORDER, LEVELS];
@@ -68,9 +68,9 @@ fn records(count: usize) -> (Vec<Ask>, Vec<u8>) {
         let (rank, tag) = (rng.below(1 << 20), n as u32 + 1);
         let (ask, code, rank, tag) = match rng.below(10) {
             0 | 1 => (Ask::Idle, 0, 0, 0),
-            2..=5 => (Ask::Push(rank, tag), 1, rank, tag),
+            2..=5 => (Ask::Push((rank, tag, 0)), 1, rank, tag),
             6..=8 => (Ask::Pop, 2, 0, 0),
-            _ => (Ask::Replace(rank, tag), 3, rank, tag),
+            _ => (Ask::Replace((rank, tag, 0)), 3, rank, tag),
         };
         asks.push(ask);
         bytes.push(code);

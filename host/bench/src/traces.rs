@@ -3,7 +3,7 @@
 use crate::clock::Clock;
 use crate::count::bytes_of;
 use crate::measure::{race, Rng, Work};
-use crate::queues::{filled, HeapQueue, MapQueue, Op, Player, Queue, RankHeap};
+use crate::queues::{filled, HeapQueue, MapQueue, Op, Player, Queue, RankHeap, Strip};
 use crate::table::{Plan, Row};
 use card_host::{BucketQueue, TreeQueue};
 
@@ -17,9 +17,14 @@ const RANKS_DEEP: u32 = 262_144;
 /// Ranks of the trees' rows lie below this, or so far behind what came out before where they rise.
 const RANKS: u32 = 1 << 20;
 
+/// The n-th strip of a trace, at this rank: a tag of its own, and a length between those of the shortest and the longest.
+pub fn strip(rank: u32, n: usize) -> Strip {
+    (rank, n as u32 + 1, 64 + (n as u32 * 997) % 9153)
+}
+
 /// Pushes at ranks that `rank` chooses.
 fn pushes(held: usize, mut rank: impl FnMut() -> u32) -> Vec<Op> {
-    (0..held).map(|n| Op::Push(rank(), n as u32 + 1)).collect()
+    (0..held).map(|n| Op::Push(strip(rank(), n))).collect()
 }
 
 /// Pops, each with a push after it whose rank `rank` chooses from what came out.
@@ -28,9 +33,9 @@ fn refilled(fill: Vec<Op>, operations: usize, mut rank: impl FnMut(u32) -> u32) 
     let mut trace = Vec::new();
     for n in 0..operations / 2 {
         let given = queue.pop().0;
-        let (rank, tag) = (rank(given), n as u32 + 1);
-        queue.push(rank, tag);
-        trace.extend([Op::Pop, Op::Push(rank, tag)]);
+        let x = strip(rank(given), n);
+        queue.push(x);
+        trace.extend([Op::Pop, Op::Push(x)]);
     }
     Work { fill, trace }
 }
@@ -41,9 +46,9 @@ fn replaced(fill: Vec<Op>, operations: usize, mut rank: impl FnMut(u32) -> u32) 
     let mut given = 0;
     let mut trace = Vec::new();
     for n in 0..operations {
-        let (rank, tag) = (rank(given), n as u32 + 1);
-        given = queue.replace(rank, tag).0;
-        trace.push(Op::Replace(rank, tag));
+        let x = strip(rank(given), n);
+        given = queue.replace(x).0;
+        trace.push(Op::Replace(x));
     }
     Work { fill, trace }
 }
@@ -52,19 +57,13 @@ fn bucket(plan: &Plan, all: &mut Vec<Row>, name: &str, work: impl FnMut(&mut Rng
     shaped(plan, all, name, (2, NODES), work)
 }
 
-fn shaped(
-    plan: &Plan,
-    all: &mut Vec<Row>,
-    name: &str,
-    shape: (u32, u32),
-    mut work: impl FnMut(&mut Rng) -> Work<Op>,
-) {
+fn shaped(plan: &Plan, all: &mut Vec<Row>, name: &str, shape: (u32, u32), mut work: impl FnMut(&mut Rng) -> Work<Op>) {
     if !plan.wants(name) {
         return;
     }
     let mut rng = Rng::new(1);
-    let mut card = Player { queue: BucketQueue::new(shape.0, shape.1).expect("a good shape"), tags: true };
-    let mut other = Player { queue: MapQueue::default(), tags: true };
+    let mut card = Player { queue: BucketQueue::new(shape.0, shape.1).expect("a good shape"), whole: true };
+    let mut other = Player { queue: MapQueue::default(), whole: true };
     let pair = race(plan.rounds, Clock::Own, &mut card, &mut other, || work(&mut rng));
     let Work { fill, trace } = work(&mut rng);
     // where nothing is filled before, the trace fills: its first half is what is held at most
@@ -88,8 +87,8 @@ fn tree<Q: Queue + Default>(
         return;
     }
     let mut rng = Rng::new(2);
-    let mut card = Player { queue: TreeQueue::new(shape.0, shape.1).expect("a good shape"), tags: false };
-    let mut other = Player { queue: Q::default(), tags: false };
+    let mut card = Player { queue: TreeQueue::new(shape.0, shape.1).expect("a good shape"), whole: false };
+    let mut other = Player { queue: Q::default(), whole: false };
     let pair = race(plan.rounds, Clock::Own, &mut card, &mut other, || work(&mut rng));
     let fill = work(&mut rng).fill;
     all.push(Row {

@@ -9,15 +9,15 @@ use crate::{calls, refused, Element, Refusal};
 /// first out. Up to N elements are held, N from 1 to 65,536.
 ///
 /// ```
-/// use card_host::{bucket_bits, bucket_words, Bucket, Element, Rank, Refusal, Tag};
+/// use card_host::{bucket_bits, bucket_words, Bucket, Element, Length, Rank, Refusal, Tag};
 ///
 /// # fn main() -> Result<(), Refusal> {
 /// let (mut bits, mut words) = ([0; bucket_bits(2)], [0; bucket_words(2, 3)]);
 /// let mut queue = Bucket::cleared(2, 3, &mut bits[..], &mut words[..])?;
-/// queue.push(Element::new(Rank(7), Tag(1)))?;
-/// queue.push(Element::new(Rank(7), Tag(2)))?;
-/// assert_eq!(queue.pop()?, Element::new(Rank(7), Tag(1)));
-/// assert_eq!(queue.push(Element::new(Rank(4096), Tag(3))), Err(Refusal::BadRank));
+/// queue.push(Element::new(Rank(7), Tag(1), Length(64)))?;
+/// queue.push(Element::new(Rank(7), Tag(2), Length(1500)))?;
+/// assert_eq!(queue.pop()?, Element::new(Rank(7), Tag(1), Length(64)));
+/// assert_eq!(queue.push(Element::new(Rank(4096), Tag(3), Length(40))), Err(Refusal::BadRank));
 /// # Ok(())
 /// # }
 /// ```
@@ -59,7 +59,7 @@ impl<B: AsRef<[u64]> + AsMut<[u64]>, W: AsRef<[u32]> + AsMut<[u32]>> Bucket<B, W
         self.bits.as_ref()
     }
 
-    /// The words of 32 bits: heads, tails, tag and next of each node, free link, held.
+    /// The words of 32 bits: heads, tails, tag, length and next of each node, free link, held.
     #[inline]
     pub fn words(&self) -> &[u32] {
         self.words.as_ref()
@@ -77,13 +77,13 @@ impl<B: AsRef<[u64]> + AsMut<[u64]>, W: AsRef<[u32]> + AsMut<[u32]>> Bucket<B, W
     #[inline]
     pub fn push(&mut self, x: Element) -> Result<(), Refusal> {
         let (bits, words) = (self.bits.as_mut(), self.words.as_mut());
-        refused(calls::bucket_push(bits, words, self.storeys, self.nodes, x.rank.0, x.tag.0))
+        refused(calls::bucket_push(bits, words, self.storeys, self.nodes, x.rank.0, x.tag.0, x.length.0))
     }
 
     /// Gives the first element of the lowest rank. Refused [`Refusal::Empty`] where nothing is held.
     #[inline]
     pub fn pop(&mut self) -> Result<Element, Refusal> {
-        let (bits, words, mut out) = (self.bits.as_mut(), self.words.as_mut(), [0; 2]);
+        let (bits, words, mut out) = (self.bits.as_mut(), self.words.as_mut(), [0; 3]);
         refused(calls::bucket_pop(bits, words, self.storeys, self.nodes, &mut out))?;
         Ok(Element::from(out))
     }
@@ -93,8 +93,8 @@ impl<B: AsRef<[u64]> + AsMut<[u64]>, W: AsRef<[u32]> + AsMut<[u32]>> Bucket<B, W
     /// nothing is held.
     #[inline]
     pub fn replace(&mut self, x: Element) -> Result<Element, Refusal> {
-        let (bits, words, mut out) = (self.bits.as_mut(), self.words.as_mut(), [0; 2]);
-        refused(calls::bucket_replace(bits, words, self.storeys, self.nodes, x.rank.0, x.tag.0, &mut out))?;
+        let (bits, words, mut out) = (self.bits.as_mut(), self.words.as_mut(), [0; 3]);
+        refused(calls::bucket_replace(bits, words, self.storeys, self.nodes, x.rank.0, x.tag.0, x.length.0, &mut out))?;
         Ok(Element::from(out))
     }
 

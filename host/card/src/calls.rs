@@ -4,18 +4,18 @@
 //! ends, answers, and touches nothing but the slices it is lent. The queues of this crate are made of these calls; use them directly
 //! where words and numbers are all there is.
 //!
-//! `out` receives the answer: rank and tag (pop, replace, cycle), the count (held), or the cycles run and whether work is left (drain).
-//! An `out` that is too short is refusal 1.
+//! `out` receives the answer: rank, tag and length (pop, replace, cycle), the count (held), or the cycles run and whether work is left
+//! (drain). An `out` that is too short is refusal 1.
 //!
 //! ```
 //! use card_host::calls;
 //!
-//! let (mut store, mut out) = ([0; 18], [0; 2]);
-//! assert_eq!(calls::tree_words(2, 2), 18);
+//! let (mut store, mut out) = ([0; 24], [0; 3]);
+//! assert_eq!(calls::tree_words(2, 2), 24);
 //! assert_eq!(calls::tree_clear(&mut store, 2, 2), 0);
-//! assert_eq!(calls::tree_push(&mut store, 2, 2, 5, 50), 0);
-//! assert_eq!((calls::tree_pop(&mut store, 2, 2, &mut out), out), (0, [5, 50]));
-//! assert_eq!((calls::tree_pop(&mut store, 2, 2, &mut out), out), (6, [0, 0]));
+//! assert_eq!(calls::tree_push(&mut store, 2, 2, 5, 50, 1500), 0);
+//! assert_eq!((calls::tree_pop(&mut store, 2, 2, &mut out), out), (0, [5, 50, 1500]));
+//! assert_eq!((calls::tree_pop(&mut store, 2, 2, &mut out), out), (6, [0, 0, 0]));
 //! ```
 #![allow(clippy::too_many_arguments)]
 
@@ -33,9 +33,9 @@ pub fn tree_clear(store: &mut [u32], order: u32, levels: u32) -> u32 {
 
 /// Takes an element into a tree.
 #[inline]
-pub fn tree_push(store: &mut [u32], order: u32, levels: u32, rank: u32, tag: u32) -> u32 {
+pub fn tree_push(store: &mut [u32], order: u32, levels: u32, rank: u32, tag: u32, length: u32) -> u32 {
     // SAFETY: borrowed slices, as said above.
-    unsafe { raw::card_tree_push(store.as_mut_ptr(), store.len(), order, levels, rank, tag) }
+    unsafe { raw::card_tree_push(store.as_mut_ptr(), store.len(), order, levels, rank, tag, length) }
 }
 
 /// Gives a tree's element of lowest rank.
@@ -47,10 +47,20 @@ pub fn tree_pop(store: &mut [u32], order: u32, levels: u32, out: &mut [u32]) -> 
 
 /// Gives a tree's element of lowest rank, and then takes a new element in.
 #[inline]
-pub fn tree_replace(store: &mut [u32], order: u32, levels: u32, rank: u32, tag: u32, out: &mut [u32]) -> u32 {
+pub fn tree_replace(
+    store: &mut [u32],
+    order: u32,
+    levels: u32,
+    rank: u32,
+    tag: u32,
+    length: u32,
+    out: &mut [u32],
+) -> u32 {
     let (s, o) = (store, out);
     // SAFETY: borrowed slices, as said above.
-    unsafe { raw::card_tree_replace(s.as_mut_ptr(), s.len(), order, levels, rank, tag, o.as_mut_ptr(), o.len()) }
+    unsafe {
+        raw::card_tree_replace(s.as_mut_ptr(), s.len(), order, levels, rank, tag, length, o.as_mut_ptr(), o.len())
+    }
 }
 
 /// Gives the number of a tree's held elements.
@@ -70,10 +80,20 @@ pub fn bucket_clear(bits: &mut [u64], words: &mut [u32], storeys: u32, nodes: u3
 
 /// Takes an element into a bucket queue.
 #[inline]
-pub fn bucket_push(bits: &mut [u64], words: &mut [u32], storeys: u32, nodes: u32, rank: u32, tag: u32) -> u32 {
+pub fn bucket_push(
+    bits: &mut [u64],
+    words: &mut [u32],
+    storeys: u32,
+    nodes: u32,
+    rank: u32,
+    tag: u32,
+    length: u32,
+) -> u32 {
     let (b, w) = (bits, words);
     // SAFETY: borrowed slices, as said above.
-    unsafe { raw::card_bucket_push(b.as_mut_ptr(), b.len(), w.as_mut_ptr(), w.len(), storeys, nodes, rank, tag) }
+    unsafe {
+        raw::card_bucket_push(b.as_mut_ptr(), b.len(), w.as_mut_ptr(), w.len(), storeys, nodes, rank, tag, length)
+    }
 }
 
 /// Gives a bucket queue's first element of the lowest rank.
@@ -94,12 +114,13 @@ pub fn bucket_replace(
     nodes: u32,
     rank: u32,
     tag: u32,
+    length: u32,
     out: &mut [u32],
 ) -> u32 {
     let (b, w, o) = (bits, words, out);
     let (bits, words, out) = (b.as_mut_ptr(), w.as_mut_ptr(), o.as_mut_ptr());
     // SAFETY: borrowed slices, as said above.
-    unsafe { raw::card_bucket_replace(bits, b.len(), words, w.len(), storeys, nodes, rank, tag, out, o.len()) }
+    unsafe { raw::card_bucket_replace(bits, b.len(), words, w.len(), storeys, nodes, rank, tag, length, out, o.len()) }
 }
 
 /// Gives the number of a bucket queue's held elements.
@@ -130,6 +151,7 @@ pub fn clocked_cycle(
     request: u32,
     rank: u32,
     tag: u32,
+    length: u32,
     out: &mut [u32],
 ) -> u32 {
     // SAFETY: borrowed slices, as said above.
@@ -146,6 +168,7 @@ pub fn clocked_cycle(
             request,
             rank,
             tag,
+            length,
             out.as_mut_ptr(),
             out.len(),
         )

@@ -56,14 +56,14 @@ impl std::error::Error for Stopped {}
 /// answered operation is too soon: the cycle runs as an idle one.
 ///
 /// ```
-/// use card_host::{record_words, tree_words, Clocked, Element, Rank, Refusal, Tag};
+/// use card_host::{record_words, tree_words, Clocked, Element, Length, Rank, Refusal, Tag};
 ///
 /// # fn main() -> Result<(), Refusal> {
 /// let (mut words, mut records) = ([0; tree_words(2, 3)], [0; record_words(3)]);
 /// let mut tree = Clocked::cleared(2, 3, &mut words[..], &mut records[..])?;
-/// tree.push(Element::new(Rank(5), Tag(50)))?;
+/// tree.push(Element::new(Rank(5), Tag(50), Length(1500)))?;
 /// assert_eq!(tree.pop(), Err(Refusal::TooSoon));
-/// assert_eq!(tree.pop()?, Element::new(Rank(5), Tag(50)));
+/// assert_eq!(tree.pop()?, Element::new(Rank(5), Tag(50), Length(1500)));
 /// assert_eq!(tree.drain(3)?.work_left, false);
 /// # Ok(())
 /// # }
@@ -101,13 +101,13 @@ impl<W: AsRef<[u32]> + AsMut<[u32]>, R: AsRef<[u32]> + AsMut<[u32]>> Clocked<W, 
         (self.words, self.records, self.mark[0] != 0)
     }
 
-    /// The words: rank, tag and count of each slot, level by level.
+    /// The words: rank, tag, length and count of each slot, level by level.
     #[inline]
     pub fn words(&self) -> &[u32] {
         self.words.as_ref()
     }
 
-    /// The pending records: kind, node, rank and tag for each level from 2.
+    /// The pending records: kind, node, rank, tag and length for each level from 2.
     #[inline]
     pub fn records(&self) -> &[u32] {
         self.records.as_ref()
@@ -126,7 +126,7 @@ impl<W: AsRef<[u32]> + AsMut<[u32]>, R: AsRef<[u32]> + AsMut<[u32]>> Clocked<W, 
         refused(calls::clocked_clear(words, self.order, self.levels, records, &mut self.mark))
     }
 
-    /// Runs one cycle. An idle cycle or a push answers rank 0, tag 0. Refused [`Refusal::TooSoon`], [`Refusal::Full`],
+    /// Runs one cycle. An idle cycle or a push answers rank 0, tag 0, length 0. Refused [`Refusal::TooSoon`], [`Refusal::Full`],
     /// [`Refusal::Empty`] or [`Refusal::NoTag`] it runs as an idle cycle; after any other refusal everything stands.
     #[inline]
     pub fn cycle(&mut self, request: Request) -> Result<Element, Refusal> {
@@ -136,7 +136,7 @@ impl<W: AsRef<[u32]> + AsMut<[u32]>, R: AsRef<[u32]> + AsMut<[u32]>> Clocked<W, 
             Request::Pop => (2, Element::default()),
             Request::Replace(x) => (3, x),
         };
-        let (words, records, mut out) = (self.words.as_mut(), self.records.as_mut(), [0; 2]);
+        let (words, records, mut out) = (self.words.as_mut(), self.records.as_mut(), [0; 3]);
         refused(calls::clocked_cycle(
             words,
             self.order,
@@ -146,6 +146,7 @@ impl<W: AsRef<[u32]> + AsMut<[u32]>, R: AsRef<[u32]> + AsMut<[u32]>> Clocked<W, 
             number,
             x.rank.0,
             x.tag.0,
+            x.length.0,
             &mut out,
         ))?;
         Ok(Element::from(out))

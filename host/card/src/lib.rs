@@ -1,6 +1,6 @@
 //! Safe Rust over the card's library of proved priority queues.
 //!
-//! An [`Element`] is a [`Rank`] and a [`Tag`]; the lowest rank leaves first. There are three queues:
+//! An [`Element`] is a [`Rank`], a [`Tag`] and a [`Length`]; the lowest rank leaves first. There are three queues:
 //!
 //! | queue | ranks | ties | over lent words or arrays | with a store of its own (feature `std`) |
 //! |---|---|---|---|---|
@@ -15,13 +15,13 @@
 //! A card lends its own memory:
 //!
 //! ```
-//! use card_host::{tree_words, Element, Rank, Refusal, Tag, Tree};
+//! use card_host::{tree_words, Element, Length, Rank, Refusal, Tag, Tree};
 //!
 //! fn main() -> Result<(), Refusal> {
 //!     let mut memory = [0; tree_words(2, 2)];
 //!     let mut queue = Tree::cleared(2, 2, &mut memory[..])?;
-//!     queue.push(Element::new(Rank(5), Tag(50)))?;
-//!     assert_eq!(queue.pop()?, Element::new(Rank(5), Tag(50)));
+//!     queue.push(Element::new(Rank(5), Tag(50), Length(1500)))?;
+//!     assert_eq!(queue.pop()?, Element::new(Rank(5), Tag(50), Length(1500)));
 //!     assert_eq!(queue.pop(), Err(Refusal::Empty));
 //!     Ok(())
 //! }
@@ -58,6 +58,10 @@ pub struct Rank(pub u32);
 #[derive(Clone, Copy, PartialEq, Eq, Hash, Debug, Default)]
 pub struct Tag(pub u32);
 
+/// A length in bytes: it travels with the element and decides nothing.
+#[derive(Clone, Copy, PartialEq, Eq, Hash, Debug, Default)]
+pub struct Length(pub u32);
+
 /// What a queue holds.
 #[derive(Clone, Copy, PartialEq, Eq, Hash, Debug, Default)]
 pub struct Element {
@@ -65,28 +69,30 @@ pub struct Element {
     pub rank: Rank,
     /// What it is.
     pub tag: Tag,
+    /// How long it is.
+    pub length: Length,
 }
 
 impl Element {
-    /// An element of this rank and tag.
+    /// An element of this rank, tag and length.
     ///
     /// ```
-    /// use card_host::{Element, Rank, Tag};
+    /// use card_host::{Element, Length, Rank, Tag};
     ///
-    /// let x = Element::new(Rank(5), Tag(50));
-    /// assert_eq!((x.rank.0, x.tag.0), (5, 50));
+    /// let x = Element::new(Rank(5), Tag(50), Length(1500));
+    /// assert_eq!((x.rank.0, x.tag.0, x.length.0), (5, 50, 1500));
     /// ```
     #[inline]
-    pub const fn new(rank: Rank, tag: Tag) -> Element {
-        Element { rank, tag }
+    pub const fn new(rank: Rank, tag: Tag, length: Length) -> Element {
+        Element { rank, tag, length }
     }
 }
 
-impl From<[u32; 2]> for Element {
-    /// The element in the two words that a call writes.
+impl From<[u32; 3]> for Element {
+    /// The element in the three words that a call writes.
     #[inline]
-    fn from(out: [u32; 2]) -> Element {
-        Element::new(Rank(out[0]), Tag(out[1]))
+    fn from(out: [u32; 3]) -> Element {
+        Element::new(Rank(out[0]), Tag(out[1]), Length(out[2]))
     }
 }
 

@@ -7,14 +7,14 @@ use std::vec::Vec;
 /// A multi-way tree with a store of its own. Everything else is [`Tree`]'s.
 ///
 /// ```
-/// use card_host::{Element, Rank, Refusal, Tag, TreeQueue};
+/// use card_host::{Element, Length, Rank, Refusal, Tag, TreeQueue};
 ///
 /// # fn main() -> Result<(), Refusal> {
 /// let mut queue = TreeQueue::new(4, 3)?;
-/// queue.push(Element::new(Rank(5), Tag(50)))?;
+/// queue.push(Element::new(Rank(5), Tag(50), Length(1500)))?;
 /// let words = queue.into_words();
 /// let mut again = TreeQueue::from_words(4, 3, words);
-/// assert_eq!(again.pop()?, Element::new(Rank(5), Tag(50)));
+/// assert_eq!(again.pop()?, Element::new(Rank(5), Tag(50), Length(1500)));
 /// # Ok(())
 /// # }
 /// ```
@@ -30,14 +30,14 @@ impl TreeQueue {
 /// A bucket queue with a store of its own. Everything else is [`Bucket`]'s.
 ///
 /// ```
-/// use card_host::{BucketQueue, Element, Rank, Refusal, Tag};
+/// use card_host::{BucketQueue, Element, Length, Rank, Refusal, Tag};
 ///
 /// # fn main() -> Result<(), Refusal> {
 /// let mut queue = BucketQueue::new(2, 100)?;
-/// queue.push(Element::new(Rank(7), Tag(1)))?;
+/// queue.push(Element::new(Rank(7), Tag(1), Length(64)))?;
 /// let (bits, words) = queue.into_words();
 /// let mut again = BucketQueue::from_words(2, 100, bits, words);
-/// assert_eq!(again.pop()?, Element::new(Rank(7), Tag(1)));
+/// assert_eq!(again.pop()?, Element::new(Rank(7), Tag(1), Length(64)));
 /// # Ok(())
 /// # }
 /// ```
@@ -53,15 +53,15 @@ impl BucketQueue {
 /// A clocked tree with store and records of its own. Everything else is [`Clocked`]'s.
 ///
 /// ```
-/// use card_host::{ClockedTree, Element, Rank, Refusal, Tag};
+/// use card_host::{ClockedTree, Element, Length, Rank, Refusal, Tag};
 ///
 /// # fn main() -> Result<(), Refusal> {
 /// let mut tree = ClockedTree::new(2, 3)?;
-/// tree.push(Element::new(Rank(5), Tag(50)))?;
+/// tree.push(Element::new(Rank(5), Tag(50), Length(1500)))?;
 /// let (words, records, mark) = tree.into_words();
 /// let mut again = ClockedTree::from_words(2, 3, words, records, mark);
 /// assert_eq!(again.pop(), Err(Refusal::TooSoon));
-/// assert_eq!(again.pop()?, Element::new(Rank(5), Tag(50)));
+/// assert_eq!(again.pop()?, Element::new(Rank(5), Tag(50), Length(1500)));
 /// # Ok(())
 /// # }
 /// ```

@@ -5,7 +5,15 @@
 
 extern "C" {
     pub fn card_tree_clear(store: *mut u32, store_len: usize, order: u32, levels: u32) -> u32;
-    pub fn card_tree_push(store: *mut u32, store_len: usize, order: u32, levels: u32, rank: u32, tag: u32) -> u32;
+    pub fn card_tree_push(
+        store: *mut u32,
+        store_len: usize,
+        order: u32,
+        levels: u32,
+        rank: u32,
+        tag: u32,
+        length: u32,
+    ) -> u32;
     pub fn card_tree_pop(
         store: *mut u32,
         store_len: usize,
@@ -21,6 +29,7 @@ extern "C" {
         levels: u32,
         rank: u32,
         tag: u32,
+        length: u32,
         out: *mut u32,
         out_len: usize,
     ) -> u32;
@@ -50,6 +59,7 @@ extern "C" {
         nodes: u32,
         rank: u32,
         tag: u32,
+        length: u32,
     ) -> u32;
     pub fn card_bucket_pop(
         bits: *mut u64,
@@ -70,6 +80,7 @@ extern "C" {
         nodes: u32,
         rank: u32,
         tag: u32,
+        length: u32,
         out: *mut u32,
         out_len: usize,
     ) -> u32;
@@ -106,6 +117,7 @@ extern "C" {
         request: u32,
         rank: u32,
         tag: u32,
+        length: u32,
         out: *mut u32,
         out_len: usize,
     ) -> u32;

@@ -24,19 +24,19 @@ pub const fn tree_slots(order: u32, levels: u32) -> usize {
     slots
 }
 
-/// How many words a tree's store needs, three for each slot; 0 for a bad shape.
+/// How many words a tree's store needs, four for each slot; 0 for a bad shape.
 ///
 /// ```
-/// static STORE: [u32; card_host::tree_words(2, 2)] = [0; 18];
+/// static STORE: [u32; card_host::tree_words(2, 2)] = [0; 24];
 /// # let _ = STORE;
 /// ```
 pub const fn tree_words(order: u32, levels: u32) -> usize {
-    3 * tree_slots(order, levels)
+    4 * tree_slots(order, levels)
 }
 
-/// How many words the pending records of a clocked tree need, four for each level from 2.
+/// How many words the pending records of a clocked tree need, five for each level from 2.
 pub const fn record_words(levels: u32) -> usize {
-    4 * (levels as usize).saturating_sub(1)
+    5 * (levels as usize).saturating_sub(1)
 }
 
 /// The most nodes that a bucket queue has, at either depth.
@@ -74,8 +74,8 @@ pub const fn bucket_bits(storeys: u32) -> usize {
 /// How many words of 32 bits a bucket queue of so many storeys and nodes needs; 0 for a bad shape.
 ///
 /// ```
-/// assert_eq!(card_host::bucket_words(2, 3), 8200);
-/// assert_eq!(card_host::bucket_words(3, 3), 524_296);
+/// assert_eq!(card_host::bucket_words(2, 3), 8203);
+/// assert_eq!(card_host::bucket_words(3, 3), 524_299);
 /// assert_eq!(card_host::bucket_words(2, 0), 0);
 /// ```
 pub const fn bucket_words(storeys: u32, nodes: u32) -> usize {
@@ -83,5 +83,5 @@ pub const fn bucket_words(storeys: u32, nodes: u32) -> usize {
     if ranks == 0 || nodes < 1 || nodes > NODES {
         return 0;
     }
-    2 * ranks + 2 * nodes as usize + 2
+    2 * ranks + 3 * nodes as usize + 2
 }

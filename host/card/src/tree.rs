@@ -10,15 +10,15 @@ use crate::{calls, refused, Element, Refusal};
 /// tree's own.
 ///
 /// ```
-/// use card_host::{tree_words, Element, Rank, Refusal, Tag, Tree};
+/// use card_host::{tree_words, Element, Length, Rank, Refusal, Tag, Tree};
 ///
 /// # fn main() -> Result<(), Refusal> {
 /// let mut memory = [0; tree_words(2, 2)];
 /// let mut queue = Tree::cleared(2, 2, &mut memory[..])?;
 /// for rank in [5, 3, 8, 1] {
-///     queue.push(Element::new(Rank(rank), Tag(10 * rank)))?;
+///     queue.push(Element::new(Rank(rank), Tag(10 * rank), Length(100 * rank)))?;
 /// }
-/// assert_eq!(queue.pop()?, Element::new(Rank(1), Tag(10)));
+/// assert_eq!(queue.pop()?, Element::new(Rank(1), Tag(10), Length(100)));
 /// assert_eq!(queue.held()?, 3);
 /// # Ok(())
 /// # }
@@ -53,7 +53,7 @@ impl<W: AsRef<[u32]> + AsMut<[u32]>> Tree<W> {
         self.words
     }
 
-    /// The words: rank, tag and count of each slot, level by level.
+    /// The words: rank, tag, length and count of each slot, level by level.
     #[inline]
     pub fn words(&self) -> &[u32] {
         self.words.as_ref()
@@ -68,13 +68,13 @@ impl<W: AsRef<[u32]> + AsMut<[u32]>> Tree<W> {
     /// Takes an element in. Refused [`Refusal::NoTag`] with tag 0, [`Refusal::Full`] where there is no room.
     #[inline]
     pub fn push(&mut self, x: Element) -> Result<(), Refusal> {
-        refused(calls::tree_push(self.words.as_mut(), self.order, self.levels, x.rank.0, x.tag.0))
+        refused(calls::tree_push(self.words.as_mut(), self.order, self.levels, x.rank.0, x.tag.0, x.length.0))
     }
 
     /// Gives the element of lowest rank. Refused [`Refusal::Empty`] where nothing is held.
     #[inline]
     pub fn pop(&mut self) -> Result<Element, Refusal> {
-        let mut out = [0; 2];
+        let mut out = [0; 3];
         refused(calls::tree_pop(self.words.as_mut(), self.order, self.levels, &mut out))?;
         Ok(Element::from(out))
     }
@@ -83,8 +83,16 @@ impl<W: AsRef<[u32]> + AsMut<[u32]>> Tree<W> {
     /// tree. Refused [`Refusal::NoTag`] with tag 0, [`Refusal::Empty`] where nothing is held.
     #[inline]
     pub fn replace(&mut self, x: Element) -> Result<Element, Refusal> {
-        let mut out = [0; 2];
-        refused(calls::tree_replace(self.words.as_mut(), self.order, self.levels, x.rank.0, x.tag.0, &mut out))?;
+        let mut out = [0; 3];
+        refused(calls::tree_replace(
+            self.words.as_mut(),
+            self.order,
+            self.levels,
+            x.rank.0,
+            x.tag.0,
+            x.length.0,
+            &mut out,
+        ))?;
         Ok(Element::from(out))
     }
 

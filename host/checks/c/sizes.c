@@ -28,7 +28,7 @@ int main(void) {
             same("words of a bucket queue", CARD_BUCKET_WORDS(storeys, nodes), card_bucket_words(storeys, nodes));
         same("bits of a bucket queue", CARD_BUCKET_BITS(storeys), card_bucket_bits(storeys));
     }
-    same("slots of order 4, levels 8", sizeof largest / sizeof *largest, 3 * 87380);
+    same("slots of order 4, levels 8", sizeof largest / sizeof *largest, 4 * 87380);
     same("order 4, levels 9", card_tree_words(4, 9), 0);
     same("order 2, levels 16", card_tree_words(2, 16), 0);
     same("order 8, levels 6", card_tree_words(8, 6), 0);
@@ -46,21 +46,21 @@ int main(void) {
     same("clear of the largest bucket queue",
          card_bucket_clear(deep_bits, CARD_BUCKET_BITS(3), deep_words, CARD_BUCKET_WORDS(3, 65536), 3, 65536), CARD_OK);
     same("a push of the last rank",
-         card_bucket_push(deep_bits, CARD_BUCKET_BITS(3), deep_words, CARD_BUCKET_WORDS(3, 65536), 3, 65536, 262143, 1), CARD_OK);
+         card_bucket_push(deep_bits, CARD_BUCKET_BITS(3), deep_words, CARD_BUCKET_WORDS(3, 65536), 3, 65536, 262143, 1, 1500), CARD_OK);
     same("clear with a word less",
          card_bucket_clear(deep_bits, CARD_BUCKET_BITS(3) - 1, deep_words, CARD_BUCKET_WORDS(3, 65536), 3, 65536), CARD_BAD_SHAPE);
     same("clear of a clocked tree",
          card_clocked_clear(deepest, CARD_TREE_WORDS(2, 15), 2, 15, records, CARD_RECORD_WORDS(15), mark, CARD_MARK_WORDS), CARD_OK);
     same("cycle",
          card_clocked_cycle(deepest, CARD_TREE_WORDS(2, 15), 2, 15, records, CARD_RECORD_WORDS(15), mark, CARD_MARK_WORDS, CARD_PUSH,
-                            5, 50, out, CARD_OUT_WORDS),
+                            5, 50, 1500, out, CARD_OUT_WORDS),
          CARD_OK);
     same("a push with tag 0",
-         card_tree_push(largest, CARD_TREE_WORDS(4, 8), 4, 8, 5, 0), CARD_NO_TAG);
+         card_tree_push(largest, CARD_TREE_WORDS(4, 8), 4, 8, 5, 0, 1500), CARD_NO_TAG);
     same("a push of rank 4096 with tag 0",
-         card_bucket_push(bits, CARD_BUCKET_BITS(2), words, CARD_BUCKET_WORDS(2, 4096), 2, 4096, 4096, 0), CARD_BAD_RANK);
+         card_bucket_push(bits, CARD_BUCKET_BITS(2), words, CARD_BUCKET_WORDS(2, 4096), 2, 4096, 4096, 0, 1500), CARD_BAD_RANK);
     same("a push of rank 7 with tag 0",
-         card_bucket_push(bits, CARD_BUCKET_BITS(2), words, CARD_BUCKET_WORDS(2, 4096), 2, 4096, 7, 0), CARD_NO_TAG);
+         card_bucket_push(bits, CARD_BUCKET_BITS(2), words, CARD_BUCKET_WORDS(2, 4096), 2, 4096, 7, 0, 1500), CARD_NO_TAG);
     same("few records",
          card_clocked_clear(deepest, CARD_TREE_WORDS(2, 15), 2, 15, records, CARD_RECORD_WORDS(15) - 1, mark, CARD_MARK_WORDS),
          CARD_BAD_SHAPE);

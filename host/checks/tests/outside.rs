@@ -43,7 +43,7 @@ fn a_project_runs_a_doctest() {
     let folder = project("outside_owned", "main.rs", &code, "");
     done(&mut cargo_in(&folder, "run"));
     // and it is the assertions that were run: with one of them wrong it fails
-    std::fs::write(folder.join("src/main.rs"), code.replacen("Tag(50)));", "Tag(51)));", 1)).unwrap();
+    std::fs::write(folder.join("src/main.rs"), code.replacen("Length(1500)));", "Length(1501)));", 1)).unwrap();
     assert!(!run(&mut cargo_in(&folder, "run")).status.success());
     std::fs::remove_dir_all(&folder).unwrap();
 }
@@ -61,15 +61,17 @@ fn a_project_without_std_builds() {
     std::fs::remove_dir_all(&folder).unwrap();
 }
 
-/// A rank where a tag is meant does not compile.
+/// A rank where a tag is meant does not compile, nor a tag where a length is.
 #[test]
-fn rank_and_tag_cannot_be_exchanged() {
-    let code = "use card_host::{Element, Rank, Tag};\nfn main() {\n    let _ = Element::new(Rank(5), Tag(50));\n}\n";
+fn rank_tag_and_length_cannot_be_exchanged() {
+    let code = "use card_host::{Element, Length, Rank, Tag};\nfn main() {\n    let _ = Element::new(Rank(5), Tag(50), Length(64));\n}\n";
     let folder = project("outside_kinds", "main.rs", code, "");
     done(&mut cargo_in(&folder, "build"));
-    std::fs::write(folder.join("src/main.rs"), code.replace("Rank(5), Tag(50)", "Tag(50), Rank(5)")).unwrap();
-    let output = run(&mut cargo_in(&folder, "build"));
-    assert!(!output.status.success() && String::from_utf8_lossy(&output.stderr).contains("E0308"));
+    for (right, wrong) in [("Rank(5), Tag(50)", "Tag(50), Rank(5)"), ("Tag(50), Length(64)", "Length(64), Tag(50)")] {
+        std::fs::write(folder.join("src/main.rs"), code.replace(right, wrong)).unwrap();
+        let output = run(&mut cargo_in(&folder, "build"));
+        assert!(!output.status.success() && String::from_utf8_lossy(&output.stderr).contains("E0308"));
+    }
     std::fs::remove_dir_all(&folder).unwrap();
 }
 

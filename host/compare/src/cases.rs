@@ -1,7 +1,9 @@
 //! The paper's ten cases, its worked trace and its known mistakes, each as one check.
 
 use crate::side::{Card, Side};
+use models::boundary::RECORD;
 use models::call::{Call, Op};
+use models::tree::SLOT;
 
 type Done = Result<(), String>;
 
@@ -20,8 +22,11 @@ struct Queue<'c, C: Card> {
     side: Side,
 }
 
-/// A call's number and the two words of its answer.
+/// A call's number, and its answer's rank and tag, or the two words of a drain's. The cases have length 0; `lengths` has others.
 type Told = (u32, u32, u32);
+
+/// A call's number, and its answer's rank, tag and length.
+type Whole = (u32, u32, u32, u32);
 
 impl<'c, C: Card> Queue<'c, C> {
     fn cleared(card: &'c mut C, call: Call) -> Result<Queue<'c, C>, String> {
@@ -32,17 +37,17 @@ impl<'c, C: Card> Queue<'c, C> {
         Ok(queue)
     }
     fn tree(card: &'c mut C, order: u32, levels: u32, slots: usize) -> Result<Queue<'c, C>, String> {
-        Queue::cleared(card, Call::tree(Op::TreeClear, order, levels, 3 * slots))
+        Queue::cleared(card, Call::tree(Op::TreeClear, order, levels, SLOT * slots))
     }
     fn machine(card: &'c mut C, order: u32, levels: u32, slots: usize) -> Result<Queue<'c, C>, String> {
-        let records = 4 * (levels as usize - 1);
-        Queue::cleared(card, Call::machine(Op::ClockedClear, order, levels, 3 * slots, records))
+        let records = RECORD * (levels as usize - 1);
+        Queue::cleared(card, Call::machine(Op::ClockedClear, order, levels, SLOT * slots, records))
     }
     fn bucket(card: &'c mut C, nodes: u32) -> Result<Queue<'c, C>, String> {
-        Queue::cleared(card, Call::bucket(Op::BucketClear, 2, nodes, 65, 8192 + 2 * nodes as usize + 2))
+        Queue::cleared(card, Call::bucket(Op::BucketClear, 2, nodes, 65, 8192 + 3 * nodes as usize + 2))
     }
     fn deep_bucket(card: &'c mut C, nodes: u32) -> Result<Queue<'c, C>, String> {
-        Queue::cleared(card, Call::bucket(Op::BucketClear, 3, nodes, 4161, 524_288 + 2 * nodes as usize + 2))
+        Queue::cleared(card, Call::bucket(Op::BucketClear, 3, nodes, 4161, 524_288 + 3 * nodes as usize + 2))
     }
     /// Store A: cleared, then push 5/50, 3/30, 8/80, 1/10.
     fn a(card: &'c mut C) -> Result<Queue<'c, C>, String> {
@@ -53,10 +58,14 @@ impl<'c, C: Card> Queue<'c, C> {
         Ok(queue)
     }
 
-    fn ask(&mut self, op: Op, request: u32, rank: u32, tag: u32) -> Told {
-        let call = Call { op, request, rank, tag, ..self.call.clone() };
+    fn whole(&mut self, op: Op, request: u32, rank: u32, tag: u32, length: u32) -> Whole {
+        let call = Call { op, request, rank, tag, length, ..self.call.clone() };
         let number = self.side.apply(self.card, &call);
-        (number, self.side.out[0], self.side.out[1])
+        (number, self.side.out[0], self.side.out[1], self.side.out[2])
+    }
+    fn ask(&mut self, op: Op, request: u32, rank: u32, tag: u32) -> Told {
+        let (number, first, second, _) = self.whole(op, request, rank, tag, 0);
+        (number, first, second)
     }
     fn number(&mut self, op: Op, rank: u32, tag: u32) -> u32 {
         self.ask(op, 0, rank, tag).0
@@ -87,7 +96,7 @@ impl<'c, C: Card> Queue<'c, C> {
     }
 }
 
-const A: [u32; 18] = [5, 50, 2, 1, 10, 2, 8, 80, 1, 0, 0, 0, 3, 30, 1, 0, 0, 0];
+const A: [u32; 24] = [5, 50, 0, 2, 1, 10, 0, 2, 8, 80, 0, 1, 0, 0, 0, 0, 3, 30, 0, 1, 0, 0, 0, 0];
 
 fn case_1<C: Card>(c: &mut C) -> Done {
     same("A", Queue::a(c)?.words(), A.to_vec())
@@ -97,14 +106,14 @@ fn case_2<C: Card>(c: &mut C) -> Done {
     let mut t = Queue::a(c)?;
     let got: Vec<_> = (0..5).map(|_| t.pop()).collect();
     same("pops", got, vec![(0, 1, 10), (0, 3, 30), (0, 5, 50), (0, 8, 80), (6, 0, 0)])?;
-    same("store", t.words(), vec![0; 18])
+    same("store", t.words(), vec![0; 24])
 }
 
 fn case_3<C: Card>(c: &mut C) -> Done {
     let mut t = Queue::a(c)?;
     same("replace 0/7", t.ask(Op::TreeReplace, 0, 0, 7), (0, 1, 10))?;
     let mut after = A.to_vec();
-    after[3..6].copy_from_slice(&[0, 7, 2]);
+    after[4..8].copy_from_slice(&[0, 7, 0, 2]);
     same("store", t.words(), after)
 }
 
@@ -112,7 +121,7 @@ fn case_4<C: Card>(c: &mut C) -> Done {
     let mut t = Queue::a(c)?;
     same("replace 1/7", t.ask(Op::TreeReplace, 0, 1, 7), (0, 1, 10))?;
     let mut after = A.to_vec();
-    after[3..6].copy_from_slice(&[1, 7, 2]);
+    after[4..8].copy_from_slice(&[1, 7, 0, 2]);
     same("store", t.words(), after)
 }
 
@@ -120,8 +129,8 @@ fn case_5<C: Card>(c: &mut C) -> Done {
     let mut t = Queue::a(c)?;
     same("replace 4/7", t.ask(Op::TreeReplace, 0, 4, 7), (0, 1, 10))?;
     let mut after = A.to_vec();
-    after[3..6].copy_from_slice(&[3, 30, 2]);
-    after[12..15].copy_from_slice(&[4, 7, 1]);
+    after[4..8].copy_from_slice(&[3, 30, 0, 2]);
+    after[16..20].copy_from_slice(&[4, 7, 0, 1]);
     same("store", t.words(), after)
 }
 
@@ -133,12 +142,12 @@ fn case_6<C: Card>(c: &mut C) -> Done {
     same("drain", m.drain(100), (0, 1, 0))?;
     same("A", m.words(), A.to_vec())?;
     same("pop", m.pop(), (0, 1, 10))?;
-    same("slot 1", m.words()[3..6].to_vec(), vec![3, 30, 1])?;
-    same("node 1", m.words()[12..18].to_vec(), vec![3, 30, 1, 0, 0, 0])?;
-    same("record", m.records(), vec![2, 1, 0, 0])?;
+    same("slot 1", m.words()[4..8].to_vec(), vec![3, 30, 0, 1])?;
+    same("node 1", m.words()[16..24].to_vec(), vec![3, 30, 0, 1, 0, 0, 0, 0])?;
+    same("record", m.records(), vec![2, 1, 0, 0, 0])?;
     same("idle", m.idle(), (0, 0, 0))?;
-    same("node 1", m.words()[12..18].to_vec(), vec![0; 6])?;
-    same("record", m.records(), vec![0; 4])
+    same("node 1", m.words()[16..24].to_vec(), vec![0; 8])?;
+    same("record", m.records(), vec![0; 5])
 }
 
 fn case_7<C: Card>(c: &mut C) -> Done {
@@ -149,7 +158,7 @@ fn case_7<C: Card>(c: &mut C) -> Done {
 
 fn case_8<C: Card>(c: &mut C) -> Done {
     let mut q = Queue::bucket(c, 3)?;
-    same("nodes", q.words()[8192..].to_vec(), vec![0, 2, 0, 3, 0, 0, 1, 0])?;
+    same("nodes", q.words()[8192..].to_vec(), vec![0, 0, 2, 0, 0, 3, 0, 0, 0, 1, 0])?;
     for (rank, tag, number) in [(7, 1, 0), (7, 2, 0), (4095, 3, 0), (0, 4, 5), (4096, 4, 4)] {
         same("push", q.number(Op::BucketPush, rank, tag), number)?;
     }
@@ -162,7 +171,7 @@ fn case_8<C: Card>(c: &mut C) -> Done {
 /// Case 8 at three storeys: the last rank is 262,143.
 fn case_8_deep<C: Card>(c: &mut C) -> Done {
     let mut q = Queue::deep_bucket(c, 3)?;
-    same("nodes", q.words()[524_288..].to_vec(), vec![0, 2, 0, 3, 0, 0, 1, 0])?;
+    same("nodes", q.words()[524_288..].to_vec(), vec![0, 0, 2, 0, 0, 3, 0, 0, 0, 1, 0])?;
     for (rank, tag, number) in [(7, 1, 0), (7, 2, 0), (262_143, 3, 0), (0, 4, 5), (262_144, 4, 4)] {
         same("push", q.number(Op::BucketPush, rank, tag), number)?;
     }
@@ -176,7 +185,7 @@ fn case_8_deep<C: Card>(c: &mut C) -> Done {
 
 fn case_9<C: Card>(c: &mut C) -> Done {
     // one that holds the largest of the refused shapes: the capacity refuses it, not the slice
-    let mut side = Side::new(3 * 349_524, 65, 0);
+    let mut side = Side::new(SLOT * 349_524, 65, 0);
     for (order, levels, slots, number) in [
         (4, 8, 87_380, 0),
         (4, 9, 349_524, 1),
@@ -190,9 +199,9 @@ fn case_9<C: Card>(c: &mut C) -> Done {
         (4, 0, 0, 1),
     ] {
         let clear = |words| Call::tree(Op::TreeClear, order, levels, words);
-        same("clear", side.apply(c, &clear(3 * slots)), number)?;
+        same("clear", side.apply(c, &clear(SLOT * slots)), number)?;
         if number == 0 {
-            same("clear of a short store", side.apply(c, &clear(3 * slots - 1)), 1)?;
+            same("clear of a short store", side.apply(c, &clear(SLOT * slots - 1)), 1)?;
         }
     }
     same("N = 0", side.apply(c, &Call::bucket(Op::BucketClear, 2, 0, 65, 8194)), 1)
@@ -223,10 +232,10 @@ fn on_its_way<C: Card>(c: &mut C) -> Done {
     for rank in [1, 9, 2] {
         same("push", m.push(rank, 10 * rank), (0, 0, 0))?;
     }
-    same("node 0", m.words()[6..12].to_vec(), vec![0; 6])?;
-    same("record", m.records(), vec![1, 0, 2, 20])?;
+    same("node 0", m.words()[8..16].to_vec(), vec![0; 8])?;
+    same("record", m.records(), vec![1, 0, 2, 20, 0])?;
     same("pop", m.pop(), (3, 0, 0))?;
-    same("node 0", m.words()[6..12].to_vec(), vec![2, 20, 1, 0, 0, 0])?;
+    same("node 0", m.words()[8..16].to_vec(), vec![2, 20, 0, 1, 0, 0, 0, 0])?;
     same("pop", m.pop(), (0, 1, 10))
 }
 
@@ -238,8 +247,8 @@ fn in_turn<C: Card>(c: &mut C) -> Done {
     same("replace on a full queue", q.ask(Op::BucketReplace, 0, 7, 3), (0, 7, 1))?;
     same("pop", q.pop(), (0, 7, 2))?;
     let words = q.words();
-    same("free link and held", (words[8196], words[8197]), (2, 1))?;
-    same("freed node", (words[8194], words[8195]), (0, 0))
+    same("free link and held", (words[8198], words[8199]), (2, 1))?;
+    same("freed node", words[8195..8198].to_vec(), vec![0; 3])
 }
 
 /// A replace is a pop and then a push: a lower newcomer goes into its own bucket, an empty queue refuses.
@@ -260,9 +269,9 @@ fn ties<C: Card>(c: &mut C) -> Done {
     for tag in 1..=4 {
         same("push", t.number(Op::TreePush, 5, tag), 0)?;
     }
-    same("store", t.words(), vec![5, 1, 2, 5, 2, 2, 5, 3, 1, 0, 0, 0, 5, 4, 1, 0, 0, 0])?;
+    same("store", t.words(), vec![5, 1, 0, 2, 5, 2, 0, 2, 5, 3, 0, 1, 0, 0, 0, 0, 5, 4, 0, 1, 0, 0, 0, 0])?;
     same("pop", t.pop(), (0, 5, 1))?;
-    same("store", t.words(), vec![5, 3, 1, 5, 2, 2, 0, 0, 0, 0, 0, 0, 5, 4, 1, 0, 0, 0])
+    same("store", t.words(), vec![5, 3, 0, 1, 5, 2, 0, 2, 0, 0, 0, 0, 0, 0, 0, 0, 5, 4, 0, 1, 0, 0, 0, 0])
 }
 
 /// A replace with nothing held is refused and runs as an idle cycle, so that a pop just after it is not too soon; and a lower
@@ -270,7 +279,7 @@ fn ties<C: Card>(c: &mut C) -> Done {
 fn empty_machine<C: Card>(c: &mut C) -> Done {
     let mut t = Queue::tree(c, 2, 2, 6)?;
     same("replace on an empty tree", t.ask(Op::TreeReplace, 0, 5, 50), (6, 0, 0))?;
-    same("store", t.words(), vec![0; 18])?;
+    same("store", t.words(), vec![0; 24])?;
     let mut m = Queue::machine(c, 2, 2, 6)?;
     same("replace on an empty machine", m.ask(Op::CycleReplace, 3, 5, 50), (6, 0, 0))?;
     same("pop", m.pop(), (6, 0, 0))?;
@@ -286,7 +295,7 @@ fn untagged<C: Card>(c: &mut C) -> Done {
     let mut t = Queue::tree(c, 2, 2, 6)?;
     same("push 5/0", t.number(Op::TreePush, 5, 0), 7)?;
     same("replace 5/0", t.ask(Op::TreeReplace, 0, 5, 0), (7, 0, 0))?;
-    same("store", t.words(), vec![0; 18])?;
+    same("store", t.words(), vec![0; 24])?;
     same("push 0/1", t.number(Op::TreePush, 0, 1), 0)?;
     same("replace 0/0", t.ask(Op::TreeReplace, 0, 0, 0), (7, 0, 0))?;
     same("pop", t.pop(), (0, 0, 1))?;
@@ -343,6 +352,48 @@ fn highest<C: Card>(c: &mut C) -> Done {
     Ok(())
 }
 
+/// The length travels with its element through push, replace and pop of each queue: in slots, nodes and records, and in every answer.
+fn lengths<C: Card>(c: &mut C) -> Done {
+    let a = [(5, 50, 500), (3, 30, 300), (8, 80, 800), (1, 10, 100)];
+    let pushed = vec![5, 50, 500, 2, 1, 10, 100, 2, 8, 80, 800, 1, 0, 0, 0, 0, 3, 30, 300, 1, 0, 0, 0, 0];
+    let swapped = vec![5, 50, 500, 2, 3, 30, 300, 2, 8, 80, 800, 1, 0, 0, 0, 0, 4, 7, 70, 1, 0, 0, 0, 0];
+    let popped = vec![5, 50, 500, 2, 4, 7, 70, 1, 8, 80, 800, 1, 0, 0, 0, 0, 0, 0, 0, 0, 0, 0, 0, 0];
+    let mut t = Queue::tree(c, 2, 2, 6)?;
+    for (rank, tag, length) in a {
+        same("push", t.whole(Op::TreePush, 0, rank, tag, length).0, 0)?;
+    }
+    same("store", t.words(), pushed.clone())?;
+    same("replace 4/7/70", t.whole(Op::TreeReplace, 0, 4, 7, 70), (0, 1, 10, 100))?;
+    same("store", t.words(), swapped.clone())?;
+    same("pop", t.whole(Op::TreePop, 0, 0, 0, 0), (0, 3, 30, 300))?;
+    same("store", t.words(), popped.clone())?;
+    let mut m = Queue::machine(c, 2, 2, 6)?;
+    for (rank, tag, length) in a {
+        same("push", m.whole(Op::CyclePush, 1, rank, tag, length), (0, 0, 0, 0))?;
+    }
+    same("a put on its way", m.records(), vec![1, 1, 3, 30, 300])?;
+    same("idle", m.whole(Op::CycleIdle, 0, 0, 0, 0), (0, 0, 0, 0))?;
+    same("store", m.words(), pushed)?;
+    same("replace 4/7/70", m.whole(Op::CycleReplace, 3, 4, 7, 70), (0, 1, 10, 100))?;
+    same("a swap on its way", m.records(), vec![3, 1, 4, 7, 70])?;
+    same("pop too soon", m.whole(Op::CyclePop, 2, 0, 0, 0), (3, 0, 0, 0))?;
+    same("store", m.words(), swapped)?;
+    same("pop", m.whole(Op::CyclePop, 2, 0, 0, 0), (0, 3, 30, 300))?;
+    same("a take on its way", m.records(), vec![2, 1, 0, 0, 0])?;
+    same("idle", m.whole(Op::CycleIdle, 0, 0, 0, 0), (0, 0, 0, 0))?;
+    same("store", m.words(), popped)?;
+    let mut q = Queue::bucket(c, 2)?;
+    same("push 7/1/64", q.whole(Op::BucketPush, 0, 7, 1, 64).0, 0)?;
+    same("push 7/2/1500", q.whole(Op::BucketPush, 0, 7, 2, 1500).0, 0)?;
+    same("nodes", q.words()[8192..8198].to_vec(), vec![1, 64, 2, 2, 1500, 0])?;
+    same("replace 3/3/max", q.whole(Op::BucketReplace, 0, 3, 3, u32::MAX), (0, 7, 1, 64))?;
+    same("nodes", q.words()[8192..8198].to_vec(), vec![3, u32::MAX, 0, 2, 1500, 0])?;
+    same("pop", q.whole(Op::BucketPop, 0, 0, 0, 0), (0, 3, 3, u32::MAX))?;
+    same("nodes", q.words()[8192..8198].to_vec(), vec![0, 0, 0, 2, 1500, 0])?;
+    same("pop", q.whole(Op::BucketPop, 0, 0, 0, 0), (0, 7, 2, 1500))?;
+    same("pop of nothing", q.whole(Op::BucketPop, 0, 0, 0, 0), (6, 0, 0, 0))
+}
+
 /// The worked trace, by cycles.
 fn worked<C: Card>(c: &mut C) -> Done {
     let mut m = Queue::machine(c, 2, 2, 6)?;
@@ -375,6 +426,7 @@ pub fn all<C: Card>(c: &mut C) -> Vec<(&'static str, Done)> {
         ("tag 0 in every queue", untagged(c)),
         ("equal ranks in a node: the lower tag", lower_tag(c)),
         ("the highest rank and tag", highest(c)),
+        ("lengths in every queue", lengths(c)),
         ("the worked trace by cycles", worked(c)),
     ]
 }

@@ -39,7 +39,7 @@ fn shapes(op: Op) -> Causes {
     }
 }
 
-const SLOT: Causes = t::COUNT | t::RANK | t::TAG;
+const SLOT: Causes = t::COUNT | t::RANK | t::TAG | t::LENGTH;
 
 /// The clauses that can make a call damaged by themselves.
 fn alone(op: Op) -> Causes {

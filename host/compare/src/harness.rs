@@ -1,6 +1,7 @@
 //! Makes each call on both sides, counts it, and keeps the first difference.
 
 use crate::side::{difference, other_answer, Card, Model, Side};
+use models::boundary::RECORD;
 use models::call::{Call, Op, OPS};
 use models::{bucket, shape_cause, tree, No};
 
@@ -148,7 +149,7 @@ impl<C: Card> Harness<C> {
 
     /// The element that the last call answered.
     pub fn answer(&self) -> models::Element {
-        models::element(self.b.out[0], self.b.out[1])
+        models::element(self.b.out[0], self.b.out[1], self.b.out[2])
     }
 
     fn count(&mut self, k: &Call, number: u32, before: &Before) {
@@ -284,14 +285,14 @@ impl Before {
         if k.op.is_machine() {
             b.mark = side.mark[0];
             if let Some(shape) = tree::Shape::new(k.order, k.levels) {
-                let need = 4 * (shape.levels as usize - 1);
+                let need = RECORD * (shape.levels as usize - 1);
                 if k.records >= need {
-                    for (i, r) in side.records[..need].chunks(4).enumerate() {
+                    for (i, r) in side.records[..need].chunks(RECORD).enumerate() {
                         b.pending |= r[0] != 0;
                         b.bad_node |= r[0] != 0 && r[1] as u64 >= shape.nodes(i as u64 + 2);
-                        b.nothing_with_numbers |= r[0] == 0 && (r[1] != 0 || r[2] != 0 || r[3] != 0);
+                        b.nothing_with_numbers |= r[0] == 0 && r[1..].iter().any(|word| *word != 0);
                     }
-                    b.past = k.records >= need + 4 && side.records[need] > 3;
+                    b.past = k.records >= need + RECORD && side.records[need] > 3;
                 }
             }
         }

@@ -3,10 +3,11 @@
 
 use crate::harness::Harness;
 use crate::side::{Card, Side};
+use models::boundary::{OUT, RECORD};
 use models::call::{Call, Op};
 use models::list::SortedList;
 use models::rng::Rng;
-use models::tree::Shape;
+use models::tree::{Shape, SLOT};
 use models::{boundary, bucket, element, Element};
 
 /// Numbers that a history draws ranks or tags from.
@@ -53,6 +54,16 @@ fn draw_tag(rng: &mut Rng, how: Draw, n: u64) -> u32 {
     draw(rng, how, n).max(1)
 }
 
+/// A length; now and then 0 or the highest.
+fn draw_length(rng: &mut Rng) -> u32 {
+    match rng.below(8) {
+        0 => 0,
+        1 => u32::MAX,
+        2 => rng.word(),
+        _ => 1 + rng.below(9216) as u32,
+    }
+}
+
 /// How often push, pop and replace are asked for, out of a hundred; the rest is held.
 fn mood(rng: &mut Rng) -> (u64, u64, u64) {
     rng.pick(&[(90, 5, 4), (60, 25, 12), (34, 33, 30), (20, 60, 17), (4, 90, 4), (10, 10, 78), (96, 1, 1), (1, 96, 1)])
@@ -84,7 +95,7 @@ pub fn shapes_up_to(slots: u64) -> Vec<(u32, u32)> {
 }
 
 /// The answer of a tree's call, held to the plain list. The tree's order within a rank is its own:
-/// the rank must be the list's, and the pair must be one that is held.
+/// the rank must be the list's, and the element must be one that is held, its tag and its length too.
 fn held_to_list(
     list: &mut SortedList,
     op: Op,
@@ -94,7 +105,7 @@ fn held_to_list(
     answer: Element,
     out0: u32,
 ) -> Result<(), String> {
-    let none = element(0, 0);
+    let none = element(0, 0, 0);
     match op {
         Op::TreePush | Op::TreeReplace if x.tag == 0 => {
             // a push has no words for an answer
@@ -149,7 +160,7 @@ fn held_to_list(
 /// One history of the one-at-a-time tree.
 pub fn tree<C: Card>(h: &mut Harness<C>, rng: &mut Rng, order: u32, levels: u32, calls: u64, fill: bool) {
     let capacity = Shape::new(order, levels).unwrap().capacity();
-    let need = 3 * capacity as usize;
+    let need = SLOT * capacity as usize;
     let words = need + rng.below(4) as usize;
     let side = Side::new(words, 0, 0);
     h.set(&side);
@@ -179,8 +190,8 @@ pub fn tree<C: Card>(h: &mut Harness<C>, rng: &mut Rng, order: u32, levels: u32,
         } else {
             Op::TreeHeld
         };
-        let x = element(draw(rng, ranks, n), draw_tag(rng, tags, n));
-        let number = match h.call(&Call::tree(op, order, levels, words).with(x.rank, x.tag)) {
+        let x = element(draw(rng, ranks, n), draw_tag(rng, tags, n), draw_length(rng));
+        let number = match h.call(&Call::tree(op, order, levels, words).with(x.rank, x.tag, x.length)) {
             Some(number) => number,
             None => return,
         };
@@ -195,7 +206,7 @@ pub fn tree<C: Card>(h: &mut Harness<C>, rng: &mut Rng, order: u32, levels: u32,
             Some(number) => number,
             None => return,
         };
-        let none = element(0, 0);
+        let none = element(0, 0, 0);
         if let Err(what) = held_to_list(&mut list, Op::TreePop, none, capacity, number, h.answer(), h.b.out[0]) {
             return h.fail(format!("order {order}, levels {levels}, emptying: {what}"));
         }
@@ -212,7 +223,22 @@ fn bucket_ranks(rng: &mut Rng, storeys: u32) -> Vec<u32> {
         2 => return (0..64).collect(),
         3 => {
             let last = ranks as u32 - 1;
-            return vec![0, 63, 64, 127, 128, 4031, 4032, 4094, 4095, last / 2, last / 2 + 1, last - 64, last - 63, last];
+            return vec![
+                0,
+                63,
+                64,
+                127,
+                128,
+                4031,
+                4032,
+                4094,
+                4095,
+                last / 2,
+                last / 2 + 1,
+                last - 64,
+                last - 63,
+                last,
+            ];
         }
         4 => return (0..64).map(|g| (ranks / 64) as u32 * g + 5).collect(),
         _ => 4096,
@@ -220,7 +246,7 @@ fn bucket_ranks(rng: &mut Rng, storeys: u32) -> Vec<u32> {
     (0..few).map(|_| rng.below(ranks) as u32).collect()
 }
 
-/// One history of the bucket queue: exact pairs.
+/// One history of the bucket queue: exact elements.
 pub fn bucket<C: Card>(h: &mut Harness<C>, rng: &mut Rng, storeys: u32, nodes: u32, calls: u64, fill: bool) {
     let need = bucket::words(storeys, nodes as u64) as usize;
     let (bits, words) = (bucket::bits(storeys) + rng.below(3) as usize, need + rng.below(4) as usize);
@@ -234,7 +260,7 @@ pub fn bucket<C: Card>(h: &mut Harness<C>, rng: &mut Rng, storeys: u32, nodes: u
         return h.fail(format!("clear with {storeys} storeys and N = {nodes} was refused"));
     }
     let mut weights = mood(rng);
-    let none = element(0, 0);
+    let none = element(0, 0, 0);
     for n in 0..calls {
         if rng.below(2 * nodes as u64 + 10) < 4 {
             weights = mood(rng);
@@ -244,7 +270,7 @@ pub fn bucket<C: Card>(h: &mut Harness<C>, rng: &mut Rng, storeys: u32, nodes: u
             weights = [(99, 0, 0), (30, 2, 66), (0, 99, 0)][third as usize];
         }
         let (push, pop, replace) = weights;
-        let mut x = element(rng.pick(&pool), draw_tag(rng, tags, n));
+        let mut x = element(rng.pick(&pool), draw_tag(rng, tags, n), draw_length(rng));
         if rng.once_in(50) {
             x.rank = rng.pick(&[ranks, ranks + 1, 2 * ranks - 1, 1 << 20, u32::MAX]);
         }
@@ -280,15 +306,15 @@ pub fn bucket<C: Card>(h: &mut Harness<C>, rng: &mut Rng, storeys: u32, nodes: u
             };
             (Op::BucketReplace, expected)
         } else {
-            (Op::BucketHeld, (0, element(list.held() as u32, 0)))
+            (Op::BucketHeld, (0, element(list.held() as u32, 0, 0)))
         };
-        let number = match h.call(&Call::bucket(op, storeys, nodes, bits, words).with(x.rank, x.tag)) {
+        let number = match h.call(&Call::bucket(op, storeys, nodes, bits, words).with(x.rank, x.tag, x.length)) {
             Some(number) => number,
             None => return,
         };
         let got = match op {
             Op::BucketPush => none,
-            Op::BucketHeld => element(h.b.out[0], 0),
+            Op::BucketHeld => element(h.b.out[0], 0, 0),
             _ => h.answer(),
         };
         if (number, got) != expected {
@@ -303,9 +329,9 @@ pub fn bucket<C: Card>(h: &mut Harness<C>, rng: &mut Rng, storeys: u32, nodes: u
 /// One history of the clocked tree, beside the one-at-a-time model on the same list.
 pub fn clocked<C: Card>(h: &mut Harness<C>, rng: &mut Rng, order: u32, levels: u32, calls: u64) {
     let capacity = Shape::new(order, levels).unwrap().capacity();
-    let need = 3 * capacity as usize;
+    let need = SLOT * capacity as usize;
     let words = need + rng.below(4) as usize;
-    let records = 4 * (levels as usize - 1) + rng.below(6) as usize;
+    let records = RECORD * (levels as usize - 1) + rng.below(6) as usize;
     let side = Side::new(words, 0, records);
     h.set(&side);
     let (ranks, tags) = (draw_ranks(rng), draw_tags(rng));
@@ -324,7 +350,7 @@ pub fn clocked<C: Card>(h: &mut Harness<C>, rng: &mut Rng, order: u32, levels: u
             idles = rng.below(60);
         }
         let (push, pop, replace) = weights;
-        let x = element(draw(rng, ranks, n), draw_tag(rng, tags, n));
+        let x = element(draw(rng, ranks, n), draw_tag(rng, tags, n), draw_length(rng));
         if rng.once_in(25) {
             // a drain: with a small budget, or to the end and then the stores are equal
             let budget = rng.pick(&[0, 1, 2, 3, levels, u32::MAX]);
@@ -368,31 +394,34 @@ pub fn clocked<C: Card>(h: &mut Harness<C>, rng: &mut Rng, order: u32, levels: u
         } else {
             0
         };
-        let number = match h.call(&Call::cycle(request, order, levels, words, records).with(x.rank, x.tag)) {
+        let number = match h.call(&Call::cycle(request, order, levels, words, records).with(x.rank, x.tag, x.length)) {
             Some(number) => number,
             None => return,
         };
         let answer = h.answer();
-        let mut out = [0; 2];
+        let mut out = [0; OUT];
         let expected = if request >= 2 && mark {
             3
         } else {
             let (op, result) = match request {
                 0 => (Op::CycleIdle, Ok(())),
-                1 => (Op::TreePush, boundary::tree_push(&mut alone, order, levels, x.rank, x.tag)),
+                1 => (Op::TreePush, boundary::tree_push(&mut alone, order, levels, x.rank, x.tag, x.length)),
                 2 => (Op::TreePop, boundary::tree_pop(&mut alone, order, levels, &mut out)),
-                _ => (Op::TreeReplace, boundary::tree_replace(&mut alone, order, levels, x.rank, x.tag, &mut out)),
+                _ => (
+                    Op::TreeReplace,
+                    boundary::tree_replace(&mut alone, order, levels, x.rank, x.tag, x.length, &mut out),
+                ),
             };
             let expected = result.err().map_or(0, |no| no.number());
             if op != Op::CycleIdle {
-                let given = element(out[0], out[1]);
+                let given = element(out[0], out[1], out[2]);
                 if let Err(what) = held_to_list(&mut list, op, x, capacity, expected, given, 0) {
                     return h.fail(format!("order {order}, levels {levels}, one at a time: {what}"));
                 }
             }
             expected
         };
-        if (number, answer) != (expected, element(out[0], out[1])) {
+        if (number, answer) != (expected, element(out[0], out[1], out[2])) {
             return h.fail(format!(
                 "order {order}, levels {levels}, cycle {n}, request {request} {x:?}: {number}, {answer:?}; one at a time {expected}, {out:?}"
             ));

@@ -4,9 +4,10 @@
 use crate::harness::Harness;
 use crate::histories::{larger, shapes_up_to, SMALLER};
 use crate::side::{Card, Side};
+use models::boundary::{OUT, RECORD};
 use models::call::{Call, Op};
 use models::rng::Rng;
-use models::tree::{Node, Shape};
+use models::tree::{Node, Shape, SLOT};
 use models::{boundary, bucket};
 
 const ORDERS: [u32; 15] = [0, 1, 3, 5, 6, 7, 9, 16, 32, 64, 0x8000_0000, 0x8000_0002, u32::MAX, u32::MAX - 1, 12];
@@ -58,11 +59,19 @@ fn tag(rng: &mut Rng) -> u32 {
     }
 }
 
+/// A length; half of them 0.
+fn length(rng: &mut Rng) -> u32 {
+    if rng.once_in(2) {
+        0
+    } else {
+        rng.word()
+    }
+}
+
 /// A sound store of the one-at-a-time tree, filled to any degree.
 fn sound_tree(rng: &mut Rng, order: u32, levels: u32) -> Vec<u32> {
-    let capacity = Shape::new(order, levels).unwrap().capacity();
-    let mut store = vec![0; 3 * capacity as usize];
-    let mut out = [0; 2];
+    let shape = Shape::new(order, levels).unwrap();
+    let (capacity, mut store, mut out) = (shape.capacity(), vec![0; shape.words()], [0; OUT]);
     let fill = match rng.below(6) {
         0 => capacity,
         1 => 0,
@@ -70,18 +79,19 @@ fn sound_tree(rng: &mut Rng, order: u32, levels: u32) -> Vec<u32> {
     };
     let high = rng.pick(&[3, 10, 1000]);
     for _ in 0..fill {
-        let _ = boundary::tree_push(&mut store, order, levels, 1 + rng.below(high) as u32, 1 + rng.below(99) as u32);
+        let (rank, tag) = (1 + rng.below(high) as u32, 1 + rng.below(99) as u32);
+        let _ = boundary::tree_push(&mut store, order, levels, rank, tag, length(rng));
     }
     for _ in 0..rng.below(6) {
         match rng.below(3) {
             0 => {
-                let _ = boundary::tree_push(&mut store, order, levels, rank(rng), rank(rng));
+                let _ = boundary::tree_push(&mut store, order, levels, rank(rng), rank(rng), length(rng));
             }
             1 => {
                 let _ = boundary::tree_pop(&mut store, order, levels, &mut out);
             }
             _ => {
-                let _ = boundary::tree_replace(&mut store, order, levels, rank(rng), rank(rng), &mut out);
+                let _ = boundary::tree_replace(&mut store, order, levels, rank(rng), rank(rng), length(rng), &mut out);
             }
         }
     }
@@ -91,7 +101,7 @@ fn sound_tree(rng: &mut Rng, order: u32, levels: u32) -> Vec<u32> {
 /// Any slots, most of which would pass a node's test by themselves.
 fn garbage_tree(rng: &mut Rng, order: u32, levels: u32) -> Vec<u32> {
     let shape = Shape::new(order, levels).unwrap();
-    let mut store = vec![0; 3 * shape.capacity() as usize];
+    let mut store = vec![0; shape.words()];
     let wild = rng.pick(&[0, 8, 40, 200]);
     let empty = rng.pick(&[2, 4, 20]);
     for level in 1..=shape.levels {
@@ -104,15 +114,20 @@ fn garbage_tree(rng: &mut Rng, order: u32, levels: u32) -> Vec<u32> {
                 }
                 store[w] = rank(rng);
                 store[w + 1] = rank(rng);
-                store[w + 2] = 1 + rng.below(limit) as u32;
+                store[w + 2] = length(rng);
+                store[w + COUNT] = 1 + rng.below(limit) as u32;
                 if wild != 0 && rng.once_in(wild) {
-                    store[w + rng.below(3) as usize] = rng.pick(&[0, limit as u32, limit as u32 + 1, u32::MAX, 1]);
+                    store[w + rng.below(SLOT as u64) as usize] =
+                        rng.pick(&[0, limit as u32, limit as u32 + 1, u32::MAX, 1]);
                 }
             }
         }
     }
     store
 }
+
+/// Where a slot's count stands, behind rank, tag and length.
+const COUNT: usize = SLOT - 1;
 
 /// The nodes that the next operations are going to read: from this node down, by the lowest ranks
 /// or by the smallest counts.
@@ -139,7 +154,7 @@ fn reached(order: u32, levels: u32, store: &[u32], records: &[u32]) -> Vec<(u64,
     let mut nodes = Vec::new();
     chain(shape, store, 1, 0, true, &mut nodes);
     chain(shape, store, 1, 0, false, &mut nodes);
-    for (i, r) in records.chunks(4).enumerate() {
+    for (i, r) in records.chunks(RECORD).enumerate() {
         if r[0] != 0 && r[0] <= 3 {
             // twice, since a record's node is met only while the record stands
             let level = i as u64 + 2;
@@ -162,34 +177,34 @@ fn spoil_tree(rng: &mut Rng, order: u32, levels: u32, store: &mut [u32], reached
     };
     let mut slot = rng.below(shape.order);
     if rng.once_in(3) {
-        if let Some(empty) = (0..shape.order).find(|&j| store[shape.word(level, node, j) + 2] == 0) {
+        if let Some(empty) = (0..shape.order).find(|&j| store[shape.word(level, node, j) + COUNT] == 0) {
             slot = empty;
             if rng.once_in(2) {
                 let w = shape.word(level, node, slot);
-                store[w + rng.below(2) as usize] = 1 + rng.below(9) as u32;
+                store[w + rng.below(COUNT as u64) as usize] = 1 + rng.below(9) as u32;
                 return;
             }
         }
     }
     let w = shape.word(level, node, slot);
     let limit = 1 + shape.room_below(level) as u32;
-    match rng.below(16) {
+    match rng.below(17) {
         0 | 1 => store[w] = rank(rng),
         2 => store[w + 1] = rank(rng),
-        3 => store[w + 2] = 0,
-        4 => store[w + 2] = store[w + 2].wrapping_add(1),
-        5 => store[w + 2] = store[w + 2].wrapping_sub(1),
-        6 => store[w + 2] = limit,
-        7 => store[w + 2] = limit + 1,
-        8 => store[w + 2] = rng.pick(&[1, 2, u32::MAX, 0x8000_0000, limit.wrapping_mul(2)]),
+        3 => store[w + COUNT] = 0,
+        4 => store[w + COUNT] = store[w + COUNT].wrapping_add(1),
+        5 => store[w + COUNT] = store[w + COUNT].wrapping_sub(1),
+        6 => store[w + COUNT] = limit,
+        7 => store[w + COUNT] = limit + 1,
+        8 => store[w + COUNT] = rng.pick(&[1, 2, u32::MAX, 0x8000_0000, limit.wrapping_mul(2)]),
         9 => {
             // an element in an empty slot, or none in an occupied one
-            if store[w + 2] == 0 {
-                store[w + rng.below(2) as usize] = 1 + rank(rng) % 7;
+            if store[w + COUNT] == 0 {
+                store[w + rng.below(COUNT as u64) as usize] = 1 + rank(rng) % 7;
             } else {
-                let keep = rng.below(3) as usize;
-                for i in 0..3 {
-                    if i != keep || keep == 2 {
+                let keep = rng.below(SLOT as u64) as usize;
+                for i in 0..SLOT {
+                    if i != keep || keep == COUNT {
                         store[w + i] = 0;
                     }
                 }
@@ -199,27 +214,29 @@ fn spoil_tree(rng: &mut Rng, order: u32, levels: u32, store: &mut [u32], reached
             // a whole node empty
             for j in 0..shape.order {
                 let w = shape.word(level, node, j);
-                store[w..w + 3].fill(0);
+                store[w..w + SLOT].fill(0);
             }
         }
         12 => {
             // a whole node at its limit
             for j in 0..shape.order {
                 let w = shape.word(level, node, j);
-                store[w + 2] = limit;
+                store[w + COUNT] = limit;
             }
         }
         13 => {
             store[w] = rank(rng);
             store[w + 1] = rank(rng);
-            store[w + 2] = 1 + rng.below(limit as u64) as u32;
+            store[w + 2] = length(rng);
+            store[w + COUNT] = 1 + rng.below(limit as u64) as u32;
         }
         14 => {
-            let other = 3 * rng.below(shape.capacity()) as usize;
-            for i in 0..3 {
+            let other = SLOT * rng.below(shape.capacity()) as usize;
+            for i in 0..SLOT {
                 store.swap(w + i, other + i);
             }
         }
+        15 => store[w + 2] = length(rng),
         _ => {
             let at = rng.below(store.len() as u64) as usize;
             store[at] ^= 1 << rng.below(32);
@@ -243,7 +260,7 @@ fn misshape(rng: &mut Rng, k: &mut Call, need: usize) {
         0 => k.order = rng.pick(&ORDERS),
         1 => k.levels = rng.pick(&LEVELS),
         2 => k.words = rng.pick(&[need - 1, need - 1, 0, need / 2, 2]),
-        3 => k.out = rng.below(2) as usize,
+        3 => k.out = rng.below(OUT as u64) as usize,
         4 => k.order = rng.pick(&[2, 4, 8]),
         _ => k.levels = rng.below(7) as u32,
     }
@@ -278,8 +295,8 @@ pub fn tree<C: Card>(h: &mut Harness<C>, rng: &mut Rng, calls: u64) {
                     16..=27 => Op::TreePop,
                     _ => Op::TreeReplace,
                 };
-                let mut k = Call::tree(op, order, levels, store.len() + longer).with(rank(rng), tag(rng));
-                k.out = 1 + (op != Op::TreeHeld) as usize + rng.below(2) as usize;
+                let mut k = Call::tree(op, order, levels, store.len() + longer).with(rank(rng), tag(rng), length(rng));
+                k.out = if op == Op::TreeHeld { 1 } else { OUT } + rng.below(2) as usize;
                 if rng.once_in(12) {
                     misshape(rng, &mut k, store.len());
                 }
@@ -294,8 +311,8 @@ pub fn tree<C: Card>(h: &mut Harness<C>, rng: &mut Rng, calls: u64) {
 /// A machine in the middle of a history: a store, records and a mark.
 fn sound_machine(rng: &mut Rng, order: u32, levels: u32) -> (Vec<u32>, Vec<u32>, Vec<u32>) {
     let mut store = sound_tree(rng, order, levels);
-    let mut records = vec![0; 4 * (levels as usize - 1)];
-    let (mut mark, mut out) = ([0], [0; 2]);
+    let mut records = vec![0; RECORD * (levels as usize - 1)];
+    let (mut mark, mut out) = ([0], [0; OUT]);
     for _ in 0..rng.below(2 * levels as u64 + 4) {
         let request = rng.pick(&[0, 1, 1, 1, 2, 2, 3, 3]);
         let _ = boundary::clocked_cycle(
@@ -307,6 +324,7 @@ fn sound_machine(rng: &mut Rng, order: u32, levels: u32) -> (Vec<u32>, Vec<u32>,
             request,
             rank(rng),
             rng.word(),
+            length(rng),
             &mut out,
         );
     }
@@ -328,9 +346,9 @@ fn spoil_records(rng: &mut Rng, order: u32, levels: u32, store: &[u32], records:
     }
     let shape = Shape::new(order, levels).unwrap();
     let level = 2 + rng.below(shape.levels - 1);
-    let at = 4 * (level as usize - 2);
-    match rng.below(13) {
-        9..=12 => {
+    let at = RECORD * (level as usize - 2);
+    match rng.below(14) {
+        10..=13 => {
             // work that could well be pending here: on a node that the store's own chains reach
             let by_rank = !rng.once_in(3);
             let mut nodes = Vec::new();
@@ -338,14 +356,15 @@ fn spoil_records(rng: &mut Rng, order: u32, levels: u32, store: &[u32], records:
             let (level, node) = rng.pick(&nodes);
             if level >= 2 {
                 let kind = if by_rank { 2 + rng.below(2) as u32 } else { 1 };
-                let at = 4 * (level as usize - 2);
-                records[at..at + 4].copy_from_slice(&[kind, node as u32, rank(rng), rank(rng)]);
+                let at = RECORD * (level as usize - 2);
+                records[at..at + RECORD].copy_from_slice(&[kind, node as u32, rank(rng), rank(rng), length(rng)]);
             }
         }
         0 => records[at] = rng.below(4) as u32,
         1 => records[at + 1] = node_number(rng, shape, level),
         2 => records[at + 2] = rank(rng),
         3 => records[at + 3] = rank(rng),
+        9 => records[at + 4] = length(rng),
         4 => records[at + 1] = shape.nodes(level) as u32,
         5 if rng.once_in(4) => records[at] = rng.pick(&[4, 5, 255, 256, 257, 0x1_0000, u32::MAX]),
         _ => {
@@ -353,6 +372,7 @@ fn spoil_records(rng: &mut Rng, order: u32, levels: u32, store: &[u32], records:
             records[at + 1] = node_number(rng, shape, level);
             records[at + 2] = rank(rng);
             records[at + 3] = rank(rng);
+            records[at + 4] = length(rng);
         }
     }
 }
@@ -364,7 +384,7 @@ pub fn clocked<C: Card>(h: &mut Harness<C>, rng: &mut Rng, calls: u64) {
     while h.calls < until {
         let (order, levels) = small(rng);
         let (base, records, mark) = match rng.below(5) {
-            0 => (garbage_tree(rng, order, levels), vec![0; 4 * (levels as usize - 1)], vec![rng.below(2) as u32]),
+            0 => (garbage_tree(rng, order, levels), vec![0; RECORD * (levels as usize - 1)], vec![rng.below(2) as u32]),
             _ => sound_machine(rng, order, levels),
         };
         for _ in 0..24 {
@@ -378,7 +398,7 @@ pub fn clocked<C: Card>(h: &mut Harness<C>, rng: &mut Rng, calls: u64) {
             side.records.clear();
             side.records.extend_from_slice(&spoilt);
             // behind the records of this shape stand others, which no call may look at
-            let further = rng.pick(&[0, 0, 1, 4, 9]);
+            let further = rng.pick(&[0, 0, 1, RECORD, 9]);
             for _ in 0..further + crate::side::GUARD {
                 side.records.push(rng.word());
             }
@@ -405,8 +425,13 @@ pub fn clocked<C: Card>(h: &mut Harness<C>, rng: &mut Rng, calls: u64) {
                     }
                     _ => Call::cycle(rng.below(4) as u32, order, levels, words, records),
                 };
-                k = k.with(rank(rng), tag(rng));
-                k.out = 1 + (k.op != Op::ClockedHeld) as usize + rng.below(2) as usize;
+                k = k.with(rank(rng), tag(rng), length(rng));
+                k.out = rng.below(2) as usize
+                    + match k.op {
+                        Op::ClockedHeld => 1,
+                        Op::ClockedDrain => 2,
+                        _ => OUT,
+                    };
                 if k.op.is_machine() {
                     k.mark = 1 + rng.below(2) as usize;
                 }
@@ -416,7 +441,9 @@ pub fn clocked<C: Card>(h: &mut Harness<C>, rng: &mut Rng, calls: u64) {
                 if k.op.is_machine() && rng.once_in(20) {
                     match rng.below(3) {
                         0 => k.mark = 0,
-                        1 if levels > 1 => k.records = 4 * (levels as usize - 1) - 1 - rng.below(4) as usize,
+                        1 if levels > 1 => {
+                            k.records = RECORD * (levels as usize - 1) - 1 - rng.below(RECORD as u64) as usize
+                        }
                         _ => k.records = 0,
                     }
                 }
@@ -443,10 +470,10 @@ impl Target {
         bucket::ranks(self.storeys) + rank as usize
     }
     fn tag(&self, node: u32) -> usize {
-        2 * bucket::ranks(self.storeys) + 2 * node as usize
+        2 * bucket::ranks(self.storeys) + 3 * node as usize
     }
     fn next(&self, node: u32) -> usize {
-        self.tag(node) + 1
+        self.tag(node) + 2
     }
     fn free(&self) -> usize {
         self.tag(self.nodes)
@@ -521,7 +548,8 @@ impl Target {
                     bits[own] &= !(1 << bit);
                 }
             }
-            _ => words[self.tag(rng.below(self.nodes as u64) as u32)] = rng.word(),
+            // a tag or a length
+            _ => words[self.tag(rng.below(self.nodes as u64) as u32) + rng.below(2) as usize] = rng.word(),
         }
     }
 
@@ -594,14 +622,14 @@ pub fn bucket<C: Card>(h: &mut Harness<C>, rng: &mut Rng, storeys: u32, calls: u
                 _ => rng.below(nodes as u64 + 1),
             };
             for _ in 0..fill {
-                let _ = boundary::bucket_push(b, w, storeys, nodes, rng.pick(&t.ranks), rng.word());
+                let _ = boundary::bucket_push(b, w, storeys, nodes, rng.pick(&t.ranks), rng.word(), rng.word());
             }
             for _ in 0..rng.below(4) {
                 let (rank, tag) = (rng.pick(&t.ranks), rng.word());
-                let _ = boundary::bucket_replace(b, w, storeys, nodes, rank, tag, &mut [0; 2]);
+                let _ = boundary::bucket_replace(b, w, storeys, nodes, rank, tag, rng.word(), &mut [0; OUT]);
             }
             if rng.once_in(3) {
-                let _ = boundary::bucket_pop(b, w, storeys, nodes, &mut [0; 2]);
+                let _ = boundary::bucket_pop(b, w, storeys, nodes, &mut [0; OUT]);
             }
         }
         let mut spoilt = side.clone();
@@ -620,14 +648,15 @@ pub fn bucket<C: Card>(h: &mut Harness<C>, rng: &mut Rng, storeys: u32, calls: u
                     _ => Op::BucketReplace,
                 };
                 let (bits, words) = (tower + rng.below(3) as usize, need + rng.below(3) as usize);
-                let mut k = Call::bucket(op, storeys, nodes, bits, words).with(rng.pick(&t.ranks), tag(rng));
-                k.out = 1 + (op != Op::BucketHeld) as usize + rng.below(2) as usize;
+                let mut k =
+                    Call::bucket(op, storeys, nodes, bits, words).with(rng.pick(&t.ranks), tag(rng), rng.word());
+                k.out = if op == Op::BucketHeld { 1 } else { OUT } + rng.below(2) as usize;
                 match rng.below(60) {
                     0 | 1 => k.rank = rng.pick(&[last + 1, last + 2, 0x8_0000, u32::MAX]),
                     2 => k.nodes = rng.pick(&[0, 65537, 0x8000_0000, 0x8000_0001, u32::MAX]),
                     3 => k.words = rng.pick(&[need - 1, 0, 8193, 8192]),
                     4 => k.bits = rng.pick(&[tower - 1, 0, 1]),
-                    5 => k.out = rng.below(2) as usize,
+                    5 => k.out = rng.below(OUT as u64) as usize,
                     6 => k.rank = rng.below(last as u64 + 1) as u32,
                     7 => k.storeys = rng.pick(&STOREYS),
                     _ => {}
@@ -643,11 +672,11 @@ pub fn bucket<C: Card>(h: &mut Harness<C>, rng: &mut Rng, storeys: u32, calls: u
 /// Every tree call of an order and levels, on lengths near the `need`ed one. False where something differs.
 fn edge<C: Card>(h: &mut Harness<C>, rng: &mut Rng, o: u32, l: u32, need: usize) -> bool {
     let taken = Shape::new(o, l).is_some();
-    let records = if taken { 4 * (l as usize - 1) } else { 56 };
+    let records = if taken { RECORD * (l as usize - 1) } else { 14 * RECORD };
     let lengths = if taken { vec![need - 1, need, need + 1, 0] } else { vec![need, 0] };
     for words in lengths {
         for op in [Op::TreeClear, Op::TreePush, Op::TreePop, Op::TreeReplace, Op::TreeHeld, Op::ClockedHeld] {
-            let k = Call::tree(op, o, l, words).with(rng.word(), tag(rng));
+            let k = Call::tree(op, o, l, words).with(rng.word(), tag(rng), rng.word());
             let number = match h.call(&k) {
                 Some(number) => number,
                 None => return false,
@@ -662,7 +691,7 @@ fn edge<C: Card>(h: &mut Harness<C>, rng: &mut Rng, o: u32, l: u32, need: usize)
                 let mut k = match request {
                     4 => Call::machine(Op::ClockedDrain, o, l, words, records).budget(rng.word()),
                     5 => Call::machine(Op::ClockedClear, o, l, words, records),
-                    _ => Call::cycle(request, o, l, words, records).with(rng.word(), tag(rng)),
+                    _ => Call::cycle(request, o, l, words, records).with(rng.word(), tag(rng), rng.word()),
                 };
                 k.mark = mark;
                 if h.call(&k).is_none() {
@@ -676,7 +705,7 @@ fn edge<C: Card>(h: &mut Harness<C>, rng: &mut Rng, o: u32, l: u32, need: usize)
 
 /// A cleared store of so many words, and two more.
 fn cleared(words: usize) -> Side {
-    let mut base = Side::new(words + 2, 67, 64);
+    let mut base = Side::new(words + 2, 67, 15 * RECORD);
     base.words[..words].fill(0);
     base.records.fill(0);
     base
@@ -685,7 +714,7 @@ fn cleared(words: usize) -> Side {
 /// Every order and number of levels near the rules' edges, every length near the one that is
 /// needed, for every call.
 pub fn edges<C: Card>(h: &mut Harness<C>, rng: &mut Rng) {
-    let most = 3 * SMALLER as usize;
+    let most = SLOT * SMALLER as usize;
     let base = cleared(most);
     let mut orders = ORDERS.to_vec();
     orders.extend([2, 4, 8]);
@@ -696,7 +725,7 @@ pub fn edges<C: Card>(h: &mut Harness<C>, rng: &mut Rng) {
         for &l in &levels {
             let need = match Shape::new(o, l) {
                 Some(shape) if shape.capacity() > SMALLER => continue,
-                Some(shape) => 3 * shape.capacity() as usize,
+                Some(shape) => shape.words(),
                 None => most,
             };
             if !edge(h, rng, o, l, need) {
@@ -708,7 +737,7 @@ pub fn edges<C: Card>(h: &mut Harness<C>, rng: &mut Rng) {
     }
     // the larger shapes have stores of their own; so has one level more than each order takes, long enough: its capacity is refused
     for (o, l) in larger().into_iter().chain([(2, 16), (4, 9), (8, 6)]) {
-        let need: usize = (1..=l).map(|k| 3 * (o as usize).pow(k)).sum();
+        let need: usize = (1..=l).map(|k| SLOT * (o as usize).pow(k)).sum();
         h.set(&cleared(need));
         if !edge(h, rng, o, l, need) {
             return;
@@ -722,7 +751,8 @@ pub fn edges<C: Card>(h: &mut Harness<C>, rng: &mut Rng) {
         base.words.fill(0);
         h.set(&base);
         // at three storeys a store is so long that a few of each must do
-        let wide = [0, 1, 2, 3, 64, 4095, 4096, 4097, 65535, 65536, 65537, 0x7fff_ffff, 0x8000_0000, 0x8000_0001, u32::MAX];
+        let wide =
+            [0, 1, 2, 3, 64, 4095, 4096, 4097, 65535, 65536, 65537, 0x7fff_ffff, 0x8000_0000, 0x8000_0001, u32::MAX];
         let nodes: &[u32] = if storeys == 2 { &wide } else { &[0, 1, 65535, 65536, 65537, u32::MAX] };
         for &n in nodes {
             let need = if n <= 65536 { bucket::words(storeys, n as u64) as usize } else { most };
@@ -731,7 +761,7 @@ pub fn edges<C: Card>(h: &mut Harness<C>, rng: &mut Rng) {
                 for bits in [tower, tower - 1, tower + 1, 0] {
                     for op in ops {
                         let rank = rng.below(bucket::ranks(storeys) as u64 + 4) as u32;
-                        let k = Call::bucket(op, storeys, n, bits, words).with(rank, tag(rng));
+                        let k = Call::bucket(op, storeys, n, bits, words).with(rank, tag(rng), rng.word());
                         let number = match h.call(&k) {
                             Some(number) => number,
                             None => return,
@@ -747,7 +777,7 @@ pub fn edges<C: Card>(h: &mut Harness<C>, rng: &mut Rng) {
         // depths that there are not, on slices that are long enough for those that there are
         for other in STOREYS {
             for op in ops {
-                let k = Call::bucket(op, other, 3, tower, most).with(7, 1);
+                let k = Call::bucket(op, other, 3, tower, most).with(7, 1, 64);
                 if h.call(&k) != Some(1) {
                     return h.fail(format!("{} was not refused 1", k.text()));
                 }
@@ -764,15 +794,17 @@ pub fn small_stores<C: Card>(h: &mut Harness<C>, _: &mut Rng) {
     for count in 0..3 {
         for rank in 0..3 {
             for tag in 0..2 {
-                slots.push([rank, tag, count]);
+                for length in 0..2 {
+                    slots.push([rank, tag, length, count]);
+                }
             }
         }
     }
-    let mut side = Side::new(6, 0, 0);
+    let mut side = Side::new(2 * SLOT, 0, 0);
     for a in &slots {
         for b in &slots {
-            side.words[..3].copy_from_slice(a);
-            side.words[3..6].copy_from_slice(b);
+            side.words[..SLOT].copy_from_slice(a);
+            side.words[SLOT..2 * SLOT].copy_from_slice(b);
             for mark in 0..2 {
                 side.mark[0] = mark;
                 for (op, rank, tag) in [
@@ -786,7 +818,7 @@ pub fn small_stores<C: Card>(h: &mut Harness<C>, _: &mut Rng) {
                     (Op::TreeHeld, 0, 9),
                 ] {
                     h.set(&side);
-                    if h.call(&Call::tree(op, 2, 1, 6).with(rank, tag)).is_none() {
+                    if h.call(&Call::tree(op, 2, 1, 2 * SLOT).with(rank, tag, 6)).is_none() {
                         return;
                     }
                 }
@@ -794,12 +826,12 @@ pub fn small_stores<C: Card>(h: &mut Harness<C>, _: &mut Rng) {
                     [(0, 0, 9), (1, 1, 9), (1, 1, 0), (2, 0, 9), (3, 0, 9), (3, 1, 9), (3, 2, 9), (3, 1, 0), (4, 0, 9)]
                 {
                     h.set(&side);
-                    if h.call(&Call::cycle(request, 2, 1, 6, 0).with(rank, tag)).is_none() {
+                    if h.call(&Call::cycle(request, 2, 1, 2 * SLOT, 0).with(rank, tag, 6)).is_none() {
                         return;
                     }
                 }
                 h.set(&side);
-                if h.call(&Call::machine(Op::ClockedDrain, 2, 1, 6, 0).budget(1)).is_none() {
+                if h.call(&Call::machine(Op::ClockedDrain, 2, 1, 2 * SLOT, 0).budget(1)).is_none() {
                     return;
                 }
             }
@@ -807,13 +839,13 @@ pub fn small_stores<C: Card>(h: &mut Harness<C>, _: &mut Rng) {
     }
 
     // order 2, two levels: slots of the root and of node 0 from a few; node 1 is empty or holds one
-    let root = [[0, 0, 0], [1, 5, 1], [1, 6, 2], [2, 7, 3], [2, 8, 4], [1, 0, 0]];
-    let leaf = [[0, 0, 0], [0, 1, 1], [2, 2, 1], [1, 3, 2], [0, 4, 0]];
-    let mut side = Side::new(18, 0, 4);
-    let mut records = vec![[0, 0, 0, 0], [0, 9, 9, 9]];
+    let root = [[0, 0, 0, 0], [1, 5, 51, 1], [1, 6, 61, 2], [2, 7, 71, 3], [2, 8, 81, 4], [1, 0, 0, 0]];
+    let leaf = [[0, 0, 0, 0], [0, 1, 11, 1], [2, 2, 22, 1], [1, 3, 33, 2], [0, 0, 4, 0]];
+    let mut side = Side::new(6 * SLOT, 0, RECORD);
+    let mut records = vec![[0, 0, 0, 0, 0], [0, 9, 9, 9, 9]];
     for kind in 1..4 {
         for node in 0..3 {
-            records.push([kind, node, 1, 8]);
+            records.push([kind, node, 1, 8, 80]);
         }
     }
     for a in &root {
@@ -821,12 +853,10 @@ pub fn small_stores<C: Card>(h: &mut Harness<C>, _: &mut Rng) {
             for c in &leaf {
                 for d in &leaf {
                     for e in &leaf[..2] {
-                        side.words[..18].fill(0);
-                        side.words[..3].copy_from_slice(a);
-                        side.words[3..6].copy_from_slice(b);
-                        side.words[6..9].copy_from_slice(c);
-                        side.words[9..12].copy_from_slice(d);
-                        side.words[12..15].copy_from_slice(e);
+                        side.words[..6 * SLOT].fill(0);
+                        for (k, slot) in [a, b, c, d, e].iter().enumerate() {
+                            side.words[SLOT * k..SLOT * (k + 1)].copy_from_slice(*slot);
+                        }
                         for (op, rank, tag) in [
                             (Op::TreePush, 1, 9),
                             (Op::TreePush, 1, 0),
@@ -837,26 +867,30 @@ pub fn small_stores<C: Card>(h: &mut Harness<C>, _: &mut Rng) {
                             (Op::TreeReplace, 1, 0),
                         ] {
                             h.set(&side);
-                            if h.call(&Call::tree(op, 2, 2, 18).with(rank, tag)).is_none() {
+                            if h.call(&Call::tree(op, 2, 2, 6 * SLOT).with(rank, tag, 6)).is_none() {
                                 return;
                             }
                         }
                         for record in &records {
-                            side.records[..4].copy_from_slice(record);
+                            side.records[..RECORD].copy_from_slice(record);
                             for mark in 0..2 {
                                 side.mark[0] = mark;
                                 for (request, rank, tag) in
                                     [(0, 0, 9), (1, 1, 9), (1, 1, 0), (2, 0, 9), (3, 2, 9), (3, 2, 0)]
                                 {
                                     h.set(&side);
-                                    if h.call(&Call::cycle(request, 2, 2, 18, 4).with(rank, tag)).is_none() {
+                                    if h.call(&Call::cycle(request, 2, 2, 6 * SLOT, RECORD).with(rank, tag, 6))
+                                        .is_none()
+                                    {
                                         return;
                                     }
                                 }
                             }
                             for budget in 0..2 {
                                 h.set(&side);
-                                if h.call(&Call::machine(Op::ClockedDrain, 2, 2, 18, 4).budget(budget)).is_none() {
+                                if h.call(&Call::machine(Op::ClockedDrain, 2, 2, 6 * SLOT, RECORD).budget(budget))
+                                    .is_none()
+                                {
                                     return;
                                 }
                             }
@@ -869,8 +903,9 @@ pub fn small_stores<C: Card>(h: &mut Harness<C>, _: &mut Rng) {
 
     // a bucket queue of one node and one rank: every link, count and bit
     let t = Target { storeys: 2, nodes: 1, ranks: vec![65] };
-    let mut side = Side::new(8196, 65, 0);
-    side.words[..8196].fill(0);
+    let need = bucket::words(2, 1) as usize;
+    let mut side = Side::new(need, 65, 0);
+    side.words[..need].fill(0);
     side.bits[..65].fill(0);
     for n in 0..3u32.pow(5) * 4 {
         let digit = |k: u32| n / 4 / 3u32.pow(k) % 3;
@@ -880,6 +915,7 @@ pub fn small_stores<C: Card>(h: &mut Harness<C>, _: &mut Rng) {
         side.words[t.free()] = digit(3);
         side.words[t.held()] = digit(4);
         side.words[8192] = 77;
+        side.words[8193] = 770;
         side.bits[0] = if n & 1 == 1 { 2 } else { 0 };
         side.bits[2] = if n & 2 == 2 { 2 } else { 0 };
         for (op, rank, tag) in [
@@ -896,7 +932,7 @@ pub fn small_stores<C: Card>(h: &mut Harness<C>, _: &mut Rng) {
             (Op::BucketHeld, 0, 9),
         ] {
             h.set(&side);
-            if h.call(&Call::bucket(op, 2, 1, 65, 8196).with(rank, tag)).is_none() {
+            if h.call(&Call::bucket(op, 2, 1, 65, need).with(rank, tag, 6)).is_none() {
                 return;
             }
         }
@@ -914,7 +950,7 @@ pub fn deep_bits<C: Card>(h: &mut Harness<C>, _: &mut Rng) {
         let (b, w) = (&mut side.bits[..tower], &mut side.words[..need]);
         let _ = boundary::bucket_clear(b, w, 3, 4);
         for &i in held {
-            let _ = boundary::bucket_push(b, w, 3, 4, ranks[i], 9);
+            let _ = boundary::bucket_push(b, w, 3, 4, ranks[i], 9, 64 + i as u32);
         }
         // no bit turned, then each
         for turned in 0..=3 * ranks.len() {
@@ -933,7 +969,7 @@ pub fn deep_bits<C: Card>(h: &mut Harness<C>, _: &mut Rng) {
                 (Op::BucketReplace, ranks[2]),
             ] {
                 h.set(&spoilt);
-                if h.call(&Call::bucket(op, 3, 4, tower, need).with(rank, 9)).is_none() {
+                if h.call(&Call::bucket(op, 3, 4, tower, need).with(rank, 9, 1500)).is_none() {
                     return;
                 }
             }

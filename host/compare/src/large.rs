@@ -3,9 +3,10 @@
 
 use crate::harness::Harness;
 use crate::side::{Card, Side};
+use models::boundary::{OUT, RECORD};
 use models::call::{Call, Op};
 use models::rng::Rng;
-use models::tree::Shape;
+use models::tree::{Shape, SLOT};
 use models::{boundary, element, Element};
 
 /// How many calls at the brim are compared word for word.
@@ -16,13 +17,13 @@ const MORE: u64 = 1000;
 
 fn any(rng: &mut Rng) -> Element {
     let ranks = rng.pick(&[3, 1 << 10, 1 << 31]);
-    element(rng.below(ranks) as u32, 1 + rng.below(1 << 20) as u32)
+    element(rng.below(ranks) as u32, 1 + rng.below(1 << 20) as u32, rng.word())
 }
 
 /// One history of the one-at-a-time tree: up to the brim, calls there, and down to nothing by rising ranks.
 pub fn tree<C: Card>(h: &mut Harness<C>, rng: &mut Rng, order: u32, levels: u32) {
     let capacity = Shape::new(order, levels).unwrap().capacity();
-    let words = 3 * capacity as usize + rng.below(4) as usize;
+    let words = SLOT * capacity as usize + rng.below(4) as usize;
     let ask = |op| Call::tree(op, order, levels, words);
     h.set(&Side::new(words, 0, 0));
     if h.call(&ask(Op::TreeClear)) != Some(0) {
@@ -30,16 +31,17 @@ pub fn tree<C: Card>(h: &mut Harness<C>, rng: &mut Rng, order: u32, levels: u32)
     }
     for n in 0..capacity {
         let x = any(rng);
-        if h.answers(&ask(Op::TreePush).with(x.rank, x.tag)) != Some(0) {
+        if h.answers(&ask(Op::TreePush).with(x.rank, x.tag, x.length)) != Some(0) {
             return h.fail(format!("order {order}, levels {levels}: push {n} was refused"));
         }
     }
-    if h.call(&ask(Op::TreePush).with(5, 50)) != Some(5) {
+    if h.call(&ask(Op::TreePush).with(5, 50, 500)) != Some(5) {
         return h.fail(format!("order {order}, levels {levels}: a push into a full tree was not refused 5"));
     }
     for n in 0..CLOSE + MORE {
         let x = any(rng);
-        let k = ask(rng.pick(&[Op::TreePush, Op::TreePop, Op::TreeReplace, Op::TreeReplace])).with(x.rank, x.tag);
+        let k =
+            ask(rng.pick(&[Op::TreePush, Op::TreePop, Op::TreeReplace, Op::TreeReplace])).with(x.rank, x.tag, x.length);
         if if n < CLOSE { h.call(&k) } else { h.answers(&k) }.is_none() {
             return;
         }
@@ -55,7 +57,7 @@ pub fn tree<C: Card>(h: &mut Harness<C>, rng: &mut Rng, order: u32, levels: u32)
         }
         last = h.answer().rank;
     }
-    if h.call(&ask(Op::TreePop)) != Some(6) || h.b.words[..3 * capacity as usize].iter().any(|w| *w != 0) {
+    if h.call(&ask(Op::TreePop)) != Some(6) || h.b.words[..SLOT * capacity as usize].iter().any(|w| *w != 0) {
         h.fail(format!("order {order}, levels {levels}: something is left of an emptied tree"));
     }
 }
@@ -71,28 +73,28 @@ struct Beside {
 impl Beside {
     /// What a request is answered, and its number.
     fn asked(&mut self, request: u32, x: Element) -> (u32, Element) {
-        let (words, order, levels, mut out) = (&mut self.words, self.order, self.levels, [0; 2]);
+        let (words, order, levels, mut out) = (&mut self.words, self.order, self.levels, [0; OUT]);
         let number = if request >= 2 && self.mark {
             3
         } else {
             let result = match request {
                 0 => Ok(()),
-                1 => boundary::tree_push(words, order, levels, x.rank, x.tag),
+                1 => boundary::tree_push(words, order, levels, x.rank, x.tag, x.length),
                 2 => boundary::tree_pop(words, order, levels, &mut out),
-                _ => boundary::tree_replace(words, order, levels, x.rank, x.tag, &mut out),
+                _ => boundary::tree_replace(words, order, levels, x.rank, x.tag, x.length, &mut out),
             };
             result.err().map_or(0, |no| no.number())
         };
         self.mark = request != 0 && number == 0;
-        (number, element(out[0], out[1]))
+        (number, element(out[0], out[1], out[2]))
     }
 }
 
 /// One history of the clocked tree: pushes without a pause, so that every level has work, up to the brim, and requests of every kind there.
 pub fn clocked<C: Card>(h: &mut Harness<C>, rng: &mut Rng, order: u32, levels: u32) {
     let capacity = Shape::new(order, levels).unwrap().capacity();
-    let need = 3 * capacity as usize;
-    let (words, records) = (need + rng.below(4) as usize, 4 * (levels as usize - 1) + rng.below(6) as usize);
+    let need = SLOT * capacity as usize;
+    let (words, records) = (need + rng.below(4) as usize, RECORD * (levels as usize - 1) + rng.below(6) as usize);
     let machine = |op| Call::machine(op, order, levels, words, records);
     let mut alone = Beside { order, levels, words: vec![0; need], mark: false };
     h.set(&Side::new(words, 0, records));
@@ -102,7 +104,7 @@ pub fn clocked<C: Card>(h: &mut Harness<C>, rng: &mut Rng, order: u32, levels: u
     for n in 0..capacity + CLOSE + MORE {
         let x = any(rng);
         let request = if n < capacity { 1 } else { rng.below(4) as u32 };
-        let k = Call::cycle(request, order, levels, words, records).with(x.rank, x.tag);
+        let k = Call::cycle(request, order, levels, words, records).with(x.rank, x.tag, x.length);
         let close = capacity <= n && n < capacity + CLOSE;
         let number = match if close { h.call(&k) } else { h.answers(&k) } {
             Some(number) => number,

@@ -29,21 +29,22 @@ pub struct Linked;
 impl Card for Linked {
     fn call(&mut self, k: &Call, s: Slices<'_>) -> u32 {
         let Slices { words, bits, records, mark, out } = s;
-        let (order, levels, storeys, nodes, rank, tag) = (k.order, k.levels, k.storeys, k.nodes, k.rank, k.tag);
+        let (order, levels, storeys, nodes) = (k.order, k.levels, k.storeys, k.nodes);
+        let (rank, tag, length) = (k.rank, k.tag, k.length);
         match k.op {
             Op::TreeClear => calls::tree_clear(words, order, levels),
-            Op::TreePush => calls::tree_push(words, order, levels, rank, tag),
+            Op::TreePush => calls::tree_push(words, order, levels, rank, tag, length),
             Op::TreePop => calls::tree_pop(words, order, levels, out),
-            Op::TreeReplace => calls::tree_replace(words, order, levels, rank, tag, out),
+            Op::TreeReplace => calls::tree_replace(words, order, levels, rank, tag, length, out),
             Op::TreeHeld => calls::tree_held(words, order, levels, out),
             Op::BucketClear => calls::bucket_clear(bits, words, storeys, nodes),
-            Op::BucketPush => calls::bucket_push(bits, words, storeys, nodes, rank, tag),
+            Op::BucketPush => calls::bucket_push(bits, words, storeys, nodes, rank, tag, length),
             Op::BucketPop => calls::bucket_pop(bits, words, storeys, nodes, out),
-            Op::BucketReplace => calls::bucket_replace(bits, words, storeys, nodes, rank, tag, out),
+            Op::BucketReplace => calls::bucket_replace(bits, words, storeys, nodes, rank, tag, length, out),
             Op::BucketHeld => calls::bucket_held(bits, words, storeys, nodes, out),
             Op::ClockedClear => calls::clocked_clear(words, order, levels, records, mark),
             Op::CycleIdle | Op::CyclePush | Op::CyclePop | Op::CycleReplace | Op::CycleOther => {
-                calls::clocked_cycle(words, order, levels, records, mark, k.request, rank, tag, out)
+                calls::clocked_cycle(words, order, levels, records, mark, k.request, rank, tag, length, out)
             }
             Op::ClockedDrain => calls::clocked_drain(words, order, levels, records, mark, k.budget, out),
             Op::ClockedHeld => calls::clocked_held(words, order, levels, out),

@@ -2,17 +2,17 @@
 
 use card_host::{
     bucket_bits, bucket_ranks, bucket_words, calls, record_words, tree_slots, tree_words, Bucket, BucketQueue, Clocked,
-    ClockedTree, Drained, Element, Rank, Refusal, Request, Stopped, Tag, Tree, TreeQueue,
+    ClockedTree, Drained, Element, Length, Rank, Refusal, Request, Stopped, Tag, Tree, TreeQueue,
 };
 use models::list::SortedList;
 use models::rng::{seed, Rng};
 
 fn of(x: models::Element) -> Element {
-    Element::new(Rank(x.rank), Tag(x.tag))
+    Element::new(Rank(x.rank), Tag(x.tag), Length(x.length))
 }
 
-fn element(rank: u32, tag: u32) -> Element {
-    Element::new(Rank(rank), Tag(tag))
+fn element(rank: u32, tag: u32, length: u32) -> Element {
+    Element::new(Rank(rank), Tag(tag), Length(length))
 }
 
 /// What a call on a queue of this room is to answer, by the plain list.
@@ -51,7 +51,8 @@ fn bucket_queues_beside_the_list() {
         let mut lent = Bucket::cleared(storeys, nodes, &mut bits[..], &mut words[..]).unwrap();
         let mut list = SortedList::new();
         for n in 0..3000 {
-            let x = models::element(rng.below(ranks as u64 + ranks as u64 / 64) as u32, if rng.once_in(20) { 0 } else { n + 1 });
+            let tag = if rng.once_in(20) { 0 } else { n + 1 };
+            let x = models::element(rng.below(ranks as u64 + ranks as u64 / 64) as u32, tag, rng.word());
             let bad = x.rank >= ranks;
             match rng.below(4) {
                 0 | 1 => {
@@ -76,10 +77,12 @@ fn bucket_queues_beside_the_list() {
         }
         assert_eq!((queue.bits(), queue.words()), (lent.bits(), lent.words()));
     }
-    for (storeys, nodes) in [(2, 0), (2, 65537), (3, 0), (3, 65537), (0, 3), (1, 3), (4, 3), (1 << 31, 3), (u32::MAX, 3)] {
+    for (storeys, nodes) in
+        [(2, 0), (2, 65537), (3, 0), (3, 65537), (0, 3), (1, 3), (4, 3), (1 << 31, 3), (u32::MAX, 3)]
+    {
         assert_eq!(BucketQueue::new(storeys, nodes), Err(Refusal::BadShape), "{storeys} storeys, {nodes} nodes");
     }
-    let damaged = BucketQueue::from_words(2, 1, vec![0; 65], vec![0; 8196]);
+    let damaged = BucketQueue::from_words(2, 1, vec![0; 65], vec![0; bucket_words(2, 1)]);
     assert_eq!(damaged.held(), Err(Refusal::Damaged), "free link 0 and nothing held");
 }
 
@@ -89,11 +92,11 @@ fn the_largest_bucket_queues_to_the_brim() {
         let mut rng = Rng::new(seed(), 510 + storeys as u64);
         let mut queue = BucketQueue::new(storeys, 65536).unwrap();
         let mut all: Vec<_> =
-            (1..=65536).map(|tag| element(rng.below(bucket_ranks(storeys) as u64) as u32, tag)).collect();
+            (1..=65536).map(|tag| element(rng.below(bucket_ranks(storeys) as u64) as u32, tag, 3 * tag)).collect();
         for &x in &all {
             assert_eq!(queue.push(x), Ok(()));
         }
-        assert_eq!((queue.push(element(0, 1)), queue.held()), (Err(Refusal::Full), Ok(65536)));
+        assert_eq!((queue.push(element(0, 1, 64)), queue.held()), (Err(Refusal::Full), Ok(65536)));
         // first in, first out within a rank: a stable sort
         all.sort_by_key(|x| x.rank);
         for &x in &all {
@@ -113,9 +116,9 @@ fn trees_beside_the_list() {
         let mut lent = Tree::cleared(order, levels, &mut words[..]).unwrap();
         let mut list = SortedList::new();
         for n in 0..3000 {
-            // tags that follow from the rank: then pairs of one rank are all alike
+            // tags and lengths that follow from the rank: then elements of one rank are all alike
             let rank = rng.below(60) as u32;
-            let x = models::element(rank, if rng.once_in(20) { 0 } else { 1000 - rank });
+            let x = models::element(rank, if rng.once_in(20) { 0 } else { 1000 - rank }, 64 * rank);
             match rng.below(4) {
                 0 | 1 => {
                     let expected = push(&mut list, x, tree_slots(order, levels));
@@ -140,8 +143,10 @@ fn trees_beside_the_list() {
     for (order, levels) in [(3, 2), (2, 0), (4, 9), (2, 16), (8, 6), (u32::MAX, u32::MAX)] {
         assert_eq!(TreeQueue::new(order, levels), Err(Refusal::BadShape));
     }
-    let damaged = Tree::from_words(2, 1, [9, 0, 0, 0, 0, 0]);
+    let damaged = Tree::from_words(2, 1, [9, 0, 0, 0, 0, 0, 0, 0]);
     assert_eq!(damaged.held(), Err(Refusal::Damaged), "an empty slot with a rank");
+    let damaged = Tree::from_words(2, 1, [0, 0, 9, 0, 0, 0, 0, 0]);
+    assert_eq!(damaged.held(), Err(Refusal::Damaged), "an empty slot with a length");
 }
 
 #[test]
@@ -154,7 +159,7 @@ fn clocked_trees_beside_the_list() {
         let mut list = SortedList::new();
         for n in 0..3000 {
             let rank = rng.below(60) as u32;
-            let x = models::element(rank, if rng.once_in(20) { 0 } else { 1000 - rank });
+            let x = models::element(rank, if rng.once_in(20) { 0 } else { 1000 - rank }, 64 * rank);
             let soon = tree.mark();
             match rng.below(6) {
                 0 | 1 => {
@@ -194,18 +199,18 @@ fn clocked_trees_beside_the_list() {
 #[test]
 fn a_drain_that_is_refused_says_how_far_it_came() {
     // a take at a node of level 2 that is empty: the first cycle is refused
-    let mut tree = Clocked::from_words(2, 2, [0; 18], [2, 0, 0, 0], true);
+    let mut tree = Clocked::from_words(2, 2, [0; tree_words(2, 2)], [2, 0, 0, 0, 0], true);
     assert_eq!(tree.drain(9), Err(Stopped { refusal: Refusal::Damaged, cycles: 0 }));
-    assert_eq!(tree.into_words(), ([0; 18], [2, 0, 0, 0], true));
+    assert_eq!(tree.into_words(), ([0; tree_words(2, 2)], [2, 0, 0, 0, 0], true));
     // a put that goes on below, into a node that lacks nothing but is damaged: one cycle runs
     let mut words = [0; tree_words(2, 3)];
-    words[6..12].copy_from_slice(&[1, 1, 1, 1, 1, 1]);
-    words[18] = 7;
-    let mut tree = Clocked::from_words(2, 3, words, [1, 0, 5, 5, 0, 0, 0, 0], false);
+    words[8..16].copy_from_slice(&[1; 8]);
+    words[24] = 7;
+    let mut tree = Clocked::from_words(2, 3, words, [1, 0, 5, 5, 5, 0, 0, 0, 0, 0], false);
     assert_eq!(tree.drain(9), Err(Stopped { refusal: Refusal::Damaged, cycles: 1 }));
     let stopped = Stopped { refusal: Refusal::Damaged, cycles: 1 };
     assert_eq!((Refusal::from(stopped), stopped.to_string()), (Refusal::Damaged, "damaged after 1 cycles".into()));
-    let mut short = Clocked::from_words(2, 3, [0; 3], [0; 8], false);
+    let mut short = Clocked::from_words(2, 3, [0; 3], [0; record_words(3)], false);
     assert_eq!(short.drain(9), Err(Stopped { refusal: Refusal::BadShape, cycles: 0 }));
 }
 
@@ -215,18 +220,18 @@ fn sizes_are_the_models_and_the_shapes_that_are_taken() {
     levels.extend([63, 64, 65, 1 << 16, 1 << 30, 1 << 31, u32::MAX - 1, u32::MAX]);
     let mut orders: Vec<u32> = (0..20).collect();
     orders.extend([32, 64, 1 << 16, 1 << 31, (1 << 31) + 2, u32::MAX]);
-    let mut store = vec![0; 3 * 349_524];
+    let mut store = vec![0; 4 * 349_524];
     for &order in &orders {
         for &l in &levels {
             let model = models::tree::Shape::new(order, l).map_or(0, |shape| shape.capacity() as usize);
-            assert_eq!((tree_slots(order, l), tree_words(order, l)), (model, 3 * model), "order {order}, levels {l}");
-            assert_eq!(calls::tree_words(order, l) as usize, 3 * model, "order {order}, levels {l}");
+            assert_eq!((tree_slots(order, l), tree_words(order, l)), (model, 4 * model), "order {order}, levels {l}");
+            assert_eq!(calls::tree_words(order, l) as usize, 4 * model, "order {order}, levels {l}");
             // the size is taken, one word less is not
             assert_eq!(calls::tree_clear(&mut store, order, l) == 0, model != 0);
             if model != 0 {
-                assert_eq!(calls::tree_clear(&mut store[..3 * model], order, l), 0);
-                assert_eq!(calls::tree_clear(&mut store[..3 * model - 1], order, l), 1);
-                assert_eq!(record_words(l), 4 * (l as usize - 1));
+                assert_eq!(calls::tree_clear(&mut store[..4 * model], order, l), 0);
+                assert_eq!(calls::tree_clear(&mut store[..4 * model - 1], order, l), 1);
+                assert_eq!(record_words(l), 5 * (l as usize - 1));
             }
         }
     }
@@ -252,5 +257,8 @@ fn every_refusal_has_its_number_and_name() {
     }
     assert_eq!((Refusal::of(0), Refusal::of(8), Refusal::of(u32::MAX)), (None, None, None));
     let error: Box<dyn std::error::Error> = Box::new(Refusal::Full);
-    assert_eq!((error.to_string(), element(1, 2).tag), ("full".into(), Tag(2)));
+    assert_eq!(
+        (error.to_string(), (element(1, 2, 3).tag, element(1, 2, 3).length)),
+        ("full".into(), (Tag(2), Length(3)))
+    );
 }

@@ -9,12 +9,18 @@ use crate::clocked::{self, Request, Work};
 use crate::tree::{self, Shape};
 use crate::{bucket, element, shape_cause, Causes, Element, No};
 
-/// The words of one record: kind, node, rank, tag.
-pub const RECORD: usize = 4;
+/// The words of one record: kind, node, rank, tag, length.
+pub const RECORD: usize = 5;
+
+/// The words of an answer: rank, tag, length.
+pub const OUT: usize = 3;
+
+/// The words of a drain's answer: the cycles run, and whether work is left.
+const DRAIN_OUT: usize = 2;
 
 /// A record as the boundary reads it. Numbers that the kind doesn't use are not read.
 fn read_record(words: &[u32]) -> Work {
-    let (node, x) = (words[1], element(words[2], words[3]));
+    let (node, x) = (words[1], element(words[2], words[3], words[4]));
     match words[0] {
         1 => Work::Put { node, x },
         2 => Work::Take { node },
@@ -29,10 +35,10 @@ fn read_record(words: &[u32]) -> Work {
 fn normalise(records: &mut [u32], pending: &[Work]) {
     for (k, work) in pending.iter().enumerate() {
         let words = match *work {
-            Work::Nothing => [0, 0, 0, 0],
-            Work::Put { node, x } => [1, node, x.rank, x.tag],
-            Work::Take { node } => [2, node, 0, 0],
-            Work::Swap { node, x } => [3, node, x.rank, x.tag],
+            Work::Nothing => [0, 0, 0, 0, 0],
+            Work::Put { node, x } => [1, node, x.rank, x.tag, x.length],
+            Work::Take { node } => [2, node, 0, 0, 0],
+            Work::Swap { node, x } => [3, node, x.rank, x.tag, x.length],
         };
         records[RECORD * k..RECORD * k + RECORD].copy_from_slice(&words);
     }
@@ -79,7 +85,7 @@ fn tell<const NEED: usize>(result: Result<[u32; NEED], No>, out: &mut [u32]) -> 
 }
 
 fn answer(result: Result<Element, No>, out: &mut [u32]) -> Result<(), No> {
-    tell(result.map(|x| [x.rank, x.tag]), out)
+    tell::<OUT>(result.map(|x| [x.rank, x.tag, x.length]), out)
 }
 
 fn count(result: Result<u32, No>, out: &mut [u32]) -> Result<(), No> {
@@ -89,21 +95,22 @@ fn count(result: Result<u32, No>, out: &mut [u32]) -> Result<(), No> {
 /// A call of the library.
 pub fn call(k: &Call, s: Slices<'_>) -> Result<(), No> {
     let Slices { words, bits, records, mark, out } = s;
-    let (order, levels, storeys, nodes, rank, tag) = (k.order, k.levels, k.storeys, k.nodes, k.rank, k.tag);
+    let (order, levels, storeys, nodes) = (k.order, k.levels, k.storeys, k.nodes);
+    let (rank, tag, length) = (k.rank, k.tag, k.length);
     match k.op {
         Op::TreeClear => tree_clear(words, order, levels),
-        Op::TreePush => tree_push(words, order, levels, rank, tag),
+        Op::TreePush => tree_push(words, order, levels, rank, tag, length),
         Op::TreePop => tree_pop(words, order, levels, out),
-        Op::TreeReplace => tree_replace(words, order, levels, rank, tag, out),
+        Op::TreeReplace => tree_replace(words, order, levels, rank, tag, length, out),
         Op::TreeHeld => tree_held(words, order, levels, out),
         Op::BucketClear => bucket_clear(bits, words, storeys, nodes),
-        Op::BucketPush => bucket_push(bits, words, storeys, nodes, rank, tag),
+        Op::BucketPush => bucket_push(bits, words, storeys, nodes, rank, tag, length),
         Op::BucketPop => bucket_pop(bits, words, storeys, nodes, out),
-        Op::BucketReplace => bucket_replace(bits, words, storeys, nodes, rank, tag, out),
+        Op::BucketReplace => bucket_replace(bits, words, storeys, nodes, rank, tag, length, out),
         Op::BucketHeld => bucket_held(bits, words, storeys, nodes, out),
         Op::ClockedClear => clocked_clear(words, order, levels, records, mark),
         Op::CycleIdle | Op::CyclePush | Op::CyclePop | Op::CycleReplace | Op::CycleOther => {
-            clocked_cycle(words, order, levels, records, mark, k.request, rank, tag, out)
+            clocked_cycle(words, order, levels, records, mark, k.request, rank, tag, length, out)
         }
         Op::ClockedDrain => clocked_drain(words, order, levels, records, mark, k.budget, out),
         Op::ClockedHeld => clocked_held(words, order, levels, out),
@@ -114,12 +121,12 @@ pub fn tree_clear(store: &mut [u32], order: u32, levels: u32) -> Result<(), No> 
     tree::clear(store, order, levels)
 }
 
-pub fn tree_push(store: &mut [u32], order: u32, levels: u32, rank: u32, tag: u32) -> Result<(), No> {
-    tree::push(store, order, levels, element(rank, tag))
+pub fn tree_push(store: &mut [u32], order: u32, levels: u32, rank: u32, tag: u32, length: u32) -> Result<(), No> {
+    tree::push(store, order, levels, element(rank, tag, length))
 }
 
 pub fn tree_pop(store: &mut [u32], order: u32, levels: u32, out: &mut [u32]) -> Result<(), No> {
-    let fault = out_fault(out, 2);
+    let fault = out_fault(out, OUT);
     if fault != 0 {
         return answer(Err(No::BadShape(fault)), out);
     }
@@ -132,13 +139,14 @@ pub fn tree_replace(
     levels: u32,
     rank: u32,
     tag: u32,
+    length: u32,
     out: &mut [u32],
 ) -> Result<(), No> {
-    let fault = out_fault(out, 2);
+    let fault = out_fault(out, OUT);
     if fault != 0 {
         return answer(Err(No::BadShape(fault)), out);
     }
-    answer(tree::replace(store, order, levels, element(rank, tag)), out)
+    answer(tree::replace(store, order, levels, element(rank, tag, length)), out)
 }
 
 pub fn tree_held(store: &[u32], order: u32, levels: u32, out: &mut [u32]) -> Result<(), No> {
@@ -160,18 +168,13 @@ pub fn bucket_push(
     nodes: u32,
     rank: u32,
     tag: u32,
+    length: u32,
 ) -> Result<(), No> {
-    bucket::push(bits, words, storeys, nodes, element(rank, tag))
+    bucket::push(bits, words, storeys, nodes, element(rank, tag, length))
 }
 
-pub fn bucket_pop(
-    bits: &mut [u64],
-    words: &mut [u32],
-    storeys: u32,
-    nodes: u32,
-    out: &mut [u32],
-) -> Result<(), No> {
-    let fault = out_fault(out, 2);
+pub fn bucket_pop(bits: &mut [u64], words: &mut [u32], storeys: u32, nodes: u32, out: &mut [u32]) -> Result<(), No> {
+    let fault = out_fault(out, OUT);
     if fault != 0 {
         return answer(Err(No::BadShape(fault)), out);
     }
@@ -185,13 +188,14 @@ pub fn bucket_replace(
     nodes: u32,
     rank: u32,
     tag: u32,
+    length: u32,
     out: &mut [u32],
 ) -> Result<(), No> {
-    let fault = out_fault(out, 2);
+    let fault = out_fault(out, OUT);
     if fault != 0 {
         return answer(Err(No::BadShape(fault)), out);
     }
-    answer(bucket::replace(bits, words, storeys, nodes, element(rank, tag)), out)
+    answer(bucket::replace(bits, words, storeys, nodes, element(rank, tag, length)), out)
 }
 
 pub fn bucket_held(bits: &[u64], words: &[u32], storeys: u32, nodes: u32, out: &mut [u32]) -> Result<(), No> {
@@ -246,18 +250,19 @@ pub fn clocked_cycle(
     request: u32,
     rank: u32,
     tag: u32,
+    length: u32,
     out: &mut [u32],
 ) -> Result<(), No> {
     let shape = tree::shape(store, order, levels);
-    let c = faults(order, levels, records, mark, request) | out_fault(out, 2) | causes(shape.err());
+    let c = faults(order, levels, records, mark, request) | out_fault(out, OUT) | causes(shape.err());
     if c != 0 {
         return answer(Err(No::BadShape(c)), out);
     }
     let asked = match request {
         0 => Request::Idle,
-        1 => Request::Push(element(rank, tag)),
+        1 => Request::Push(element(rank, tag, length)),
         2 => Request::Pop,
-        _ => Request::Replace(element(rank, tag)),
+        _ => Request::Replace(element(rank, tag, length)),
     };
     let mut work = pending(levels, records);
     let mut on = mark[0] == 1;
@@ -280,9 +285,9 @@ pub fn clocked_drain(
     out: &mut [u32],
 ) -> Result<(), No> {
     let shape = tree::shape(store, order, levels);
-    let c = faults(order, levels, records, mark, 0) | out_fault(out, 2) | causes(shape.err());
+    let c = faults(order, levels, records, mark, 0) | out_fault(out, DRAIN_OUT) | causes(shape.err());
     if c != 0 {
-        return answer(Err(No::BadShape(c)), out);
+        return tell::<DRAIN_OUT>(Err(No::BadShape(c)), out);
     }
     let mut work = pending(levels, records);
     let mut on = mark[0] == 1;
@@ -291,7 +296,7 @@ pub fn clocked_drain(
         normalise(records, &work);
         mark[0] = on as u32;
     }
-    tell(Ok([drained.cycles, drained.work_left as u32]), out)?;
+    tell::<DRAIN_OUT>(Ok([drained.cycles, drained.work_left as u32]), out)?;
     drained.refused.map_or(Ok(()), Err)
 }
 

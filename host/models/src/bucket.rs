@@ -115,9 +115,9 @@ pub fn bits(storeys: u32) -> usize {
     }
 }
 
-/// The 32-bit words for N nodes: as many heads as ranks, as many tails, N pairs of tag and next, free, held.
+/// The 32-bit words for N nodes: as many heads as ranks, as many tails, N nodes of tag, length and next, free, held.
 pub fn words(storeys: u32, n: u64) -> u64 {
-    2 * ranks(storeys) as u64 + 2 * n + 2
+    2 * ranks(storeys) as u64 + 3 * n + 2
 }
 
 /// The lent store. Each change is noted, so that it can be taken back.
@@ -161,16 +161,19 @@ impl<'a> Pool<'a> {
         ranks(self.storeys) + rank as usize
     }
     fn tag_at(&self, link: u32) -> usize {
-        2 * ranks(self.storeys) + 2 * (link as usize - 1)
+        2 * ranks(self.storeys) + 3 * (link as usize - 1)
+    }
+    fn length_at(&self, link: u32) -> usize {
+        self.tag_at(link) + 1
     }
     fn next_at(&self, link: u32) -> usize {
-        2 * ranks(self.storeys) + 2 * (link as usize - 1) + 1
+        self.tag_at(link) + 2
     }
     fn free_at(&self) -> usize {
-        2 * ranks(self.storeys) + 2 * self.n as usize
+        2 * ranks(self.storeys) + 3 * self.n as usize
     }
     fn held_at(&self) -> usize {
-        2 * ranks(self.storeys) + 2 * self.n as usize + 1
+        self.free_at() + 1
     }
 
     fn head(&self, rank: u32) -> u32 {
@@ -181,6 +184,9 @@ impl<'a> Pool<'a> {
     }
     fn tag(&self, link: u32) -> u32 {
         self.words[self.tag_at(link)]
+    }
+    fn length(&self, link: u32) -> u32 {
+        self.words[self.length_at(link)]
     }
     fn next(&self, link: u32) -> u32 {
         self.words[self.next_at(link)]
@@ -259,11 +265,8 @@ fn bucket(p: &Pool, rank: u32) -> Causes {
     // each word on the way up, and the bit above it
     for storey in 1..p.storeys {
         let lowest = storey == p.lowest_storey();
-        let (set, unset) = if lowest {
-            (cause::GROUP_SET, cause::GROUP_UNSET)
-        } else {
-            (cause::MIDDLE_SET, cause::MIDDLE_UNSET)
-        };
+        let (set, unset) =
+            if lowest { (cause::GROUP_SET, cause::GROUP_UNSET) } else { (cause::MIDDLE_SET, cause::MIDDLE_UNSET) };
         if p.bit(storey - 1, rank) && p.word(storey, rank) == 0 {
             c |= set;
         }
@@ -351,7 +354,7 @@ fn push_tests(p: &Pool, rank: u32) -> Result<(), Causes> {
 /// Takes the head of this rank: the lowest, tested.
 fn pop_writes(p: &mut Pool, rank: u32) -> Element {
     let link = p.head(rank);
-    let answer = Element { rank, tag: p.tag(link) };
+    let answer = Element { rank, tag: p.tag(link), length: p.length(link) };
     let next = p.next(link);
     let (head_at, tail_at) = (p.head_at(rank), p.tail_at(rank));
     p.set_word(head_at, next);
@@ -367,10 +370,11 @@ fn pop_writes(p: &mut Pool, rank: u32) -> Element {
             }
         }
     }
-    // the freed node gets tag 0 and becomes first in the free chain
+    // the freed node gets tag 0 and length 0 and becomes first in the free chain
     let free = p.free();
-    let (tag_at, next_at) = (p.tag_at(link), p.next_at(link));
+    let (tag_at, length_at, next_at) = (p.tag_at(link), p.length_at(link), p.next_at(link));
     p.set_word(tag_at, 0);
+    p.set_word(length_at, 0);
     p.set_word(next_at, free);
     let (free_at, held_at, held) = (p.free_at(), p.held_at(), p.held());
     p.set_word(free_at, link);
@@ -384,9 +388,11 @@ fn push_writes(p: &mut Pool, x: Element) {
     let tail = p.tail(x.rank);
     let (free_at, held_at, held) = (p.free_at(), p.held_at(), p.held());
     let next = p.next(link);
-    let (tag_at, next_at, tail_at) = (p.tag_at(link), p.next_at(link), p.tail_at(x.rank));
+    let (tag_at, length_at, next_at) = (p.tag_at(link), p.length_at(link), p.next_at(link));
+    let tail_at = p.tail_at(x.rank);
     p.set_word(free_at, next);
     p.set_word(tag_at, x.tag);
+    p.set_word(length_at, x.length);
     p.set_word(next_at, 0);
     let link_at = if tail == 0 { p.head_at(x.rank) } else { p.next_at(tail) };
     p.set_word(link_at, link);
@@ -426,9 +432,9 @@ pub fn clear(bits: &mut [u64], words: &mut [u32], storeys: u32, nodes: u32) -> R
     let first = 2 * ranks(storeys);
     // node i has the link i + 1; its next names the node after it, the last none
     for i in 0..nodes as usize - 1 {
-        words[first + 2 * i + 1] = i as u32 + 2;
+        words[first + 3 * i + 2] = i as u32 + 2;
     }
-    words[first + 2 * nodes as usize] = 1;
+    words[first + 3 * nodes as usize] = 1;
     Ok(())
 }
 
@@ -503,7 +509,7 @@ pub fn replace(bits: &mut [u64], words: &mut [u32], storeys: u32, nodes: u32, x:
 
 pub fn held(bits: &[u64], words: &[u32], storeys: u32, nodes: u32) -> Result<u32, No> {
     shape(bits.len(), words.len(), storeys, nodes)?;
-    let behind = 2 * ranks(storeys) + 2 * nodes as usize;
+    let behind = 2 * ranks(storeys) + 3 * nodes as usize;
     let (free, held) = (words[behind], words[behind + 1]);
     let c = whole(bits[0], free, held, nodes);
     if c != 0 {

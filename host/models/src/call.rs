@@ -98,6 +98,7 @@ pub struct Call {
     pub nodes: u32,
     pub rank: u32,
     pub tag: u32,
+    pub length: u32,
     pub request: u32,
     pub budget: u32,
     pub words: usize,
@@ -117,13 +118,14 @@ impl Call {
             nodes: 0,
             rank: 0,
             tag: 0,
+            length: 0,
             request: 0,
             budget: 0,
             words,
             bits: 0,
             records: 0,
             mark: 0,
-            out: 2,
+            out: 3,
         }
     }
     pub fn bucket(op: Op, storeys: u32, nodes: u32, bits: usize, words: usize) -> Call {
@@ -146,9 +148,10 @@ impl Call {
         call.mark = 1;
         call
     }
-    pub fn with(mut self, rank: u32, tag: u32) -> Call {
+    pub fn with(mut self, rank: u32, tag: u32, length: u32) -> Call {
         self.rank = rank;
         self.tag = tag;
+        self.length = length;
         self
     }
     pub fn budget(mut self, budget: u32) -> Call {
@@ -174,7 +177,7 @@ impl Call {
         if self.op == Op::ClockedDrain {
             s += &format!(", budget {}", self.budget);
         }
-        s + &format!(", rank {}, tag {}, out of {})", self.rank, self.tag, self.out)
+        s + &format!(", rank {}, tag {}, length {}, out of {})", self.rank, self.tag, self.length, self.out)
     }
 }
 

@@ -15,16 +15,17 @@ pub mod rng;
 pub mod trace;
 pub mod tree;
 
-/// An element: a rank and a tag.
+/// An element: a rank, a tag and a length, which travels with them and decides nothing.
 #[derive(Clone, Copy, PartialEq, Eq, PartialOrd, Ord, Debug, Default)]
 pub struct Element {
     pub rank: u32,
     pub tag: u32,
+    pub length: u32,
 }
 
-/// An element of this rank and this tag.
-pub fn element(rank: u32, tag: u32) -> Element {
-    Element { rank, tag }
+/// An element of this rank, this tag and this length.
+pub fn element(rank: u32, tag: u32, length: u32) -> Element {
+    Element { rank, tag, length }
 }
 
 /// A set of causes: which of a test's clauses was not met, one bit for each.
@@ -77,7 +78,7 @@ pub mod shape_cause {
     pub const MARK_SHORT: Causes = 32;
     /// The mark's word is above 1.
     pub const MARK_WORD: Causes = 64;
-    /// `records` has less than four words for each level from 2.
+    /// `records` has less than five words for each level from 2.
     pub const RECORDS: Causes = 128;
     /// A record's kind is above 3.
     pub const KIND: Causes = 256;

@@ -1,6 +1,6 @@
 //! A plain sorted list: lowest rank first, first in first out within a rank.
 
-use crate::{element, Element};
+use crate::Element;
 
 #[derive(Clone, Debug, Default)]
 pub struct SortedList {
@@ -45,7 +45,7 @@ impl SortedList {
         let from = self.held.partition_point(|e| e.rank < x.rank);
         let mut at = from;
         while at < self.held.len() && self.held[at].rank == x.rank {
-            if self.held[at] == element(x.rank, x.tag) {
+            if self.held[at] == x {
                 self.held.remove(at);
                 return true;
             }

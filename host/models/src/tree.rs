@@ -5,7 +5,7 @@ use crate::{shape_cause, Causes, Element, No};
 /// The highest capacity that is taken.
 pub const MOST: u64 = 87_380;
 
-/// What a node can break, and where it was read: the bit is `clause << (6 * place)`.
+/// What a node can break, and where it was read: the bit is `clause << (7 * place)`.
 pub mod cause {
     use crate::Causes;
     /// A count above one plus the room below the slot.
@@ -14,12 +14,14 @@ pub mod cause {
     pub const RANK: Causes = 2;
     /// Count 0 and a tag that is not 0.
     pub const TAG: Causes = 4;
+    /// Count 0 and a length that is not 0.
+    pub const LENGTH: Causes = 8;
     /// A put finds every count at one plus the room below.
-    pub const FULL: Causes = 8;
+    pub const FULL: Causes = 16;
     /// A take, a swap or a read for the lowest finds an empty node.
-    pub const EMPTY: Causes = 16;
+    pub const EMPTY: Causes = 32;
     /// A pending record names a node that its level lacks.
-    pub const RANGE: Causes = 32;
+    pub const RANGE: Causes = 64;
 
     /// The root.
     pub const ROOT: u32 = 0;
@@ -36,7 +38,7 @@ pub mod cause {
     pub const UNDER_SWAP: u32 = 7;
 
     pub fn at(place: u32, clauses: Causes) -> Causes {
-        clauses << (6 * place)
+        clauses << (7 * place)
     }
 
     pub fn name(bit: u32) -> String {
@@ -49,15 +51,16 @@ pub mod cause {
             "pending swap",
             "below a pending take",
             "below a pending swap",
-        ][(bit / 6) as usize];
+        ][(bit / 7) as usize];
         let clause = [
             "count too high",
             "empty slot with a rank",
             "empty slot with a tag",
+            "empty slot with a length",
             "put into a full node",
             "empty node",
             "no such node",
-        ][(bit % 6) as usize];
+        ][(bit % 7) as usize];
         format!("{place}: {clause}")
     }
 }
@@ -106,6 +109,11 @@ impl Shape {
         self.powers(self.levels)
     }
 
+    /// The words of a store.
+    pub fn words(&self) -> usize {
+        SLOT * self.capacity() as usize
+    }
+
     /// The number of nodes of a level (levels count from 1): M to the power level − 1.
     pub fn nodes(&self, level: u64) -> u64 {
         let mut power = 1;
@@ -122,24 +130,28 @@ impl Shape {
 
     /// The place in the slice of the first word of a slot.
     pub fn word(&self, level: u64, node: u64, slot: u64) -> usize {
-        ((self.powers(level - 1) + node * self.order + slot) * 3) as usize
+        (self.powers(level - 1) + node * self.order + slot) as usize * SLOT
     }
 }
 
-/// A slot's three words.
+/// The words of a slot: rank, tag, length, count.
+pub const SLOT: usize = 4;
+
+/// A slot's four words.
 #[derive(Clone, Copy, PartialEq, Eq, Debug, Default)]
 pub struct Slot {
     pub rank: u32,
     pub tag: u32,
+    pub length: u32,
     pub count: u32,
 }
 
 impl Slot {
     pub fn element(&self) -> Element {
-        Element { rank: self.rank, tag: self.tag }
+        Element { rank: self.rank, tag: self.tag, length: self.length }
     }
     pub fn holding(x: Element, count: u32) -> Slot {
-        Slot { rank: x.rank, tag: x.tag, count }
+        Slot { rank: x.rank, tag: x.tag, length: x.length, count }
     }
 }
 
@@ -159,7 +171,7 @@ impl Node {
         let mut broken = 0;
         for j in 0..shape.order {
             let w = shape.word(level, node, j);
-            let slot = Slot { rank: store[w], tag: store[w + 1], count: store[w + 2] };
+            let slot = Slot { rank: store[w], tag: store[w + 1], length: store[w + 2], count: store[w + 3] };
             if slot.count as u64 > limit {
                 broken |= cause::COUNT;
             }
@@ -168,6 +180,9 @@ impl Node {
             }
             if slot.count == 0 && slot.tag != 0 {
                 broken |= cause::TAG;
+            }
+            if slot.count == 0 && slot.length != 0 {
+                broken |= cause::LENGTH;
             }
             slots[j as usize] = slot;
         }
@@ -241,7 +256,8 @@ impl Writes {
         for (w, slot) in self.0 {
             store[w] = slot.rank;
             store[w + 1] = slot.tag;
-            store[w + 2] = slot.count;
+            store[w + 2] = slot.length;
+            store[w + 3] = slot.count;
         }
     }
 }
@@ -334,7 +350,7 @@ fn swap(shape: Shape, store: &[u32], level: u64, node: u64, x: Element, w: &mut 
 /// Refusal 1: order, levels, and the slice's length in words.
 pub fn shape(store: &[u32], order: u32, levels: u32) -> Result<Shape, No> {
     let shape = Shape::new(order, levels).ok_or(No::BadShape(shape_cause::NUMBERS))?;
-    if (store.len() as u64) < 3 * shape.capacity() {
+    if store.len() < shape.words() {
         return Err(No::BadShape(shape_cause::STORE));
     }
     Ok(shape)
@@ -347,7 +363,7 @@ pub fn root(shape: Shape, store: &[u32]) -> Result<Node, No> {
 
 pub fn clear(store: &mut [u32], order: u32, levels: u32) -> Result<(), No> {
     let shape = shape(store, order, levels)?;
-    for word in &mut store[..(3 * shape.capacity()) as usize] {
+    for word in &mut store[..shape.words()] {
         *word = 0;
     }
     Ok(())

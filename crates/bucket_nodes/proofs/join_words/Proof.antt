@@ -66,6 +66,9 @@ mul-words-3 c = search needs
 slice-write-words-3 : tie.Need-slice-write-words-3
 slice-write-words-3 c = simp length-set (omega arith)
 
+add-words-3 : tie.Need-add-words-3
+add-words-3 c = search needs
+
 mul-words-4 : tie.Need-mul-words-4
 mul-words-4 c = search needs
 
@@ -78,20 +81,26 @@ mul-words-5 c = search needs
 slice-write-words-5 : tie.Need-slice-write-words-5
 slice-write-words-5 c = simp length-set (omega arith)
 
-add-words-3 : tie.Need-add-words-3
-add-words-3 c = search needs
-
 mul-words-6 : tie.Need-mul-words-6
 mul-words-6 c = search needs
 
 slice-write-words-6 : tie.Need-slice-write-words-6
 slice-write-words-6 c = simp length-set (omega arith)
 
+add-words-4 : tie.Need-add-words-4
+add-words-4 c = search needs
+
+mul-words-7 : tie.Need-mul-words-7
+mul-words-7 c = search needs
+
+slice-write-words-7 : tie.Need-slice-write-words-7
+slice-write-words-7 c = simp length-set (omega arith)
+
 same-length : tie.Need-same-length
 same-length c = simp length-set
 
 returns : tie.Need-returns
-returns c = joined-is (c .before .before .before .before .before .before .before .before .before .before .args .k) (c .before .before .before .before .before .before .before .before .before .before .args .words .now) (c .before .before .before .before .before .before .before .before .before .before .args .e) (c .before .before .before .before .before .before .before .before .before .before .args .to) _ (c .before .before .before .link-at .ensures .0)
+returns c = joined-is (c .before .before .before .before .before .before .before .before .before .before .before .args .k) (c .before .before .before .before .before .before .before .before .before .before .before .args .words .now) (c .before .before .before .before .before .before .before .before .before .before .before .args .e) (c .before .before .before .before .before .before .before .before .before .before .before .args .to) _ (c .before .before .before .link-at .ensures .0)
 
 pub join-words-spec : {M : Type 1} → statement M
 join-words-spec =
@@ -117,12 +126,15 @@ join-words-spec =
     add-words-2
     mul-words-3
     slice-write-words-3
+    add-words-3
     mul-words-4
     slice-write-words-4
     mul-words-5
     slice-write-words-5
-    add-words-3
     mul-words-6
     slice-write-words-6
+    add-words-4
+    mul-words-7
+    slice-write-words-7
     same-length
     returns)

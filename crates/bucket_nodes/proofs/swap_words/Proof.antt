@@ -7,11 +7,14 @@ use Rattle.bucket_nodes.proofs.swap_words.Statement.{statement}
 use Rattle.bucket_nodes.proofs.swap_words.Tie as tie
 
 -- the places of the writes
+abbrev st6 : tie.After-struct-known6 → tie.Start
+st6 c = c .before .before .before .before .before .before .before .before .before .before .before .before
+
 abbrev st7 : tie.After-struct-known7 → tie.Start
-st7 c = c .before .before .before .before .before .before .before .before .before .before .before .before
+st7 c = c .before .before .before .before .before .before .before .before .before .before .before .before .before
 
 abbrev st8 : tie.After-struct-known8 → tie.Start
-st8 c = c .before .before .before .before .before .before .before .before .before .before .before .before .before
+st8 c = c .before .before .before .before .before .before .before .before .before .before .before .before .before .before
 
 cast-head-at : tie.Need-cast-head-at
 cast-head-at c = search needs
@@ -38,7 +41,7 @@ cast-tail-at : tie.Need-cast-tail-at
 cast-tail-at c = search needs
 
 add-tail-at : tie.Need-add-tail-at
-add-tail-at c = search needs
+add-tail-at c = omega (arith, st6 c .pre .node .fits .words, st6 c .pre .node .fits .laid .lists, st6 c .pre .node .fits .laid .pool, st6 c .pre .node .fits .laid .held, st6 c .pre .rank<)
 
 cast-tail-at-2 : tie.Need-cast-tail-at-2
 cast-tail-at-2 c = search needs
@@ -47,7 +50,7 @@ add-tail-at-2 : tie.Need-add-tail-at-2
 add-tail-at-2 c = omega (arith, st7 c .pre .node .fits .words, st7 c .pre .node .fits .laid .lists, st7 c .pre .node .fits .laid .pool, st7 c .pre .node .fits .laid .held, st7 c .pre .node .high, st7 c .pre .from<, st7 c .pre .rank<, st7 c .pre .tail≤)
 
 mul-words : tie.Need-mul-words
-mul-words c = omega (arith, st7 c .pre .node .fits .words, st7 c .pre .node .fits .laid .lists, st7 c .pre .node .fits .laid .pool, st7 c .pre .node .fits .laid .held, st7 c .pre .node .high, st7 c .pre .from<, st7 c .pre .rank<, st7 c .pre .tail≤)
+mul-words c = omega (arith, st7 c .good .0, st7 c .pre .node .fits .words, st7 c .pre .node .fits .laid .lists, st7 c .pre .node .fits .laid .pool, st7 c .pre .node .fits .laid .held, st7 c .pre .node .high, st7 c .pre .from<, st7 c .pre .rank<, st7 c .pre .tail≤)
 
 slice-write-words : tie.Need-slice-write-words
 slice-write-words c = omega (arith, st7 c .pre .node .fits .words, st7 c .pre .node .fits .laid .lists, st7 c .pre .node .fits .laid .pool, st7 c .pre .node .fits .laid .held, st7 c .pre .node .high, st7 c .pre .from<, st7 c .pre .rank<, st7 c .pre .tail≤)
@@ -82,6 +85,9 @@ mul-words-4 c = omega (arith, st8 c .good .0, st8 c .pre .node .fits .words, st8
 slice-write-words-4 : tie.Need-slice-write-words-4
 slice-write-words-4 c = simp length-set (omega (arith, st8 c .pre .node .fits .words, st8 c .pre .node .fits .laid .lists, st8 c .pre .node .fits .laid .pool, st8 c .pre .node .fits .laid .held, st8 c .pre .node .high, st8 c .pre .from<, st8 c .pre .rank<, st8 c .pre .tail≤, c .before .before .before .before .link-at .ensures .1))
 
+add-words-4 : tie.Need-add-words-4
+add-words-4 c = omega (arith, st8 c .pre .node .fits .words, st8 c .pre .node .fits .laid .lists, st8 c .pre .node .fits .laid .pool, st8 c .pre .node .fits .laid .held, st8 c .pre .node .high, st8 c .pre .from<, st8 c .pre .rank<, st8 c .pre .tail≤, c .before .before .before .before .link-at .ensures .1)
+
 mul-words-5 : tie.Need-mul-words-5
 mul-words-5 c = omega (arith, st8 c .good .0, st8 c .pre .node .fits .words, st8 c .pre .node .fits .laid .lists, st8 c .pre .node .fits .laid .pool, st8 c .pre .node .fits .laid .held, st8 c .pre .node .high, st8 c .pre .from<, st8 c .pre .rank<, st8 c .pre .tail≤, c .before .before .before .before .link-at .ensures .1)
 
@@ -93,6 +99,12 @@ mul-words-6 c = omega (arith, st8 c .good .0, st8 c .pre .node .fits .words, st8
 
 slice-write-words-6 : tie.Need-slice-write-words-6
 slice-write-words-6 c = simp length-set (omega (arith, st8 c .pre .node .fits .words, st8 c .pre .node .fits .laid .lists, st8 c .pre .node .fits .laid .pool, st8 c .pre .node .fits .laid .held, st8 c .pre .node .high, st8 c .pre .from<, st8 c .pre .rank<, st8 c .pre .tail≤, c .before .before .before .before .link-at .ensures .1))
+
+mul-words-7 : tie.Need-mul-words-7
+mul-words-7 c = omega (arith, st8 c .good .0, st8 c .pre .node .fits .words, st8 c .pre .node .fits .laid .lists, st8 c .pre .node .fits .laid .pool, st8 c .pre .node .fits .laid .held, st8 c .pre .node .high, st8 c .pre .from<, st8 c .pre .rank<, st8 c .pre .tail≤, c .before .before .before .before .link-at .ensures .1)
+
+slice-write-words-7 : tie.Need-slice-write-words-7
+slice-write-words-7 c = simp length-set (omega (arith, st8 c .pre .node .fits .words, st8 c .pre .node .fits .laid .lists, st8 c .pre .node .fits .laid .pool, st8 c .pre .node .fits .laid .held, st8 c .pre .node .high, st8 c .pre .from<, st8 c .pre .rank<, st8 c .pre .tail≤, c .before .before .before .before .link-at .ensures .1))
 
 same-length : tie.Need-same-length
 same-length c = simp length-set
@@ -127,9 +139,12 @@ swap-words-spec =
     add-words-3
     mul-words-4
     slice-write-words-4
+    add-words-4
     mul-words-5
     slice-write-words-5
     mul-words-6
     slice-write-words-6
+    mul-words-7
+    slice-write-words-7
     same-length
     returns)

@@ -72,20 +72,29 @@ mul-words-4 c = search needs
 slice-write-words-4 : tie.Need-slice-write-words-4
 slice-write-words-4 c = simp length-set (omega arith)
 
+add-words-4 : tie.Need-add-words-4
+add-words-4 c = search needs
+
 mul-words-5 : tie.Need-mul-words-5
 mul-words-5 c = search needs
 
 slice-write-words-5 : tie.Need-slice-write-words-5
 slice-write-words-5 c = simp length-set (omega arith)
 
-sub-words : tie.Need-sub-words
-sub-words c = search needs
-
 mul-words-6 : tie.Need-mul-words-6
 mul-words-6 c = search needs
 
 slice-write-words-6 : tie.Need-slice-write-words-6
 slice-write-words-6 c = simp length-set (omega arith)
+
+sub-words : tie.Need-sub-words
+sub-words c = search needs
+
+mul-words-7 : tie.Need-mul-words-7
+mul-words-7 c = search needs
+
+slice-write-words-7 : tie.Need-slice-write-words-7
+slice-write-words-7 c = simp length-set (omega arith)
 
 same-length : tie.Need-same-length
 same-length c = simp length-set
@@ -119,10 +128,13 @@ take-words-spec =
     add-words-3
     mul-words-4
     slice-write-words-4
+    add-words-4
     mul-words-5
     slice-write-words-5
-    sub-words
     mul-words-6
     slice-write-words-6
+    sub-words
+    mul-words-7
+    slice-write-words-7
     same-length
     returns)

@@ -11,7 +11,7 @@ deep : (c : tie.Else1) → (leastStoreys ≤ c .before .before .args .storeys) �
 deep c = depths _ 0 _ (c .before .is-deep .ensures) (c .if1 .left)
 
 -- no more words than this
-few : (c : tie.After-queue-of) → c .queue-of .result .held ≤ 655361
+few : (c : tie.After-queue-of) → c .queue-of .result .held ≤ 720897
 few c = few-words _ (deep (c .before .before .before) .0) (deep (c .before .before .before) .1) _ _ (c .queue-of .ensures) (c .before .if3 .left)
 
 is-deep-requires : tie.Need-is-deep-requires

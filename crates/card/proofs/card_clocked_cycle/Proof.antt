@@ -27,7 +27,7 @@ known : (c : tie.Else2) → Taken (Start c .args .order) (Start c .args .levels)
 known c = is-taken _ _ _ _ _ _ _ (Shape-of c .shape-of .ensures) (tests c)
 
 returns : tie.Need-returns
-returns c = cycle-short _ _ _ _ _ _ _ _ _ (c .if1 .taken)
+returns c = cycle-short _ _ _ _ _ _ _ _ _ _ (c .if1 .taken)
 
 shape-of-requires : tie.Need-shape-of-requires
 shape-of-requires c κs = search needs
@@ -54,7 +54,7 @@ returns-2 c =
     let at-taken = at-if2 .before in
     let at-shape = at-taken .before .before .before in
     let at-if1 = at-shape .before in
-    cycle-refused _ _ _ _ _ _ _ _ _ (at-if1 .if1 .left) _ (at-taken .is-taken .ensures _ _ (at-shape .shape-of .ensures)) (at-if2 .if2 .taken) _ _ (at-tell .tell .ensures)
+    cycle-refused _ _ _ _ _ _ _ _ _ _ (at-if1 .if1 .left) _ (at-taken .is-taken .ensures _ _ (at-shape .shape-of .ensures)) (at-if2 .if2 .taken) _ _ (at-tell .tell .ensures)
 
 read-state-requires : tie.Need-read-state-requires
 read-state-requires c κs = known (c .before .before) .lent
@@ -102,7 +102,7 @@ returns-3 c =
     let at-read = at-request .before in
     let at-if2 = at-read .before .before .before in
     let at-if1 = at-if2 .before .before .before .before .before in
-    cycle-done _ _ _ _ _ _ (known at-if2) _ (at-if1 .if1 .left) _ _ _ (tests at-if2) _ _ _ _ _ _ _ _ _ _ (at-request .request-of .ensures) (at-read .read-state .ensures) (at-cycle .cycle-shaped .ensures) (at-run .has-run .ensures) (at-back .hand-back .ensures) (at-tell .tell2 .ensures)
+    cycle-done _ _ _ _ _ _ (known at-if2) _ (at-if1 .if1 .left) _ _ _ _ (tests at-if2) _ _ _ _ _ _ _ _ _ _ (at-request .request-of .ensures) (at-read .read-state .ensures) (at-cycle .cycle-shaped .ensures) (at-run .has-run .ensures) (at-back .hand-back .ensures) (at-tell .tell2 .ensures)
 
 pub card-clocked-cycle-spec : {M : Type 1} → statement M
 card-clocked-cycle-spec =

@@ -1,4 +1,6 @@
 -- `card::tell` meets its contract. Assumes nothing.
+use native.Mathlib.Omega.{arith}
+use lib.ListN.{length-set}
 use borrow.Author.Needs.{needs}
 use Rattle.card.proofs.tell.Statement.{statement}
 use Rattle.card.proofs.tell.Tie as tie
@@ -14,7 +16,10 @@ slice-write-out : tie.Need-slice-write-out
 slice-write-out c = search needs
 
 slice-write-out-2 : tie.Need-slice-write-out-2
-slice-write-out-2 c = search needs
+slice-write-out-2 c = simp length-set (omega arith)
+
+slice-write-out-3 : tie.Need-slice-write-out-3
+slice-write-out-3 c = search needs
 
 number-requires : tie.Need-number-requires
 number-requires c κs = search needs
@@ -28,4 +33,4 @@ returns c = (c .number .ensures, rw (c .before .given .ensures))
 pub tell-spec : {M : Type 1} → statement M
 tell-spec =
     tie.close
-    (tie.spec given-requires slice-write-out slice-write-out-2 number-requires same-length returns)
+    (tie.spec given-requires slice-write-out slice-write-out-2 slice-write-out-3 number-requires same-length returns)

@@ -8,7 +8,7 @@ use Rattle.cases.proofs.shapes.Tie as tie
 
 -- with every argument of the law written, nothing is counted out
 slice-aggregate-edges : tie.Need-slice-aggregate-edges
-slice-aggregate-edges c = sym (length-replicate {0} {A = ℕ} 1048572 0)
+slice-aggregate-edges c = sym (length-replicate {0} {A = ℕ} 1398096 0)
 
 edges-requires : tie.Need-edges-requires
 edges-requires c κs = search needs

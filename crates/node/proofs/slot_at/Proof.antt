@@ -22,14 +22,23 @@ mul-t c = search needs
 shared-slice-read-t : tie.Need-shared-slice-read-t
 shared-slice-read-t c = search needs
 
-add-t7 : tie.Need-add-t7
-add-t7 c = search needs
+add-l : tie.Need-add-l
+add-l c = search needs
 
-mul-t10 : tie.Need-mul-t10
-mul-t10 c = search needs
+mul-l : tie.Need-mul-l
+mul-l c = search needs
 
-shared-slice-read-t9 : tie.Need-shared-slice-read-t9
-shared-slice-read-t9 c = search needs
+shared-slice-read-l : tie.Need-shared-slice-read-l
+shared-slice-read-l c = search needs
+
+add-count : tie.Need-add-count
+add-count c = search needs
+
+mul-count : tie.Need-mul-count
+mul-count c = search needs
+
+shared-slice-read-count : tie.Need-shared-slice-read-count
+shared-slice-read-count c = search needs
 
 returns : tie.Need-returns
 unfolding slotOf
@@ -45,7 +54,10 @@ slot-at-spec =
     add-t
     mul-t
     shared-slice-read-t
-    add-t7
-    mul-t10
-    shared-slice-read-t9
+    add-l
+    mul-l
+    shared-slice-read-l
+    add-count
+    mul-count
+    shared-slice-read-count
     returns)

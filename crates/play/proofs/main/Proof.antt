@@ -4,7 +4,7 @@ use native.Mathlib.Omega.{arith}
 use mathlib.Core.Path.{_∙_, _≡_, sym}
 use lib.ListN.{length, length-replicate}
 use borrow.Author.Needs.{needs}
-use Rattle.trace.specs.Play.{outBytes, pieceBytes, programRecords}
+use Rattle.trace.specs.Play.{outBytes, pieceBytes, programLots}
 use Rattle.play.proofs.main.Statement.{statement}
 use Rattle.play.proofs.main.Tie as tie
 use Rattle.play.proofs.main.Reads as reads
@@ -16,7 +16,7 @@ fewer : (n : ℕ) → 0 < n → n - 1 < n
 fewer n h = omega arith
 
 abbrev Inv-loop : tie.InvT-loop
-Inv-loop store₀ bytes₀ out₀ play₀ left₀ store bytes out play left = (length store ≡ 12282) × (length bytes ≡ pieceBytes programRecords) × (length out ≡ outBytes programRecords)
+Inv-loop store₀ bytes₀ out₀ play₀ left₀ store bytes out play left = (length store ≡ 16376) × (length bytes ≡ pieceBytes programLots) × (length out ≡ outBytes programLots)
 
 abbrev μ-loop : tie.MeasureT-loop
 μ-loop store₀ bytes₀ out₀ play₀ left₀ store bytes out play left = left

@@ -8,7 +8,7 @@ use lib.Dec.{ltb}
 use lib.ListN.{length}
 use borrow.Author.Needs.{needs}
 use Rattle.trace.proofs.Pieces.{room-enough}
-use Rattle.trace.specs.Play.{Makes, outBytes, pieceBytes, pieceOf, pieceRun, programRecords, Run}
+use Rattle.trace.specs.Play.{Makes, outBytes, pieceBytes, pieceOf, pieceRun, programLots, Run}
 use Rattle.trace.specs.declared.Piece.{Piece}
 use Rattle.trace.specs.declared.Playing.{Playing}
 use Rattle.play.proofs.play_read.Statement.{statement}
@@ -17,12 +17,12 @@ use Rattle.play.proofs.play_read.Reads as reads
 use Rattle.play.proofs.play_read.Lts as lts
 use Rattle.trace.proofs.play.Reads as play-reads
 
-read-made : (bs : List ℕ) (p : Playing) (ws out : List ℕ) (r : Piece) (vs o : List ℕ) → length bs ≤ pieceBytes programRecords → length out ≡ outBytes programRecords
-    → Makes (pieceOf bs (ltb (length bs) (pieceBytes programRecords)) (length out) p ws) 0 out r vs o → Makes (pieceRun bs (ltb (length bs) (pieceBytes programRecords)) p ws) 0 out r vs o
+read-made : (bs : List ℕ) (p : Playing) (ws out : List ℕ) (r : Piece) (vs o : List ℕ) → length bs ≤ pieceBytes programLots → length out ≡ outBytes programLots
+    → Makes (pieceOf bs (ltb (length bs) (pieceBytes programLots)) (length out) p ws) 0 out r vs o → Makes (pieceRun bs (ltb (length bs) (pieceBytes programLots)) p ws) 0 out r vs o
 read-made bs p ws out r vs o h room m =
-    let last : Bool = ltb (length bs) (pieceBytes programRecords) in
+    let last : Bool = ltb (length bs) (pieceBytes programLots) in
     subst (λ (u : Run). Makes u 0 out r vs o)
-    (ap (λ (n : ℕ). pieceOf bs last n p ws) room ∙ room-enough programRecords (omega arith) bs last p ws h) m
+    (ap (λ (n : ℕ). pieceOf bs last n p ws) room ∙ room-enough programLots (omega arith) bs last p ws h) m
 
 play-requires : tie.Need-play-requires
 play-requires c κs = search needs

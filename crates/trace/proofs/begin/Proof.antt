@@ -47,7 +47,7 @@ same-length-2 : tie.Need-same-length-2
 same-length-2 c = search needs
 
 returns-3 : tie.Need-returns-3
-returns-3 c = begun-shape _ _ _ _ (c .before .before .before .before .before .before .before .before .if1 .left) _ (c .before .before .before .before .before .before .before .read-header .ensures) _ _ _ (c .before .before .before .before .before .header .given .1) (c .before .before .opened .ensures)
+returns-3 c = begun-shape _ _ _ _ (c .before .before .before .before .before .before .before .before .if1 .left) _ (c .before .before .before .before .before .before .before .read-header .ensures) _ _ _ _ (c .before .before .before .before .before .header .given .1) (c .before .before .opened .ensures)
 
 pub begin-spec : {M : Type 1} → statement M
 begin-spec =

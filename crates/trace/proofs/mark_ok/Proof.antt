@@ -16,12 +16,6 @@ shared-slice-read-result-2 c = search needs
 shared-slice-read-result-3 : tie.Need-shared-slice-read-result-3
 shared-slice-read-result-3 c = search needs
 
-shared-slice-read-result-4 : tie.Need-shared-slice-read-result-4
-shared-slice-read-result-4 c = search needs
-
-shared-slice-read-result-5 : tie.Need-shared-slice-read-result-5
-shared-slice-read-result-5 c = search needs
-
 returns : tie.Need-returns
 unfolding markOk
 returns c = refl
@@ -33,6 +27,4 @@ mark-ok-spec =
     shared-slice-read-result
     shared-slice-read-result-2
     shared-slice-read-result-3
-    shared-slice-read-result-4
-    shared-slice-read-result-5
     returns)

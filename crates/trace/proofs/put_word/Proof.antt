@@ -34,21 +34,21 @@ same-length c = search needs
 
 returns : tie.Need-returns
 unfolding wordOf
-returns c = laid-same _ _ _ _ _ _ (ap (wordOf (c .before .before .before .before .before .before .before .args .request)) (sym (c .before .before .before .before .enum-told .given .1))) (c .before .before .put-done .ensures)
+returns c = laid-same _ _ _ _ _ _ (ap (wordOf (c .before .before .before .before .before .before .before .args .version) (c .before .before .before .before .before .before .before .args .request)) (sym (c .before .before .before .before .enum-told .given .1))) (c .before .before .put-done .ensures)
 
 same-length-2 : tie.Need-same-length-2
 same-length-2 c = search needs
 
 returns-2 : tie.Need-returns-2
 unfolding wordOf
-returns-2 c = laid-same _ _ _ _ _ _ (ap (wordOf (c .before .before .before .before .before .before .before .before .args .request)) (sym (c .before .before .before .before .before .answer .given .1))) (c .before .before .put-out .ensures)
+returns-2 c = laid-same _ _ _ _ _ _ (ap (wordOf (c .before .before .before .before .before .before .before .before .args .version) (c .before .before .before .before .before .before .before .before .args .request)) (sym (c .before .before .before .before .before .answer .given .1))) (c .before .before .put-out .ensures)
 
 same-length-3 : tie.Need-same-length-3
 same-length-3 c = search needs
 
 returns-3 : tie.Need-returns-3
 unfolding wordOf
-returns-3 c = laid-same _ _ _ _ _ _ (ap (wordOf (c .before .before .before .before .before .before .before .before .args .request)) (sym (c .before .before .before .before .before .answer2 .given .1))) (c .before .before .put-refusal .ensures)
+returns-3 c = laid-same _ _ _ _ _ _ (ap (wordOf (c .before .before .before .before .before .before .before .before .args .version) (c .before .before .before .before .before .before .before .before .args .request)) (sym (c .before .before .before .before .before .answer2 .given .1))) (c .before .before .put-refusal .ensures)
 
 pub put-word-spec : {M : Type 1} → statement M
 put-word-spec =
