@@ -12,9 +12,10 @@ use Rattle.clocked_model.specs.Calls.{askedOk, clockedCleared, CycleOutcome, cy
 use Rattle.clocked_model.specs.Cycle.{cycleOk, cycleWords, quiet}
 use Rattle.clocked_model.specs.Records.{recordsAfter, worksOf}
 use Rattle.clocked_model.specs.declared.State.{State}
-use Rattle.clocked_steps.proofs.Works.{still-ok, still-records, still-words}
-use Rattle.clocked_steps.specs.Steps.{RulesRoot, RoomIs, Rooted, RootIn, RootPlanned, stateOf, turnedBy}
-use Rattle.clocked_steps.specs.declared.asked.RootStep.{RootStep}
+use Rattle.clocked_levels.proofs.Works.{still-ok, still-records, still-words}
+use Rattle.clocked_levels.specs.Steps.{Rooted, RootPlanned, stateOf, turnedBy}
+use Rattle.clocked_root.specs.Root.{RoomIs, RootIn, RulesRoot}
+use Rattle.clocked_root.specs.declared.RootStep.{RootStep}
 use Rattle.laws.specs.Tests.{and-assoc, and-right}
 use Rattle.node.proofs.Shapes.{shaped-levels, shaped-slots}
 use Rattle.node.proofs.Steps.{room-up}
@@ -26,7 +27,7 @@ use Rattle.strip.specs.declared.Answer.the-variants.{Done, Refused}
 use Rattle.strip.specs.declared.Refusal.the-variants.{Damaged}
 use Rattle.strip.specs.declared.Request.{Request}
 use Rattle.tree.proofs.Calls.{shape-few}
-use Rattle.tree.specs.Down.{Lies}
+use Rattle.tree_paths.specs.Down.{Lies}
 use Rattle.tree_model.proofs.Exactly.{shape-is}
 use Rattle.tree_model.proofs.Nothing.{is-none, work-none}
 use Rattle.tree_model.proofs.Place.{fine-here}

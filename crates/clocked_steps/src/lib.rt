@@ -7,48 +7,27 @@ ghost use lib.ListN.{length};
 ghost use Rattle.tree_model.specs.Calls.{shapeOk};
 ghost use Rattle.tree_model.specs.Words.{slotWords, wipe};
 ghost use Rattle.clocked_model.specs.Calls.{cycleOutcome, cycled, fresh, drainOutcome, drains};
-ghost use Rattle.clocked_steps.specs.Steps.{RoomIs, stateOf};
-
-mod asked;
-mod levels;
-mod records;
-
-use asked::is_refused;
-use asked::leaves_mark;
-use asked::rule_root;
+ghost use Rattle.clocked_root.specs.Root.{RoomIs};
+pub use clocked_levels::left_as;
+use clocked_levels::ran;
+use clocked_levels::records::is_nothing;
+use clocked_levels::records::is_quiet;
+use clocked_levels::records::no_work;
+use clocked_levels::turn;
 use clocked_model::Cycled;
 use clocked_model::Drained;
 use clocked_model::RECORDS;
 use clocked_model::State;
-use levels::turn;
+use clocked_root::is_refused;
+use clocked_root::leaves_mark;
+use clocked_root::rule_root;
 use node::SLOT_WORDS;
 use node::zero_words;
-use records::is_nothing;
-use records::is_quiet;
-use records::no_work;
 use strip::Answer;
 use strip::Refusal;
 use strip::Request;
-use tree_model::Work;
 
 // ---- a cycle
-
-pub fn left_as(refusal: Refusal, state: State) -> Cycled
-    ensures { λ r. ⌜ (r .answer ≡ Answer.Refused refusal) × (r .state ≡ state) ⌝ }
-{
-    Cycled {
-        answer: Answer::Refused(refusal),
-        state,
-    }
-}
-
-// A cycle that has run.
-fn ran(answer: Answer, records: [Work; RECORDS], mark: bool) -> Cycled
-    ensures { λ r. ⌜ (r .answer ≡ answer) × (r .state ≡ stateOf records mark) ⌝ }
-{
-    let state = State { records, mark };
-    Cycled { answer, state }
-}
 
 pub fn cycle_shaped(
     store: &mut [u32],

@@ -1,6 +1,4 @@
-pub mod Scan
-pub mod Looks
-pub mod Leads
+pub mod Under
 pub mod Steps
 pub mod Rulings
 pub mod Shapes

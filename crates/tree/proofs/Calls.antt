@@ -11,7 +11,7 @@ use lib.ListN.{drop, length, replicate}
 use borrow.Author.Tests.{lt-ltb, not-false, not-true}
 use Rattle.laws.specs.Tests.{and-left, and-right, sub-one}
 use Rattle.node.proofs.Rulings.{pop-empty, pop-takes, push-full, push-puts, push-untagged, replace-empty, replace-swaps, replace-untagged}
-use Rattle.node.proofs.Scan.{low-found}
+use Rattle.node_scan.proofs.Scan.{low-found}
 use Rattle.node.proofs.Steps.{lowest-in, room-next, room-up, some-test}
 use Rattle.node.specs.Scan.{Capacity}
 use Rattle.strip.specs.Answers.{untagged}
@@ -37,8 +37,9 @@ use Rattle.tree_model.specs.Words.{applyWords, levelsOf, nodeOf, slotOf, slotWo
 use Rattle.tree_model.specs.declared.Op.{Op}
 use Rattle.tree_model.specs.declared.Op.the-variants.{Nothing, Put, Swap, Take}
 use Rattle.tree_model.specs.declared.Slot.{Slot}
-use Rattle.tree.specs.Down.{Bars, Carried, Looked, Placed, Stands}
-use Rattle.tree.proofs.Once.{below-ne, on-path, tested}
+use Rattle.tree_paths.proofs.Once.{below-ne, on-path, tested}
+use Rattle.tree_paths.specs.Down.{Carried, Looked, Placed, Stands}
+use Rattle.tree.specs.Untagged.{Bars}
 
 -- ---- the shape
 pub called-shape : (m levels : ℕ) (r : Request) (ws : List ℕ) (t : Bool) → t ≡ shapeOk m levels (length ws) → not t ≡ true → outcome (Refused BadShape) ws ≡ called m levels r ws

@@ -1,1 +1,1 @@
-pub mod Down
+pub mod Untagged

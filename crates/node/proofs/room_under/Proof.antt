@@ -1,7 +1,7 @@
 -- `node::room_under` meets its contract. Assumes nothing.
 use mathlib.Core.Path.{refl}
 use borrow.Author.Needs.{needs}
-use Rattle.node.proofs.Looks.{under-none, under-some}
+use Rattle.node.proofs.Under.{under-none, under-some}
 use Rattle.node.proofs.room_under.Statement.{statement}
 use Rattle.node.proofs.room_under.Tie as tie
 

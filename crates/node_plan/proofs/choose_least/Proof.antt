@@ -5,8 +5,8 @@ use Rattle.node_plan.proofs.choose_least.Statement.{statement}
 use Rattle.node_plan.proofs.choose_least.Tie as tie
 use Rattle.node_plan.proofs.choose_least.Reads as reads
 use Rattle.node_plan.proofs.choose_least.Lts as lts
-use Rattle.node.proofs.look_least.Reads as look-least-reads
-use Rattle.node.proofs.slot_at.Reads as slot-at-reads
+use Rattle.node_scan.proofs.look_least.Reads as look-least-reads
+use Rattle.node_slots.proofs.slot_at.Reads as slot-at-reads
 
 look-least-requires : tie.Need-look-least-requires
 look-least-requires c κs = search needs

@@ -6,8 +6,8 @@ use Rattle.node_plan.proofs.choose_low.Statement.{statement}
 use Rattle.node_plan.proofs.choose_low.Tie as tie
 use Rattle.node_plan.proofs.choose_low.Reads as reads
 use Rattle.node_plan.proofs.choose_low.Lts as lts
-use Rattle.node.proofs.look_low.Reads as look-low-reads
-use Rattle.node.proofs.slot_at.Reads as slot-at-reads
+use Rattle.node_scan.proofs.look_low.Reads as look-low-reads
+use Rattle.node_slots.proofs.slot_at.Reads as slot-at-reads
 use Rattle.strip.proofs.no_element.Reads as no-element-reads
 
 look-low-requires : tie.Need-look-low-requires

@@ -5,9 +5,9 @@ use Rattle.node_plan.proofs.plan_put.Statement.{statement}
 use Rattle.node_plan.proofs.plan_put.Tie as tie
 use Rattle.node_plan.proofs.plan_put.Reads as reads
 use Rattle.node_plan.proofs.plan_put.Lts as lts
-use Rattle.node.proofs.goes_down.Reads as goes-down-reads
+use Rattle.node_slots.proofs.goes_down.Reads as goes-down-reads
 use Rattle.node_plan.proofs.planned.Reads as planned-reads
-use Rattle.node.proofs.stays.Reads as stays-reads
+use Rattle.node_slots.proofs.stays.Reads as stays-reads
 
 planned-requires : tie.Need-planned-requires
 planned-requires c κs = search needs

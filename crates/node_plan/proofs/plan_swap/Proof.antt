@@ -9,7 +9,7 @@ use Rattle.node_plan.proofs.plan_swap.Statement.{statement}
 use Rattle.node_plan.proofs.plan_swap.Tie as tie
 use Rattle.node_plan.proofs.plan_swap.Reads as reads
 use Rattle.node_plan.proofs.plan_swap.Lts as lts
-use Rattle.node.proofs.lower.Reads as lower-reads
+use Rattle.node_slots.proofs.lower.Reads as lower-reads
 use Rattle.node_plan.proofs.choose_low.Reads as choose-low-reads
 use Rattle.node_plan.proofs.no_plan.Reads as no-plan-reads
 use Rattle.node_plan.proofs.planned.Reads as planned-reads

@@ -1,0 +1,39 @@
+-- `clocked_levels::records::is_nothing` meets its contract. Assumes nothing.
+use mathlib.Core.Path.{ap, sym}
+use borrow.Author.Needs.{needs}
+use Rattle.tree_model.specs.Node.{isNothing}
+use Rattle.clocked_levels.proofs.records.is_nothing.Statement.{statement}
+use Rattle.clocked_levels.proofs.records.is_nothing.Tie as tie
+
+enum-told : tie.Need-enum-told
+enum-told c = search needs
+
+enum-told-2 : tie.Need-enum-told-2
+enum-told-2 c = search needs
+
+enum-told-3 : tie.Need-enum-told-3
+enum-told-3 c = search needs
+
+enum-told-4 : tie.Need-enum-told-4
+enum-told-4 c = search needs
+
+returns : tie.Need-returns
+unfolding isNothing
+returns c = ap isNothing (sym (c .enum-told .given .1))
+
+returns-2 : tie.Need-returns-2
+unfolding isNothing
+returns-2 c = ap isNothing (sym (c .enum-told2 .given .1))
+
+returns-3 : tie.Need-returns-3
+unfolding isNothing
+returns-3 c = ap isNothing (sym (c .enum-told3 .given .1))
+
+returns-4 : tie.Need-returns-4
+unfolding isNothing
+returns-4 c = ap isNothing (sym (c .enum-told4 .given .1))
+
+pub is-nothing-spec : {M : Type 1} → statement M
+is-nothing-spec =
+    tie.close
+    (tie.spec enum-told enum-told-2 enum-told-3 enum-told-4 returns returns-2 returns-3 returns-4)

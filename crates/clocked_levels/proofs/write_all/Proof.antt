@@ -1,0 +1,59 @@
+-- `clocked_levels::write_all` meets its contract. Assumes nothing.
+use Prim.Native.Nat.{_-_, _≤_}
+use native.Mathlib.Omega.{arith}
+use mathlib.Core.Path.{_∙_, _≡_, refl}
+use lib.ListN.{length}
+use Rattle.clocked_levels.specs.Steps.{written}
+use Rattle.clocked_levels.proofs.Rounds.{written-next, written-none}
+use borrow.Author.Needs.{needs}
+use Rattle.clocked_levels.proofs.write_all.Statement.{statement}
+use Rattle.clocked_levels.proofs.write_all.Tie as tie
+
+abbrev Inv-loop : tie.InvT-loop
+Inv-loop s₀ count writes i₀ s i = (i ≤ count) × (length s ≡ length s₀) × (s ≡ written i writes s₀)
+
+abbrev μ-loop : tie.MeasureT-loop
+μ-loop s₀ count writes i₀ s i = count - i
+
+loop-holds : tie.Need-loop-holds Inv-loop μ-loop
+loop-holds c = (omega arith, refl, written-none _ _)
+
+mul-w : tie.Need-mul-w Inv-loop μ-loop
+mul-w c = omega (arith, c .before .before .before .pre .few)
+
+array-copy-out-w : tie.Need-array-copy-out-w Inv-loop μ-loop
+array-copy-out-w c = omega (arith, c .before .before .before .pre .few)
+
+write-slot-requires : tie.Need-write-slot-requires Inv-loop μ-loop
+write-slot-requires c κs = omega (arith, c .before .before .before .before .before .before .pre .inside (c .before .before .before .before .loop .i) (omega arith), c .before .before .before .before .loop .inv .1)
+
+add-i : tie.Need-add-i Inv-loop μ-loop
+add-i c = search needs
+
+loop-less : tie.Need-loop-less Inv-loop μ-loop
+loop-less c = search needs
+
+loop-again : tie.Need-loop-again Inv-loop μ-loop
+loop-again c = (omega arith, c .before .before .write-slot .kept .0 ∙ c .before .before .before .before .before .before .before .loop .inv .1, written-next _ _ _ _ _ (c .before .before .before .before .before .before .before .loop .inv .2) (c .before .before .write-slot .ensures))
+
+same-length : tie.Need-same-length Inv-loop μ-loop
+same-length c = c .before .loop .inv .1
+
+returns : tie.Need-returns Inv-loop μ-loop
+returns c = let e : c .before .loop .i ≡ c .before .before .before .args .count = omega arith in rw (← e) (c .before .loop .inv .2)
+
+pub write-all-spec : {M : Type 1} → statement M
+write-all-spec =
+    tie.close
+    (tie.spec
+    Inv-loop
+    μ-loop
+    loop-holds
+    mul-w
+    array-copy-out-w
+    write-slot-requires
+    add-i
+    loop-less
+    loop-again
+    same-length
+    returns)

@@ -1,0 +1,39 @@
+-- `clocked_root::pops_or_replaces` meets its contract. Assumes nothing.
+use mathlib.Core.Path.{ap, sym}
+use borrow.Author.Needs.{needs}
+use Rattle.clocked_model.specs.Calls.{popsOrReplaces}
+use Rattle.clocked_root.proofs.pops_or_replaces.Statement.{statement}
+use Rattle.clocked_root.proofs.pops_or_replaces.Tie as tie
+
+enum-told : tie.Need-enum-told
+enum-told c = search needs
+
+enum-told-2 : tie.Need-enum-told-2
+enum-told-2 c = search needs
+
+enum-told-3 : tie.Need-enum-told-3
+enum-told-3 c = search needs
+
+enum-told-4 : tie.Need-enum-told-4
+enum-told-4 c = search needs
+
+returns : tie.Need-returns
+unfolding popsOrReplaces
+returns c = ap popsOrReplaces (sym (c .enum-told .given .1))
+
+returns-2 : tie.Need-returns-2
+unfolding popsOrReplaces
+returns-2 c = ap popsOrReplaces (sym (c .enum-told2 .given .1))
+
+returns-3 : tie.Need-returns-3
+unfolding popsOrReplaces
+returns-3 c = ap popsOrReplaces (sym (c .enum-told3 .given .1))
+
+returns-4 : tie.Need-returns-4
+unfolding popsOrReplaces
+returns-4 c = ap popsOrReplaces (sym (c .enum-told4 .given .1))
+
+pub pops-or-replaces-spec : {M : Type 1} → statement M
+pops-or-replaces-spec =
+    tie.close
+    (tie.spec enum-told enum-told-2 enum-told-3 enum-told-4 returns returns-2 returns-3 returns-4)

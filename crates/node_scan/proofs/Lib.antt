@@ -1,0 +1,3 @@
+pub mod Scan
+pub mod Looks
+pub mod Leads

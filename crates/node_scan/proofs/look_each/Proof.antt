@@ -1,0 +1,80 @@
+-- `node_scan::look_each` meets its contract. Assumes nothing.
+use Prim.Native.Nat.{_-_, _≤_}
+use native.Mathlib.Omega.{arith}
+use mathlib.Core.Logic.{⊎-elim}
+use mathlib.Core.Path.{_≡_, refl}
+use borrow.Author.Needs.{needs}
+use borrow.Author.Tests.{ltb-false}
+use Rattle.tree_model.specs.Damage.{slotOk}
+use Rattle.tree_model.specs.Words.{nodeOf}
+use Rattle.node_scan.proofs.Leads.{each-looked, Sofar, sofar-start, turn-stays, turn-taken}
+use Rattle.node_scan.proofs.Scan.{every-next, everyTo}
+use Rattle.node_scan.proofs.look_each.Statement.{statement}
+use Rattle.node_scan.proofs.look_each.Tie as tie
+
+abbrev Inv-loop : tie.InvT-loop
+Inv-loop s at order room ok₀ best₀ low₀ j₀ ok best low j = (j ≤ order) × (ok ≡ everyTo (slotOk room) (nodeOf order s at) j) × Sofar (nodeOf order s at) j best low
+
+abbrev μ-loop : tie.MeasureT-loop
+μ-loop s at order room ok₀ best₀ low₀ j₀ ok best low j = order - j
+
+loop-holds : tie.Need-loop-holds Inv-loop μ-loop
+unfolding everyTo
+loop-holds c = (omega arith, refl, sofar-start _ _ _)
+
+add-slot-at : tie.Need-add-slot-at Inv-loop μ-loop
+add-slot-at c = search needs
+
+slot-at-requires : tie.Need-slot-at-requires Inv-loop μ-loop
+slot-at-requires c κs = search needs
+
+slot-ok-requires : tie.Need-slot-ok-requires Inv-loop μ-loop
+slot-ok-requires c κs = search needs
+
+turn-or-requires : tie.Need-turn-or-requires Inv-loop μ-loop
+turn-or-requires c κs = search needs
+
+add-j : tie.Need-add-j Inv-loop μ-loop
+add-j c = search needs
+
+loop-less : tie.Need-loop-less Inv-loop μ-loop
+loop-less c = search needs
+
+loop-again : tie.Need-loop-again Inv-loop μ-loop
+loop-again c =
+    let at-loop = c .before .before .before .before .before .before in
+    let inv = at-loop .loop .inv in
+    let read = c .before .before .before .slot-at .ensures in
+    let known = c .before .before .before .slot-at .ok in
+    let turn = c .before .turn-or .ensures in
+    let ok = every-next _ _ _ _ _ _ _ _ (search needs) (inv .1) read (c .before .before .slot-ok .ensures) in
+    ⊎-elim
+    (λ w. (omega arith, ok, turn-taken _ _ _ _ _ _ _ _ (search needs) (inv .2) read turn (omega (arith, known), omega (arith, known)) (w .0 .taken) _ _ (w .1) (w .2)))
+    (λ w. (omega arith, ok, turn-stays _ _ _ _ _ _ _ _ (search needs) (inv .2) read turn (omega (arith, known), omega (arith, known)) (w .0 .left) _ _ (w .1) (w .2)))
+    (c .if2 .came)
+
+returns : tie.Need-returns Inv-loop μ-loop
+returns c =
+    let at-loop = c .before .before in
+    let inv = at-loop .loop .inv in
+    each-looked _ _ _ _ _ _ _ _ (omega (arith, ltb-false (at-loop .loop .j) 8 (c .if1 .left))) (inv .1) (inv .2)
+
+returns-2 : tie.Need-returns-2 Inv-loop μ-loop
+returns-2 c = let inv = c .before .loop .inv in each-looked _ _ _ _ _ _ _ _ (omega arith) (inv .1) (inv .2)
+
+pub look-each-spec : {M : Type 1} → statement M
+look-each-spec =
+    tie.close
+    (tie.spec
+    Inv-loop
+    μ-loop
+    loop-holds
+    add-slot-at
+    slot-at-requires
+    slot-ok-requires
+    turn-or-requires
+    add-j
+    loop-less
+    loop-again
+    returns
+    returns-2)

@@ -1,0 +1,78 @@
+-- `node_scan::look_least` meets its contract. Assumes nothing.
+use Prim.Native.Nat.{_-_, _≤_}
+use native.Mathlib.Omega.{arith}
+use mathlib.Core.Logic.{⊎-elim}
+use mathlib.Core.Path.{_≡_}
+use borrow.Author.Needs.{needs}
+use borrow.Author.Tests.{ltb-false}
+use Rattle.tree_model.specs.Damage.{slotOk}
+use Rattle.tree_model.specs.Words.{nodeOf}
+use Rattle.node_scan.proofs.Looks.{few-stays, few-taken, least-looked}
+use Rattle.node_scan.proofs.Scan.{every-next, everyTo, fewest, scanLeast}
+use Rattle.node_scan.proofs.look_least.Statement.{statement}
+use Rattle.node_scan.proofs.look_least.Tie as tie
+
+abbrev Inv-loop : tie.InvT-loop
+Inv-loop s at order room ok₀ best₀ few₀ j₀ ok best few j = (j ≤ order) × (ok ≡ everyTo (slotOk room) (nodeOf order s at) j) × (best ≡ scanLeast (nodeOf order s at) j) × (few ≡ fewest (nodeOf order s at) j)
+
+abbrev μ-loop : tie.MeasureT-loop
+μ-loop s at order room ok₀ best₀ few₀ j₀ ok best few j = order - j
+
+loop-holds : tie.Need-loop-holds Inv-loop μ-loop
+unfolding everyTo scanLeast fewest
+loop-holds c = search needs
+
+add-slot-at : tie.Need-add-slot-at Inv-loop μ-loop
+add-slot-at c = search needs
+
+slot-at-requires : tie.Need-slot-at-requires Inv-loop μ-loop
+slot-at-requires c κs = search needs
+
+slot-ok-requires : tie.Need-slot-ok-requires Inv-loop μ-loop
+slot-ok-requires c κs = search needs
+
+cast-c : tie.Need-cast-c Inv-loop μ-loop
+cast-c c = search needs
+
+add-j : tie.Need-add-j Inv-loop μ-loop
+add-j c = search needs
+
+loop-less : tie.Need-loop-less Inv-loop μ-loop
+loop-less c = search needs
+
+loop-again : tie.Need-loop-again Inv-loop μ-loop
+loop-again c =
+    let at-loop = c .before .before .before .before .before .before in
+    let inv = at-loop .loop .inv in
+    let read = c .before .before .before .slot-at .ensures in
+    let ok = every-next _ _ _ _ _ _ _ _ (search needs) (inv .1) read (c .before .before .slot-ok .ensures) in
+    ⊎-elim
+    (λ w. let p = few-taken _ _ _ _ _ _ _ (search needs) (search needs) (inv .2) (inv .3) read (w .0 .taken) _ _ (w .1) (w .2) in (omega arith, ok, p .0, p .1))
+    (λ w. let p = few-stays _ _ _ _ _ _ _ (search needs) (search needs) (inv .2) (inv .3) read (w .0 .left) _ _ (w .1) (w .2) in (omega arith, ok, p .0, p .1))
+    (c .if2 .came)
+
+returns : tie.Need-returns Inv-loop μ-loop
+returns c =
+    let at-loop = c .before .before in
+    let inv = at-loop .loop .inv in
+    least-looked _ _ _ _ _ _ _ (omega (arith, ltb-false (at-loop .loop .j) 8 (c .if1 .left))) (inv .1) (omega arith) (inv .2)
+
+returns-2 : tie.Need-returns-2 Inv-loop μ-loop
+returns-2 c = let inv = c .before .loop .inv in least-looked _ _ _ _ _ _ _ (omega arith) (inv .1) (omega arith) (inv .2)
+
+pub look-least-spec : {M : Type 1} → statement M
+look-least-spec =
+    tie.close
+    (tie.spec
+    Inv-loop
+    μ-loop
+    loop-holds
+    add-slot-at
+    slot-at-requires
+    slot-ok-requires
+    cast-c
+    add-j
+    loop-less
+    loop-again
+    returns
+    returns-2)

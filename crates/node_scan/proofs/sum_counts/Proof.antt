@@ -1,0 +1,59 @@
+-- `node_scan::sum_counts` meets its contract. Assumes nothing.
+use Prim.Native.Nat.{_*_, _-_, _≤_}
+use native.Mathlib.Omega.{arith}
+use mathlib.Core.Path.{_≡_}
+use borrow.Author.Needs.{needs}
+use Rattle.node_scan.proofs.Scan.{sum-end, sum-next, sumCountsTo}
+use Rattle.tree_model.specs.Words.{nodeOf}
+use Rattle.node_scan.proofs.sum_counts.Statement.{statement}
+use Rattle.node_scan.proofs.sum_counts.Tie as tie
+
+abbrev Inv-loop : tie.InvT-loop
+Inv-loop s at order sum₀ j₀ sum j = (j ≤ order) × (sum ≤ 4294967296 * j) × (sum ≡ sumCountsTo (nodeOf order s at) j)
+
+abbrev μ-loop : tie.MeasureT-loop
+μ-loop s at order sum₀ j₀ sum j = order - j
+
+loop-holds : tie.Need-loop-holds Inv-loop μ-loop
+unfolding sumCountsTo
+loop-holds c = search needs
+
+add-slot-at : tie.Need-add-slot-at Inv-loop μ-loop
+add-slot-at c = search needs
+
+slot-at-requires : tie.Need-slot-at-requires Inv-loop μ-loop
+slot-at-requires c κs = search needs
+
+cast-sum : tie.Need-cast-sum Inv-loop μ-loop
+cast-sum c = search needs
+
+add-sum : tie.Need-add-sum Inv-loop μ-loop
+add-sum c = search needs
+
+add-j : tie.Need-add-j Inv-loop μ-loop
+add-j c = search needs
+
+loop-less : tie.Need-loop-less Inv-loop μ-loop
+loop-less c = search needs
+
+loop-again : tie.Need-loop-again Inv-loop μ-loop
+loop-again c = (omega arith, omega arith, sum-next _ _ _ _ _ _ (search needs) (c .before .before .before .loop .inv .2) (c .before .slot-at .ensures))
+
+returns : tie.Need-returns Inv-loop μ-loop
+returns c = sum-end _ _ _ _ _ (omega arith) (c .before .loop .inv .2)
+
+pub sum-counts-spec : {M : Type 1} → statement M
+sum-counts-spec =
+    tie.close
+    (tie.spec
+    Inv-loop
+    μ-loop
+    loop-holds
+    add-slot-at
+    slot-at-requires
+    cast-sum
+    add-sum
+    add-j
+    loop-less
+    loop-again
+    returns)

@@ -1,0 +1,20 @@
+-- `node_slots::goes_down` meets its contract. Assumes nothing.
+use mathlib.Core.Path.{_∙_, sym}
+use Rattle.tree_model.specs.Node.{pass}
+use borrow.Author.Needs.{needs}
+use Rattle.node_slots.proofs.goes_down.Statement.{statement}
+use Rattle.node_slots.proofs.goes_down.Tie as tie
+
+lower-requires : tie.Need-lower-requires
+lower-requires c κs = search needs
+
+returns : tie.Need-returns
+unfolding pass
+returns c = rw (← sym (c .if1 .taken) ∙ c .before .lower .ensures)
+
+returns-2 : tie.Need-returns-2
+unfolding pass
+returns-2 c = rw (← sym (c .if1 .left) ∙ c .before .lower .ensures)
+
+pub goes-down-spec : {M : Type 1} → statement M
+goes-down-spec = tie.close (tie.spec lower-requires returns returns-2)

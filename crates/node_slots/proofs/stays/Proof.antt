@@ -1,0 +1,20 @@
+-- `node_slots::stays` meets its contract. Assumes nothing.
+use mathlib.Core.Path.{_∙_, sym}
+use Rattle.tree_model.specs.Node.{keep}
+use borrow.Author.Needs.{needs}
+use Rattle.node_slots.proofs.stays.Statement.{statement}
+use Rattle.node_slots.proofs.stays.Tie as tie
+
+lower-requires : tie.Need-lower-requires
+lower-requires c κs = search needs
+
+returns : tie.Need-returns
+unfolding keep
+returns c = rw (← sym (c .if1 .taken) ∙ c .before .lower .ensures)
+
+returns-2 : tie.Need-returns-2
+unfolding keep
+returns-2 c = rw (← sym (c .if1 .left) ∙ c .before .lower .ensures)
+
+pub stays-spec : {M : Type 1} → statement M
+stays-spec = tie.close (tie.spec lower-requires returns returns-2)
