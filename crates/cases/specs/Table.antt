@@ -8,7 +8,7 @@ use Rattle.bucket_model.specs.CaseTag.{spoilt, spoiltCase, tagCase}
 use Rattle.bucket_model.specs.CaseWords.{filled, leftBy, lengthCase, popCase, popCaseBits, popCaseWords, replaceCase, replaceCaseBits, replaceCaseWords}
 use Rattle.bucket_model.specs.Layout.{queue}
 use Rattle.bucket_model.specs.Plain.{answersFrom, bucketAnswers, Store}
-use Rattle.clocked_model.specs.Cases.{caseEmpty, caseEmptySays, caseSix, caseSixSays, caseUntagged, caseUntaggedSays}
+use Rattle.clocked_model.specs.Cases.{caseEmpty, caseEmptySays, caseLost, caseLostSays, caseSix, caseSixSays, caseUntagged, caseUntaggedSays}
 use Rattle.clocked_model.specs.Cases as clock
 use Rattle.promise.specs.Queue.{answers}
 use Rattle.strip.specs.Answers.{countNumber, countOf, element, lengthOf, numberOf, rankOf, tagOf}
@@ -31,7 +31,7 @@ toldHeld c = (countNumber c, countOf c)
 
 -- a row: what is asked of a cleared queue, what it says, the words it leaves, and what held says then. A slice to begin with is garbage, and longer
 -- than needed. `bucketOn` asks it of a store that was not cleared, `bucketWords` of two storeys. `edge` has a shape's capacity and the number of a clear on any words that hold it. `wordsAre`,
--- `pendingAre` and `answersAre` hold a model crate's own case to what it should be: words, the record of level 2 with the words, and answers
+-- `pendingAre`, `answersAre` and `sums` hold a model crate's own case to what it should be: words, the record of level 2 with the words, answers, and counts
 pub data Row : Type 0 where
   tree : (order levels : ℕ) (requests : List Request) (said : List (ℕ × ℕ × ℕ × ℕ)) (left : List ℕ) (held : ℕ × ℕ) → Row
   held : (order levels : ℕ) (words : List ℕ) (said : ℕ × ℕ) → Row
@@ -39,6 +39,7 @@ pub data Row : Type 0 where
   wordsAre : (left says : List (List ℕ)) → Row
   pendingAre : (left says : List (Work × List ℕ)) → Row
   answersAre : (answers says : List (ℕ × ℕ × ℕ × ℕ)) → Row
+  sums : (counts says : List (List ℕ)) → Row
   bucket : (storeys nodes : ℕ) (requests : List Request) (said : List (ℕ × ℕ × ℕ × ℕ)) → Row
   bucketOn : (storeys nodes : ℕ) (store : Store) (requests : List Request) (said : List (ℕ × ℕ × ℕ × ℕ)) → Row
   bucketWords : (nodes : ℕ) (requests : List Request) (bits words : List (ℕ × ℕ)) → Row
@@ -55,6 +56,7 @@ Right (edge m l n said) = Edge m l n said
 Right (wordsAre left says) = left ≡ says
 Right (pendingAre left says) = left ≡ says
 Right (answersAre answers says) = answers ≡ says
+Right (sums counts says) = counts ≡ says
 Right (bucket d n rs said) = map told (bucketAnswers (queue d n) rs) ≡ said
 Right (bucketOn d n s rs said) = map told (answersFrom (queue d n) rs s) ≡ said
 Right (bucketWords n rs bits words) = (filled 0 (leftBy n rs .bits) ≡ bits) × (filled 0 (leftBy n rs .words) ≡ words)
@@ -90,6 +92,8 @@ table =
     ∷ row (Replace (element 5 50 0) ∷ []) ((6, 0, 0, 0) ∷ []) (replicate 24 0) 0
     -- .. by cycles: as idle, so that a pop just after it is not too soon; and a lower newcomer is taken in
     ∷ answersAre (map told caseEmpty) (map told caseEmptySays)
+    -- [14] A clocked, drained, and stopped in the middle of a pop and of a swap: how often each stands in the slots, is carried, is struck out, and remains
+    ∷ sums caseLost caseLostSays
     -- [12] a node with 5/9 and 5/3 gives 5/3, not the leftmost
     ∷ row (Push (element 5 9 0) ∷ Push (element 5 3 0) ∷ Pop ∷ []) (done 2 ++ ((0, 5, 3, 0) ∷ [])) (5 ∷ 9 ∷ 0 ∷ 1 ∷ replicate 20 0) 1
     -- 8. bucket, N = 3: push 7/1, 7/2, 4095/3; push 0/4 refused 5; 4096/4 refused 4; pops 7/1, 7/2, 4095/3, then 6

@@ -98,7 +98,7 @@ module _ (m : ℕ) where
 
   -- ---- the gaps stay
 
-  step-gap : (w : Work) (l b : Level) (G : Type 0) → Gap (w .op) G → Gap (stepWork m w l b .op) G
+  pub step-gap : (w : Work) (l b : Level) (G : Type 0) → Gap (w .op) G → Gap (stepWork m w l b .op) G
   unfolding stepWork levelMove
   step-gap w l b G g = rw op-work (rest-gap (w .op) _ _ G g)
 

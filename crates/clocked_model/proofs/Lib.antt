@@ -12,3 +12,5 @@ pub mod Unread
 pub mod Replace
 pub mod Tags
 pub mod Lengths
+pub mod Balance
+pub mod Lost

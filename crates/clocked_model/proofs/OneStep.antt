@@ -113,7 +113,7 @@ rest-last (Swap x) nd b ok = go _ (swap-rule x nd b)
     go v (stays h) = refl
     go v (goes h l) = absurd (none-above nd (and-left (nodeOk 0 nd) (hasSome nd) ok) h)
 
-last-ends : (m : ℕ) (w : Work) (l below : Level) → workOk m 0 w l below ≡ true → stepWork m w l below .op ≡ Nothing
+pub last-ends : (m : ℕ) (w : Work) (l below : Level) → workOk m 0 w l below ≡ true → stepWork m w l below .op ≡ Nothing
 unfolding workOk stepOk room stepWork levelMove
 last-ends m w l below f = go (isNothing (w .op)) refl f
   where

@@ -182,7 +182,7 @@ module _ (m k : ℕ) (s : State) (ws vs : List ℕ) (i : InStep m k s ws vs) whe
     gap : Gap (w .op) (Clear k (worksOf k (s .records) 0))
     gap = rw op-work (ruleMarked-gap (s .mark) r (ruleAt m (suc k) r ws) _ (i .off) (comes-gap _ _ _ r _ (comes (room m (suc k)) r (rootOf m ws))))
 
-    spaced-whole : Spaced (suc k) p
+    pub spaced-whole : Spaced (suc k) p
     spaced-whole = (gap, i .gaps)
 
     way : pathOk m (suc k) w vls ≡ true
@@ -213,7 +213,7 @@ module _ (m k : ℕ) (s : State) (ws vs : List ℕ) (i : InStep m k s ws vs) whe
     fits : slotWords * (0 + size m (suc k) 1) ≤ length ws
     fits = omega (arith, i .kept .shape .slice, i .same-length, size-room m (suc k) 1)
 
-    words-then : levelsOf m (suc k) (o .words) 0 1 ≡ cycleLevels m (suc k) p ls
+    pub words-then : levelsOf m (suc k) (o .words) 0 1 ≡ cycleLevels m (suc k) p ls
     unfolding cycleRun
     words-then = words-cycle m some (suc k) p 0 1 ws fits steps-fine .0
 

@@ -1,13 +1,18 @@
--- 01's worked case 6, as a list of words after each cycle; case 10, an empty machine, and elements without a tag, by their answers; lengths on their way.
+-- 01's worked case 6, as a list of words after each cycle; case 10, an empty machine, and elements without a tag, by their answers; lengths on their way;
+-- machines stopped in the middle of a pop and of a swap, by what remains.
 use Prim.Native.Nat.{ℕ}
-use mathlib.Core.List.{[], _++_, _∷_, List}
+use mathlib.Core.Bool.{Bool}
+use mathlib.Core.List.{[], _++_, _∷_, List, map}
 use lib.ListN.{getD, replicate}
 use Rattle.clocked_model.specs.Calls.{drains}
+use Rattle.clocked_model.specs.Lost.{carried, inSlots, remaining, struck}
 use Rattle.clocked_model.specs.Promise.{clockedQueue, cycleAnswers, Machine, machine, ran}
 use Rattle.promise.specs.Queue.{leaves}
+use Rattle.promise.specs.Served.{triple}
 use Rattle.strip.specs.Answers.{element}
 use Rattle.strip.specs.declared.Answer.{Answer}
 use Rattle.strip.specs.declared.Answer.the-variants.{Done, Out, Refused}
+use Rattle.strip.specs.declared.Element.{Element}
 use Rattle.strip.specs.declared.Refusal.the-variants.{Empty, NoTag, TooSoon}
 use Rattle.strip.specs.declared.Request.{Request}
 use Rattle.strip.specs.declared.Request.the-variants.{Idle, Pop, Push, Replace}
@@ -85,3 +90,33 @@ caseLengthAnswers = cycleAnswers 2 2 (lengthCycles ++ (Idle ∷ Replace (element
 
 abbrev pub caseLengthAnswersSay : List Answer
 caseLengthAnswersSay = Done ∷ Done ∷ Done ∷ Done ∷ Done ∷ Out (element 1 10 100) ∷ Done ∷ Out (element 3 30 300) ∷ []
+
+-- A clocked, drained, and stopped in the middle of a request: how often 1/10, 3/30, 4/7, 5/50 and 8/80 each stand in the slots, are carried, are struck out,
+-- and remain (02 [14])
+unfoldable pub stopped : Request → Machine
+stopped r =
+    let d = drains 2 2 2 (clockedA .state) (clockedA .words) in
+    leaves (clockedQueue 2 2) (r ∷ []) (machine (d .state) (d .words))
+
+abbrev pub eachOf : ((Element → Bool) → ℕ) → List ℕ
+eachOf count = map (λ e. count (triple e)) (element 1 10 0 ∷ element 3 30 0 ∷ element 4 7 0 ∷ element 5 50 0 ∷ element 8 80 0 ∷ [])
+
+abbrev pub sumsOf : Machine → List (List ℕ)
+sumsOf x = eachOf (inSlots 2 2 x) ∷ eachOf (carried 2 2 x) ∷ eachOf (struck 2 2 x) ∷ eachOf (remaining 2 2 x) ∷ []
+
+unfoldable pub caseLost : List (List ℕ)
+caseLost = sumsOf (stopped Pop) ++ sumsOf (stopped (Replace (element 4 7 0)))
+
+abbrev pub caseLostSays : List (List ℕ)
+caseLostSays =
+    -- the pop answered 1/10: 3/30 was lifted and stands twice, and the pending take strikes it out once
+    (0 ∷ 2 ∷ 0 ∷ 1 ∷ 1 ∷ [])
+    ∷ (0 ∷ 0 ∷ 0 ∷ 0 ∷ 0 ∷ [])
+    ∷ (0 ∷ 1 ∷ 0 ∷ 0 ∷ 0 ∷ [])
+    ∷ (0 ∷ 1 ∷ 0 ∷ 1 ∷ 1 ∷ [])
+    -- replace 4/7 answered 1/10: the pending swap carries 4/7 as well
+    ∷ (0 ∷ 2 ∷ 0 ∷ 1 ∷ 1 ∷ [])
+    ∷ (0 ∷ 0 ∷ 1 ∷ 0 ∷ 0 ∷ [])
+    ∷ (0 ∷ 1 ∷ 0 ∷ 0 ∷ 0 ∷ [])
+    ∷ (0 ∷ 1 ∷ 1 ∷ 1 ∷ 1 ∷ [])
+    ∷ []

@@ -3,4 +3,5 @@ pub mod Records
 pub mod Settle
 pub mod Calls
 pub mod Promise
+pub mod Lost
 pub mod Cases

@@ -5,6 +5,7 @@ use crate::harness::Harness;
 use crate::side::{Card, Side};
 use models::boundary::{OUT, RECORD};
 use models::call::{Call, Op};
+use models::flight::Flight;
 use models::list::SortedList;
 use models::rng::Rng;
 use models::tree::{Shape, SLOT};
@@ -326,7 +327,8 @@ pub fn bucket<C: Card>(h: &mut Harness<C>, rng: &mut Rng, storeys: u32, nodes: u
     }
 }
 
-/// One history of the clocked tree, beside the one-at-a-time model on the same list.
+/// One history of the clocked tree, beside the one-at-a-time model on the same list. After every cycle
+/// and drain nothing is lost in flight.
 pub fn clocked<C: Card>(h: &mut Harness<C>, rng: &mut Rng, order: u32, levels: u32, calls: u64) {
     let capacity = Shape::new(order, levels).unwrap().capacity();
     let need = SLOT * capacity as usize;
@@ -340,6 +342,7 @@ pub fn clocked<C: Card>(h: &mut Harness<C>, rng: &mut Rng, order: u32, levels: u
     }
     let mut alone = vec![0; need];
     let mut list = SortedList::new();
+    let mut flight = Flight::new(order, levels);
     // the mark by its rule: was the last cycle's operation answered without refusal?
     let mut mark = false;
     let mut weights = mood(rng);
@@ -364,6 +367,9 @@ pub fn clocked<C: Card>(h: &mut Harness<C>, rng: &mut Rng, order: u32, levels: u
             }
             if cycles > 0 {
                 mark = false;
+            }
+            if let Err(what) = flight.check(&h.a.words, &h.a.records) {
+                return h.fail(format!("order {order}, levels {levels}, call {n}, a drain: {what}"));
             }
             if left == 0 && h.b.words[..need] != alone[..] {
                 return h.fail(format!(
@@ -425,6 +431,15 @@ pub fn clocked<C: Card>(h: &mut Harness<C>, rng: &mut Rng, order: u32, levels: u
             return h.fail(format!(
                 "order {order}, levels {levels}, cycle {n}, request {request} {x:?}: {number}, {answer:?}; one at a time {expected}, {out:?}"
             ));
+        }
+        if number == 0 && (request == 1 || request == 3) {
+            flight.accepted(x);
+        }
+        if number == 0 && request >= 2 {
+            flight.answered_out(answer);
+        }
+        if let Err(what) = flight.check(&h.a.words, &h.a.records) {
+            return h.fail(format!("order {order}, levels {levels}, cycle {n}, request {request} {x:?}: {what}"));
         }
         mark = request != 0 && number == 0;
         if h.b.mark[0] != mark as u32 {
