@@ -111,6 +111,20 @@ uint32_t card_tree_replace(uint32_t *store, size_t store_len, uint32_t order, ui
 uint32_t card_tree_held(const uint32_t *store, size_t store_len, uint32_t order, uint32_t levels,
                         uint32_t *out, size_t out_len);
 
+/* Whether no slot of a tree's store is broken: out[0] 1 and out[1] 0, or else 0 and the number of the
+   first broken slot, from 0 in slice order. Broken is a slot with a count not 0 whose count is not
+   one plus the counts of the node under it, or whose rank is below that of the slot above it; and a
+   slot with count 0 with another word not 0, or with a count under it that is not 0. A clocked tree's
+   store passes once nothing is pending. */
+uint32_t card_tree_check(const uint32_t *store, size_t store_len, uint32_t order, uint32_t levels,
+                         uint32_t *out, size_t out_len);
+
+/* Clears the second store and pushes into it, in slice order, every slot of the first with a count
+   not 0; slots with tag 0 are skipped, out[0] says how many. The first store is left alone. What is
+   written always passes the check. Refused 1 for either store, before anything is written. */
+uint32_t card_tree_mend(const uint32_t *from, size_t from_len, uint32_t *to, size_t to_len,
+                        uint32_t order, uint32_t levels, uint32_t *out, size_t out_len);
+
 /*
  * The bucket queue: first in first out within a rank, a pool of 1 to 65536 nodes. With two storeys
  * of bits it has ranks 0 to 4095, with three 0 to 262143; there is no other depth. The store is 65

@@ -5,3 +5,4 @@ pub mod Sizes
 pub mod Zeros
 pub mod History
 pub mod Pinned
+pub mod Mend

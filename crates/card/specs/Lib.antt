@@ -4,3 +4,4 @@ pub mod Bucket
 pub mod Clocked
 pub mod Sizes
 pub mod History
+pub mod Mend

@@ -11,6 +11,9 @@ ghost use Rattle.card.specs.Tree.{treeAfter, treeAfterOut, treeClear, tr
 ghost use Rattle.card.specs.Bucket.{bucketAfter, bucketAfterOut, bucketClear, bucketPush, bucketPop, bucketReplace, bucketHeld};
 ghost use Rattle.card.specs.Clocked.{clockedAfter, clockedAfterOut, requestOf, ran, taken, drainOut, clockedClear, clockedCycle, clockedDrain, clockedHeld};
 ghost use Rattle.card.specs.Sizes.{treeWords, bucketBits, bucketWords};
+
+pub mod repair;
+
 use bucket_nodes::queue_of;
 use bucket_tests::POOL;
 use bucket_tests::is_deep;

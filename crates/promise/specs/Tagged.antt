@@ -39,7 +39,7 @@ none-brought (Replace x) a h = none-in x (numberOf a) h
 
 -- a queue that refuses every such request, over any list of them
 module _ {S : Type 0} (queue : Request → S → Step Answer S) (barred : (r : Request) (s : S) → Barred r (queue r s .said)) where
-  none-all : (rs : List Request) (s : S) → allBrought rs (answers queue rs s) untagged ≡ 0
+  pub none-all : (rs : List Request) (s : S) → allBrought rs (answers queue rs s) untagged ≡ 0
   unfolding answers allBrought
   none-all [] s = refl
   none-all (r ∷ rs) s = omega (arith, none-brought r (queue r s .said) (barred r s), none-all rs (queue r s .next))

@@ -86,7 +86,7 @@ same-words m k ws vs len e past = ext-getD 0 ws vs len (λ a h. go a (ltb a (4 *
     go a true q = levels-words m k ws vs e a (ltb-true a (4 * room m k) q)
 
 -- .. and the same words are the same slots, nodes and levels
-words-slot : (n : ℕ) (ws vs : List ℕ) → Agree n ws vs → (i : ℕ) → i < n → slotOf ws i ≡ slotOf vs i
+pub words-slot : (n : ℕ) (ws vs : List ℕ) → Agree n ws vs → (i : ℕ) → i < n → slotOf ws i ≡ slotOf vs i
 unfolding slotOf
 words-slot n ws vs e i h = slot-path (e (4 * i) (omega arith)) (e (4 * i + 1) (omega arith)) (e (4 * i + 2) (omega arith)) (e (4 * i + 3) (omega arith))
 

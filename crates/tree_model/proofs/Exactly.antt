@@ -44,7 +44,7 @@ use Rattle.tree_model.specs.declared.Op.the-variants.{Nothing, Put, Swap
 use Rattle.tree_model.specs.declared.Slot.{Slot}
 use Rattle.tree_model.specs.declared.Work.{Work}
 
-blank-fails : (e : Element) → Fails (isBlank e) ((e .rank .0 ≡ 0) × (e .tag .0 ≡ 0) × (e .length .0 ≡ 0) → ⊥)
+pub blank-fails : (e : Element) → Fails (isBlank e) ((e .rank .0 ≡ 0) × (e .tag .0 ≡ 0) × (e .length .0 ≡ 0) → ⊥)
 unfolding isBlank
 blank-fails e = go (eqb (e .rank .0) 0) refl (eqb (e .tag .0) 0) refl (eqb (e .length .0) 0) refl
   where

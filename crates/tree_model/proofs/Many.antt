@@ -89,7 +89,7 @@ unfolding slots
 all-slots k P t h = all-of-map (λ (z : Slot × Tree k). z .0) P t h
 
 -- ---- no element of a sound tree has a lower rank than the one that a take gives
-fit-lower : (k r : ℕ) (s : Slot) (t : Tree k) → Fit k s t → (0 < s .count → r ≤ s .element .rank .0) → own (lower r) s + many (lower r) k t ≡ 0
+pub fit-lower : (k r : ℕ) (s : Slot) (t : Tree k) → Fit k s t → (0 < s .count → r ≤ s .element .rank .0) → own (lower r) s + many (lower r) k t ≡ 0
 unfolding vacant
 fit-lower k r s t (nothing e h) l = omega (arith, own-zero (lower r) s (ap (λ (s : Slot). s .count) e), many-held (lower r) k t)
 fit-lower k r s t (something c u) l =

@@ -49,7 +49,7 @@ room-ok m k t s h = not-so (every (λ s. eqb (s .count) (suc (room m k))) (slots
     let l = counts-lower (suc (room m k)) (slots k t) (all-map (λ u. eqb (u .count) (suc (room m k)) ≡ true) _ (λ u p. omega (arith, eqb-true (u .count) (suc (room m k)) p)) (slots k t) (every-all _ (slots k t) e)) in
     omega (arith, rw (sum-counts m k t (s .1), length-slots, s .0) at l))
 
-no-sum : (nd : List Slot) → every isEmpty nd ≡ true → sumCounts nd ≡ 0
+pub no-sum : (nd : List Slot) → every isEmpty nd ≡ true → sumCounts nd ≡ 0
 unfolding every sumCounts isEmpty
 no-sum [] e = refl
 no-sum (u ∷ nd) e = omega (arith, eqb-true (u .count) 0 (and-left (isEmpty u) (every isEmpty nd) e), no-sum nd (and-right (isEmpty u) (every isEmpty nd) e))

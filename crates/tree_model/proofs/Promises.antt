@@ -208,6 +208,33 @@ pub kept-sum : (m k : ℕ) (ws : List ℕ) → Kept m k ws → sumCounts (rootOf
 unfolding holding levelsOf
 kept-sum m k ws kept = ap sumCounts (sym (root-node m ws)) ∙ root-sum m k (order-pos (kept .shape)) (levelsOf m (suc k) ws 0 1) (kept .store)
 
+-- ---- what is so of every kept store, whatever wrote it
+module _ (m k : ℕ) (ws : List ℕ) (kept : Kept m k ws) where
+  -- a list of requests: what is stored then and came out is what was stored and went in
+  pub kept-sums : (rs : List Request) (f : Element → Bool)
+      → stored (room m (suc k)) (leaves (treeQueue m (suc k)) rs ws) f + allGiven rs (answers (treeQueue m (suc k)) rs ws) f
+      ≡ stored (room m (suc k)) ws f + allBrought rs (answers (treeQueue m (suc k)) rs ws) f
+  kept-sums rs f = all-sum (treeQueue m (suc k)) (Kept m k) (called-kept m k) (stored (room m (suc k))) (call-sum m k) rs ws kept f
+
+  -- a request
+  pub kept-least : (r : Request) → Least (stored (room m (suc k)) ws) r (called m (suc k) r ws .answer)
+  kept-least r =
+      subst (λ (a : Answer). Least (stored (room m (suc k)) ws) r a) (sym (kept-answer m k ws kept r))
+      (least-same (holding m k (levelsOf m (suc k) ws 0 1)) (stored (room m (suc k)) ws) (λ f. sym (stored-holding m k ws f)) r
+      (ruled m k r (levelsOf m (suc k) ws 0 1) .answer) (answered m k (order-pos (kept .shape)) (levelsOf m (suc k) ws 0 1) (kept .store) r .least))
+
+  pub kept-undamaged : (r : Request) → Damage m (suc k) r ws → ⊥
+  kept-undamaged r d = no-damage m (suc k) r ws (sound-root m k ws kept) (sound-way m k ws kept r) d
+
+  pub kept-numbers : (r : Request) → let n = numberOf (called m (suc k) r ws .answer) in (n ≡ 0) ⊎ (n ≡ 5) ⊎ (n ≡ 6) ⊎ (n ≡ 7)
+  kept-numbers r = rw (kept-called m k ws kept r) (comes-number (room m (suc k)) (rootOf m ws) r _ (comes (room m (suc k)) r (rootOf m ws)))
+
+  -- held
+  pub kept-held : (countNumber (heldCount m (suc k) ws) ≡ 0) × (countOf (heldCount m (suc k) ws) ≡ stored (room m (suc k)) ws always)
+  kept-held =
+      let e = counted-is m (suc k) ws (is-shape m (suc k) (length ws) (kept .shape)) (sound-root m k ws kept) in
+      (ap countNumber e, ap countOf e ∙ kept-sum m k ws kept ∙ sym (stored-holding m k ws always))
+
 -- THE PROMISES. Any order and number of levels that pass the shape, any words to start with, any list of requests.
 
 module _ (m : ℕ) (ws : List ℕ) (rs : List Request) where
@@ -217,8 +244,7 @@ module _ (m : ℕ) (ws : List ℕ) (rs : List Request) where
   -- HOLDS: of every kind of element as many are stored as went in and have not come out
   pub holds : (levels : ℕ) → Shape m levels (length ws) → Holds (stored (room m levels) (after m levels rs ws)) rs (said levels)
   holds zero sh f = absurd (not-suc-le-zero (sh .some))
-  holds (suc k) sh f =
-      omega (arith, all-sum (treeQueue m (suc k)) (Kept m k) (called-kept m k) (stored (room m (suc k))) (call-sum m k) rs (start m (suc k) ws) (start-kept m k ws sh) f, start-empty m k ws sh f)
+  holds (suc k) sh f = omega (arith, kept-sums m k (start m (suc k) ws) (start-kept m k ws sh) rs f, start-empty m k ws sh f)
 
   -- .. so each pair as often
   pub pairs : (levels : ℕ) → Shape m levels (length ws) → (e : Element)
@@ -238,12 +264,7 @@ module _ (m : ℕ) (ws : List ℕ) (rs : List Request) where
   pub least : (levels : ℕ) → Shape m levels (length ws) → (r : Request)
       → Least (stored (room m levels) (after m levels rs ws)) r (called m levels r (after m levels rs ws) .answer)
   least zero sh r = absurd (not-suc-le-zero (sh .some))
-  least (suc k) sh r =
-      let now : List ℕ = after m (suc k) rs ws in
-      let kept = leaves-kept m k rs (start m (suc k) ws) (start-kept m k ws sh) in
-      subst (λ (a : Answer). Least (stored (room m (suc k)) now) r a) (sym (kept-answer m k now kept r))
-      (least-same (holding m k (levelsOf m (suc k) now 0 1)) (stored (room m (suc k)) now) (λ f. sym (stored-holding m k now f)) r
-      (ruled m k r (levelsOf m (suc k) now 0 1) .answer) (answered m k (order-pos sh) (levelsOf m (suc k) now 0 1) (kept .store) r .least))
+  least (suc k) sh r = kept-least m k (after m (suc k) rs ws) (leaves-kept m k rs (start m (suc k) ws) (start-kept m k ws sh)) r
 
   -- SOUND: every count is one plus what lies below, no rank lies above a lower one, and an empty slot is all zero with nothing below
   pub sound : (levels : ℕ) → Shape m levels (length ws) → Sound m levels (treeOf m levels (levelsOf m levels (after m levels rs ws) 0 1) 0)
@@ -253,19 +274,13 @@ module _ (m : ℕ) (ws : List ℕ) (rs : List Request) where
   -- UNDAMAGED: no call is refused for damage, and none for the shape
   pub undamaged : (levels : ℕ) → Shape m levels (length ws) → (r : Request) → Damage m levels r (after m levels rs ws) → ⊥
   undamaged zero sh r d = not-suc-le-zero (sh .some)
-  undamaged (suc k) sh r d =
-      let now : List ℕ = after m (suc k) rs ws in
-      let kept = leaves-kept m k rs (start m (suc k) ws) (start-kept m k ws sh) in
-      no-damage m (suc k) r now (sound-root m k now kept) (sound-way m k now kept r) d
+  undamaged (suc k) sh r d = kept-undamaged m k (after m (suc k) rs ws) (leaves-kept m k rs (start m (suc k) ws) (start-kept m k ws sh)) r d
 
   -- .. so that only 0, 5, 6 and 7 are answered
   pub numbers : (levels : ℕ) → Shape m levels (length ws) → (r : Request)
       → let n = numberOf (called m levels r (after m levels rs ws) .answer) in (n ≡ 0) ⊎ (n ≡ 5) ⊎ (n ≡ 6) ⊎ (n ≡ 7)
   numbers zero sh r = absurd (not-suc-le-zero (sh .some))
-  numbers (suc k) sh r =
-      let now : List ℕ = after m (suc k) rs ws in
-      let kept = leaves-kept m k rs (start m (suc k) ws) (start-kept m k ws sh) in
-      rw (kept-called m k now kept r) (comes-number (room m (suc k)) (rootOf m now) r _ (comes (room m (suc k)) r (rootOf m now)))
+  numbers (suc k) sh r = kept-numbers m k (after m (suc k) rs ws) (leaves-kept m k rs (start m (suc k) ws) (start-kept m k ws sh)) r
 
   pub shape-kept : (levels : ℕ) → Shape m levels (length ws) → Shape m levels (length (after m levels rs ws))
   shape-kept zero sh = absurd (not-suc-le-zero (sh .some))
@@ -275,11 +290,7 @@ module _ (m : ℕ) (ws : List ℕ) (rs : List Request) where
   pub held-says : (levels : ℕ) → Shape m levels (length ws)
       → (countNumber (heldCount m levels (after m levels rs ws)) ≡ 0) × (countOf (heldCount m levels (after m levels rs ws)) ≡ stored (room m levels) (after m levels rs ws) always)
   held-says zero sh = absurd (not-suc-le-zero (sh .some))
-  held-says (suc k) sh =
-      let now : List ℕ = after m (suc k) rs ws in
-      let kept = leaves-kept m k rs (start m (suc k) ws) (start-kept m k ws sh) in
-      let e = counted-is m (suc k) now (is-shape m (suc k) (length now) (kept .shape)) (sound-root m k now kept) in
-      (ap countNumber e, ap countOf e ∙ kept-sum m k now kept ∙ sym (stored-holding m k now always))
+  held-says (suc k) sh = kept-held m k (after m (suc k) rs ws) (leaves-kept m k rs (start m (suc k) ws) (start-kept m k ws sh))
 
 -- PINNED: every public call, for all inputs
 pub pinned : (m levels : ℕ) (ws : List ℕ) → Pinned m levels ws

@@ -39,7 +39,7 @@ same-answer c x nd t = rw t (go (eqb (sumCounts nd) 0))
     go false = refl
 
 -- with room a push is done
-push-done : (c : ℕ) (x : Element) (nd : List Slot) → untagged x ≡ false → sumCounts nd < c → rule c (Push x) nd .answer ≡ Done
+pub push-done : (c : ℕ) (x : Element) (nd : List Slot) → untagged x ≡ false → sumCounts nd < c → rule c (Push x) nd .answer ≡ Done
 unfolding rule
 push-done c x nd t h = rw (t, lt-ltb (sumCounts nd) c h)
 

@@ -126,7 +126,7 @@ unfolding hang
 hang-replicate P zero s g h = tt
 hang-replicate P (suc n) s g h = (h 0 (omega arith), hang-replicate P n s (λ j. g (suc j)) (λ j lt. h (suc j) (omega arith)))
 
-length-hang : {T : Type 0} (nd : List Slot) (g : ℕ → T) → length (hang nd g) ≡ length nd
+pub length-hang : {T : Type 0} (nd : List Slot) (g : ℕ → T) → length (hang nd g) ≡ length nd
 unfolding hang
 length-hang [] g = refl
 length-hang (s ∷ nd) g = ap suc (length-hang nd (λ j. g (suc j)))

@@ -36,7 +36,7 @@ capacity m levels =
     sym (one-mul (room m levels)) ∙ sym (powers m levels 1) ∙ to-ext levels (λ i. 1 * m ^ suc i) (λ i. m ^ suc i) (λ i l. one-mul (m ^ suc i))
 
 -- ---- "Slots lie in one lent slice, level by level, node by node"; "four words, with length before count"
-level-lies : (m k : ℕ) (ws : List ℕ) (b c i : ℕ) → i < k → levelAt k (levelsOf m k ws b c) i ≡ levelOf m ws (b + size m i c) (c * m ^ i)
+pub level-lies : (m k : ℕ) (ws : List ℕ) (b c i : ℕ) → i < k → levelAt k (levelsOf m k ws b c) i ≡ levelOf m ws (b + size m i c) (c * m ^ i)
 unfolding levelAt levelsOf size
 level-lies m zero ws b c i h = absurd (not-suc-le-zero h)
 level-lies m (suc k) ws b c zero h = rw (pow-zero, mul-one, add-zero)

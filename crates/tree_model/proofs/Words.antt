@@ -57,7 +57,7 @@ module _ {A : Type 0} where
       ap₂ (λ (a : A) (r : List A). a ∷ r) (h′ 0 (omega arith) (omega arith))
       (tab-set n (λ i. f (suc i)) (λ i. g (suc i)) j a (λ l. h (omega arith)) (λ i l ne. h′ (suc i) (omega arith) (omega arith)))
 
-  all-tab : (P : A → Type 0) (n : ℕ) (f : ℕ → A) → ((i : ℕ) → P (f i)) → All P (tabulate n f)
+  pub all-tab : (P : A → Type 0) (n : ℕ) (f : ℕ → A) → ((i : ℕ) → P (f i)) → All P (tabulate n f)
   unfolding tabulate
   all-tab P zero f h = tt
   all-tab P (suc n) f h = (h 0, all-tab P n (λ i. f (suc i)) (λ i. h (suc i)))

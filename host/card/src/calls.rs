@@ -70,6 +70,22 @@ pub fn tree_held(store: &[u32], order: u32, levels: u32, out: &mut [u32]) -> u32
     unsafe { raw::card_tree_held(store.as_ptr(), store.len(), order, levels, out.as_mut_ptr(), out.len()) }
 }
 
+/// Checks a tree's store: 1 and 0 in `out` where no slot is broken, else 0 and the number of the first broken slot.
+#[inline]
+pub fn tree_check(store: &[u32], order: u32, levels: u32, out: &mut [u32]) -> u32 {
+    // SAFETY: borrowed slices, as said above.
+    unsafe { raw::card_tree_check(store.as_ptr(), store.len(), order, levels, out.as_mut_ptr(), out.len()) }
+}
+
+/// Clears the second store and pushes into it every slot of the first with a count not 0; gives the number of those with tag 0, which
+/// are skipped.
+#[inline]
+pub fn tree_mend(from: &[u32], to: &mut [u32], order: u32, levels: u32, out: &mut [u32]) -> u32 {
+    let (f, t, o) = (from, to, out);
+    // SAFETY: borrowed slices, as said above.
+    unsafe { raw::card_tree_mend(f.as_ptr(), f.len(), t.as_mut_ptr(), t.len(), order, levels, o.as_mut_ptr(), o.len()) }
+}
+
 /// Empties a bucket queue.
 #[inline]
 pub fn bucket_clear(bits: &mut [u64], words: &mut [u32], storeys: u32, nodes: u32) -> u32 {

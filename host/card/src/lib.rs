@@ -35,6 +35,7 @@ extern crate std;
 mod bucket;
 pub mod calls;
 mod clocked;
+mod mend;
 #[cfg(feature = "std")]
 mod owned;
 mod raw;
@@ -43,6 +44,7 @@ mod tree;
 
 pub use bucket::Bucket;
 pub use clocked::{Clocked, Drained, Request, Stopped};
+pub use mend::{Broken, Mended};
 #[cfg(feature = "std")]
 pub use owned::{BucketQueue, ClockedTree, TreeQueue};
 pub use sizes::{bucket_bits, bucket_ranks, bucket_words, record_words, tree_slots, tree_words};

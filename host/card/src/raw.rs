@@ -41,6 +41,24 @@ extern "C" {
         out: *mut u32,
         out_len: usize,
     ) -> u32;
+    pub fn card_tree_check(
+        store: *const u32,
+        store_len: usize,
+        order: u32,
+        levels: u32,
+        out: *mut u32,
+        out_len: usize,
+    ) -> u32;
+    pub fn card_tree_mend(
+        from: *const u32,
+        from_len: usize,
+        to: *mut u32,
+        to_len: usize,
+        order: u32,
+        levels: u32,
+        out: *mut u32,
+        out_len: usize,
+    ) -> u32;
 
     pub fn card_bucket_clear(
         bits: *mut u64,

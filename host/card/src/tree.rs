@@ -59,6 +59,18 @@ impl<W: AsRef<[u32]> + AsMut<[u32]>> Tree<W> {
         self.words.as_ref()
     }
 
+    /// The order.
+    #[inline]
+    pub fn order(&self) -> u32 {
+        self.order
+    }
+
+    /// The number of levels.
+    #[inline]
+    pub fn levels(&self) -> u32 {
+        self.levels
+    }
+
     /// Empties the tree.
     #[inline]
     pub fn clear(&mut self) -> Result<(), Refusal> {

@@ -11,7 +11,7 @@ static void number(const char *what, uint32_t got, uint32_t expected) {
 }
 
 int main(void) {
-    uint32_t store[CARD_TREE_WORDS(2, 1)], words[CARD_BUCKET_WORDS(2, 1)], mark[1], out[CARD_OUT_WORDS];
+    uint32_t store[CARD_TREE_WORDS(2, 1)], second[CARD_TREE_WORDS(2, 1)], words[CARD_BUCKET_WORDS(2, 1)], mark[1], out[CARD_OUT_WORDS];
     uint64_t bits[CARD_BUCKET_BITS(2)];
     const uint32_t bad = CARD_BAD_SHAPE;
 
@@ -21,6 +21,7 @@ int main(void) {
     number("tree pop", card_tree_pop(NULL, 0, 2, 1, out, 3), bad);
     number("tree replace", card_tree_replace(NULL, 0, 2, 1, 5, 50, 64, out, 3), bad);
     number("tree held", card_tree_held(NULL, 0, 2, 1, out, 1), bad);
+    number("tree check", card_tree_check(NULL, 0, 2, 1, out, 2), bad);
     number("bucket clear", card_bucket_clear(NULL, 0, NULL, 0, 2, 1), bad);
     number("bucket push", card_bucket_push(NULL, 0, NULL, 0, 2, 1, 5, 50, 64), bad);
     number("bucket pop", card_bucket_pop(NULL, 0, NULL, 0, 2, 1, out, 3), bad);
@@ -37,6 +38,13 @@ int main(void) {
     number("tree held", card_tree_held(store, CARD_TREE_WORDS(2, 1), 2, 1, NULL, 0), bad);
     number("tree held", card_tree_held(store, CARD_TREE_WORDS(2, 1), 2, 1, out, 1), CARD_OK);
     number("what is held", out[0], 1);
+    number("tree mend", card_tree_mend(NULL, 0, store, CARD_TREE_WORDS(2, 1), 2, 1, out, 1), bad);
+    number("tree mend", card_tree_mend(store, CARD_TREE_WORDS(2, 1), NULL, 0, 2, 1, out, 1), bad);
+    number("tree mend", card_tree_mend(store, CARD_TREE_WORDS(2, 1), second, CARD_TREE_WORDS(2, 1), 2, 1, NULL, 0), bad);
+    number("tree mend", card_tree_mend(store, CARD_TREE_WORDS(2, 1), second, CARD_TREE_WORDS(2, 1), 2, 1, out, 1), CARD_OK);
+    number("tree check", card_tree_check(second, CARD_TREE_WORDS(2, 1), 2, 1, NULL, 0), bad);
+    number("tree check", card_tree_check(second, CARD_TREE_WORDS(2, 1), 2, 1, out, 2), CARD_OK);
+    number("what is sound", out[0], 1);
     number("bucket clear", card_bucket_clear(bits, CARD_BUCKET_BITS(2), words, CARD_BUCKET_WORDS(2, 1), 2, 1), CARD_OK);
     number("bucket pop", card_bucket_pop(bits, CARD_BUCKET_BITS(2), words, CARD_BUCKET_WORDS(2, 1), 2, 1, NULL, 0), bad);
     number("bucket replace", card_bucket_replace(bits, CARD_BUCKET_BITS(2), words, CARD_BUCKET_WORDS(2, 1), 2, 1, 5, 50, 64, NULL, 0), bad);

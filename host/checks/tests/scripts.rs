@@ -79,6 +79,8 @@ fn the_bench_runs() {
         "bucket, spread ranks refilled",
         "bucket, three storeys, spread ranks refilled, 65536 held",
         "tree, order 4 x 6, push and pop",
+        "check, order 4 x 8, full",
+        "mend, order 4 x 8, full",
         "cycle, order 4 x 6, idle",
         "records a second",
     ] {

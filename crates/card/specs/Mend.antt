@@ -1,0 +1,36 @@
+-- The check of a tree's store and its mending as C sees them: total functions of all numbers and words handed in, to the number returned and all words
+-- afterwards. Assumes nothing: these are definitions.
+use Prim.Native.Nat.{ℕ}
+use mathlib.Core.Bool.{cond}
+use mathlib.Core.List.{List}
+use lib.Dec.{leb}
+use lib.ListN.{length, set}
+use Rattle.card.specs.Out.{badShape, CountAfter, countAfter}
+use Rattle.card.specs.Tree.{TreeAfterOut, treeAfterOut}
+use Rattle.mend_model.specs.Check.{checked, checkNumber, checkSlot, checkYes}
+use Rattle.mend_model.specs.Mend.{Mended, mended, mendNumber, mendSkipped}
+use Rattle.mend_model.specs.declared.Check.{Check}
+use Rattle.mend_model.specs.declared.Mend.{Mend}
+
+-- `out` of a check: 1 and 0, or 0 and the number of the first broken slot; zeros on a refusal
+abbrev pub checkOut : Check → List ℕ → List ℕ
+checkOut c out = set (set out 0 (checkYes c)) 1 (checkSlot c)
+
+-- an `out` with no two words is refused
+unfoldable pub checkAnswered : Check → List ℕ → CountAfter
+checkAnswered c out = cond (leb 2 (length out)) (countAfter (checkNumber c) (checkOut c out)) (countAfter badShape out)
+
+-- `out` of a mending: how many were skipped, 0 on a refusal
+abbrev pub mendOut : Mend → List ℕ → List ℕ
+mendOut a out = set out 0 (mendSkipped a)
+
+-- the number, the second store and `out` afterwards, where `to` is what stands there; an `out` with no word is refused
+unfoldable pub mendAnswered : Mended → List ℕ → List ℕ → TreeAfterOut
+mendAnswered o to out = cond (leb 1 (length out)) (treeAfterOut (mendNumber (o .answer)) (o .words) (mendOut (o .answer) out)) (treeAfterOut badShape to out)
+
+-- ---- the calls
+abbrev pub treeCheck : ℕ → ℕ → List ℕ → List ℕ → CountAfter
+treeCheck m levels ws out = checkAnswered (checked m levels ws) out
+
+abbrev pub treeMend : ℕ → ℕ → List ℕ → List ℕ → List ℕ → TreeAfterOut
+treeMend m levels from to out = mendAnswered (mended m levels from to) to out

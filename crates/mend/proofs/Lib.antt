@@ -1,0 +1,5 @@
+pub mod Shapes
+pub mod Steps
+pub mod Walk
+pub mod Descent
+pub mod Mends

@@ -1,0 +1,12 @@
+-- `mend::is_blank` meets its contract. Assumes nothing.
+use mathlib.Core.Path.{refl}
+use Rattle.tree_model.specs.Damage.{isBlank}
+use Rattle.mend.proofs.is_blank.Statement.{statement}
+use Rattle.mend.proofs.is_blank.Tie as tie
+
+returns : tie.Need-returns
+unfolding isBlank
+returns c = refl
+
+pub is-blank-spec : {M : Type 1} → statement M
+is-blank-spec = tie.close (tie.spec returns)

@@ -1,0 +1,10 @@
+pub mod Walk
+pub mod Descent
+pub mod Sound
+pub mod Passes
+pub mod Idled
+pub mod Exactly
+pub mod Mends
+pub mod Unread
+pub mod Places
+pub mod Cases

@@ -1,0 +1,4 @@
+pub mod Check
+pub mod Mend
+pub mod Promise
+pub mod Cases
