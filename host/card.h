@@ -3,7 +3,7 @@
  *
  * Every call but the sizes answers a number: 0 where it is not refused, else
  *
- *   1 bad shape   order, levels, storeys, nodes or a slice's length outside the rules
+ *   1 bad shape   order, places, levels, storeys, nodes or a slice's length outside the rules
  *   2 damaged     a store or a pending record does not hold together
  *   3 too soon    a clocked pop or replace just after an answered operation
  *   4 bad rank    a bucket rank above its last: 4095, or 262143 with three storeys
@@ -61,6 +61,9 @@ static inline const char *card_name(uint32_t number) {
 
 /* A tree's store. */
 uint32_t card_tree_words(uint32_t order, uint32_t levels);
+
+/* A cluster heap's store. */
+uint32_t card_cluster_words(uint32_t places, uint32_t levels);
 
 /* A bucket queue's words of 64 bits. */
 uint32_t card_bucket_bits(uint32_t storeys);
@@ -124,6 +127,34 @@ uint32_t card_tree_check(const uint32_t *store, size_t store_len, uint32_t order
    written always passes the check. Refused 1 for either store, before anything is written. */
 uint32_t card_tree_mend(const uint32_t *from, size_t from_len, uint32_t *to, size_t to_len,
                         uint32_t order, uint32_t levels, uint32_t *out, size_t out_len);
+
+/*
+ * The cluster heap beside the tree: a binary heap with K places in each node, K from 2 to 16, levels
+ * L at least 1, and the capacity K * (2^L - 1) at most 5460. The store has 4K + 2 words for each
+ * node: the counts of all that lies below on the left and on the right, then K places of rank, tag,
+ * length and mark (card_cluster_words in all); it must be cleared before its first use. It answers
+ * the same ranks as the tree.
+ */
+
+/* Empties the heap: all words of its nodes zero. Never refused 2. */
+uint32_t card_cluster_clear(uint32_t *store, size_t store_len, uint32_t places, uint32_t levels);
+
+/* Takes an element in. Refused 7 with tag 0, 5 where the heap is full. */
+uint32_t card_cluster_push(uint32_t *store, size_t store_len, uint32_t places, uint32_t levels,
+                           uint32_t rank, uint32_t tag, uint32_t length);
+
+/* Gives the element of lowest rank in out[0] to out[2]. Refused 6 where nothing is held. */
+uint32_t card_cluster_pop(uint32_t *store, size_t store_len, uint32_t places, uint32_t levels,
+                          uint32_t *out, size_t out_len);
+
+/* A pop, and then a push of the new element, as card_tree_replace. */
+uint32_t card_cluster_replace(uint32_t *store, size_t store_len, uint32_t places, uint32_t levels,
+                              uint32_t rank, uint32_t tag, uint32_t length, uint32_t *out,
+                              size_t out_len);
+
+/* Gives the number of held elements in out[0]. */
+uint32_t card_cluster_held(const uint32_t *store, size_t store_len, uint32_t places,
+                           uint32_t levels, uint32_t *out, size_t out_len);
 
 /*
  * The bucket queue: first in first out within a rank, a pool of 1 to 65536 nodes. With two storeys

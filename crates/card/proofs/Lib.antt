@@ -3,6 +3,7 @@ pub mod Calls
 pub mod Clocked
 pub mod Sizes
 pub mod Zeros
+pub mod Cluster
 pub mod History
 pub mod Pinned
 pub mod Mend

@@ -3,6 +3,7 @@ use Prim.Native.Nat.{ℕ}
 use mathlib.Core.List.{List}
 use mathlib.Core.Path.{_∙_, _≡_, ap, sym}
 use Rattle.card.specs.Bucket.{bucketAfter, BucketAfter, bucketAfterOut, BucketAfterOut, bucketClear, bucketHeld, bucketPop, bucketPush, bucketReplace}
+use Rattle.card.specs.Cluster.{clusterClear, clusterHeld, clusterPop, clusterPush, clusterReplace}
 use Rattle.card.specs.Clocked.{clockedAfter, ClockedAfter, clockedAfterOut, ClockedAfterOut, clockedClear, clockedCycle, clockedDrain, clockedHeld}
 use Rattle.card.specs.Out.{countAfter, CountAfter}
 use Rattle.card.specs.Tree.{treeAfter, TreeAfter, treeAfterOut, TreeAfterOut, treeClear, treeHeld, treePop, treePush, treeReplace}
@@ -66,6 +67,26 @@ module _ (m levels : ℕ) (ws : List ℕ) (n k : ℕ) (v w : List ℕ) where
 pub pinned-tree-held : (m levels : ℕ) (ws out : List ℕ) (n k : ℕ) (x y : List ℕ) → countAfter n x ≡ treeHeld m levels ws out → countAfter k y ≡ treeHeld m levels ws out
     → (n ≡ k) × (x ≡ y)
 pinned-tree-held m levels ws out n k x y p q = count (treeHeld m levels ws out) n k x y p q
+
+-- ---- the cluster heap
+module _ (K levels : ℕ) (ws : List ℕ) (n k : ℕ) (v w : List ℕ) where
+  pub pinned-cluster-clear : treeAfter n v ≡ clusterClear K levels ws → treeAfter k w ≡ clusterClear K levels ws → (n ≡ k) × (v ≡ w)
+  pinned-cluster-clear p q = tree (clusterClear K levels ws) n k v w p q
+
+  pub pinned-cluster-push : (rank tag bytes : ℕ) → treeAfter n v ≡ clusterPush K levels ws rank tag bytes → treeAfter k w ≡ clusterPush K levels ws rank tag bytes → (n ≡ k) × (v ≡ w)
+  pinned-cluster-push rank tag bytes p q = tree (clusterPush K levels ws rank tag bytes) n k v w p q
+
+  module _ (out x y : List ℕ) where
+    pub pinned-cluster-pop : treeAfterOut n v x ≡ clusterPop K levels ws out → treeAfterOut k w y ≡ clusterPop K levels ws out → (n ≡ k) × (v ≡ w) × (x ≡ y)
+    pinned-cluster-pop p q = tree-out (clusterPop K levels ws out) n k v w x y p q
+
+    pub pinned-cluster-replace : (rank tag bytes : ℕ) → treeAfterOut n v x ≡ clusterReplace K levels ws rank tag bytes out → treeAfterOut k w y ≡ clusterReplace K levels ws rank tag bytes out
+        → (n ≡ k) × (v ≡ w) × (x ≡ y)
+    pinned-cluster-replace rank tag bytes p q = tree-out (clusterReplace K levels ws rank tag bytes out) n k v w x y p q
+
+pub pinned-cluster-held : (K levels : ℕ) (ws out : List ℕ) (n k : ℕ) (x y : List ℕ) → countAfter n x ≡ clusterHeld K levels ws out → countAfter k y ≡ clusterHeld K levels ws out
+    → (n ≡ k) × (x ≡ y)
+pinned-cluster-held K levels ws out n k x y p q = count (clusterHeld K levels ws out) n k x y p q
 
 -- ---- the bucket queue; a and b are two slices of bits
 module _ (bits words : List ℕ) (storeys nodes : ℕ) (n k : ℕ) (a b v w : List ℕ) where

@@ -35,7 +35,7 @@ unfolding refusedOut
 told-zeros a out true e h = answer-zeros a out h ∙ ap (λ (b : Bool). cond b (zeros answerWords out) out) (sym e)
 told-zeros a out false e h = ap (λ (b : Bool). cond b (zeros answerWords out) out) (sym e)
 
-tree-zeros : (o : tree.Outcome) (ws out : List ℕ) → (treeAnswered o ws out .number ≡ 0 → ⊥) → treeAnswered o ws out .out ≡ refusedOut answerWords out
+pub tree-zeros : (o : tree.Outcome) (ws out : List ℕ) → (treeAnswered o ws out .number ≡ 0 → ⊥) → treeAnswered o ws out .out ≡ refusedOut answerWords out
 unfolding treeAnswered
 tree-zeros o ws out h = go (leb answerWords (length out)) refl h
   where

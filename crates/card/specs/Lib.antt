@@ -1,5 +1,6 @@
 pub mod Out
 pub mod Tree
+pub mod Cluster
 pub mod Bucket
 pub mod Clocked
 pub mod Sizes

@@ -1,4 +1,4 @@
-// The static library for C and Rust: the three queues over numbers and slices. Each function returns 01's number, 0 where nothing is
+// The static library for C and Rust: the four queues over numbers and slices. Each function returns 01's number, 0 where nothing is
 // refused, and writes what it answers to `out`, zeros on a refusal. An `out` that is too short is refusal 1, and nothing changes.
 ghost use mathlib.Core.Path.{_≡_};
 ghost use Prim.Native.Nat.{_≤_, ℕ};
@@ -8,6 +8,7 @@ ghost use Rattle.node.specs.Shaping.{Shaped};
 ghost use Rattle.strip.specs.Answers.{numberOf, countNumber, countOf};
 ghost use Rattle.card.specs.Out.{Long, answerOut, answerWords, countAfter, drainWords};
 ghost use Rattle.card.specs.Tree.{treeAfter, treeAfterOut, treeClear, treePush, treePop, treeReplace, treeHeld};
+ghost use Rattle.card.specs.Cluster.{clusterClear, clusterPush, clusterPop, clusterReplace, clusterHeld, clusterWords};
 ghost use Rattle.card.specs.Bucket.{bucketAfter, bucketAfterOut, bucketClear, bucketPush, bucketPop, bucketReplace, bucketHeld};
 ghost use Rattle.card.specs.Clocked.{clockedAfter, clockedAfterOut, requestOf, ran, taken, drainOut, clockedClear, clockedCycle, clockedDrain, clockedHeld};
 ghost use Rattle.card.specs.Sizes.{treeWords, bucketBits, bucketWords};
@@ -147,6 +148,85 @@ pub extern "C" fn card_tree_held(store: &[u32], order: u32, levels: u32, out: &m
         return 1;
     }
     let count = tree::held(store, order as usize, levels as usize);
+    tell_count(out, count)
+}
+
+// ---- the cluster heap
+
+#[no_mangle]
+pub extern "C" fn card_cluster_clear(store: &mut [u32], places: u32, levels: u32) -> u32
+    ensures { λ r. ⌜ treeAfter r (now (store .exit)) ≡ clusterClear places levels (now (store .entry)) ⌝ }
+{
+    number(cluster::clear(store, places as usize, levels as usize))
+}
+
+#[no_mangle]
+pub extern "C" fn card_cluster_push(
+    store: &mut [u32],
+    places: u32,
+    levels: u32,
+    rank: u32,
+    tag: u32,
+    length: u32,
+) -> u32
+    ensures { λ r. ⌜ treeAfter r (now (store .exit)) ≡ clusterPush places levels (now (store .entry)) rank tag length ⌝ }
+{
+    let x = Element {
+        rank: Rank(rank),
+        tag: Tag(tag),
+        length: Length(length),
+    };
+    number(cluster::push(store, places as usize, levels as usize, x))
+}
+
+#[no_mangle]
+pub extern "C" fn card_cluster_pop(
+    store: &mut [u32],
+    places: u32,
+    levels: u32,
+    out: &mut [u32],
+) -> u32
+    ensures { λ r. ⌜ treeAfterOut r (now (store .exit)) (now (out .exit)) ≡ clusterPop places levels (now (store .entry)) (now (out .entry)) ⌝ }
+{
+    if out.len() < OUT {
+        return 1;
+    }
+    let answer = cluster::pop(store, places as usize, levels as usize);
+    tell(out, answer)
+}
+
+#[no_mangle]
+pub extern "C" fn card_cluster_replace(
+    store: &mut [u32],
+    places: u32,
+    levels: u32,
+    rank: u32,
+    tag: u32,
+    length: u32,
+    out: &mut [u32],
+) -> u32
+    ensures { λ r. ⌜ treeAfterOut r (now (store .exit)) (now (out .exit)) ≡ clusterReplace places levels (now (store .entry)) rank tag length (now (out .entry)) ⌝ }
+{
+    if out.len() < OUT {
+        return 1;
+    }
+    let x = Element {
+        rank: Rank(rank),
+        tag: Tag(tag),
+        length: Length(length),
+    };
+    let answer = cluster::replace(store, places as usize, levels as usize, x);
+    tell(out, answer)
+}
+
+#[no_mangle]
+pub extern "C" fn card_cluster_held(store: &[u32], places: u32, levels: u32, out: &mut [u32]) -> u32
+    ensures { λ r. ⌜ countAfter r (now (out .exit)) ≡ clusterHeld places levels (now (store .entry)) (now (out .entry)) ⌝ }
+{
+    if out.len() < 1 {
+        return 1;
+    }
+    let count = cluster::held(store, places as usize, levels as usize);
     tell_count(out, count)
 }
 
@@ -402,6 +482,20 @@ pub extern "C" fn card_tree_words(order: u32, levels: u32) -> u32
         return 0;
     }
     (SLOT_WORDS * capacity(m, l)) as u32
+}
+
+// 27,300 words are enough for any cluster heap: 5,460 places, and two counts for each of at most 2,730 nodes.
+#[no_mangle]
+pub extern "C" fn card_cluster_words(places: u32, levels: u32) -> u32
+    ensures { λ r. ⌜ r ≡ clusterWords places levels ⌝ }
+{
+    let k = places as usize;
+    let l = levels as usize;
+    if !cluster::shape_ok(k, l, 27300) {
+        return 0;
+    }
+    let n = cluster::nodes(l);
+    (n * (2 + k * 4)) as u32
 }
 
 // The words of 64 bits.

@@ -1,13 +1,16 @@
 -- The one claim over the table of worked cases, proved by computing the definitions.
-use mathlib.Core.List.{map}
+use mathlib.Core.List.{[], List, map}
+use lib.ListN.{getD}
 use mathlib.Core.Path.{ap, refl}
 use Rattle.bucket_model.proofs.Case8.{case8-holds, case8-three}
 use Rattle.bucket_model.proofs.CaseTag.{spoilt-case, tag-case}
 use Rattle.bucket_model.proofs.CaseWords.{length-case, pop-case-bits, pop-case-words, replace-case-bits, replace-case-words}
 use Rattle.cases.specs.Table.{Right, table, told}
 use Rattle.clocked_model.proofs.Cases as clock
+use Rattle.cluster_model.proofs.Cases.{case-cluster, case-cluster-answers}
 use Rattle.laws.specs.Lists.{All}
 use Rattle.promise.specs.Queue.{answers, leaves}
+use Rattle.strip.specs.declared.Answer.{Answer}
 use Rattle.strip.specs.Answers.{blank, key, untagged, precedes}
 use Rattle.tree_model.proofs.Cases.{case-length-answers, case-lengths}
 use Rattle.tree_model.proofs.Edge.{eight-past, eight-taken, four-past, four-taken, none-refused, three-refused, two-past, two-taken}
@@ -20,4 +23,4 @@ use Rattle.tree_model.specs.Words.{applyWords, levelOf, levelsOf, nodeOf, size,
 pub cases : All Right table
 unfolding table blank key precedes untagged vacant isEmpty slotAt seek every firstEmpty leastCount lowest low sumCounts keep pass putBy putMove takeBy takeMove swapBy swapMove opMove isNothing top work levelMove stepWork slotOf write wipe tabulate nodeOf size levelOf levelsOf stepWords applyWords room isBlank slotOk nodeOk hasRoom hasSome readOk lifts stepOk workOk pathOk orderOk shapeOk rule carriedOut called cleared heldCount leaves answers
 cases =
-    ((refl, refl, refl), ((refl, refl, refl), ((refl, refl, refl), ((refl, refl, refl), ((refl, refl, refl), (clock.case-6, ((refl, refl, refl), ((refl, refl, refl), (ap (map told) clock.case-empty, (clock.case-lost, ((refl, refl, refl), (ap (map told) case8-holds, (ap (map told) case8-three, ((pop-case-bits, pop-case-words), ((replace-case-bits, replace-case-words), ((refl, refl, refl), ((refl, refl, refl), (ap (map told) clock.case-untagged, (ap (map told) tag-case, (ap (map told) spoilt-case, (case-lengths, (ap (map told) case-length-answers, (clock.case-lengths, (ap (map told) clock.case-length-answers, (ap (map told) length-case, (refl, (refl, (refl, (four-taken, (four-past, (two-taken, (two-past, (eight-taken, (eight-past, (three-refused, (none-refused, tt))))))))))))))))))))))))))))))))))))
+    ((refl, refl, refl), ((refl, refl, refl), ((refl, refl, refl), ((refl, refl, refl), ((refl, refl, refl), (clock.case-6, ((refl, refl, refl), ((refl, refl, refl), (ap (map told) clock.case-empty, (clock.case-lost, ((refl, refl, refl), (ap (map told) case8-holds, (ap (map told) case8-three, ((pop-case-bits, pop-case-words), ((replace-case-bits, replace-case-words), ((refl, refl, refl), ((refl, refl, refl), (ap (map told) clock.case-untagged, (ap (map told) tag-case, (ap (map told) spoilt-case, (case-lengths, (ap (map told) case-length-answers, (clock.case-lengths, (ap (map told) clock.case-length-answers, (ap (map told) length-case, (case-cluster, (ap (λ (l : List (List Answer)). map told (getD l 0 [])) case-cluster-answers, (ap (λ (l : List (List Answer)). map told (getD l 1 [])) case-cluster-answers, (refl, (refl, (refl, (four-taken, (four-past, (two-taken, (two-past, (eight-taken, (eight-past, (three-refused, (none-refused, tt)))))))))))))))))))))))))))))))))))))))

@@ -2,7 +2,7 @@
 use Prim.Native.Nat.{ℕ}
 use mathlib.Core.List.{[], _++_, _∷_, List, map}
 use mathlib.Core.Path.{_≡_}
-use lib.ListN.{length, replicate}
+use lib.ListN.{getD, length, replicate}
 use Rattle.bucket_model.specs.Case8.{case8, case8Three}
 use Rattle.bucket_model.specs.CaseTag.{spoilt, spoiltCase, tagCase}
 use Rattle.bucket_model.specs.CaseWords.{filled, leftBy, lengthCase, popCase, popCaseBits, popCaseWords, replaceCase, replaceCaseBits, replaceCaseWords}
@@ -10,6 +10,7 @@ use Rattle.bucket_model.specs.Layout.{queue}
 use Rattle.bucket_model.specs.Plain.{answersFrom, bucketAnswers, Store}
 use Rattle.clocked_model.specs.Cases.{caseEmpty, caseEmptySays, caseLost, caseLostSays, caseSix, caseSixSays, caseUntagged, caseUntaggedSays}
 use Rattle.clocked_model.specs.Cases as clock
+use Rattle.cluster_model.specs.Cases.{caseCluster, caseClusterAnswers, caseClusterAnswersSay, caseClusterSays}
 use Rattle.promise.specs.Queue.{answers}
 use Rattle.strip.specs.Answers.{countNumber, countOf, element, lengthOf, numberOf, rankOf, tagOf}
 use Rattle.strip.specs.declared.Answer.{Answer}
@@ -122,6 +123,11 @@ table =
     -- .. and of the bucket queue, N = 4; its words are those of the rows above
     ∷ bucket 2 4 lengthCase
     ((0, 0, 0, 0) ∷ (0, 0, 0, 0) ∷ (0, 0, 0, 0) ∷ (0, 7, 1, 64) ∷ (0, 7, 2, 1500) ∷ (0, 7, 3, 40) ∷ (0, 3, 6, 4294967295) ∷ (0, 70, 5, 9000) ∷ [])
+    -- [2] the cluster heap, K = 2, levels 2: its words after pushes, a replace and two pops; what calls are answered: 5, 7, and the lowest ..
+    ∷ wordsAre caseCluster caseClusterSays
+    ∷ answersAre (map told (getD caseClusterAnswers 0 [])) (map told (getD caseClusterAnswersSay 0 []))
+    -- .. of equal ranks in one node the lower tag first, and 6 on the empty heap
+    ∷ answersAre (map told (getD caseClusterAnswers 1 [])) (map told (getD caseClusterAnswersSay 1 []))
     -- held refused: 1, an order of 3; 2, a slot with count 0 and a rank, or a length
     ∷ held 3 1 (replicate 12 0) (1, 0)
     ∷ held 2 1 (9 ∷ 0 ∷ 0 ∷ 0 ∷ 0 ∷ 0 ∷ 0 ∷ 0 ∷ []) (2, 0)

@@ -85,6 +85,7 @@ fn main() {
     show("bucket queue, three storeys (N = 65,536), beside the same map", traces::deep_buckets(&plan));
     show("tree beside std's BinaryHeap, 4,000 held", traces::trees(&plan));
     show("check and mend of a full store, for one slot, beside a plain check and a heap", mends::rows(&plan));
+    show("cluster heap beside std's BinaryHeap, then beside the tree of order 2, 4,000 held", traces::clusters(&plan));
     show("clocked tree beside a plain machine without damage tests, 4,000 held or three quarters", cycles::rows(&plan));
     let played = playing::rows(&plan, program.as_deref(), records);
     for row in show("trace program beside the plain machine that writes its lines to memory", played) {

@@ -1,7 +1,7 @@
 //! Queues that take the same trace: the card's, and the plain ones beside them.
 
 use crate::measure::Contestant;
-use card_host::{BucketQueue, Element, Length, Rank, Tag, TreeQueue};
+use card_host::{BucketQueue, ClusterQueue, Element, Length, Rank, Tag, TreeQueue};
 use std::cmp::{Ordering, Reverse};
 use std::collections::{BTreeMap, BinaryHeap, VecDeque};
 
@@ -66,6 +66,24 @@ impl Queue for TreeQueue {
     #[inline]
     fn replace(&mut self, x: Strip) -> Strip {
         bare(TreeQueue::replace(self, wrapped(x)).expect("replace"))
+    }
+}
+
+impl Queue for ClusterQueue {
+    fn clear(&mut self) {
+        ClusterQueue::clear(self).expect("clear");
+    }
+    #[inline]
+    fn push(&mut self, x: Strip) {
+        ClusterQueue::push(self, wrapped(x)).expect("push");
+    }
+    #[inline]
+    fn pop(&mut self) -> Strip {
+        bare(ClusterQueue::pop(self).expect("pop"))
+    }
+    #[inline]
+    fn replace(&mut self, x: Strip) -> Strip {
+        bare(ClusterQueue::replace(self, wrapped(x)).expect("replace"))
     }
 }
 

@@ -5,7 +5,7 @@ use crate::count::bytes_of;
 use crate::measure::{race, Rng, Work};
 use crate::queues::{filled, HeapQueue, MapQueue, Op, Player, Queue, RankHeap, Strip};
 use crate::table::{Plan, Row};
-use card_host::{BucketQueue, TreeQueue};
+use card_host::{BucketQueue, ClusterQueue, TreeQueue};
 
 /// The bucket queue's pool at two storeys, and at three.
 const NODES: u32 = 4096;
@@ -96,6 +96,30 @@ fn tree<Q: Queue + Default>(
         pair,
         card_bytes: 4 * card.queue.words().len(),
         other_bytes: bytes_of(|| filled(Q::default(), &fill)),
+    });
+}
+
+fn cluster<Q: Queue>(
+    plan: &Plan,
+    all: &mut Vec<Row>,
+    name: &str,
+    shape: (u32, u32),
+    beside: impl Fn() -> Q,
+    mut work: impl FnMut(&mut Rng) -> Work<Op>,
+) {
+    if !plan.wants(name) {
+        return;
+    }
+    let mut rng = Rng::new(2);
+    let mut card = Player { queue: ClusterQueue::new(shape.0, shape.1).expect("a good shape"), whole: false };
+    let mut other = Player { queue: beside(), whole: false };
+    let pair = race(plan.rounds, Clock::Own, &mut card, &mut other, || work(&mut rng));
+    let fill = work(&mut rng).fill;
+    all.push(Row {
+        name: name.to_string(),
+        pair,
+        card_bytes: 4 * card.queue.words().len(),
+        other_bytes: bytes_of(|| filled(beside(), &fill)),
     });
 }
 
@@ -192,5 +216,28 @@ pub fn trees(plan: &Plan) -> Vec<Row> {
         let name = format!("tree, order 4 x {levels}, push and pop, {held} held");
         tree::<HeapQueue>(plan, &mut all, &name, (4, levels), |rng| any(rng, held));
     }
+    all
+}
+
+/// The cluster heap beside the heap and beside the tree of order 2, each at 4,000 held.
+pub fn clusters(plan: &Plan) -> Vec<Row> {
+    let mut all = Vec::new();
+    let operations = plan.operations;
+    let any = |rng: &mut Rng| {
+        let fill = pushes(4000, || rng.below(RANKS));
+        refilled(fill, operations, |_| rng.below(RANKS))
+    };
+    let swap = |rng: &mut Rng| {
+        let fill = pushes(4000, || rng.below(RANKS));
+        replaced(fill, operations / 2, |given| given + rng.below(RANKS))
+    };
+    let tree = || TreeQueue::new(2, 11).expect("a good shape");
+    for (places, levels) in [(4, 10), (8, 9), (2, 11)] {
+        let name = format!("cluster heap, {places} x {levels}, push and pop");
+        cluster(plan, &mut all, &name, (places, levels), HeapQueue::default, any);
+    }
+    cluster(plan, &mut all, "cluster heap, 4 x 10, replace", (4, 10), HeapQueue::default, swap);
+    cluster(plan, &mut all, "cluster heap, 4 x 10, push and pop, beside the tree of order 2", (4, 10), tree, any);
+    cluster(plan, &mut all, "cluster heap, 4 x 10, replace, beside the tree of order 2", (4, 10), tree, swap);
     all
 }

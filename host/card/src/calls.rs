@@ -86,6 +86,52 @@ pub fn tree_mend(from: &[u32], to: &mut [u32], order: u32, levels: u32, out: &mu
     unsafe { raw::card_tree_mend(f.as_ptr(), f.len(), t.as_mut_ptr(), t.len(), order, levels, o.as_mut_ptr(), o.len()) }
 }
 
+/// Empties a cluster heap.
+#[inline]
+pub fn cluster_clear(store: &mut [u32], places: u32, levels: u32) -> u32 {
+    // SAFETY: borrowed slices, as said above.
+    unsafe { raw::card_cluster_clear(store.as_mut_ptr(), store.len(), places, levels) }
+}
+
+/// Takes an element into a cluster heap.
+#[inline]
+pub fn cluster_push(store: &mut [u32], places: u32, levels: u32, rank: u32, tag: u32, length: u32) -> u32 {
+    // SAFETY: borrowed slices, as said above.
+    unsafe { raw::card_cluster_push(store.as_mut_ptr(), store.len(), places, levels, rank, tag, length) }
+}
+
+/// Gives a cluster heap's element of lowest rank.
+#[inline]
+pub fn cluster_pop(store: &mut [u32], places: u32, levels: u32, out: &mut [u32]) -> u32 {
+    // SAFETY: borrowed slices, as said above.
+    unsafe { raw::card_cluster_pop(store.as_mut_ptr(), store.len(), places, levels, out.as_mut_ptr(), out.len()) }
+}
+
+/// Gives a cluster heap's element of lowest rank, and then takes a new element in.
+#[inline]
+pub fn cluster_replace(
+    store: &mut [u32],
+    places: u32,
+    levels: u32,
+    rank: u32,
+    tag: u32,
+    length: u32,
+    out: &mut [u32],
+) -> u32 {
+    let (s, o) = (store, out);
+    // SAFETY: borrowed slices, as said above.
+    unsafe {
+        raw::card_cluster_replace(s.as_mut_ptr(), s.len(), places, levels, rank, tag, length, o.as_mut_ptr(), o.len())
+    }
+}
+
+/// Gives the number of a cluster heap's held elements.
+#[inline]
+pub fn cluster_held(store: &[u32], places: u32, levels: u32, out: &mut [u32]) -> u32 {
+    // SAFETY: borrowed slices, as said above.
+    unsafe { raw::card_cluster_held(store.as_ptr(), store.len(), places, levels, out.as_mut_ptr(), out.len()) }
+}
+
 /// Empties a bucket queue.
 #[inline]
 pub fn bucket_clear(bits: &mut [u64], words: &mut [u32], storeys: u32, nodes: u32) -> u32 {
@@ -232,6 +278,13 @@ pub fn clocked_held(store: &[u32], order: u32, levels: u32, out: &mut [u32]) -> 
 pub fn tree_words(order: u32, levels: u32) -> u32 {
     // SAFETY: two numbers, and they may be any.
     unsafe { raw::card_tree_words(order, levels) }
+}
+
+/// How many words a cluster heap's store needs; 0 for a bad shape.
+#[inline]
+pub fn cluster_words(places: u32, levels: u32) -> u32 {
+    // SAFETY: two numbers, and they may be any.
+    unsafe { raw::card_cluster_words(places, levels) }
 }
 
 /// How many words of 64 bits a bucket queue of so many storeys needs; 0 for a depth that there is not.

@@ -6,6 +6,7 @@
 //! |---|---|---|---|---|
 //! | multi-way tree | any | in a node the lower tag, else its own order | [`Tree`] | `TreeQueue` |
 //! | bucket queue | 0 to 4,095, or 262,143 | first in, first out | [`Bucket`] | `BucketQueue` |
+//! | cluster heap | any | in a node the lower tag, else its own order | [`Cluster`] | `ClusterQueue` |
 //! | multi-way tree by clock cycles | any | in a node the lower tag, else its own order | [`Clocked`] | `ClockedTree` |
 //!
 //! A call that is refused says so by a [`Refusal`] and leaves behind what the paper's table says. No store's content makes a call
@@ -35,6 +36,7 @@ extern crate std;
 mod bucket;
 pub mod calls;
 mod clocked;
+mod cluster;
 mod mend;
 #[cfg(feature = "std")]
 mod owned;
@@ -44,10 +46,13 @@ mod tree;
 
 pub use bucket::Bucket;
 pub use clocked::{Clocked, Drained, Request, Stopped};
+pub use cluster::Cluster;
 pub use mend::{Broken, Mended};
 #[cfg(feature = "std")]
-pub use owned::{BucketQueue, ClockedTree, TreeQueue};
-pub use sizes::{bucket_bits, bucket_ranks, bucket_words, record_words, tree_slots, tree_words};
+pub use owned::{BucketQueue, ClockedTree, ClusterQueue, TreeQueue};
+pub use sizes::{
+    bucket_bits, bucket_ranks, bucket_words, cluster_places, cluster_words, record_words, tree_slots, tree_words,
+};
 pub use tree::Tree;
 
 use core::fmt;

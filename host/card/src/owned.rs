@@ -1,6 +1,8 @@
 //! Queues that own their stores.
 
-use crate::{bucket_bits, bucket_words, record_words, tree_words, Bucket, Clocked, Refusal, Tree};
+use crate::{
+    bucket_bits, bucket_words, cluster_words, record_words, tree_words, Bucket, Clocked, Cluster, Refusal, Tree,
+};
 use std::vec;
 use std::vec::Vec;
 
@@ -24,6 +26,27 @@ impl TreeQueue {
     /// An empty tree, its store allocated.
     pub fn new(order: u32, levels: u32) -> Result<TreeQueue, Refusal> {
         Tree::cleared(order, levels, vec![0; tree_words(order, levels)])
+    }
+}
+
+/// A cluster heap with a store of its own. Everything else is [`Cluster`]'s.
+///
+/// ```
+/// use card_host::{ClusterQueue, Element, Length, Rank, Refusal, Tag};
+///
+/// # fn main() -> Result<(), Refusal> {
+/// let mut queue = ClusterQueue::new(4, 3)?;
+/// queue.push(Element::new(Rank(5), Tag(50), Length(1500)))?;
+/// assert_eq!(queue.pop()?, Element::new(Rank(5), Tag(50), Length(1500)));
+/// # Ok(())
+/// # }
+/// ```
+pub type ClusterQueue = Cluster<Vec<u32>>;
+
+impl ClusterQueue {
+    /// An empty heap, its store allocated.
+    pub fn new(places: u32, levels: u32) -> Result<ClusterQueue, Refusal> {
+        Cluster::cleared(places, levels, vec![0; cluster_words(places, levels)])
     }
 }
 

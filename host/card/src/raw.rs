@@ -60,6 +60,44 @@ extern "C" {
         out_len: usize,
     ) -> u32;
 
+    pub fn card_cluster_clear(store: *mut u32, store_len: usize, places: u32, levels: u32) -> u32;
+    pub fn card_cluster_push(
+        store: *mut u32,
+        store_len: usize,
+        places: u32,
+        levels: u32,
+        rank: u32,
+        tag: u32,
+        length: u32,
+    ) -> u32;
+    pub fn card_cluster_pop(
+        store: *mut u32,
+        store_len: usize,
+        places: u32,
+        levels: u32,
+        out: *mut u32,
+        out_len: usize,
+    ) -> u32;
+    pub fn card_cluster_replace(
+        store: *mut u32,
+        store_len: usize,
+        places: u32,
+        levels: u32,
+        rank: u32,
+        tag: u32,
+        length: u32,
+        out: *mut u32,
+        out_len: usize,
+    ) -> u32;
+    pub fn card_cluster_held(
+        store: *const u32,
+        store_len: usize,
+        places: u32,
+        levels: u32,
+        out: *mut u32,
+        out_len: usize,
+    ) -> u32;
+
     pub fn card_bucket_clear(
         bits: *mut u64,
         bits_len: usize,
@@ -162,6 +200,7 @@ extern "C" {
     ) -> u32;
 
     pub fn card_tree_words(order: u32, levels: u32) -> u32;
+    pub fn card_cluster_words(places: u32, levels: u32) -> u32;
     pub fn card_bucket_bits(storeys: u32) -> u32;
     pub fn card_bucket_words(storeys: u32, nodes: u32) -> u32;
 }

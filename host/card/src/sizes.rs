@@ -34,6 +34,44 @@ pub const fn tree_words(order: u32, levels: u32) -> usize {
     4 * tree_slots(order, levels)
 }
 
+/// The most places that a cluster heap has.
+const PLACES: usize = 5460;
+
+/// How many elements a cluster heap of so many places a node and these levels can hold; 0 for a bad shape.
+///
+/// ```
+/// assert_eq!(card_host::cluster_places(4, 10), 4092);
+/// assert_eq!(card_host::cluster_places(4, 11), 0);
+/// ```
+pub const fn cluster_places(places: u32, levels: u32) -> usize {
+    if places < 2 || places > 16 {
+        return 0;
+    }
+    let (mut all, mut level) = (0, 0);
+    while level < levels {
+        all = 2 * all + places as usize;
+        if all > PLACES {
+            return 0;
+        }
+        level += 1;
+    }
+    all
+}
+
+/// How many words a cluster heap's store needs, four for each place and two for each node; 0 for a bad shape.
+///
+/// ```
+/// static STORE: [u32; card_host::cluster_words(2, 2)] = [0; 30];
+/// # let _ = STORE;
+/// ```
+pub const fn cluster_words(places: u32, levels: u32) -> usize {
+    let all = cluster_places(places, levels);
+    if all == 0 {
+        return 0;
+    }
+    4 * all + 2 * (all / places as usize)
+}
+
 /// How many words the pending records of a clocked tree need, five for each level from 2.
 pub const fn record_words(levels: u32) -> usize {
     5 * (levels as usize).saturating_sub(1)

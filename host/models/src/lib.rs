@@ -11,6 +11,7 @@ pub mod boundary;
 pub mod bucket;
 pub mod call;
 pub mod clocked;
+pub mod cluster;
 pub mod flight;
 pub mod list;
 pub mod mend;

@@ -1,0 +1,10 @@
+pub mod Downs
+pub mod Shapes
+pub mod Opened
+pub mod Commute
+pub mod Taken
+pub mod Swapped
+pub mod Putted
+pub mod Called
+pub mod Barred
+pub mod Root

@@ -1,0 +1,68 @@
+-- The calls in the code's own shape.
+use Prim.Native.Nat.{ℕ, zero, suc, _+_, _*_, _-_, _≤_, _<_, pred}
+use mathlib.Core.Path.{_≡_}
+use mathlib.Core.Bool.{Bool, true, false, cond, _&&_}
+use mathlib.Core.List.{List}
+use lib.Dec.{eqb}
+use lib.ListN.{length}
+use Rattle.strip.specs.Answers.{untagged}
+use Rattle.strip.specs.declared.Element.{Element}
+use Rattle.strip.specs.declared.Request.the-variants.{Push, Replace}
+use Rattle.strip.specs.declared.Refusal.{Refusal}
+use Rattle.strip.specs.declared.Refusal.the-variants.{BadShape, Damaged, Full, Empty}
+use Rattle.strip.specs.declared.Answer.{Answer}
+use Rattle.strip.specs.declared.Answer.the-variants.{Done, Out, Refused}
+use Rattle.strip.specs.declared.Count.{Count}
+use Rattle.strip.specs.declared.Count.the-variants.{Held, Unknown}
+use Rattle.cluster_nodes.specs.declared.Seen.{Seen}
+use Rattle.cluster_model.specs.Heap.{room}
+use Rattle.cluster_model.specs.Words.{word, width}
+use Rattle.cluster_model.specs.Calls.{called, shapeOk, Outcome, outcome}
+use Rattle.cluster_nodes.specs.Leaf.{elemAt, okBy, lookNode, placeIn}
+use Rattle.cluster.specs.Down.{Went, putDown, takeDown, swapDown}
+
+-- 2^k − 1
+unfoldable pub nodesOf : ℕ → ℕ
+nodesOf zero = 0
+nodesOf (suc k) = nodesOf k + nodesOf k + 1
+
+pub record Nodes (levels r : ℕ) : Type 0 where
+  pub within : nodesOf levels ≤ 5460 → r ≡ nodesOf levels
+  pub above : 5460 < nodesOf levels → 5460 < r
+
+unfoldable pub heldBy : ℕ → List ℕ → Seen → ℕ
+heldBy K ws v = v .count + (word ws (0 * width K) + word ws (0 * width K + 1))
+
+abbrev pub wentTo : Answer → Went → Outcome
+wentTo a g = cond (g .ok) (outcome a (g .words)) (outcome (Refused Damaged) (g .words))
+
+module _ (K levels : ℕ) where
+  abbrev pub limitOf : ℕ
+  limitOf = room K (levels - 1)
+
+  abbrev pub rootFine : List ℕ → Bool
+  rootFine ws = okBy K limitOf ws (0 * width K) (lookNode K ws 0)
+
+  -- shape and root, then what the request comes to
+  unfoldable pub openedTo : List ℕ → Outcome → Outcome
+  openedTo ws o = cond (shapeOk K levels (length ws)) (cond (rootFine ws) o (outcome (Refused Damaged) ws)) (outcome (Refused BadShape) ws)
+
+  unfoldable pub heldDown : List ℕ → Count
+  heldDown ws = cond (shapeOk K levels (length ws)) (cond (rootFine ws) (Held (heldBy K ws (lookNode K ws 0))) (Unknown Damaged)) (Unknown BadShape)
+
+  -- of an element that has a tag
+  unfoldable pub pushDown : Element → List ℕ → Outcome
+  pushDown x ws =
+      openedTo ws (cond (eqb (heldBy K ws (lookNode K ws 0)) (room K levels)) (outcome (Refused Full) ws) (wentTo Done (putDown K (levels - 1) 0 limitOf (lookNode K ws 0) x ws)))
+
+  unfoldable pub popDown : List ℕ → Outcome
+  popDown ws = openedTo ws (cond (eqb (heldBy K ws (lookNode K ws 0)) 0) (outcome (Refused Empty) ws)
+      (wentTo (Out (elemAt ws (placeIn K 0 (lookNode K ws 0 .low)))) (takeDown K (levels - 1) 0 limitOf (lookNode K ws 0 .low) ws)))
+
+  unfoldable pub replaceDown : Element → List ℕ → Outcome
+  replaceDown x ws = openedTo ws (cond (eqb (heldBy K ws (lookNode K ws 0)) 0) (outcome (Refused Empty) ws)
+      (wentTo (Out (elemAt ws (placeIn K 0 (lookNode K ws 0 .low)))) (swapDown K (levels - 1) 0 limitOf (lookNode K ws 0 .low) x ws)))
+
+-- the answer of a push and of a replace of any element without a tag; every word stands
+abbrev pub Bars : ℕ → ℕ → List ℕ → Answer → Type 0
+Bars K levels ws a = (x : Element) → untagged x ≡ true → (outcome a ws ≡ called K levels (Push x) ws) × (outcome a ws ≡ called K levels (Replace x) ws)

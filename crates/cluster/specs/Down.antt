@@ -1,0 +1,91 @@
+-- The recursions in the code's own shape: a node is tested before its child, and written once the child is done.
+use Prim.Native.Nat.{ℕ, zero, suc, _+_, _*_, _≤_, _<_}
+use mathlib.Core.Path.{_≡_}
+use mathlib.Core.Bool.{Bool, true, false, cond, _&&_}
+use mathlib.Core.List.{List}
+use lib.Dec.{ltb, leb}
+use lib.ListN.{length}
+use Rattle.strip.specs.declared.Element.{Element}
+use Rattle.strip.specs.Answers.{key}
+use Rattle.cluster_model.specs.Node.{gap, has, keep, pass}
+use Rattle.cluster_model.specs.Words.{word, width, writePlace}
+use Rattle.cluster_nodes.specs.declared.Seen.{Seen}
+use Rattle.cluster_nodes.specs.declared.Chosen.{Chosen}
+use Rattle.cluster_nodes.specs.Leaf.{elemAt, underOf, bareAt, okBy, raiseWords, sinkWords, lookNode, placeIn, choiceOf, Here}
+
+-- went through, or not; and the words
+pub record Went : Type 0 where
+  pub ok : Bool
+  pub words : List ℕ
+
+abbrev pub went : Bool → List ℕ → Went
+went b ws = record { ok = b; words = ws }
+
+unfoldable pub fewerRight : List ℕ → ℕ → Bool
+fewerRight ws o = ltb (word ws (o + 1)) (word ws o)
+
+module _ (K : ℕ) where
+  -- ---- take: node m has been tested, and j is its lowest place; limit is the room of its children
+  unfoldable pub takeBack : ℕ → ℕ → ℕ → ℕ → Chosen → Went → Went
+  takeBack m j l r c g = cond (g .ok) (went true (writePlace (sinkWords (c .right) (g .words) (m * width K) l r) (placeIn K m j) (has (c .up)))) (went false (g .words))
+
+  unfoldable pub takeNode : (ℕ → ℕ → ℕ → List ℕ → Went) → ℕ → ℕ → ℕ → List ℕ → Went
+  takeNode below m limit j ws =
+      let c = choiceOf K (underOf K limit) ws m in
+      cond (bareAt ws (m * width K)) (went true (writePlace ws (placeIn K m j) gap))
+      (cond (c .ok) (takeBack m j (word ws (m * width K)) (word ws (m * width K + 1)) c (below (c .child) (underOf K limit) (c .place) ws)) (went false ws))
+
+  unfoldable pub takeDown : (k : ℕ) → ℕ → ℕ → ℕ → List ℕ → Went
+  takeDown zero m limit j ws = went true (writePlace ws (placeIn K m j) gap)
+  takeDown (suc k) m limit j ws = takeNode (takeDown k) m limit j ws
+
+  -- ---- swap
+  unfoldable pub swapBack : ℕ → ℕ → Chosen → Went → Went
+  swapBack m j c g = cond (g .ok) (went true (writePlace (g .words) (placeIn K m j) (has (c .up)))) (went false (g .words))
+
+  unfoldable pub swapNode : (ℕ → ℕ → ℕ → List ℕ → Went) → ℕ → ℕ → ℕ → Element → List ℕ → Went
+  swapNode below m limit j x ws =
+      let c = choiceOf K (underOf K limit) ws m in
+      cond (bareAt ws (m * width K)) (went true (writePlace ws (placeIn K m j) (has x)))
+      (cond (c .ok)
+      (cond (ltb (key (c .up)) (key x)) (swapBack m j c (below (c .child) (underOf K limit) (c .place) ws)) (went true (writePlace ws (placeIn K m j) (has x))))
+      (went false ws))
+
+  unfoldable pub swapDown : (k : ℕ) → ℕ → ℕ → ℕ → Element → List ℕ → Went
+  swapDown zero m limit j x ws = went true (writePlace ws (placeIn K m j) (has x))
+  swapDown (suc k) m limit j x ws = swapNode (λ m limit j ws. swapDown k m limit j x ws) m limit j x ws
+
+  -- ---- put: node m has been scanned (v) and tested
+  unfoldable pub putBack : Bool → ℕ → ℕ → ℕ → ℕ → Element → Went → Went
+  putBack right m j l r e g = cond (g .ok) (went true (writePlace (raiseWords right (g .words) (m * width K) l r) (placeIn K m j) (has e))) (went false (g .words))
+
+  unfoldable pub putNode : (ℕ → ℕ → Seen → Element → List ℕ → Went) → ℕ → ℕ → Seen → Element → List ℕ → Went
+  putNode below m limit v x ws =
+      let o = m * width K in
+      let e = elemAt ws (placeIn K m (v .high)) in
+      let d = cond (fewerRight ws o) (m + m + 2) (m + m + 1) in
+      cond (ltb (v .free) K) (went true (writePlace ws (placeIn K m (v .free)) (has x)))
+      (cond (leb limit (word ws o) && leb limit (word ws (o + 1))) (went false ws)
+      (cond (okBy K (underOf K limit) ws (d * width K) (lookNode K ws d))
+      (putBack (fewerRight ws o) m (v .high) (word ws o) (word ws (o + 1)) (keep x e) (below d (underOf K limit) (lookNode K ws d) (pass x e) ws))
+      (went false ws)))
+
+  unfoldable pub putDown : (k : ℕ) → ℕ → ℕ → Seen → Element → List ℕ → Went
+  putDown zero m limit v x ws = cond (ltb (v .free) K) (went true (writePlace ws (placeIn K m (v .free)) (has x))) (went false ws)
+  putDown (suc k) m limit v x ws = putNode (putDown k) m limit v x ws
+
+-- ---- what the recursions ask of the words: node m, and the nodes below it, lie within them
+abbrev pub Reach : ℕ → (k : ℕ) → ℕ → ℕ → Type 0
+Reach K zero m len = Here K m len
+Reach K (suc k) m len = Here K m len × Reach K k (m + m + 1) len × Reach K k (m + m + 2) len
+
+-- .. and of a put: the node has been scanned and tested
+pub record PutReady (K k m limit : ℕ) (v : Seen) (ws : List ℕ) : Type 0 where
+  pub lies : Reach K k m (length ws)
+  pub seen : v ≡ lookNode K ws m
+  pub fine : okBy K limit ws (m * width K) v ≡ true
+  pub small : limit ≤ 5460
+
+pub record TakeReady (K k m j : ℕ) (ws : List ℕ) : Type 0 where
+  pub lies : Reach K k m (length ws)
+  pub place : j < K

@@ -1,0 +1,5 @@
+pub mod Unique
+pub mod ScanCode
+pub mod Looks
+pub mod Children
+pub mod Bridge

@@ -1,0 +1,129 @@
+-- For the code of the scan and of a node's tests.
+use Prim.Native.Nat.{ℕ, zero, suc, _+_, _*_, _-_, _/_, _≤_, _<_}
+use native.Mathlib.Nat.{not-suc-le-zero}
+use native.Mathlib.Numerals.{add-one}
+use native.Mathlib.Omega.{arith}
+use mathlib.Core.Path.{_≡_, refl, sym, ap, ap₂, _∙_, subst}
+use mathlib.Core.Bool.{Bool, true, false, cond, not, _&&_, _||_}
+use mathlib.Core.List.{List}
+use lib.Dec.{ltb, leb, eqb}
+use borrow.Author.Tests.{eq-eqb, le-ltb, lt-ltb, ne-eqb}
+use Rattle.cluster_nodes.specs.declared.Seen.{Seen}
+use Rattle.cluster_nodes.specs.declared.Found.{Found}
+use Rattle.strip.specs.Answers.{key}
+use Rattle.strip.specs.declared.Element.{Element}
+use Rattle.cluster_model.specs.Node.{keep, pass}
+use Rattle.cluster_model.specs.Words.{word, placeOf, neatPlace, width}
+use Rattle.cluster_nodes.specs.Scan.{lowerThan, highAs}
+use Rattle.cluster_nodes.specs.Seeing.{isMarked, seeOne, lookTo, noLook}
+use Rattle.cluster_nodes.specs.Leaf.{okBy, bareAt, underOf, lookNode, peekOf}
+
+pub see-is : (ws : List ℕ) (o j : ℕ) (v : Seen) (count free low high : ℕ) (lower higher : Bool)
+    → lower ≡ lowerThan (placeOf ws (o + j * 4)) (placeOf ws (o + v .low * 4)) → higher ≡ highAs (placeOf ws (o + j * 4)) (placeOf ws (o + v .high * 4))
+    → count ≡ cond (not (eqb (word ws (o + j * 4 + 3)) 0)) (v .count + 1) (v .count)
+    → free ≡ cond (not (eqb (word ws (o + j * 4 + 3)) 0) && eqb (v .free) j) (j + 1) (v .free)
+    → low ≡ cond lower j (v .low) → high ≡ cond higher j (v .high)
+    → _≡_ {A = Seen} (record {
+      neat = v .neat && ((eqb (word ws (o + j * 4 + 3)) 0 && (eqb (word ws (o + j * 4)) 0 && (eqb (word ws (o + j * 4 + 1)) 0 && eqb (word ws (o + j * 4 + 2)) 0))) || eqb (word ws (o + j * 4 + 3)) 1);
+      count = count;
+      free = free;
+      low = low;
+      high = high;
+    }) (seeOne ws o j v)
+unfolding seeOne isMarked neatPlace
+see-is ws o j v count free low high lower higher a b p q r s =
+    let r′ : low ≡ cond (lowerThan (placeOf ws (o + j * 4)) (placeOf ws (o + v .low * 4))) j (v .low) = r ∙ ap (λ (t : Bool). cond t j (v .low)) a in
+    let s′ : high ≡ cond (highAs (placeOf ws (o + j * 4)) (placeOf ws (o + v .high * 4))) j (v .high) = s ∙ ap (λ (t : Bool). cond t j (v .high)) b in
+    λ i. record {
+      neat = v .neat && ((eqb (word ws (o + j * 4 + 3)) 0 && (eqb (word ws (o + j * 4)) 0 && (eqb (word ws (o + j * 4 + 1)) 0 && eqb (word ws (o + j * 4 + 2)) 0))) || eqb (word ws (o + j * 4 + 3)) 1);
+      count = p i;
+      free = q i;
+      low = r′ i;
+      high = s′ i;
+    }
+
+pub look-next : (ws : List ℕ) (o j : ℕ) (v r : Seen) → v ≡ lookTo ws o j → r ≡ seeOne ws o j v → r ≡ lookTo ws o (j + 1)
+unfolding lookTo
+look-next ws o j v r e p = rw (add-one, ← e) p
+
+pub look-first : (ws : List ℕ) (o : ℕ) → noLook ≡ lookTo ws o 0
+unfolding lookTo
+look-first ws o = refl
+
+either : (b : Bool) (x y n : ℕ) → x ≤ n → y ≤ n → cond b x y ≤ n
+either true x y n p q = p
+either false x y n p q = q
+
+-- what the scan of j places has seen lies within them
+pub record Within (v : Seen) (j : ℕ) : Type 0 where
+  pub low : v .low ≤ j
+  pub high : v .high ≤ j
+  pub count : v .count ≤ j
+  pub free : v .free ≤ j
+
+pub within : (ws : List ℕ) (o j : ℕ) → Within (lookTo ws o j) j
+unfolding lookTo seeOne
+within ws o zero = record { low = omega arith; high = omega arith; count = omega arith; free = omega arith }
+within ws o (suc j) =
+    let h = within ws o j in
+    let v : Seen = lookTo ws o j in
+    record {
+      low = either (lowerThan (placeOf ws (o + j * 4)) (placeOf ws (o + v .low * 4))) j (v .low) (suc j) (omega arith) (omega (arith, h .low));
+      high = either (highAs (placeOf ws (o + j * 4)) (placeOf ws (o + v .high * 4))) j (v .high) (suc j) (omega arith) (omega (arith, h .high));
+      count = either (isMarked ws (o + j * 4)) (v .count + 1) (v .count) (suc j) (omega (arith, h .count)) (omega (arith, h .count));
+      free = either (isMarked ws (o + j * 4) && eqb (v .free) j) (j + 1) (v .free) (suc j) (omega arith) (omega (arith, h .free));
+    }
+
+pub within-of : (ws : List ℕ) (o j : ℕ) (v : Seen) → v ≡ lookTo ws o j → Within v j
+within-of ws o j v e = subst (λ (u : Seen). Within u j) (sym e) (within ws o j)
+
+-- of all places, one at least: the lowest and the highest are among them
+pub low-lt : (ws : List ℕ) (o n : ℕ) → 0 < n → lookTo ws o n .low < n
+unfolding lookTo seeOne
+low-lt ws o zero h = absurd (not-suc-le-zero {n = 0} (omega arith))
+low-lt ws o (suc j) h = let v : Seen = lookTo ws o j in
+    let b = either (lowerThan (placeOf ws (o + j * 4)) (placeOf ws (o + v .low * 4))) j (v .low) j (omega arith) (within ws o j .low) in omega (arith, b)
+
+pub high-lt : (ws : List ℕ) (o n : ℕ) → 0 < n → lookTo ws o n .high < n
+unfolding lookTo seeOne
+high-lt ws o zero h = absurd (not-suc-le-zero {n = 0} (omega arith))
+high-lt ws o (suc j) h = let v : Seen = lookTo ws o j in
+    let b = either (highAs (placeOf ws (o + j * 4)) (placeOf ws (o + v .high * 4))) j (v .high) j (omega arith) (within ws o j .high) in omega (arith, b)
+
+-- ---- tests
+pub ok-is : (K limit : ℕ) (ws : List ℕ) (o : ℕ) (v : Seen) (bare : Bool) (l r : ℕ) → bare ≡ (eqb (word ws o) 0 && eqb (word ws (o + 1)) 0) → l ≡ word ws o → r ≡ word ws (o + 1)
+    → (v .neat && (leb l limit && (leb r limit && (bare || leb K (v .count))))) ≡ okBy K limit ws o v
+unfolding okBy bareAt
+ok-is K limit ws o v bare l r e p q = rw (e, p, q) refl
+
+pub under-none : (K limit : ℕ) → limit < K → 0 ≡ underOf K limit
+unfolding underOf
+under-none K limit h = let z : limit - K ≡ 0 = omega arith in rw z refl
+
+pub peek-none : (K limit : ℕ) (ws : List ℕ) (m count : ℕ) → count ≡ 0 → _≡_ {A = Found} (record { ok = true; place = 0 }) (peekOf K limit ws m count)
+unfolding peekOf
+peek-none K limit ws m count e = rw (eq-eqb count 0 e) refl
+
+pub peek-some : (K limit : ℕ) (ws : List ℕ) (m count : ℕ) (v : Seen) (fine : Bool) → (count ≡ 0 → ⊥) → v ≡ lookTo ws (m * width K + 2) K → fine ≡ okBy K limit ws (m * width K) v
+    → _≡_ {A = Found} (record { ok = fine && not (eqb (v .count) 0); place = v .low }) (peekOf K limit ws m count)
+unfolding peekOf lookNode
+peek-some K limit ws m count v fine n e p =
+    let q : fine ≡ okBy K limit ws (m * width K) (lookTo ws (m * width K + 2) K) = p ∙ ap (okBy K limit ws (m * width K)) e in
+    rw (ne-eqb count 0 n) (λ i. record { ok = q i && not (eqb (e i .count) 0); place = e i .low })
+
+-- ---- the two elements of a put
+pub keep-low : (x e : Element) (r : Element) → key x < key e → r ≡ x → r ≡ keep x e
+unfolding keep
+keep-low x e r h p = rw (lt-ltb (key x) (key e) h) p
+
+pub keep-high : (x e : Element) (r : Element) → key e ≤ key x → r ≡ e → r ≡ keep x e
+unfolding keep
+keep-high x e r h p = rw (le-ltb (key x) (key e) h) p
+
+pub pass-low : (x e : Element) (r : Element) → key x < key e → r ≡ e → r ≡ pass x e
+unfolding pass
+pass-low x e r h p = rw (lt-ltb (key x) (key e) h) p
+
+pub pass-high : (x e : Element) (r : Element) → key e ≤ key x → r ≡ x → r ≡ pass x e
+unfolding pass
+pass-high x e r h p = rw (le-ltb (key x) (key e) h) p

@@ -1,0 +1,17 @@
+use Rattle.cluster_nodes.proofs.Looks.{under-none}
+use mathlib.Core.Path.{_≡_, _∙_, ap, refl, sym}
+use Rattle.cluster_nodes.specs.Leaf.{underOf}
+use Rattle.cluster_nodes.proofs.room_under.Statement.{statement}
+use Rattle.cluster_nodes.proofs.room_under.Tie as tie
+use Rattle.cluster_nodes.proofs.room_under.Reads as reads
+use Rattle.cluster_nodes.proofs.room_under.Lts as lts
+
+returns : tie.Need-returns
+returns c = under-none _ _ (c .if1 .taken)
+
+returns-2 : tie.Need-returns-2
+unfolding underOf
+returns-2 c = refl
+
+pub room-under-spec : {M : Type 1} → statement M
+room-under-spec = tie.close (tie.spec returns returns-2)

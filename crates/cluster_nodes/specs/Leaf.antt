@@ -1,0 +1,83 @@
+-- What the code of one node computes: the tests of a node once it has been scanned, the lower of two children, a count one more or less.
+use Prim.Native.Nat.{ℕ, zero, suc, _+_, _*_, _-_, _/_, _≤_, _<_, pred}
+use mathlib.Core.Path.{_≡_}
+use mathlib.Core.Bool.{Bool, true, false, cond, not, _&&_, _||_}
+use mathlib.Core.List.{List}
+use lib.Dec.{ltb, leb, eqb}
+use lib.ListN.{length, set}
+use Rattle.strip.specs.declared.Element.{Element}
+use Rattle.strip.specs.Answers.{key, element}
+use Rattle.cluster_nodes.specs.declared.Seen.{Seen}
+use Rattle.cluster_nodes.specs.declared.Found.{Found}
+use Rattle.cluster_nodes.specs.declared.Chosen.{Chosen}
+use Rattle.cluster_model.specs.Node.{gap, has, keep, pass}
+use Rattle.cluster_model.specs.Words.{word, width, writePlace}
+use Rattle.cluster_nodes.specs.Seeing.{lookTo}
+
+unfoldable pub elemAt : List ℕ → ℕ → Element
+elemAt ws o = element (word ws o) (word ws (o + 1)) (word ws (o + 2))
+
+-- the room of a child's child
+unfoldable pub underOf : ℕ → ℕ → ℕ
+underOf K limit = (limit - K) / 2
+
+-- nothing below the node at word o
+unfoldable pub bareAt : List ℕ → ℕ → Bool
+bareAt ws o = eqb (word ws o) 0 && eqb (word ws (o + 1)) 0
+
+-- the node at word o is in order, once it has been scanned
+unfoldable pub okBy : ℕ → ℕ → List ℕ → ℕ → Seen → Bool
+okBy K limit ws o v = v .neat && (leb (word ws o) limit && (leb (word ws (o + 1)) limit && (bareAt ws o || leb K (v .count))))
+
+unfoldable pub raiseWords : Bool → List ℕ → ℕ → ℕ → ℕ → List ℕ
+raiseWords right ws o l r = cond right (set ws (o + 1) (r + 1)) (set ws o (l + 1))
+
+unfoldable pub sinkWords : Bool → List ℕ → ℕ → ℕ → ℕ → List ℕ
+sinkWords right ws o l r = cond right (set ws (o + 1) (pred r)) (set ws o (pred l))
+
+-- of the children whose count is not 0 the one with the lower lowest, left on a tie
+unfoldable pub rightLower : ℕ → ℕ → Element → Element → Bool
+rightLower l r a b = not (eqb r 0) && (eqb l 0 || ltb (key b) (key a))
+
+unfoldable pub choiceBy : Found → Found → ℕ → ℕ → ℕ → Element → Element → Chosen
+choiceBy p q m l r a b = record {
+  ok = p .ok && q .ok;
+  right = rightLower l r a b;
+  child = cond (rightLower l r a b) (m + m + 2) (m + m + 1);
+  place = cond (rightLower l r a b) (q .place) (p .place);
+  up = cond (rightLower l r a b) b a;
+}
+
+module _ (K : ℕ) where
+  -- the scan of node m
+  unfoldable pub lookNode : List ℕ → ℕ → Seen
+  lookNode ws m = lookTo ws (m * width K + 2) K
+
+  -- word of place j of node m
+  abbrev pub placeIn : ℕ → ℕ → ℕ
+  placeIn m j = m * width K + 2 + j * 4
+
+  unfoldable pub peekOf : ℕ → List ℕ → ℕ → ℕ → Found
+  peekOf limit ws m count =
+      cond (eqb count 0) (record { ok = true; place = 0 })
+      (record { ok = okBy K limit ws (m * width K) (lookNode ws m) && not (eqb (lookNode ws m .count) 0); place = lookNode ws m .low })
+
+  -- limit is the room of a child's child
+  unfoldable pub choiceOf : ℕ → List ℕ → ℕ → Chosen
+  choiceOf limit ws m =
+      let l = word ws (m * width K) in
+      let r = word ws (m * width K + 1) in
+      let p = peekOf limit ws (m + m + 1) l in
+      let q = peekOf limit ws (m + m + 2) r in
+      choiceBy p q m l r (elemAt ws (placeIn (m + m + 1) (p .place))) (elemAt ws (placeIn (m + m + 2) (q .place)))
+
+-- node m lies within the words
+pub record Here (K m len : ℕ) : Type 0 where
+  pub some : 1 < K
+  pub few : K ≤ 16
+  pub node : m ≤ 5460
+  pub words : m * width K + width K ≤ len
+
+-- .. and so do its children
+abbrev pub Three : ℕ → ℕ → ℕ → Type 0
+Three K m len = Here K m len × Here K (m + m + 1) len × Here K (m + m + 2) len

@@ -1,0 +1,3 @@
+pub mod Scan
+pub mod Seeing
+pub mod Leaf

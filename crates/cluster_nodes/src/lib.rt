@@ -1,0 +1,311 @@
+// One node of the cluster heap on its words: reading a place, one scan of all of them, the tests of a node, the lower of two children, and the writes of a
+// place and of a count. A function that reads or writes a node asks that it lies within the words.
+ghost use mathlib.Core.Path.{_≡_};
+ghost use mathlib.Core.Bool.{cond, _&&_};
+ghost use lib.Dec.{ltb, leb};
+ghost use Prim.Native.Nat.{pred, _+_, _*_, _<_, _≤_};
+ghost use lib.ListN.{length};
+ghost use Rattle.strip.specs.Answers.{key};
+ghost use Rattle.cluster_model.specs.Node.{gap, has, keep, pass};
+ghost use Rattle.cluster_model.specs.Words.{placeOf, writePlace};
+ghost use Rattle.cluster_nodes.specs.Scan.{lowerThan, highAs};
+ghost use Rattle.cluster_nodes.specs.Seeing.{seeOne, lookTo};
+ghost use Rattle.cluster_nodes.specs.Leaf.{elemAt, underOf, bareAt, okBy, raiseWords, sinkWords, peekOf, rightLower, choiceOf, Here, Three};
+use strip::Element;
+use strip::Length;
+use strip::Rank;
+use strip::Tag;
+
+// One scan of a node: whether all places seen are neat, how many are marked, the first that is not, the lowest and the highest.
+pub struct Seen {
+    pub neat: bool,
+    pub count: usize,
+    pub free: usize,
+    pub low: usize,
+    pub high: usize,
+}
+
+// A child read for its lowest: whether it is in order, and the place.
+pub struct Found {
+    pub ok: bool,
+    pub place: usize,
+}
+
+// The lower of two children: whether both are in order, whether it is the right one, its node, its lowest place and the element there.
+pub struct Chosen {
+    pub ok: bool,
+    pub right: bool,
+    pub child: usize,
+    pub place: usize,
+    pub up: Element,
+}
+
+pub fn choose(b: bool, x: usize, y: usize) -> usize
+    ensures { λ r. ⌜ r ≡ cond b x y ⌝ }
+{
+    if b { x } else { y }
+}
+
+pub fn wide(x: u32) -> usize
+    ensures { λ r. ⌜ r ≡ x ⌝ }
+{
+    x as usize
+}
+
+// Is the place at word i occupied, and the one at word k empty, or does the element at i leave before that at k?
+pub fn lower_than(s: &[u32], i: usize, k: usize) -> bool
+    requires { ⌜ (i + 4 ≤ length (now s)) × (k + 4 ≤ length (now s)) ⌝ }
+    ensures { λ r. ⌜ r ≡ lowerThan (placeOf (now (s .entry)) i) (placeOf (now (s .entry)) k) ⌝ }
+{
+    if s[i + 3] == 0 {
+        return false;
+    }
+    if s[k + 3] == 0 {
+        return true;
+    }
+    let a = s[i];
+    let b = s[k];
+    let c = s[i + 1];
+    let d = s[k + 1];
+    (a < b) | ((a == b) & (c < d))
+}
+
+// Is it occupied, and the one at word k empty or not of a higher rank?
+pub fn high_as(s: &[u32], i: usize, k: usize) -> bool
+    requires { ⌜ (i + 4 ≤ length (now s)) × (k + 4 ≤ length (now s)) ⌝ }
+    ensures { λ r. ⌜ r ≡ highAs (placeOf (now (s .entry)) i) (placeOf (now (s .entry)) k) ⌝ }
+{
+    if s[i + 3] == 0 {
+        return false;
+    }
+    if s[k + 3] == 0 {
+        return true;
+    }
+    s[k] <= s[i]
+}
+
+// The element whose rank is at word i.
+pub fn elem_at(s: &[u32], i: usize) -> Element
+    requires { ⌜ i + 4 ≤ length (now s) ⌝ }
+    ensures { λ r. ⌜ r ≡ elemAt (now (s .entry)) i ⌝ }
+{
+    let rank = s[i];
+    let tag = s[i + 1];
+    let length = s[i + 2];
+    Element {
+        rank: Rank(rank),
+        tag: Tag(tag),
+        length: Length(length),
+    }
+}
+
+// The place at word i becomes x, marked.
+pub fn set_place(s: &mut [u32], i: usize, x: Element)
+    requires { ⌜ i + 4 ≤ length (now s) ⌝ }
+    ensures { λ _. ⌜ now (s .exit) ≡ writePlace (now (s .entry)) i (has x) ⌝ }
+{
+    s[i] = x.rank.0;
+    s[i + 1] = x.tag.0;
+    s[i + 2] = x.length.0;
+    s[i + 3] = 1;
+}
+
+pub fn clear_place(s: &mut [u32], i: usize)
+    requires { ⌜ i + 4 ≤ length (now s) ⌝ }
+    ensures { λ _. ⌜ now (s .exit) ≡ writePlace (now (s .entry)) i gap ⌝ }
+{
+    s[i] = 0;
+    s[i + 1] = 0;
+    s[i + 2] = 0;
+    s[i + 3] = 0;
+}
+
+// Place j, seen after those before it.
+pub fn see(s: &[u32], at: usize, j: usize, v: Seen) -> Seen
+    requires { ⌜ (at + j * 4 + 4 ≤ length (now s)) × (j < 16) × (v .low ≤ j) × (v .high ≤ j) × (v .count ≤ j) ⌝ }
+    ensures { λ r. ⌜ r ≡ seeOne (now (s .entry)) at j v ⌝ }
+{
+    let i = at + j * 4;
+    let rank = s[i];
+    let tag = s[i + 1];
+    let length = s[i + 2];
+    let mark = s[i + 3];
+    let neat = v.neat
+        & (((mark == 0) & ((rank == 0) & ((tag == 0) & (length == 0)))) | (mark == 1));
+    let marked = mark != 0;
+    let lower = lower_than(s, i, at + v.low * 4);
+    let higher = high_as(s, i, at + v.high * 4);
+    let count = choose(marked, v.count + 1, v.count);
+    let free = choose(marked & (v.free == j), j + 1, v.free);
+    let low = choose(lower, j, v.low);
+    let high = choose(higher, j, v.high);
+    Seen {
+        neat,
+        count,
+        free,
+        low,
+        high,
+    }
+}
+
+// The scan of n places that begin at word at.
+pub fn look(s: &[u32], at: usize, n: usize) -> Seen
+    requires { ⌜ (at + n * 4 ≤ length (now s)) × (n ≤ 16) ⌝ }
+    ensures { λ r. ⌜ r ≡ lookTo (now (s .entry)) at n ⌝ }
+{
+    let mut v = Seen {
+        neat: true,
+        count: 0,
+        free: 0,
+        low: 0,
+        high: 0,
+    };
+    let mut j = 0;
+    while j < n {
+        v = see(s, at, j, v);
+        j += 1;
+    }
+    v
+}
+
+pub fn bare_at(s: &[u32], at: usize) -> bool
+    requires { ⌜ at + 2 ≤ length (now s) ⌝ }
+    ensures { λ r. ⌜ r ≡ bareAt (now (s .entry)) at ⌝ }
+{
+    (s[at] == 0) & (s[at + 1] == 0)
+}
+
+// Is the node at word at in order, once it has been scanned? Its children have room for limit each.
+pub fn node_ok(s: &[u32], k: usize, limit: usize, at: usize, v: Seen) -> bool
+    requires { ⌜ at + 2 ≤ length (now s) ⌝ }
+    ensures { λ r. ⌜ r ≡ okBy k limit (now (s .entry)) at v ⌝ }
+{
+    let bare = bare_at(s, at);
+    let l = wide(s[at]);
+    let r = wide(s[at + 1]);
+    v.neat & ((l <= limit) & ((r <= limit) & (bare | (k <= v.count))))
+}
+
+pub fn room_under(k: usize, limit: usize) -> usize
+    ensures { λ r. ⌜ r ≡ underOf k limit ⌝ }
+{
+    if limit < k {
+        return 0;
+    }
+    (limit - k) / 2
+}
+
+// Node m, read for its lowest if its count is not 0.
+pub fn peek(s: &[u32], k: usize, limit: usize, m: usize, count: u32) -> Found
+    requires { ⌜ Here k m (length (now s)) ⌝ }
+    ensures { λ r. ⌜ r ≡ peekOf k limit (now (s .entry)) m count ⌝ }
+{
+    if count == 0 {
+        return Found { ok: true, place: 0 };
+    }
+    let at = m * (2 + k * 4);
+    let v = look(s, at + 2, k);
+    let fine = node_ok(s, k, limit, at, v);
+    Found {
+        ok: fine & (v.count != 0),
+        place: v.low,
+    }
+}
+
+pub fn choose_element(b: bool, x: Element, y: Element) -> Element
+    ensures { λ r. ⌜ r ≡ cond b x y ⌝ }
+{
+    if b { x } else { y }
+}
+
+// Of the children whose count is not 0, is the right one's lowest the lower?
+pub fn right_lower(l: u32, r: u32, a: Element, b: Element) -> bool
+    ensures { λ q. ⌜ q ≡ rightLower l r a b ⌝ }
+{
+    (r != 0) & ((l == 0) | (b.rank.0 < a.rank.0))
+}
+
+// The lower of the children of node m.
+pub fn choice(s: &[u32], k: usize, limit: usize, m: usize) -> Chosen
+    requires { ⌜ Three k m (length (now s)) ⌝ }
+    ensures { λ r. ⌜ r ≡ choiceOf k limit (now (s .entry)) m ⌝ }
+{
+    let at = m * (2 + k * 4);
+    let l = s[at];
+    let r = s[at + 1];
+    let lc = m + m + 1;
+    let rc = m + m + 2;
+    let p = peek(s, k, limit, lc, l);
+    let q = peek(s, k, limit, rc, r);
+    let a = elem_at(s, lc * (2 + k * 4) + 2 + p.place * 4);
+    let b = elem_at(s, rc * (2 + k * 4) + 2 + q.place * 4);
+    let right = right_lower(l, r, a, b);
+    let child = choose(right, rc, lc);
+    let place = choose(right, q.place, p.place);
+    let up = choose_element(right, b, a);
+    Chosen {
+        ok: p.ok & q.ok,
+        right,
+        child,
+        place,
+        up,
+    }
+}
+
+pub fn less(x: u32) -> u32
+    ensures { λ r. ⌜ r ≡ pred x ⌝ }
+{
+    if x == 0 {
+        return 0;
+    }
+    x - 1
+}
+
+// The count of one side, one less.
+pub fn sink(s: &mut [u32], at: usize, right: bool, l: u32, r: u32)
+    requires { ⌜ at + 2 ≤ length (now s) ⌝ }
+    ensures { λ _. ⌜ now (s .exit) ≡ sinkWords right (now (s .entry)) at l r ⌝ }
+{
+    if right {
+        s[at + 1] = less(r);
+    } else {
+        s[at] = less(l);
+    }
+}
+
+// The count of one side, one more.
+pub fn raise(s: &mut [u32], at: usize, right: bool, l: u32, r: u32)
+    requires { ⌜ (at + 2 ≤ length (now s)) × (l ≤ 5460) × (r ≤ 5460) ⌝ }
+    ensures { λ _. ⌜ now (s .exit) ≡ raiseWords right (now (s .entry)) at l r ⌝ }
+{
+    if right {
+        s[at + 1] = r + 1;
+    } else {
+        s[at] = l + 1;
+    }
+}
+
+pub fn lower(x: Element, y: Element) -> bool
+    ensures { λ r. ⌜ r ≡ ltb (key x) (key y) ⌝ }
+{
+    x.rank.0 < y.rank.0
+}
+
+// Of the element put and the element met: the one that stays, and the one that goes on below.
+pub fn keep_of(x: Element, e: Element) -> Element
+    ensures { λ r. ⌜ r ≡ keep x e ⌝ }
+{
+    if x.rank.0 < e.rank.0 { x } else { e }
+}
+
+pub fn pass_of(x: Element, e: Element) -> Element
+    ensures { λ r. ⌜ r ≡ pass x e ⌝ }
+{
+    if x.rank.0 < e.rank.0 { e } else { x }
+}
+
+pub fn both_full(limit: usize, l: u32, r: u32) -> bool
+    ensures { λ q. ⌜ q ≡ (leb limit l && leb limit r) ⌝ }
+{
+    (limit <= l as usize) & (limit <= r as usize)
+}
