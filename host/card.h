@@ -11,8 +11,8 @@
  *   6 empty       a pop or replace on an empty queue
  *   7 no tag      a push or replace with tag 0, which stands for no strip
  *
- * A slice is a pointer and then its length in words. The pointer must really have so many words,
- * aligned as usual; it may be NULL where the length is 0. The slices of one call must not overlap.
+ * A slice is a pointer and then its length in words, that of records in records. The pointer must
+ * really have so many, aligned as usual; it may be NULL where the length is 0. The slices of one call must not overlap.
  * Everything else is tested: no store's content and no number makes a call unsafe. Longer slices
  * are taken; what lies behind the words in use is neither read nor written.
  *
@@ -77,8 +77,8 @@ uint32_t card_bucket_words(uint32_t storeys, uint32_t nodes);
 #define CARD_TREE_WORDS(order, levels) (4u * ((((order) << (CARD_SHIFT(order) * (levels))) - (order)) / ((order)-1u)))
 #define CARD_BUCKET_BITS(storeys) ((storeys) == 3u ? 4161u : 65u)
 #define CARD_BUCKET_WORDS(storeys, nodes) ((2u << (6u * (storeys))) + 3u * (nodes) + 2u)
-/* The records of a clocked tree, five words for each level from 2: none where there is one level. */
-#define CARD_RECORD_WORDS(levels) (5u * ((levels)-1u))
+/* The records of a clocked tree, one for each level from 2: none where there is one level. */
+#define CARD_RECORDS(levels) ((levels)-1u)
 #define CARD_MARK_WORDS 1u
 #define CARD_OUT_WORDS 3u
 /* order is 2 to this power */
@@ -192,28 +192,50 @@ uint32_t card_bucket_held(const uint64_t *bits, size_t bits_len, const uint32_t 
                           size_t out_len);
 
 /*
- * The same tree, worked by clock cycles. Beside the store there are five words of records for each
- * level from 2 - kind (0 nothing, 1 put, 2 take, 3 swap), node, rank, tag, length - and one word of
- * mark: 1 where the last cycle's operation was answered without refusal, else 0. Records and mark
- * are handed on, each time, as the call before left them.
+ * The same tree, worked by clock cycles. Beside the store there are a pending record for each level
+ * from 2 and one word of mark: 1 where the last cycle's operation was answered without refusal, else
+ * 0. Records and mark are handed on, each time, as the call before left them.
+ *
+ * Records lie in the caller's own memory. Those past levels less one are neither read nor written. A
+ * record of nothing is not looked at but for its kind, and stands as it is until a cycle loads it;
+ * what a cycle writes has 0 for the numbers that its kind does not use. After 1 and 2 no record is
+ * written, but a drain refused 2 leaves those of the cycles already run.
  */
+struct card_record {
+    uint32_t kind; /* 0 nothing, 1 put, 2 take, 3 swap */
+    uint32_t node;
+    uint32_t rank;
+    uint32_t tag;
+    uint32_t length;
+};
+
+/* The library's layout: five words, in this order. Where a compiler has another, this is an error. */
+typedef char card_record_layout[sizeof(struct card_record) == 5 * sizeof(uint32_t) &&
+                                        offsetof(struct card_record, kind) == 0 * sizeof(uint32_t) &&
+                                        offsetof(struct card_record, node) == 1 * sizeof(uint32_t) &&
+                                        offsetof(struct card_record, rank) == 2 * sizeof(uint32_t) &&
+                                        offsetof(struct card_record, tag) == 3 * sizeof(uint32_t) &&
+                                        offsetof(struct card_record, length) == 4 * sizeof(uint32_t)
+                                    ? 1
+                                    : -1];
 
 /* Empties the tree: store and records zero, mark off. Reads neither records nor mark. */
 uint32_t card_clocked_clear(uint32_t *store, size_t store_len, uint32_t order, uint32_t levels,
-                            uint32_t *records, size_t records_len, uint32_t *mark, size_t mark_len);
+                            struct card_record *records, size_t records_len, uint32_t *mark,
+                            size_t mark_len);
 
 /* Runs one cycle with a request: 0 idle, 1 push, 2 pop, 3 replace. The operation is answered in
    its own cycle. Refused 3, 5, 6 or 7 it runs as an idle cycle. */
 uint32_t card_clocked_cycle(uint32_t *store, size_t store_len, uint32_t order, uint32_t levels,
-                            uint32_t *records, size_t records_len, uint32_t *mark, size_t mark_len,
-                            uint32_t request, uint32_t rank, uint32_t tag, uint32_t length,
-                            uint32_t *out, size_t out_len);
+                            struct card_record *records, size_t records_len, uint32_t *mark,
+                            size_t mark_len, uint32_t request, uint32_t rank, uint32_t tag,
+                            uint32_t length, uint32_t *out, size_t out_len);
 
 /* Runs idle cycles until nothing is pending or the budget is spent: out[0] the cycles run, out[1]
    1 where work is left. */
 uint32_t card_clocked_drain(uint32_t *store, size_t store_len, uint32_t order, uint32_t levels,
-                            uint32_t *records, size_t records_len, uint32_t *mark, size_t mark_len,
-                            uint32_t budget, uint32_t *out, size_t out_len);
+                            struct card_record *records, size_t records_len, uint32_t *mark,
+                            size_t mark_len, uint32_t budget, uint32_t *out, size_t out_len);
 
 /* Gives the number of held elements in out[0]. Reads the root alone, no record. */
 uint32_t card_clocked_held(const uint32_t *store, size_t store_len, uint32_t order, uint32_t levels,

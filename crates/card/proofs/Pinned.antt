@@ -1,4 +1,4 @@
--- PINNED: what the contract of each exported call allows is one outcome: the number returned and every word afterwards. Assumes nothing.
+-- PINNED: what the contract of each exported call allows is one outcome: the number returned and every word and record afterwards. Assumes nothing.
 use Prim.Native.Nat.{ℕ}
 use mathlib.Core.List.{List}
 use mathlib.Core.Path.{_∙_, _≡_, ap, sym}
@@ -6,6 +6,7 @@ use Rattle.card.specs.Bucket.{bucketAfter, BucketAfter, bucketAfterOut, 
 use Rattle.card.specs.Cluster.{clusterClear, clusterHeld, clusterPop, clusterPush, clusterReplace}
 use Rattle.card.specs.Clocked.{clockedAfter, ClockedAfter, clockedAfterOut, ClockedAfterOut, clockedClear, clockedCycle, clockedDrain, clockedHeld}
 use Rattle.card.specs.Out.{countAfter, CountAfter}
+use Rattle.lent_steps.specs.declared.Record.{Record}
 use Rattle.card.specs.Tree.{treeAfter, TreeAfter, treeAfterOut, TreeAfterOut, treeClear, treeHeld, treePop, treePush, treeReplace}
 
 count : (o : CountAfter) (n k : ℕ) (x y : List ℕ) → countAfter n x ≡ o → countAfter k y ≡ o → (n ≡ k) × (x ≡ y)
@@ -30,7 +31,7 @@ bucket-out o n k a b v w x y p q = (
   ap (λ (o : BucketAfterOut). o .out) (p ∙ sym q),
 )
 
-clocked : (o : ClockedAfter) (n k : ℕ) (v w r s a b : List ℕ) → clockedAfter n v r a ≡ o → clockedAfter k w s b ≡ o → (n ≡ k) × (v ≡ w) × (r ≡ s) × (a ≡ b)
+clocked : (o : ClockedAfter) (n k : ℕ) (v w : List ℕ) (r s : List Record) (a b : List ℕ) → clockedAfter n v r a ≡ o → clockedAfter k w s b ≡ o → (n ≡ k) × (v ≡ w) × (r ≡ s) × (a ≡ b)
 clocked o n k v w r s a b p q = (
   ap (λ (o : ClockedAfter). o .number) (p ∙ sym q),
   ap (λ (o : ClockedAfter). o .store) (p ∙ sym q),
@@ -38,7 +39,7 @@ clocked o n k v w r s a b p q = (
   ap (λ (o : ClockedAfter). o .mark) (p ∙ sym q),
 )
 
-clocked-out : (o : ClockedAfterOut) (n k : ℕ) (v w r s a b x y : List ℕ) → clockedAfterOut n v r a x ≡ o → clockedAfterOut k w s b y ≡ o
+clocked-out : (o : ClockedAfterOut) (n k : ℕ) (v w : List ℕ) (r s : List Record) (a b x y : List ℕ) → clockedAfterOut n v r a x ≡ o → clockedAfterOut k w s b y ≡ o
     → (n ≡ k) × (v ≡ w) × (r ≡ s) × (a ≡ b) × (x ≡ y)
 clocked-out o n k v w r s a b x y p q = (
   ap (λ (o : ClockedAfterOut). o .number) (p ∙ sym q),
@@ -111,7 +112,7 @@ pub pinned-bucket-held : (bits words : List ℕ) (storeys nodes : ℕ) (out : Li
 pinned-bucket-held bits words storeys nodes out n k x y p q = count (bucketHeld bits words storeys nodes out) n k x y p q
 
 -- ---- the clocked tree; r and s are two slices of records, a and b two marks
-module _ (m levels : ℕ) (ws rs mark : List ℕ) (n k : ℕ) (v w r s a b : List ℕ) where
+module _ (m levels : ℕ) (ws : List ℕ) (rs : List Record) (mark : List ℕ) (n k : ℕ) (v w : List ℕ) (r s : List Record) (a b : List ℕ) where
   pub pinned-clocked-clear : clockedAfter n v r a ≡ clockedClear m levels ws rs mark → clockedAfter k w s b ≡ clockedClear m levels ws rs mark → (n ≡ k) × (v ≡ w) × (r ≡ s) × (a ≡ b)
   pinned-clocked-clear p q = clocked (clockedClear m levels ws rs mark) n k v w r s a b p q
 

@@ -1,20 +1,18 @@
 -- A refused call answers zeros wherever `out` is long enough, and does not touch one that is too short. Assumes nothing.
 use Prim.Native.Nat.{ℕ}
-use native.Mathlib.Omega.{arith}
 use mathlib.Core.Bool.{_&&_, Bool, cond, false, true}
 use mathlib.Core.List.{List}
 use mathlib.Core.Path.{_∙_, _≡_, ap, refl, sym}
 use lib.Dec.{leb}
 use lib.ListN.{length, set}
 use Rattle.bucket_model.specs.Calls as bucket
-use Rattle.card.proofs.Clocked.{taken-shape}
 use Rattle.card.specs.Bucket.{bucketPop, bucketReplace, bucketAfterOut, bucketAnswered}
-use Rattle.card.specs.Clocked.{ClockedAfterOut, clockedCycle, clockedDrain, cycleOf, drainOf, requestOf, saysNo, stateIn, taken}
+use Rattle.card.specs.Clocked.{asked, clockedCycle, clockedDrain, cycleOf, drainOf, drainOut, marked, markIn, requestOf, saysNo}
 use Rattle.card.specs.Out.{answerOut, answerWords, badShape, countAfter, countAnswered, drainWords, refusedOut, zeros}
 use Rattle.card.specs.Tree.{treePop, treeReplace, treeAfterOut, treeAnswered}
-use Rattle.clocked_model.proofs.Drain.{done, drain-ends, End, jammed}
-use Rattle.clocked_model.specs.Calls.{DrainOutcome, drains, cycled}
-use Rattle.laws.specs.Tests.{and-right}
+use Rattle.lent_steps.proofs.Drained.{drain-bad}
+use Rattle.lent_steps.specs.Lent.{lentCycled, LentDrain, lentDrains, LentOutcome}
+use Rattle.lent_steps.specs.declared.Record.{Record}
 use Rattle.strip.specs.Answers.{blank, countNumber, countOf, numberOf}
 use Rattle.strip.specs.declared.Answer.{Answer}
 use Rattle.strip.specs.declared.Answer.the-variants.{Done, Out, Refused}
@@ -68,42 +66,36 @@ module _ (b w : List ℕ) (storeys n : ℕ) where
   pub zeros-bucket-replace : (rank tag bytes : ℕ) (out : List ℕ) → (bucketReplace b w storeys n rank tag bytes out .number ≡ 0 → ⊥) → bucketReplace b w storeys n rank tag bytes out .out ≡ refusedOut answerWords out
   zeros-bucket-replace rank tag bytes out h = bucket-zeros _ b w out h
 
-module _ (m levels : ℕ) (ws rs mark out : List ℕ) where
+module _ (m levels : ℕ) (ws : List ℕ) (rs : List Record) (mark out : List ℕ) where
   pub zeros-clocked-cycle : (request rank tag bytes : ℕ) → (clockedCycle m levels ws rs mark request rank tag bytes out .number ≡ 0 → ⊥)
       → clockedCycle m levels ws rs mark request rank tag bytes out .out ≡ refusedOut answerWords out
   unfolding clockedCycle
-  zeros-clocked-cycle request rank tag bytes h = go (leb answerWords (length out)) refl (taken m levels (length ws) rs mark request) h
+  zeros-clocked-cycle request rank tag bytes h = go (leb answerWords (length out)) refl (asked mark request) h
     where
-      a : Answer
-      a = cycled m levels (requestOf request rank tag bytes) (stateIn levels rs mark) ws .answer
+      o : LentOutcome
+      o = lentCycled m levels (markIn mark) rs ws (requestOf request rank tag bytes)
 
-      done : ClockedAfterOut
-      done = cycleOf levels rs mark (cycled m levels (requestOf request rank tag bytes) (stateIn levels rs mark) ws) out
-
-      go : (b : Bool) → leb answerWords (length out) ≡ b → (t : Bool) → (cond (b && t) done (saysNo m levels ws rs mark answerWords out) .number ≡ 0 → ⊥) → cond (b && t) done (saysNo m levels ws rs mark answerWords out) .out ≡ refusedOut answerWords out
-      go true e true h = told-zeros a out true e h
+      go : (b : Bool) → leb answerWords (length out) ≡ b → (t : Bool) → (cond (b && t) (cycleOf mark o out) (saysNo m levels ws rs mark answerWords out) .number ≡ 0 → ⊥)
+          → cond (b && t) (cycleOf mark o out) (saysNo m levels ws rs mark answerWords out) .out ≡ refusedOut answerWords out
+      go true e true h = told-zeros (o .answer) out true e h
       go true e false h = refl
       go false e t h = refl
 
   -- "at 1 it reports 0 and no work left"; at 2 it reports the cycles already run, work left
   pub zeros-clocked-drain : (budget : ℕ) → clockedDrain m levels ws rs mark budget out .number ≡ badShape → clockedDrain m levels ws rs mark budget out .out ≡ refusedOut drainWords out
-  unfolding clockedDrain
-  zeros-clocked-drain budget h = go (leb drainWords (length out) && taken m levels (length ws) rs mark 0) refl h
+  unfolding clockedDrain refusedOut
+  zeros-clocked-drain budget h = go (leb drainWords (length out)) refl (marked mark) h
     where
-      d : DrainOutcome
-      d = drains m levels budget (stateIn levels rs mark) ws
+      d : LentDrain
+      d = lentDrains m levels (markIn mark) rs ws budget
 
-      -- a drain of a good shape is done or refused 2
-      not-bad : End m levels budget (d .cycles) (stateIn levels rs mark) ws d → numberOf (d .answer) ≡ badShape → ⊥
-      not-bad (done a l) e = omega (arith, ap numberOf a)
-      not-bad (jammed a l j) e = omega (arith, ap numberOf a)
-
-      go : (t : Bool) → (leb drainWords (length out) && taken m levels (length ws) rs mark 0) ≡ t → cond t (drainOf levels rs mark d out) (saysNo m levels ws rs mark drainWords out) .number ≡ badShape
-          → cond t (drainOf levels rs mark d out) (saysNo m levels ws rs mark drainWords out) .out ≡ refusedOut drainWords out
-      go false e h = refl
-      go true e h =
-          let sh = shape-is m levels (length ws) (taken-shape m levels (length ws) rs mark 0 (and-right (leb drainWords (length out)) (taken m levels (length ws) rs mark 0) e)) in
-          absurd (not-bad (drain-ends m levels budget (stateIn levels rs mark) ws sh) h)
+      go : (b : Bool) → leb drainWords (length out) ≡ b → (t : Bool) → cond (b && t) (drainOf mark d out) (saysNo m levels ws rs mark drainWords out) .number ≡ badShape
+          → cond (b && t) (drainOf mark d out) (saysNo m levels ws rs mark drainWords out) .out ≡ cond (leb drainWords (length out)) (zeros drainWords out) out
+      go true e true h =
+          let z = drain-bad m levels (markIn mark) rs ws budget h in
+          (λ i. drainOut (z .0 i) (z .1 i) out) ∙ ap (λ (b : Bool). cond b (zeros drainWords out) out) (sym e)
+      go true e false h = refl
+      go false e t h = refl
 
 -- held answers 0
 pub zeros-held : (c : Count) (out : List ℕ) → (countAnswered c out .number ≡ 0 → ⊥) → countAnswered c out .out ≡ refusedOut 1 out

@@ -1,38 +1,43 @@
--- The calls of the clocked tree as C sees them: total functions of all numbers and words handed in, to the number returned and all words
--- afterwards. Assumes nothing: these are definitions.
+-- The calls of the clocked tree as C sees them: total functions of all numbers, words and records handed in, to the number returned and all words and
+-- records afterwards. Assumes nothing: these are definitions.
 use Prim.Native.Nat.{_-_, ℕ}
-use mathlib.Core.Bool.{_&&_, Bool, cond, not}
+use mathlib.Core.Bool.{_&&_, Bool, cond, false}
 use mathlib.Core.List.{List}
-use lib.Dec.{eqb, leb, ltb}
-use lib.ListN.{length, set}
+use lib.Dec.{eqb, leb}
+use lib.ListN.{getD, length, set}
 use Rattle.card.specs.Out.{answerOut, answerWords, badShape, CountAfter, countAnswered, drainWords, refusedOut}
-use Rattle.card_records.specs.Records.{markWritten, readable, roomy, stateRead, worksWritten}
-use Rattle.clocked_model.specs.Calls.{CycleOutcome, DrainOutcome, drains, clearedMachine, cycled}
-use Rattle.clocked_model.specs.declared.State.{State}
+use Rattle.clocked_model.specs.Calls.{CycleOutcome, DrainOutcome, fresh}
+use Rattle.lent_steps.specs.Lent.{lentCleared, lentCycled, LentDrain, lentDrains, LentOutcome}
+use Rattle.lent_steps.specs.Steps.{clearFrom, cycleFrom, drainFrom, turned, turnedCycle, turnedDrain}
+use Rattle.lent_steps.specs.declared.Read.{Read}
+use Rattle.lent_steps.specs.declared.Record.{Record}
+use Rattle.lent_steps.specs.declared.Turned.{Turned}
 use Rattle.strip.specs.Answers.{element, numberOf}
+use Rattle.strip.specs.declared.Answer.the-variants.{Refused}
+use Rattle.strip.specs.declared.Refusal.the-variants.{BadShape}
 use Rattle.strip.specs.declared.Request.{Request}
 use Rattle.strip.specs.declared.Request.the-variants.{Idle, Pop, Push, Replace}
-use Rattle.tree_model.specs.Calls.{heldCount, shapeOk}
+use Rattle.tree_model.specs.Calls.{heldCount}
 
--- ---- clear: the number, and all words afterwards
+-- ---- clear: the number, and all words and records afterwards
 pub record ClockedAfter : Type 0 where
   pub number : ℕ
   pub store : List ℕ
-  pub records : List ℕ
+  pub records : List Record
   pub mark : List ℕ
 
-abbrev pub clockedAfter : ℕ → List ℕ → List ℕ → List ℕ → ClockedAfter
+abbrev pub clockedAfter : ℕ → List ℕ → List Record → List ℕ → ClockedAfter
 clockedAfter n ws rs mark = record { number = n; store = ws; records = rs; mark = mark }
 
--- ---- cycle and drain: the number, and all words afterwards
+-- ---- cycle and drain: the number, and all words and records afterwards
 pub record ClockedAfterOut : Type 0 where
   pub number : ℕ
   pub store : List ℕ
-  pub records : List ℕ
+  pub records : List Record
   pub mark : List ℕ
   pub out : List ℕ
 
-abbrev pub clockedAfterOut : ℕ → List ℕ → List ℕ → List ℕ → List ℕ → ClockedAfterOut
+abbrev pub clockedAfterOut : ℕ → List ℕ → List Record → List ℕ → List ℕ → ClockedAfterOut
 clockedAfterOut n ws rs mark out = record { number = n; store = ws; records = rs; mark = mark; out = out }
 
 -- the request of a number: 0 idle, 1 push, 2 pop, 3 replace
@@ -40,48 +45,39 @@ unfoldable pub requestOf : ℕ → ℕ → ℕ → ℕ → Request
 requestOf n rank tag bytes =
     cond (eqb n 1) (Push (element rank tag bytes)) (cond (eqb n 2) Pop (cond (eqb n 3) (Replace (element rank tag bytes)) Idle))
 
--- did a cycle run? Refusals 1 and 2 leave everything
-abbrev pub ran : ℕ → Bool
-ran n = not (eqb n 1) && not (eqb n 2)
+-- ---- the mark is a word: 1 on, 0 off
+unfoldable pub marked : List ℕ → Bool
+marked mark = leb 1 (length mark) && leb (getD mark 0 0) 1
 
--- does the boundary take a call on a store of n words? A shape, a request, and records and mark that can be read
-unfoldable pub taken : ℕ → ℕ → ℕ → List ℕ → List ℕ → ℕ → Bool
-taken m levels n rs mark request = shapeOk m levels n && (leb request 3 && readable (levels - 1) rs mark)
+abbrev pub markIn : List ℕ → Bool
+markIn mark = eqb (getD mark 0 0) 1
+
+abbrev pub markOut : Bool → List ℕ → List ℕ
+markOut on mark = set mark 0 (cond on 1 0)
+
+-- does the boundary take a call? There is a mark, and the request is one
+unfoldable pub asked : List ℕ → ℕ → Bool
+asked mark request = leb request 3 && marked mark
 
 -- `out` of a drain: the cycles run, and 1 where work is left
 abbrev pub drainOut : ℕ → Bool → List ℕ → List ℕ
 drainOut n left out = set (set out 0 n) 1 (cond left 1 0)
 
-module _ (levels : ℕ) (rs mark : List ℕ) where
-  -- the state that records and mark hold
-  abbrev pub stateIn : State
-  stateIn = stateRead (levels - 1) rs mark
+-- ---- the calls: the lent calls, their answers in numbers
+module _ (mark : List ℕ) where
+  abbrev pub clearOf : LentOutcome → ClockedAfter
+  clearOf o = clockedAfter (numberOf (o .answer)) (o .words) (o .records) (cond (eqb (numberOf (o .answer)) 0) (markOut false mark) mark)
 
-  -- records and mark afterwards: written from the state s where a cycle ran, and else as they stand
-  abbrev pub recordsBack : Bool → State → List ℕ
-  recordsBack r s = cond r (worksWritten (levels - 1) (s .records) rs) rs
+  abbrev pub cycleOf : LentOutcome → List ℕ → ClockedAfterOut
+  cycleOf o out = clockedAfterOut (numberOf (o .answer)) (o .words) (o .records) (markOut (o .mark) mark) (answerOut (o .answer) out)
 
-  abbrev pub markBack : Bool → State → List ℕ
-  markBack r s = cond r (markWritten s mark) mark
+  abbrev pub drainOf : LentDrain → List ℕ → ClockedAfterOut
+  drainOf d out = clockedAfterOut (numberOf (d .answer)) (d .words) (d .records) (markOut (d .mark) mark) (drainOut (d .cycles) (d .left) out)
 
-  -- what a clear, a cycle and a drain come to
-  abbrev pub clearOf : CycleOutcome → ClockedAfter
-  clearOf o =
-      clockedAfter (numberOf (o .answer)) (o .words) (recordsBack (ran (numberOf (o .answer))) (o .state)) (markBack (ran (numberOf (o .answer))) (o .state))
-
-  abbrev pub cycleOf : CycleOutcome → List ℕ → ClockedAfterOut
-  cycleOf o out =
-      clockedAfterOut (numberOf (o .answer)) (o .words) (recordsBack (ran (numberOf (o .answer))) (o .state)) (markBack (ran (numberOf (o .answer))) (o .state)) (answerOut (o .answer) out)
-
-  abbrev pub drainOf : DrainOutcome → List ℕ → ClockedAfterOut
-  drainOf o out =
-      clockedAfterOut (numberOf (o .answer)) (o .words) (recordsBack (ltb 0 (o .cycles)) (o .state)) (markBack (ltb 0 (o .cycles)) (o .state)) (drainOut (o .cycles) (o .left) out)
-
--- ---- the calls
-module _ (m levels : ℕ) (ws rs mark : List ℕ) where
+module _ (m levels : ℕ) (ws : List ℕ) (rs : List Record) (mark : List ℕ) where
+  -- a clear reads no record and no mark
   unfoldable pub clockedClear : ClockedAfter
-  clockedClear =
-      cond (shapeOk m levels (length ws) && roomy (levels - 1) rs mark) (clearOf levels rs mark (clearedMachine m levels ws)) (clockedAfter badShape ws rs mark)
+  clockedClear = cond (leb 1 (length mark)) (clearOf mark (lentCleared m levels (markIn mark) rs ws)) (clockedAfter badShape ws rs mark)
 
   -- where the boundary says no, all stands but `out`, which gets n zeros if it is long enough
   abbrev pub saysNo : ℕ → List ℕ → ClockedAfterOut
@@ -89,13 +85,56 @@ module _ (m levels : ℕ) (ws rs mark : List ℕ) where
 
   unfoldable pub clockedCycle : ℕ → ℕ → ℕ → ℕ → List ℕ → ClockedAfterOut
   clockedCycle request rank tag bytes out =
-      cond (leb answerWords (length out) && taken m levels (length ws) rs mark request)
-      (cycleOf levels rs mark (cycled m levels (requestOf request rank tag bytes) (stateIn levels rs mark) ws) out) (saysNo answerWords out)
+      cond (leb answerWords (length out) && asked mark request) (cycleOf mark (lentCycled m levels (markIn mark) rs ws (requestOf request rank tag bytes)) out) (saysNo answerWords out)
 
   unfoldable pub clockedDrain : ℕ → List ℕ → ClockedAfterOut
   clockedDrain budget out =
-      cond (leb drainWords (length out) && taken m levels (length ws) rs mark 0)
-      (drainOf levels rs mark (drains m levels budget (stateIn levels rs mark) ws) out) (saysNo drainWords out)
+      cond (leb drainWords (length out) && marked mark) (drainOf mark (lentDrains m levels (markIn mark) rs ws budget) out) (saysNo drainWords out)
 
 abbrev pub clockedHeld : ℕ → ℕ → List ℕ → List ℕ → CountAfter
 clockedHeld m levels ws out = countAnswered (heldCount m levels ws) out
+
+-- ---- the calls on what was read of a slice of so many records: all words afterwards, and what is left to write of the records
+pub record Told : Type 0 where
+  pub turned : Turned
+  pub store : List ℕ
+  pub mark : List ℕ
+
+abbrev pub told : Turned → List ℕ → List ℕ → Told
+told t ws mark = record { turned = t; store = ws; mark = mark }
+
+pub record ToldOut : Type 0 where
+  pub turned : Turned
+  pub store : List ℕ
+  pub mark : List ℕ
+  pub out : List ℕ
+
+abbrev pub toldOut : Turned → List ℕ → List ℕ → List ℕ → ToldOut
+toldOut t ws mark out = record { turned = t; store = ws; mark = mark; out = out }
+
+-- where the boundary says no, none
+abbrev pub noneTurned : Turned
+noneTurned = turned (Refused BadShape) 0 false fresh 0
+
+module _ (m levels len : ℕ) (ws mark : List ℕ) where
+  abbrev pub clearLeft : CycleOutcome → Told
+  clearLeft o = told (turnedCycle levels o) (o .words) (cond (eqb (numberOf (o .answer)) 0) (markOut false mark) mark)
+
+  unfoldable pub clearTold : Told
+  clearTold = cond (leb 1 (length mark)) (clearLeft (clearFrom m levels len (markIn mark) ws)) (told noneTurned ws mark)
+
+  abbrev pub cycleLeft : List ℕ → CycleOutcome → ToldOut
+  cycleLeft out o = toldOut (turnedCycle levels o) (o .words) (markOut (o .state .mark) mark) (answerOut (o .answer) out)
+
+  abbrev pub noneLeft : ℕ → List ℕ → ToldOut
+  noneLeft n out = toldOut noneTurned ws mark (refusedOut n out)
+
+  unfoldable pub cycleTold : Read → ℕ → ℕ → ℕ → ℕ → List ℕ → ToldOut
+  cycleTold d request rank tag bytes out =
+      cond (leb answerWords (length out) && asked mark request) (cycleLeft out (cycleFrom m levels len (markIn mark) ws d (requestOf request rank tag bytes))) (noneLeft answerWords out)
+
+  abbrev pub drainLeft : List ℕ → DrainOutcome → ToldOut
+  drainLeft out o = toldOut (turnedDrain levels o) (o .words) (markOut (o .state .mark) mark) (drainOut (o .cycles) (o .left) out)
+
+  unfoldable pub drainTold : Read → ℕ → List ℕ → ToldOut
+  drainTold d budget out = cond (leb drainWords (length out) && marked mark) (drainLeft out (drainFrom m levels len (markIn mark) ws d budget)) (noneLeft drainWords out)

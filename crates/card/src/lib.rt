@@ -1,45 +1,29 @@
 // The static library for C and Rust: the four queues over numbers and slices. Each function returns 01's number, 0 where nothing is
 // refused, and writes what it answers to `out`, zeros on a refusal. An `out` that is too short is refusal 1, and nothing changes.
 ghost use mathlib.Core.Path.{_≡_};
-ghost use Prim.Native.Nat.{_≤_, ℕ};
 ghost use lib.ListN.{set};
-ghost use Rattle.tree_model.specs.Calls.{slotLimit};
-ghost use Rattle.node.specs.Shaping.{Shaped};
 ghost use Rattle.strip.specs.Answers.{numberOf, countNumber, countOf};
-ghost use Rattle.card.specs.Out.{Long, answerOut, answerWords, countAfter, drainWords};
+ghost use Rattle.card.specs.Out.{Long, answerOut, answerWords, countAfter};
 ghost use Rattle.card.specs.Tree.{treeAfter, treeAfterOut, treeClear, treePush, treePop, treeReplace, treeHeld};
 ghost use Rattle.card.specs.Cluster.{clusterClear, clusterPush, clusterPop, clusterReplace, clusterHeld, clusterWords};
 ghost use Rattle.card.specs.Bucket.{bucketAfter, bucketAfterOut, bucketClear, bucketPush, bucketPop, bucketReplace, bucketHeld};
-ghost use Rattle.card.specs.Clocked.{clockedAfter, clockedAfterOut, requestOf, ran, taken, drainOut, clockedClear, clockedCycle, clockedDrain, clockedHeld};
 ghost use Rattle.card.specs.Sizes.{treeWords, bucketBits, bucketWords};
 
+mod clock;
 pub mod repair;
 
 use bucket_nodes::queue_of;
 use bucket_tests::POOL;
 use bucket_tests::is_deep;
-use card_records::bit;
-use card_records::hand_back;
-use card_records::is_readable;
-use card_records::is_roomy;
-use card_records::read_state;
-use clocked_steps::clear_shaped;
-use clocked_steps::cycle_shaped;
-use clocked_steps::drain_shaped;
 use node::SLOT_LIMIT;
 use node::SLOT_WORDS;
 use node::capacity;
-use node::shape::Shape;
-use node::shape::shape_fits;
-use node::shape::shape_of;
 use node::shape_ok;
 use strip::Answer;
 use strip::Count;
 use strip::Element;
 use strip::Length;
 use strip::Rank;
-use strip::Refusal;
-use strip::Request;
 use strip::Tag;
 use strip::count_number;
 use strip::count_of;
@@ -48,10 +32,8 @@ use strip::number;
 
 // ---- what `out` receives
 
-// The words of an answer: rank, tag and length; of a drain's: cycles run and whether work is left.
+// The words of an answer: rank, tag and length.
 const OUT: usize = 3;
-
-const DRAIN_OUT: usize = 2;
 
 // Writes an answer's rank, tag and length, zeros on a refusal, and returns its number.
 fn tell(out: &mut [u32], answer: Answer) -> u32
@@ -320,153 +302,6 @@ pub extern "C" fn card_bucket_held(
         return 1;
     }
     let count = bucket::held(bits, words, storeys as usize, nodes);
-    tell_count(out, count)
-}
-
-// ---- the clocked tree
-
-// Whether the boundary takes a call on a store of so many words: a shape, a request, and records and mark that can be read.
-fn is_taken(shape: Shape, words: usize, records: &[u32], mark: &[u32], request: u32) -> bool
-    requires { ⌜ shape .slots ≤ slotLimit ⌝ }
-    ensures { λ r. ⌜ ((m levels : ℕ) → Shaped m levels shape → r ≡ taken m levels words (now (records .entry)) (now (mark .entry)) request) ⌝ }
-{
-    if !shape_fits(shape, words) {
-        return false;
-    }
-    let readable = is_readable(records, mark, shape.below);
-    (request <= 3) & readable
-}
-
-fn request_of(request: u32, rank: u32, tag: u32, length: u32) -> Request
-    ensures { λ r. ⌜ r ≡ requestOf request rank tag length ⌝ }
-{
-    let x = Element {
-        rank: Rank(rank),
-        tag: Tag(tag),
-        length: Length(length),
-    };
-    if request == 1 {
-        return Request::Push(x);
-    }
-    if request == 2 {
-        return Request::Pop;
-    }
-    if request == 3 {
-        return Request::Replace(x);
-    }
-    Request::Idle
-}
-
-// Whether a cycle with an answer of this number ran.
-fn has_run(answer: Answer) -> bool
-    ensures { λ r. ⌜ r ≡ ran (numberOf answer) ⌝ }
-{
-    let n = number(answer);
-    (n != 1) & (n != 2)
-}
-
-// Writes the cycles run and whether work is left, and returns the answer's number.
-fn tell_drain(out: &mut [u32], cycles: u32, left: bool, answer: Answer) -> u32
-    requires { ⌜ Long drainWords (now out) ⌝ }
-    ensures { λ r. ⌜ (r ≡ numberOf answer) × (now (out .exit) ≡ drainOut cycles left (now (out .entry))) ⌝ }
-{
-    out[0] = cycles;
-    out[1] = bit(left);
-    number(answer)
-}
-
-#[no_mangle]
-pub extern "C" fn card_clocked_clear(
-    store: &mut [u32],
-    order: u32,
-    levels: u32,
-    records: &mut [u32],
-    mark: &mut [u32],
-) -> u32
-    ensures { λ r. ⌜ clockedAfter r (now (store .exit)) (now (records .exit)) (now (mark .exit)) ≡ clockedClear order levels (now (store .entry)) (now (records .entry)) (now (mark .entry)) ⌝ }
-{
-    let shape = shape_of(order as usize, levels as usize);
-    if !shape_fits(shape, store.len()) {
-        return 1;
-    }
-    if !is_roomy(records, mark, shape.below) {
-        return 1;
-    }
-    let next = clear_shaped(store, shape.slots);
-    hand_back(records, mark, shape.below, next, true);
-    0
-}
-
-#[no_mangle]
-pub extern "C" fn card_clocked_cycle(
-    store: &mut [u32],
-    order: u32,
-    levels: u32,
-    records: &mut [u32],
-    mark: &mut [u32],
-    request: u32,
-    rank: u32,
-    tag: u32,
-    length: u32,
-    out: &mut [u32],
-) -> u32
-    ensures { λ r. ⌜ clockedAfterOut r (now (store .exit)) (now (records .exit)) (now (mark .exit)) (now (out .exit)) ≡ clockedCycle order levels (now (store .entry)) (now (records .entry)) (now (mark .entry)) request rank tag length (now (out .entry)) ⌝ }
-{
-    let m = order as usize;
-    if out.len() < OUT {
-        return 1;
-    }
-    let shape = shape_of(m, levels as usize);
-    if !is_taken(shape, store.len(), records, mark, request) {
-        return tell(out, Answer::Refused(Refusal::BadShape));
-    }
-    let state = read_state(records, mark, shape.below);
-    let asked = request_of(request, rank, tag, length);
-    let done = cycle_shaped(store, m, shape.below, shape.room, state, asked);
-    let answer = done.answer;
-    let next = done.state;
-    let back = has_run(answer);
-    hand_back(records, mark, shape.below, next, back);
-    tell(out, answer)
-}
-
-#[no_mangle]
-pub extern "C" fn card_clocked_drain(
-    store: &mut [u32],
-    order: u32,
-    levels: u32,
-    records: &mut [u32],
-    mark: &mut [u32],
-    budget: u32,
-    out: &mut [u32],
-) -> u32
-    ensures { λ r. ⌜ clockedAfterOut r (now (store .exit)) (now (records .exit)) (now (mark .exit)) (now (out .exit)) ≡ clockedDrain order levels (now (store .entry)) (now (records .entry)) (now (mark .entry)) budget (now (out .entry)) ⌝ }
-{
-    let m = order as usize;
-    if out.len() < DRAIN_OUT {
-        return 1;
-    }
-    let shape = shape_of(m, levels as usize);
-    if !is_taken(shape, store.len(), records, mark, 0) {
-        return tell_drain(out, 0, false, Answer::Refused(Refusal::BadShape));
-    }
-    let state = read_state(records, mark, shape.below);
-    let done = drain_shaped(store, m, shape.below, shape.room, state, budget as usize);
-    let answer = done.answer;
-    let next = done.state;
-    let cycles = done.cycles;
-    hand_back(records, mark, shape.below, next, 0 < cycles);
-    tell_drain(out, cycles as u32, done.left, answer)
-}
-
-#[no_mangle]
-pub extern "C" fn card_clocked_held(store: &[u32], order: u32, levels: u32, out: &mut [u32]) -> u32
-    ensures { λ r. ⌜ countAfter r (now (out .exit)) ≡ clockedHeld order levels (now (store .entry)) (now (out .entry)) ⌝ }
-{
-    if out.len() < 1 {
-        return 1;
-    }
-    let count = clocked::held(store, order as usize, levels as usize);
     tell_count(out, count)
 }
 

@@ -108,7 +108,7 @@ fn row(plan: &Plan, all: &mut Vec<Row>, kind: &str, shape: (u32, u32), ask: impl
     all.push(Row {
         name,
         pair,
-        card_bytes: 4 * (card.0.words().len() + card.0.records().len() + 1),
+        card_bytes: 4 * (card.0.words().len() + 5 * card.0.records().len() + 1),
         other_bytes: bytes_of(|| Plain::new(order, levels)),
     });
 }

@@ -19,10 +19,19 @@
 //! ```
 #![allow(clippy::too_many_arguments)]
 
-use crate::raw;
+use crate::{raw, Record};
 
 // In every block below: each pointer and length is that of a slice which is borrowed for the length of the call, so its words are
 // there, aligned and initialised, a `&mut` slice overlaps no other, and the library keeps no pointer. Numbers and words may be any.
+
+// A record lies in memory as the library reads it: five words, in this order. Else this does not compile.
+const _: () = {
+    let record = Record { kind: 1, node: 2, rank: 3, tag: 4, length: 5 };
+    // SAFETY: the two are of one size, or this is refused, and any five words are an array of words.
+    let laid: [u32; 5] = unsafe { core::mem::transmute(record) };
+    assert!(laid[0] == 1 && laid[1] == 2 && laid[2] == 3 && laid[3] == 4 && laid[4] == 5);
+    assert!(core::mem::align_of::<Record>() == core::mem::align_of::<u32>());
+};
 
 /// Empties a tree.
 #[inline]
@@ -195,7 +204,7 @@ pub fn bucket_held(bits: &[u64], words: &[u32], storeys: u32, nodes: u32, out: &
 
 /// Empties a clocked tree, its records and its mark.
 #[inline]
-pub fn clocked_clear(store: &mut [u32], order: u32, levels: u32, records: &mut [u32], mark: &mut [u32]) -> u32 {
+pub fn clocked_clear(store: &mut [u32], order: u32, levels: u32, records: &mut [Record], mark: &mut [u32]) -> u32 {
     let (s, r, m) = (store, records, mark);
     let (store, records, mark) = (s.as_mut_ptr(), r.as_mut_ptr(), m.as_mut_ptr());
     // SAFETY: borrowed slices, as said above.
@@ -208,7 +217,7 @@ pub fn clocked_cycle(
     store: &mut [u32],
     order: u32,
     levels: u32,
-    records: &mut [u32],
+    records: &mut [Record],
     mark: &mut [u32],
     request: u32,
     rank: u32,
@@ -243,7 +252,7 @@ pub fn clocked_drain(
     store: &mut [u32],
     order: u32,
     levels: u32,
-    records: &mut [u32],
+    records: &mut [Record],
     mark: &mut [u32],
     budget: u32,
     out: &mut [u32],

@@ -49,17 +49,50 @@ impl fmt::Display for Stopped {
 #[cfg(feature = "std")]
 impl std::error::Error for Stopped {}
 
-/// A clocked tree over words of any kind: lent slices, arrays, or (with feature `std`) vectors of its own, see
+/// A pending record: what a level from 2 has to do in the next cycle. This is the library's own layout, so records may lie wherever the
+/// card keeps them. A record of nothing that is not loaded stands as it was handed in, whatever its numbers are.
+#[repr(C)]
+#[derive(Clone, Copy, PartialEq, Eq, Hash, Debug, Default)]
+pub struct Record {
+    /// 0 nothing, 1 put, 2 take, 3 swap.
+    pub kind: u32,
+    /// The node of the level, from 0.
+    pub node: u32,
+    /// The rank that a put or swap carries.
+    pub rank: u32,
+    /// The tag that a put or swap carries.
+    pub tag: u32,
+    /// The length that a put or swap carries.
+    pub length: u32,
+}
+
+impl From<[u32; 5]> for Record {
+    /// The record of these numbers: kind, node, rank, tag, length.
+    #[inline]
+    fn from([kind, node, rank, tag, length]: [u32; 5]) -> Record {
+        Record { kind, node, rank, tag, length }
+    }
+}
+
+impl From<Record> for [u32; 5] {
+    /// The record's numbers: kind, node, rank, tag, length.
+    #[inline]
+    fn from(r: Record) -> [u32; 5] {
+        [r.kind, r.node, r.rank, r.tag, r.length]
+    }
+}
+
+/// A clocked tree over words and records of any kind: lent slices, arrays, or (with feature `std`) vectors of its own, see
 /// [`ClockedTree`](crate::ClockedTree).
 ///
 /// An operation is answered in its own cycle and ends within as many cycles as there are levels. A pop or replace just after an
 /// answered operation is too soon: the cycle runs as an idle one.
 ///
 /// ```
-/// use card_host::{record_words, tree_words, Clocked, Element, Length, Rank, Refusal, Tag};
+/// use card_host::{record_count, tree_words, Clocked, Element, Length, Rank, Record, Refusal, Tag};
 ///
 /// # fn main() -> Result<(), Refusal> {
-/// let (mut words, mut records) = ([0; tree_words(2, 3)], [0; record_words(3)]);
+/// let (mut words, mut records) = ([0; tree_words(2, 3)], [Record::default(); record_count(3)]);
 /// let mut tree = Clocked::cleared(2, 3, &mut words[..], &mut records[..])?;
 /// tree.push(Element::new(Rank(5), Tag(50), Length(1500)))?;
 /// assert_eq!(tree.pop(), Err(Refusal::TooSoon));
@@ -77,10 +110,10 @@ pub struct Clocked<W, R> {
     mark: [u32; 1],
 }
 
-impl<W: AsRef<[u32]> + AsMut<[u32]>, R: AsRef<[u32]> + AsMut<[u32]>> Clocked<W, R> {
-    /// An empty tree with nothing pending and the mark off: the words that it needs are cleared, those behind them are never touched.
-    /// Refused [`Refusal::BadShape`] where order, levels or the number of words ([`tree_words`](crate::tree_words),
-    /// [`record_words`](crate::record_words)) are not those of a tree; then nothing is written.
+impl<W: AsRef<[u32]> + AsMut<[u32]>, R: AsRef<[Record]> + AsMut<[Record]>> Clocked<W, R> {
+    /// An empty tree with nothing pending and the mark off: the words and records that it needs are cleared, those behind them are never touched.
+    /// Refused [`Refusal::BadShape`] where order, levels or the number of words ([`tree_words`](crate::tree_words)) or
+    /// records ([`record_count`](crate::record_count)) are not those of a tree; then nothing is written.
     #[inline]
     pub fn cleared(order: u32, levels: u32, words: W, records: R) -> Result<Clocked<W, R>, Refusal> {
         let mut tree = Clocked { order, levels, words, records, mark: [0] };
@@ -88,14 +121,14 @@ impl<W: AsRef<[u32]> + AsMut<[u32]>, R: AsRef<[u32]> + AsMut<[u32]>> Clocked<W, 
         Ok(tree)
     }
 
-    /// A tree over words as they stand, from [`into_words`](Clocked::into_words) or from elsewhere. Nothing is tested here: each call
+    /// A tree over words and records as they stand, from [`into_words`](Clocked::into_words) or from elsewhere. Nothing is tested here: each call
     /// tests what it reads, and refuses what is damaged.
     #[inline]
     pub fn from_words(order: u32, levels: u32, words: W, records: R, mark: bool) -> Clocked<W, R> {
         Clocked { order, levels, words, records, mark: [mark as u32] }
     }
 
-    /// The words of the slots and of the records, and the mark, handed back.
+    /// The words of the slots, the records and the mark, handed back.
     #[inline]
     pub fn into_words(self) -> (W, R, bool) {
         (self.words, self.records, self.mark[0] != 0)
@@ -107,9 +140,9 @@ impl<W: AsRef<[u32]> + AsMut<[u32]>, R: AsRef<[u32]> + AsMut<[u32]>> Clocked<W, 
         self.words.as_ref()
     }
 
-    /// The pending records: kind, node, rank, tag and length for each level from 2.
+    /// The pending records, one for each level from 2.
     #[inline]
-    pub fn records(&self) -> &[u32] {
+    pub fn records(&self) -> &[Record] {
         self.records.as_ref()
     }
 

@@ -45,13 +45,13 @@ mod sizes;
 mod tree;
 
 pub use bucket::Bucket;
-pub use clocked::{Clocked, Drained, Request, Stopped};
+pub use clocked::{Clocked, Drained, Record, Request, Stopped};
 pub use cluster::Cluster;
 pub use mend::{Broken, Mended};
 #[cfg(feature = "std")]
 pub use owned::{BucketQueue, ClockedTree, ClusterQueue, TreeQueue};
 pub use sizes::{
-    bucket_bits, bucket_ranks, bucket_words, cluster_places, cluster_words, record_words, tree_slots, tree_words,
+    bucket_bits, bucket_ranks, bucket_words, cluster_places, cluster_words, record_count, tree_slots, tree_words,
 };
 pub use tree::Tree;
 

@@ -1,7 +1,7 @@
 //! Queues that own their stores.
 
 use crate::{
-    bucket_bits, bucket_words, cluster_words, record_words, tree_words, Bucket, Clocked, Cluster, Refusal, Tree,
+    bucket_bits, bucket_words, cluster_words, record_count, tree_words, Bucket, Clocked, Cluster, Record, Refusal, Tree,
 };
 use std::vec;
 use std::vec::Vec;
@@ -88,13 +88,13 @@ impl BucketQueue {
 /// # Ok(())
 /// # }
 /// ```
-pub type ClockedTree = Clocked<Vec<u32>, Vec<u32>>;
+pub type ClockedTree = Clocked<Vec<u32>, Vec<Record>>;
 
 impl ClockedTree {
     /// An empty tree with nothing pending and the mark off, its store and records allocated.
     pub fn new(order: u32, levels: u32) -> Result<ClockedTree, Refusal> {
         let words = tree_words(order, levels);
-        let records = if words == 0 { 0 } else { record_words(levels) };
-        Clocked::cleared(order, levels, vec![0; words], vec![0; records])
+        let records = if words == 0 { 0 } else { record_count(levels) };
+        Clocked::cleared(order, levels, vec![0; words], vec![Record::default(); records])
     }
 }

@@ -1,7 +1,9 @@
-//! The library's functions as C sees them. A slice is a pointer and then a length in words.
+//! The library's functions as C sees them. A slice is a pointer and then a length in words, or in records.
 //!
 //! `host/card.h` has the same declarations with a comment for each; a test holds the two and the library's own source to each other.
 //! Each function is safe for any numbers and for any slices that are really there; nothing here tests them.
+
+use crate::Record;
 
 extern "C" {
     pub fn card_tree_clear(store: *mut u32, store_len: usize, order: u32, levels: u32) -> u32;
@@ -156,7 +158,7 @@ extern "C" {
         store_len: usize,
         order: u32,
         levels: u32,
-        records: *mut u32,
+        records: *mut Record,
         records_len: usize,
         mark: *mut u32,
         mark_len: usize,
@@ -166,7 +168,7 @@ extern "C" {
         store_len: usize,
         order: u32,
         levels: u32,
-        records: *mut u32,
+        records: *mut Record,
         records_len: usize,
         mark: *mut u32,
         mark_len: usize,
@@ -182,7 +184,7 @@ extern "C" {
         store_len: usize,
         order: u32,
         levels: u32,
-        records: *mut u32,
+        records: *mut Record,
         records_len: usize,
         mark: *mut u32,
         mark_len: usize,

@@ -72,9 +72,9 @@ pub const fn cluster_words(places: u32, levels: u32) -> usize {
     4 * all + 2 * (all / places as usize)
 }
 
-/// How many words the pending records of a clocked tree need, five for each level from 2.
-pub const fn record_words(levels: u32) -> usize {
-    5 * (levels as usize).saturating_sub(1)
+/// How many pending records a clocked tree needs, one for each level from 2.
+pub const fn record_count(levels: u32) -> usize {
+    (levels as usize).saturating_sub(1)
 }
 
 /// The most nodes that a bucket queue has, at either depth.

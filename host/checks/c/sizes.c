@@ -1,4 +1,4 @@
-/* The sizes as constants are the library's; arrays of them are taken, and one word less is not; each number has its name. */
+/* The sizes as constants are the library's; arrays of them are taken, and one word or record less is not; each number has its name. */
 #include "card.h"
 #include <stdio.h>
 #include <string.h>
@@ -13,7 +13,7 @@ static void same(const char *what, unsigned long got, unsigned long expected) {
 
 static uint32_t largest[CARD_TREE_WORDS(4, 8)];
 static uint32_t deepest[CARD_TREE_WORDS(2, 15)];
-static uint32_t records[CARD_RECORD_WORDS(15)];
+static struct card_record records[CARD_RECORDS(15)];
 static uint64_t bits[CARD_BUCKET_BITS(2)], deep_bits[CARD_BUCKET_BITS(3)];
 static uint32_t words[CARD_BUCKET_WORDS(2, 4096)], deep_words[CARD_BUCKET_WORDS(3, 65536)];
 
@@ -50,9 +50,9 @@ int main(void) {
     same("clear with a word less",
          card_bucket_clear(deep_bits, CARD_BUCKET_BITS(3) - 1, deep_words, CARD_BUCKET_WORDS(3, 65536), 3, 65536), CARD_BAD_SHAPE);
     same("clear of a clocked tree",
-         card_clocked_clear(deepest, CARD_TREE_WORDS(2, 15), 2, 15, records, CARD_RECORD_WORDS(15), mark, CARD_MARK_WORDS), CARD_OK);
+         card_clocked_clear(deepest, CARD_TREE_WORDS(2, 15), 2, 15, records, CARD_RECORDS(15), mark, CARD_MARK_WORDS), CARD_OK);
     same("cycle",
-         card_clocked_cycle(deepest, CARD_TREE_WORDS(2, 15), 2, 15, records, CARD_RECORD_WORDS(15), mark, CARD_MARK_WORDS, CARD_PUSH,
+         card_clocked_cycle(deepest, CARD_TREE_WORDS(2, 15), 2, 15, records, CARD_RECORDS(15), mark, CARD_MARK_WORDS, CARD_PUSH,
                             5, 50, 1500, out, CARD_OUT_WORDS),
          CARD_OK);
     same("a push with tag 0",
@@ -62,7 +62,7 @@ int main(void) {
     same("a push of rank 7 with tag 0",
          card_bucket_push(bits, CARD_BUCKET_BITS(2), words, CARD_BUCKET_WORDS(2, 4096), 2, 4096, 7, 0, 1500), CARD_NO_TAG);
     same("few records",
-         card_clocked_clear(deepest, CARD_TREE_WORDS(2, 15), 2, 15, records, CARD_RECORD_WORDS(15) - 1, mark, CARD_MARK_WORDS),
+         card_clocked_clear(deepest, CARD_TREE_WORDS(2, 15), 2, 15, records, CARD_RECORDS(15) - 1, mark, CARD_MARK_WORDS),
          CARD_BAD_SHAPE);
 
     for (order = 0; order < 8; order++) same(names[order], (unsigned long)strcmp(card_name(order), names[order]), 0);

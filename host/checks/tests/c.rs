@@ -35,6 +35,13 @@ fn sizes_as_constants() {
 }
 
 #[test]
+fn records_in_the_callers_memory() {
+    for (standard, written) in in_each("host/checks/c/records.c") {
+        assert_eq!(written, "", "{standard}");
+    }
+}
+
+#[test]
 fn null_with_length_0() {
     for (standard, written) in in_each("host/checks/c/nulls.c") {
         assert_eq!(written, "", "{standard}");

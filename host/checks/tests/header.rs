@@ -76,6 +76,7 @@ fn joined(flat: Vec<(String, String)>) -> Result<Vec<String>, String> {
         let slice = match kind.as_str() {
             "*mut u32" => "&mut [u32]",
             "*mut u64" => "&mut [u64]",
+            "*mut Record" => "&mut [Record]",
             "*const u32" => "&[u32]",
             "*const u64" => "&[u64]",
             "u32" => {
@@ -184,9 +185,10 @@ fn of_header(text: &str) -> Result<Functions, String> {
     for declaration in text.split(';') {
         let declaration = squeezed(declaration);
         let declaration = declaration.trim_start_matches("extern \"C\" {").trim();
+        // the assertion of a record's layout is a type
         let (start, after) = match declaration.split_once('(') {
-            Some(parts) => parts,
-            None => continue,
+            Some(parts) if !declaration.starts_with("typedef ") => parts,
+            _ => continue,
         };
         let (parameters, after) = to_the_end(after).ok_or("no closing parenthesis")?;
         if !after.trim().is_empty() {
@@ -206,6 +208,7 @@ fn of_header(text: &str) -> Result<Functions, String> {
                 "size_t" => "usize",
                 "uint32_t *" => "*mut u32",
                 "uint64_t *" => "*mut u64",
+                "struct card_record *" => "*mut Record",
                 "const uint32_t *" => "*const u32",
                 "const uint64_t *" => "*const u64",
                 other => return Err(format!("{name}: {n} has the type {other}")),
@@ -223,12 +226,12 @@ fn of_header(text: &str) -> Result<Functions, String> {
 #[test]
 fn header_declarations_and_source_agree() {
     let paths = ["host/card.h", "host/card/src/raw.rs", "crates/card/src"];
-    let source = ["lib.rt", "repair.rt"].map(|name| text(&root().join(paths[2]).join(name))).concat();
+    let source = ["lib.rt", "repair.rt", "clock.rt"].map(|name| text(&root().join(paths[2]).join(name))).concat();
     let tables = [of_header(&text(&root().join(paths[0]))), of_rust(&text(&root().join(paths[1]))), of_source(&source)];
     let tables: Vec<Functions> =
         tables.into_iter().zip(paths).map(|(t, path)| t.unwrap_or_else(|e| panic!("{path}: {e}"))).collect();
     let names: BTreeSet<&String> = tables.iter().flat_map(|t| t.keys()).collect();
-    assert!(names.len() >= 19, "{} functions found", names.len());
+    assert!(names.len() >= 25, "{} functions found", names.len());
     let mut wrong = String::new();
     for name in names {
         let said: Vec<Option<&Function>> = tables.iter().map(|t| t.get(name)).collect();
@@ -283,5 +286,5 @@ fn every_unsafe_block_says_why() {
             }
         }
     }
-    assert!(blocks >= 19);
+    assert!(blocks >= 25);
 }

@@ -1,7 +1,6 @@
 //! The paper's ten cases, its worked trace and its known mistakes, each as one check.
 
 use crate::side::{Card, Side};
-use models::boundary::RECORD;
 use models::call::{Call, Op};
 use models::tree::SLOT;
 
@@ -40,7 +39,7 @@ impl<'c, C: Card> Queue<'c, C> {
         Queue::cleared(card, Call::tree(Op::TreeClear, order, levels, SLOT * slots))
     }
     fn machine(card: &'c mut C, order: u32, levels: u32, slots: usize) -> Result<Queue<'c, C>, String> {
-        let records = RECORD * (levels as usize - 1);
+        let records = levels as usize - 1;
         Queue::cleared(card, Call::machine(Op::ClockedClear, order, levels, SLOT * slots, records))
     }
     fn bucket(card: &'c mut C, nodes: u32) -> Result<Queue<'c, C>, String> {
@@ -92,7 +91,7 @@ impl<'c, C: Card> Queue<'c, C> {
         self.side.words[..self.call.words].to_vec()
     }
     fn records(&self) -> Vec<u32> {
-        self.side.records[..self.call.records].to_vec()
+        self.side.records[..self.call.records].concat()
     }
 }
 

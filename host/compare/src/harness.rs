@@ -1,8 +1,7 @@
 //! Makes each call on both sides, counts it, and keeps the first difference.
 
 use crate::side::{difference, other_answer, Card, Model, Side};
-use models::boundary::RECORD;
-use models::call::{Call, Op, OPS};
+use models::call::{Call, Op, Record, OPS};
 use models::{bucket, shape_cause, tree, No};
 
 /// Things that a single call's number does not show, each to be met at least once.
@@ -18,6 +17,9 @@ pub enum Event {
     DamagedMarkOn,
     TreeReplaceLower,
     NothingWithNumbers,
+    NothingWithNumbersLoaded,
+    DrainNothingWithNumbers,
+    DrainNothingWithNumbersLoaded,
     RecordsPast,
     BoundaryAndShape,
     DrainRefusedShapeWorkPending,
@@ -32,7 +34,7 @@ pub enum Event {
     UntaggedFullOrEmpty,
 }
 
-pub const EVENTS: [(Event, &str); 22] = [
+pub const EVENTS: [(Event, &str); 25] = [
     (Event::DrainDamagedAtOnce, "drain refused 2 with no cycle run"),
     (Event::DrainDamagedLater, "drain refused 2 after a cycle or more"),
     (Event::DrainNoBudget, "drain with budget 0 and work pending"),
@@ -42,7 +44,13 @@ pub const EVENTS: [(Event, &str); 22] = [
     (Event::DrainNothingMarkOn, "drain with nothing pending and the mark on"),
     (Event::DamagedMarkOn, "pop or replace with the mark on, refused 2"),
     (Event::TreeReplaceLower, "tree replace, called or by a cycle, of a rank below all held"),
-    (Event::NothingWithNumbers, "cycle that ran over a record of nothing with other numbers"),
+    (Event::NothingWithNumbers, "cycle that ran, and a record of nothing with other numbers stands"),
+    (Event::NothingWithNumbersLoaded, "cycle that loaded a record of nothing with other numbers"),
+    (Event::DrainNothingWithNumbers, "drain of a cycle or more, and a record of nothing with other numbers stands"),
+    (
+        Event::DrainNothingWithNumbersLoaded,
+        "drain in which a record of nothing with other numbers was loaded, and ended as zeros",
+    ),
     (Event::RecordsPast, "cycle that ran with a kind above 3 past the last level"),
     (Event::BoundaryAndShape, "a boundary's fault and a bad shape at once"),
     (Event::DrainRefusedShapeWorkPending, "drain refused 1 with work pending"),
@@ -65,7 +73,7 @@ pub struct Tally {
     pub damage_any: Vec<[u64; 64]>,
     /// How often one cause alone made each call refuse 1.
     pub shape: [[u64; 9]; 18],
-    pub events: [u64; 22],
+    pub events: [u64; 25],
 }
 
 pub struct Harness<C: Card> {
@@ -91,7 +99,7 @@ impl<C: Card> Harness<C> {
                 damage: vec![[0; 64]; 18],
                 damage_any: vec![[0; 64]; 18],
                 shape: [[0; 9]; 18],
-                events: [0; 22],
+                events: [0; 25],
             },
             failed: None,
         }
@@ -195,6 +203,15 @@ impl<C: Card> Harness<C> {
                 2 => self.event(Event::DrainDamagedLater),
                 _ => {}
             }
+            if cycles > 0 {
+                for &(at, was) in &before.nothing_with_numbers {
+                    match self.b.records[at] {
+                        now if now == was => self.event(Event::DrainNothingWithNumbers),
+                        [0, 0, 0, 0, 0] => self.event(Event::DrainNothingWithNumbersLoaded),
+                        _ => {}
+                    }
+                }
+            }
         }
         if k.op.is_cycle() {
             let asks = k.op == Op::CyclePop || k.op == Op::CycleReplace;
@@ -202,8 +219,9 @@ impl<C: Card> Harness<C> {
                 self.event(Event::DamagedMarkOn);
             }
             let ran = number != 1 && number != 2;
-            if ran && before.nothing_with_numbers {
-                self.event(Event::NothingWithNumbers);
+            for &(at, was) in before.nothing_with_numbers.iter().filter(|_| ran) {
+                let stands = self.b.records[at] == was;
+                self.event(if stands { Event::NothingWithNumbers } else { Event::NothingWithNumbersLoaded });
             }
             if ran && before.past {
                 self.event(Event::RecordsPast);
@@ -248,7 +266,8 @@ impl<C: Card> Harness<C> {
 struct Before {
     pending: bool,
     bad_node: bool,
-    nothing_with_numbers: bool,
+    /// The records of nothing with other numbers, and where they stand.
+    nothing_with_numbers: Vec<(usize, Record)>,
     past: bool,
     mark: u32,
     full: bool,
@@ -256,7 +275,7 @@ struct Before {
     /// A bucket queue that fails the tests of the whole queue.
     damaged: bool,
     /// The words before the call, where they are few enough to be shown.
-    shown: Option<(Vec<u32>, Vec<u32>, u32)>,
+    shown: Option<(Vec<u32>, Vec<Record>, u32)>,
 }
 
 impl Before {
@@ -264,7 +283,7 @@ impl Before {
         let mut b = Before {
             pending: false,
             bad_node: false,
-            nothing_with_numbers: false,
+            nothing_with_numbers: Vec::new(),
             past: false,
             mark: 0,
             full: false,
@@ -285,14 +304,16 @@ impl Before {
         if k.op.is_machine() {
             b.mark = side.mark[0];
             if let Some(shape) = tree::Shape::new(k.order, k.levels) {
-                let need = RECORD * (shape.levels as usize - 1);
+                let need = shape.levels as usize - 1;
                 if k.records >= need {
-                    for (i, r) in side.records[..need].chunks(RECORD).enumerate() {
+                    for (i, r) in side.records[..need].iter().enumerate() {
                         b.pending |= r[0] != 0;
                         b.bad_node |= r[0] != 0 && r[1] as u64 >= shape.nodes(i as u64 + 2);
-                        b.nothing_with_numbers |= r[0] == 0 && r[1..].iter().any(|word| *word != 0);
+                        if r[0] == 0 && *r != [0; 5] {
+                            b.nothing_with_numbers.push((i, *r));
+                        }
                     }
-                    b.past = k.records >= need + RECORD && side.records[need] > 3;
+                    b.past = k.records > need && side.records[need][0] > 3;
                 }
             }
         }

@@ -3,7 +3,7 @@
 
 use crate::harness::Harness;
 use crate::side::{Card, Side};
-use models::boundary::{OUT, RECORD};
+use models::boundary::OUT;
 use models::call::{Call, Op};
 use models::flight::Flight;
 use models::list::SortedList;
@@ -333,7 +333,7 @@ pub fn clocked<C: Card>(h: &mut Harness<C>, rng: &mut Rng, order: u32, levels: u
     let capacity = Shape::new(order, levels).unwrap().capacity();
     let need = SLOT * capacity as usize;
     let words = need + rng.below(4) as usize;
-    let records = RECORD * (levels as usize - 1) + rng.below(6) as usize;
+    let records = levels as usize - 1 + rng.below(3) as usize;
     let side = Side::new(words, 0, records);
     h.set(&side);
     let (ranks, tags) = (draw_ranks(rng), draw_tags(rng));

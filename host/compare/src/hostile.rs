@@ -4,8 +4,8 @@
 use crate::harness::Harness;
 use crate::histories::{larger, shapes_up_to, SMALLER};
 use crate::side::{Card, Side};
-use models::boundary::{OUT, RECORD};
-use models::call::{Call, Op};
+use models::boundary::OUT;
+use models::call::{Call, Op, Record};
 use models::rng::Rng;
 use models::tree::{Node, Shape, SLOT};
 use models::{boundary, bucket};
@@ -149,12 +149,12 @@ fn chain(shape: Shape, store: &[u32], mut level: u64, mut node: u64, by_rank: bo
 }
 
 /// The nodes that an operation or a pending record reaches.
-fn reached(order: u32, levels: u32, store: &[u32], records: &[u32]) -> Vec<(u64, u64)> {
+fn reached(order: u32, levels: u32, store: &[u32], records: &[Record]) -> Vec<(u64, u64)> {
     let shape = Shape::new(order, levels).unwrap();
     let mut nodes = Vec::new();
     chain(shape, store, 1, 0, true, &mut nodes);
     chain(shape, store, 1, 0, false, &mut nodes);
-    for (i, r) in records.chunks(RECORD).enumerate() {
+    for (i, r) in records.iter().enumerate() {
         if r[0] != 0 && r[0] <= 3 {
             // twice, since a record's node is met only while the record stands
             let level = i as u64 + 2;
@@ -244,7 +244,7 @@ fn spoil_tree(rng: &mut Rng, order: u32, levels: u32, store: &mut [u32], reached
     }
 }
 
-fn spoilt_tree(rng: &mut Rng, order: u32, levels: u32, base: &[u32], records: &[u32]) -> Vec<u32> {
+fn spoilt_tree(rng: &mut Rng, order: u32, levels: u32, base: &[u32], records: &[Record]) -> Vec<u32> {
     let mut store = base.to_vec();
     let reached = reached(order, levels, base, records);
     let times = rng.pick(&[0, 1, 1, 1, 1, 1, 1, 2, 2, 3]);
@@ -309,9 +309,9 @@ pub fn tree<C: Card>(h: &mut Harness<C>, rng: &mut Rng, calls: u64) {
 }
 
 /// A machine in the middle of a history: a store, records and a mark.
-fn sound_machine(rng: &mut Rng, order: u32, levels: u32) -> (Vec<u32>, Vec<u32>, Vec<u32>) {
+fn sound_machine(rng: &mut Rng, order: u32, levels: u32) -> (Vec<u32>, Vec<Record>, Vec<u32>) {
     let mut store = sound_tree(rng, order, levels);
-    let mut records = vec![0; RECORD * (levels as usize - 1)];
+    let mut records = vec![[0; 5]; levels as usize - 1];
     let (mut mark, mut out) = ([0], [0; OUT]);
     for _ in 0..rng.below(2 * levels as u64 + 4) {
         let request = rng.pick(&[0, 1, 1, 1, 2, 2, 3, 3]);
@@ -340,14 +340,14 @@ fn node_number(rng: &mut Rng, shape: Shape, level: u64) -> u32 {
     }
 }
 
-fn spoil_records(rng: &mut Rng, order: u32, levels: u32, store: &[u32], records: &mut [u32]) {
+fn spoil_records(rng: &mut Rng, order: u32, levels: u32, store: &[u32], records: &mut [Record]) {
     if levels < 2 {
         return;
     }
     let shape = Shape::new(order, levels).unwrap();
     let level = 2 + rng.below(shape.levels - 1);
-    let at = RECORD * (level as usize - 2);
-    match rng.below(14) {
+    let record = &mut records[level as usize - 2];
+    match rng.below(15) {
         10..=13 => {
             // work that could well be pending here: on a node that the store's own chains reach
             let by_rank = !rng.once_in(3);
@@ -356,24 +356,19 @@ fn spoil_records(rng: &mut Rng, order: u32, levels: u32, store: &[u32], records:
             let (level, node) = rng.pick(&nodes);
             if level >= 2 {
                 let kind = if by_rank { 2 + rng.below(2) as u32 } else { 1 };
-                let at = RECORD * (level as usize - 2);
-                records[at..at + RECORD].copy_from_slice(&[kind, node as u32, rank(rng), rank(rng), length(rng)]);
+                records[level as usize - 2] = [kind, node as u32, rank(rng), rank(rng), length(rng)];
             }
         }
-        0 => records[at] = rng.below(4) as u32,
-        1 => records[at + 1] = node_number(rng, shape, level),
-        2 => records[at + 2] = rank(rng),
-        3 => records[at + 3] = rank(rng),
-        9 => records[at + 4] = length(rng),
-        4 => records[at + 1] = shape.nodes(level) as u32,
-        5 if rng.once_in(4) => records[at] = rng.pick(&[4, 5, 255, 256, 257, 0x1_0000, u32::MAX]),
-        _ => {
-            records[at] = 1 + rng.below(3) as u32;
-            records[at + 1] = node_number(rng, shape, level);
-            records[at + 2] = rank(rng);
-            records[at + 3] = rank(rng);
-            records[at + 4] = length(rng);
-        }
+        0 => record[0] = rng.below(4) as u32,
+        1 => record[1] = node_number(rng, shape, level),
+        2 => record[2] = rank(rng),
+        3 => record[3] = rank(rng),
+        9 => record[4] = length(rng),
+        4 => record[1] = shape.nodes(level) as u32,
+        5 if rng.once_in(4) => record[0] = rng.pick(&[4, 5, 255, 256, 257, 0x1_0000, u32::MAX]),
+        // nothing, with numbers that no call may look at: 1 and 0 among them
+        14 => *record = [0, rng.pick(&[0, 1, 1, 2, u32::MAX]), rank(rng), rank(rng), length(rng)],
+        _ => *record = [1 + rng.below(3) as u32, node_number(rng, shape, level), rank(rng), rank(rng), length(rng)],
     }
 }
 
@@ -384,7 +379,7 @@ pub fn clocked<C: Card>(h: &mut Harness<C>, rng: &mut Rng, calls: u64) {
     while h.calls < until {
         let (order, levels) = small(rng);
         let (base, records, mark) = match rng.below(5) {
-            0 => (garbage_tree(rng, order, levels), vec![0; RECORD * (levels as usize - 1)], vec![rng.below(2) as u32]),
+            0 => (garbage_tree(rng, order, levels), vec![[0; 5]; levels as usize - 1], vec![rng.below(2) as u32]),
             _ => sound_machine(rng, order, levels),
         };
         for _ in 0..24 {
@@ -398,9 +393,9 @@ pub fn clocked<C: Card>(h: &mut Harness<C>, rng: &mut Rng, calls: u64) {
             side.records.clear();
             side.records.extend_from_slice(&spoilt);
             // behind the records of this shape stand others, which no call may look at
-            let further = rng.pick(&[0, 0, 1, RECORD, 9]);
+            let further = rng.pick(&[0, 0, 1, 2, 9]);
             for _ in 0..further + crate::side::GUARD {
-                side.records.push(rng.word());
+                side.records.push([(); 5].map(|()| rng.word()));
             }
             side.mark = vec![mark[0], rng.word()];
             match rng.below(24) {
@@ -441,9 +436,7 @@ pub fn clocked<C: Card>(h: &mut Harness<C>, rng: &mut Rng, calls: u64) {
                 if k.op.is_machine() && rng.once_in(20) {
                     match rng.below(3) {
                         0 => k.mark = 0,
-                        1 if levels > 1 => {
-                            k.records = RECORD * (levels as usize - 1) - 1 - rng.below(RECORD as u64) as usize
-                        }
+                        1 if levels > 1 => k.records = levels as usize - 2,
                         _ => k.records = 0,
                     }
                 }
@@ -672,7 +665,7 @@ pub fn bucket<C: Card>(h: &mut Harness<C>, rng: &mut Rng, storeys: u32, calls: u
 /// Every tree call of an order and levels, on lengths near the `need`ed one. False where something differs.
 fn edge<C: Card>(h: &mut Harness<C>, rng: &mut Rng, o: u32, l: u32, need: usize) -> bool {
     let taken = Shape::new(o, l).is_some();
-    let records = if taken { RECORD * (l as usize - 1) } else { 14 * RECORD };
+    let records = if taken { l as usize - 1 } else { 14 };
     let lengths = if taken { vec![need - 1, need, need + 1, 0] } else { vec![need, 0] };
     for words in lengths {
         for op in [Op::TreeClear, Op::TreePush, Op::TreePop, Op::TreeReplace, Op::TreeHeld, Op::ClockedHeld] {
@@ -705,9 +698,9 @@ fn edge<C: Card>(h: &mut Harness<C>, rng: &mut Rng, o: u32, l: u32, need: usize)
 
 /// A cleared store of so many words, and two more.
 fn cleared(words: usize) -> Side {
-    let mut base = Side::new(words + 2, 67, 15 * RECORD);
+    let mut base = Side::new(words + 2, 67, 17);
     base.words[..words].fill(0);
-    base.records.fill(0);
+    base.records.fill([0; 5]);
     base
 }
 
@@ -841,7 +834,7 @@ pub fn small_stores<C: Card>(h: &mut Harness<C>, _: &mut Rng) {
     // order 2, two levels: slots of the root and of node 0 from a few; node 1 is empty or holds one
     let root = [[0, 0, 0, 0], [1, 5, 51, 1], [1, 6, 61, 2], [2, 7, 71, 3], [2, 8, 81, 4], [1, 0, 0, 0]];
     let leaf = [[0, 0, 0, 0], [0, 1, 11, 1], [2, 2, 22, 1], [1, 3, 33, 2], [0, 0, 4, 0]];
-    let mut side = Side::new(6 * SLOT, 0, RECORD);
+    let mut side = Side::new(6 * SLOT, 0, 1);
     let mut records = vec![[0, 0, 0, 0, 0], [0, 9, 9, 9, 9]];
     for kind in 1..4 {
         for node in 0..3 {
@@ -872,24 +865,21 @@ pub fn small_stores<C: Card>(h: &mut Harness<C>, _: &mut Rng) {
                             }
                         }
                         for record in &records {
-                            side.records[..RECORD].copy_from_slice(record);
+                            side.records[0] = *record;
                             for mark in 0..2 {
                                 side.mark[0] = mark;
                                 for (request, rank, tag) in
                                     [(0, 0, 9), (1, 1, 9), (1, 1, 0), (2, 0, 9), (3, 2, 9), (3, 2, 0)]
                                 {
                                     h.set(&side);
-                                    if h.call(&Call::cycle(request, 2, 2, 6 * SLOT, RECORD).with(rank, tag, 6))
-                                        .is_none()
-                                    {
+                                    if h.call(&Call::cycle(request, 2, 2, 6 * SLOT, 1).with(rank, tag, 6)).is_none() {
                                         return;
                                     }
                                 }
                             }
                             for budget in 0..2 {
                                 h.set(&side);
-                                if h.call(&Call::machine(Op::ClockedDrain, 2, 2, 6 * SLOT, RECORD).budget(budget))
-                                    .is_none()
+                                if h.call(&Call::machine(Op::ClockedDrain, 2, 2, 6 * SLOT, 1).budget(budget)).is_none()
                                 {
                                     return;
                                 }

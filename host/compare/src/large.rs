@@ -3,7 +3,7 @@
 
 use crate::harness::Harness;
 use crate::side::{Card, Side};
-use models::boundary::{OUT, RECORD};
+use models::boundary::OUT;
 use models::call::{Call, Op};
 use models::rng::Rng;
 use models::tree::{Shape, SLOT};
@@ -94,7 +94,7 @@ impl Beside {
 pub fn clocked<C: Card>(h: &mut Harness<C>, rng: &mut Rng, order: u32, levels: u32) {
     let capacity = Shape::new(order, levels).unwrap().capacity();
     let need = SLOT * capacity as usize;
-    let (words, records) = (need + rng.below(4) as usize, RECORD * (levels as usize - 1) + rng.below(6) as usize);
+    let (words, records) = (need + rng.below(4) as usize, levels as usize - 1 + rng.below(3) as usize);
     let machine = |op| Call::machine(op, order, levels, words, records);
     let mut alone = Beside { order, levels, words: vec![0; need], mark: false };
     h.set(&Side::new(words, 0, records));

@@ -1,7 +1,7 @@
 //! The two sides that a call is made on, and the word-for-word comparison.
 
 use card_host::calls;
-use models::call::{Call, Op, Slices};
+use models::call::{Call, Op, Record, Slices};
 use models::{boundary, No};
 
 /// One that makes the library's calls: the library, or the models in its place.
@@ -26,6 +26,19 @@ impl Card for Model {
 /// The library, as it is linked.
 pub struct Linked;
 
+/// Makes a call on the records as structs in a host's memory. Behind them stand others, which the call may not touch.
+fn lent(records: &mut [Record], call: impl FnOnce(&mut [card_host::Record]) -> u32) -> u32 {
+    let guard = card_host::Record::from([0x5a5a_5a5a; 5]);
+    let mut memory: Vec<_> = records.iter().map(|record| card_host::Record::from(*record)).collect();
+    memory.resize(records.len() + GUARD, guard);
+    let number = call(&mut memory[..records.len()]);
+    for (to, from) in records.iter_mut().zip(&memory) {
+        *to = (*from).into();
+    }
+    assert!(memory[records.len()..].iter().all(|record| *record == guard), "a record behind the slice was written");
+    number
+}
+
 impl Card for Linked {
     fn call(&mut self, k: &Call, s: Slices<'_>) -> u32 {
         let Slices { words, bits, records, mark, out } = s;
@@ -42,17 +55,21 @@ impl Card for Linked {
             Op::BucketPop => calls::bucket_pop(bits, words, storeys, nodes, out),
             Op::BucketReplace => calls::bucket_replace(bits, words, storeys, nodes, rank, tag, length, out),
             Op::BucketHeld => calls::bucket_held(bits, words, storeys, nodes, out),
-            Op::ClockedClear => calls::clocked_clear(words, order, levels, records, mark),
+            Op::ClockedClear => lent(records, |records| calls::clocked_clear(words, order, levels, records, mark)),
             Op::CycleIdle | Op::CyclePush | Op::CyclePop | Op::CycleReplace | Op::CycleOther => {
-                calls::clocked_cycle(words, order, levels, records, mark, k.request, rank, tag, length, out)
+                lent(records, |records| {
+                    calls::clocked_cycle(words, order, levels, records, mark, k.request, rank, tag, length, out)
+                })
             }
-            Op::ClockedDrain => calls::clocked_drain(words, order, levels, records, mark, k.budget, out),
+            Op::ClockedDrain => {
+                lent(records, |records| calls::clocked_drain(words, order, levels, records, mark, k.budget, out))
+            }
             Op::ClockedHeld => calls::clocked_held(words, order, levels, out),
         }
     }
 }
 
-/// Words that stand behind the longest slice of a call: nothing may touch them.
+/// Words, or records, that stand behind the longest slice of a call: nothing may touch them.
 pub const GUARD: usize = 8;
 
 /// What `out` holds before each call.
@@ -63,7 +80,7 @@ pub const STALE: [u32; 4] = [0xdead_0001, 0xdead_0002, 0xdead_0003, 0xdead_0004]
 pub struct Side {
     pub words: Vec<u32>,
     pub bits: Vec<u64>,
-    pub records: Vec<u32>,
+    pub records: Vec<Record>,
     pub mark: Vec<u32>,
     pub out: [u32; 4],
 }
@@ -73,7 +90,7 @@ impl Side {
         Side {
             words: vec![0x5a5a_5a5a; words + GUARD],
             bits: vec![0x5a5a_5a5a_5a5a_5a5a; bits + GUARD],
-            records: vec![0x5a5a_5a5a; records + GUARD],
+            records: vec![[0x5a5a_5a5a; 5]; records + GUARD],
             mark: vec![0, 0x5a5a_5a5a],
             out: STALE,
         }
@@ -109,12 +126,12 @@ fn copy<T: Copy + Default>(to: &mut Vec<T>, from: &[T]) {
     }
 }
 
-fn first<T: PartialEq + std::fmt::Display>(name: &str, a: &[T], b: &[T]) -> Option<String> {
+fn first<T: PartialEq + std::fmt::Debug>(name: &str, a: &[T], b: &[T]) -> Option<String> {
     if a == b {
         return None;
     }
     let at = (0..a.len()).find(|&i| a[i] != b[i])?;
-    Some(format!("{name} word {at} is {}, the model says {}", a[at], b[at]))
+    Some(format!("{name} {at}: {:?}, the model says {:?}", a[at], b[at]))
 }
 
 /// The difference of two answers: the number, and `out`.
@@ -122,7 +139,7 @@ pub fn other_answer(k: &Call, number: u32, a: &Side, expected: u32, b: &Side) ->
     if number != expected {
         return Some(format!("{}: answered number {number}, the model says {expected}", k.text()));
     }
-    first("out", &a.out, &b.out).map(|d| format!("{} (number {number}): {d}", k.text()))
+    first("out word", &a.out, &b.out).map(|d| format!("{} (number {number}): {d}", k.text()))
 }
 
 /// The first difference that a call left, if any.
@@ -131,12 +148,12 @@ pub fn difference(k: &Call, number: u32, a: &Side, expected: u32, b: &Side) -> O
     if told.is_some() {
         return told;
     }
-    let mut d = first("store", &a.words, &b.words);
+    let mut d = first("store word", &a.words, &b.words);
     if k.op.is_bucket() {
-        d = d.or_else(|| first("bits", &a.bits, &b.bits));
+        d = d.or_else(|| first("word of bits", &a.bits, &b.bits));
     }
     if k.op.is_machine() {
-        d = d.or_else(|| first("records", &a.records, &b.records)).or_else(|| first("mark", &a.mark, &b.mark));
+        d = d.or_else(|| first("record", &a.records, &b.records)).or_else(|| first("mark word", &a.mark, &b.mark));
     }
     d.map(|d| format!("{} (number {number}): {d}", k.text()))
 }

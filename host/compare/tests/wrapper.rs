@@ -1,8 +1,8 @@
 //! The safe Rust wrapper, used as its users do: beside the plain list, over lent words and over its own, handed out and back.
 
 use card_host::{
-    bucket_bits, bucket_ranks, bucket_words, calls, record_words, tree_slots, tree_words, Bucket, BucketQueue, Clocked,
-    ClockedTree, Drained, Element, Length, Rank, Refusal, Request, Stopped, Tag, Tree, TreeQueue,
+    bucket_bits, bucket_ranks, bucket_words, calls, record_count, tree_slots, tree_words, Bucket, BucketQueue, Clocked,
+    ClockedTree, Drained, Element, Length, Rank, Record, Refusal, Request, Stopped, Tag, Tree, TreeQueue,
 };
 use models::list::SortedList;
 use models::rng::{seed, Rng};
@@ -154,7 +154,8 @@ fn clocked_trees_beside_the_list() {
     let mut rng = Rng::new(seed(), 502);
     for (order, levels) in [(2, 1), (2, 5), (4, 3), (8, 3), (2, 15)] {
         let mut tree = ClockedTree::new(order, levels).unwrap();
-        let (mut words, mut records) = (vec![9; tree_words(order, levels)], vec![9; record_words(levels)]);
+        let (mut words, mut records) =
+            (vec![9; tree_words(order, levels)], vec![Record::from([9; 5]); record_count(levels)]);
         let mut lent = Clocked::cleared(order, levels, &mut words[..], &mut records[..]).unwrap();
         let mut list = SortedList::new();
         for n in 0..3000 {
@@ -190,7 +191,7 @@ fn clocked_trees_beside_the_list() {
         }
         assert_eq!((tree.words(), tree.records(), tree.mark()), (lent.words(), lent.records(), lent.mark()));
         assert_eq!(tree.clear(), Ok(()));
-        assert!(tree.words().iter().chain(tree.records()).all(|w| *w == 0));
+        assert!(tree.words().iter().all(|w| *w == 0) && tree.records().iter().all(|r| *r == Record::default()));
         assert_eq!(tree.cycle(Request::Idle), Ok(Element::default()));
     }
     assert_eq!(ClockedTree::new(2, u32::MAX), Err(Refusal::BadShape));
@@ -199,18 +200,18 @@ fn clocked_trees_beside_the_list() {
 #[test]
 fn a_drain_that_is_refused_says_how_far_it_came() {
     // a take at a node of level 2 that is empty: the first cycle is refused
-    let mut tree = Clocked::from_words(2, 2, [0; tree_words(2, 2)], [2, 0, 0, 0, 0], true);
+    let mut tree = Clocked::from_words(2, 2, [0; tree_words(2, 2)], [Record::from([2, 0, 0, 0, 0])], true);
     assert_eq!(tree.drain(9), Err(Stopped { refusal: Refusal::Damaged, cycles: 0 }));
-    assert_eq!(tree.into_words(), ([0; tree_words(2, 2)], [2, 0, 0, 0, 0], true));
+    assert_eq!(tree.into_words(), ([0; tree_words(2, 2)], [Record::from([2, 0, 0, 0, 0])], true));
     // a put that goes on below, into a node that lacks nothing but is damaged: one cycle runs
     let mut words = [0; tree_words(2, 3)];
     words[8..16].copy_from_slice(&[1; 8]);
     words[24] = 7;
-    let mut tree = Clocked::from_words(2, 3, words, [1, 0, 5, 5, 5, 0, 0, 0, 0, 0], false);
+    let mut tree = Clocked::from_words(2, 3, words, [[1, 0, 5, 5, 5], [0; 5]].map(Record::from), false);
     assert_eq!(tree.drain(9), Err(Stopped { refusal: Refusal::Damaged, cycles: 1 }));
     let stopped = Stopped { refusal: Refusal::Damaged, cycles: 1 };
     assert_eq!((Refusal::from(stopped), stopped.to_string()), (Refusal::Damaged, "damaged after 1 cycles".into()));
-    let mut short = Clocked::from_words(2, 3, [0; 3], [0; record_words(3)], false);
+    let mut short = Clocked::from_words(2, 3, [0; 3], [Record::default(); record_count(3)], false);
     assert_eq!(short.drain(9), Err(Stopped { refusal: Refusal::BadShape, cycles: 0 }));
 }
 
@@ -231,7 +232,7 @@ fn sizes_are_the_models_and_the_shapes_that_are_taken() {
             if model != 0 {
                 assert_eq!(calls::tree_clear(&mut store[..4 * model], order, l), 0);
                 assert_eq!(calls::tree_clear(&mut store[..4 * model - 1], order, l), 1);
-                assert_eq!(record_words(l), 5 * (l as usize - 1));
+                assert_eq!(record_count(l), l as usize - 1);
             }
         }
     }

@@ -2,15 +2,12 @@
 //!
 //! What is the boundary's own, and not the paper's, stands here and nowhere else: which faults it
 //! has (`faults`), what a refusal leaves in `out` (`tell`), and how a record is read and
-//! written (`read_record`, `normalise`).
+//! written (`read_record`, `write_back`).
 
-use crate::call::{Call, Op, Slices};
-use crate::clocked::{self, Request, Work};
+use crate::call::{Call, Op, Record, Slices};
+use crate::clocked::{self, Request, Work, NOTHING};
 use crate::tree::{self, Shape};
 use crate::{bucket, element, shape_cause, Causes, Element, No};
-
-/// The words of one record: kind, node, rank, tag, length.
-pub const RECORD: usize = 5;
 
 /// The words of an answer: rank, tag, length.
 pub const OUT: usize = 3;
@@ -18,35 +15,35 @@ pub const OUT: usize = 3;
 /// The words of a drain's answer: the cycles run, and whether work is left.
 const DRAIN_OUT: usize = 2;
 
-/// A record as the boundary reads it. Numbers that the kind doesn't use are not read.
-fn read_record(words: &[u32]) -> Work {
-    let (node, x) = (words[1], element(words[2], words[3], words[4]));
-    match words[0] {
+/// A record as the boundary reads it. Numbers that the kind doesn't use decide nothing.
+fn read_record(&[kind, node, rank, tag, length]: &Record) -> Work {
+    let x = element(rank, tag, length);
+    match kind {
         1 => Work::Put { node, x },
         2 => Work::Take { node },
         3 => Work::Swap { node, x },
-        _ => Work::Nothing,
+        _ => Work::Nothing([node, rank, tag, length]),
     }
 }
 
-/// Writes every record of levels 2 to L from the state that the call leaves. Called after a cycle
-/// that ran (as asked or as an idle one) and after a drain of at least one cycle; numbers that a
-/// kind doesn't use are written 0. Nothing is written where no cycle ran.
-fn normalise(records: &mut [u32], pending: &[Work]) {
-    for (k, work) in pending.iter().enumerate() {
-        let words = match *work {
-            Work::Nothing => [0, 0, 0, 0, 0],
+/// The records of levels 2 to L as the call leaves them. Called after a clear, after a cycle that ran
+/// (as asked or as an idle one) and after a drain of at least one cycle; numbers that a kind doesn't
+/// use are written 0, but a record of nothing that was never loaded has its own. Nothing is written
+/// where no cycle ran.
+fn write_back(records: &mut [Record], pending: &[Work]) {
+    for (record, work) in records.iter_mut().zip(pending) {
+        *record = match *work {
+            Work::Nothing([node, rank, tag, length]) => [0, node, rank, tag, length],
             Work::Put { node, x } => [1, node, x.rank, x.tag, x.length],
             Work::Take { node } => [2, node, 0, 0, 0],
             Work::Swap { node, x } => [3, node, x.rank, x.tag, x.length],
         };
-        records[RECORD * k..RECORD * k + RECORD].copy_from_slice(&words);
     }
 }
 
 /// The boundary's own faults of a clocked call. Records are looked at where order and levels are
 /// good: only then is it known how many there are.
-fn faults(order: u32, levels: u32, records: &[u32], mark: &[u32], request: u32) -> Causes {
+fn faults(order: u32, levels: u32, records: &[Record], mark: &[u32], request: u32) -> Causes {
     let mut c = 0;
     if request > 3 {
         c |= shape_cause::REQUEST;
@@ -57,10 +54,10 @@ fn faults(order: u32, levels: u32, records: &[u32], mark: &[u32], request: u32) 
         c |= shape_cause::MARK_WORD;
     }
     if let Some(shape) = Shape::new(order, levels) {
-        let need = RECORD * (shape.levels as usize - 1);
+        let need = shape.levels as usize - 1;
         if records.len() < need {
             c |= shape_cause::RECORDS;
-        } else if records[..need].chunks(RECORD).any(|r| r[0] > 3) {
+        } else if records[..need].iter().any(|r| r[0] > 3) {
             c |= shape_cause::KIND;
         }
     }
@@ -206,12 +203,12 @@ pub fn bucket_held(bits: &[u64], words: &[u32], storeys: u32, nodes: u32, out: &
     count(bucket::held(bits, words, storeys, nodes), out)
 }
 
-/// Clear reads neither the records' words nor the mark's: only their lengths matter.
+/// Clear reads neither the records nor the mark's word: only their lengths matter.
 pub fn clocked_clear(
     store: &mut [u32],
     order: u32,
     levels: u32,
-    records: &mut [u32],
+    records: &mut [Record],
     mark: &mut [u32],
 ) -> Result<(), No> {
     let c = faults(order, levels, records, mark, 0) & (shape_cause::MARK_SHORT | shape_cause::RECORDS);
@@ -220,10 +217,10 @@ pub fn clocked_clear(
         return Err(No::BadShape(c | causes(shape.err())));
     }
     let shape = shape?;
-    let mut pending = vec![Work::Nothing; shape.levels as usize - 1];
+    let mut pending = vec![NOTHING; shape.levels as usize - 1];
     let mut on = false;
     clocked::clear(store, order, levels, &mut pending, &mut on)?;
-    normalise(records, &pending);
+    write_back(records, &pending);
     mark[0] = on as u32;
     Ok(())
 }
@@ -236,8 +233,8 @@ fn causes(no: Option<No>) -> Causes {
 }
 
 /// The records of levels 2 to L.
-fn pending(levels: u32, records: &[u32]) -> Vec<Work> {
-    records[..RECORD * (levels as usize - 1)].chunks(RECORD).map(read_record).collect()
+fn pending(levels: u32, records: &[Record]) -> Vec<Work> {
+    records[..levels as usize - 1].iter().map(read_record).collect()
 }
 
 #[allow(clippy::too_many_arguments)]
@@ -245,7 +242,7 @@ pub fn clocked_cycle(
     store: &mut [u32],
     order: u32,
     levels: u32,
-    records: &mut [u32],
+    records: &mut [Record],
     mark: &mut [u32],
     request: u32,
     rank: u32,
@@ -269,7 +266,7 @@ pub fn clocked_cycle(
     let result = clocked::cycle(store, order, levels, &mut work, &mut on, asked);
     let ran = !matches!(result, Err(No::BadShape(_)) | Err(No::Damaged(_)));
     if ran {
-        normalise(records, &work);
+        write_back(records, &work);
         mark[0] = on as u32;
     }
     answer(result, out)
@@ -279,7 +276,7 @@ pub fn clocked_drain(
     store: &mut [u32],
     order: u32,
     levels: u32,
-    records: &mut [u32],
+    records: &mut [Record],
     mark: &mut [u32],
     budget: u32,
     out: &mut [u32],
@@ -293,7 +290,7 @@ pub fn clocked_drain(
     let mut on = mark[0] == 1;
     let drained = clocked::drain(store, order, levels, &mut work, &mut on, budget);
     if drained.cycles > 0 {
-        normalise(records, &work);
+        write_back(records, &work);
         mark[0] = on as u32;
     }
     tell::<DRAIN_OUT>(Ok([drained.cycles, drained.work_left as u32]), out)?;

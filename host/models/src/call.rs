@@ -181,12 +181,15 @@ impl Call {
     }
 }
 
+/// A pending record as numbers: kind, node, rank, tag, length.
+pub type Record = [u32; 5];
+
 /// The slices that a call is lent.
 pub struct Slices<'a> {
     /// A tree's store, or a bucket queue's words of 32 bits.
     pub words: &'a mut [u32],
     pub bits: &'a mut [u64],
-    pub records: &'a mut [u32],
+    pub records: &'a mut [Record],
     pub mark: &'a mut [u32],
     pub out: &'a mut [u32],
 }

@@ -3,13 +3,23 @@
 use crate::tree::{self, cause, Node, Shape, Slot, Writes};
 use crate::{shape_cause, Causes, Element, No};
 
-/// A pending record.
+/// A pending record. One of nothing has the four numbers behind its kind as they were handed in: no step reads them, and where the
+/// record is not loaded they stand.
 #[derive(Clone, Copy, PartialEq, Eq, Debug)]
 pub enum Work {
-    Nothing,
+    Nothing([u32; 4]),
     Put { node: u32, x: Element },
     Take { node: u32 },
     Swap { node: u32, x: Element },
+}
+
+/// Nothing, as it is written: numbers that a kind doesn't use are 0.
+pub const NOTHING: Work = Work::Nothing([0; 4]);
+
+impl Work {
+    pub fn is_nothing(self) -> bool {
+        matches!(self, Work::Nothing(_))
+    }
 }
 
 /// What a cycle is asked for.
@@ -61,7 +71,7 @@ fn put_step(shape: Shape, store: &[u32], level: u64, node: u64, x: Element, at: 
     let mut writes = Writes::new();
     if let Some(j) = n.first_empty() {
         writes.slot(shape, level, node, j, Slot::holding(x, 1));
-        return Ok(Step { gives: Element::default(), writes, loads: Work::Nothing });
+        return Ok(Step { gives: Element::default(), writes, loads: NOTHING });
     }
     if level > 1 && n.every_count_at_limit() {
         return Err(cause::at(at.own, cause::FULL));
@@ -85,7 +95,7 @@ fn take_step(shape: Shape, store: &[u32], level: u64, node: u64, at: Places) -> 
     let count = s.count - 1;
     if count == 0 {
         writes.slot(shape, level, node, j, Slot::default());
-        return Ok(Step { gives: s.element(), writes, loads: Work::Nothing });
+        return Ok(Step { gives: s.element(), writes, loads: NOTHING });
     }
     let below = node * shape.order + j as u64;
     let lowest = lowest_below(shape, store, level + 1, below, at)?;
@@ -103,7 +113,7 @@ fn swap_step(shape: Shape, store: &[u32], level: u64, node: u64, x: Element, at:
     let mut writes = Writes::new();
     if s.count == 1 {
         writes.slot(shape, level, node, j, Slot::holding(x, s.count));
-        return Ok(Step { gives: s.element(), writes, loads: Work::Nothing });
+        return Ok(Step { gives: s.element(), writes, loads: NOTHING });
     }
     let below = node * shape.order + j as u64;
     let lowest = lowest_below(shape, store, level + 1, below, at)?;
@@ -112,7 +122,7 @@ fn swap_step(shape: Shape, store: &[u32], level: u64, node: u64, x: Element, at:
         Ok(Step { gives: s.element(), writes, loads: Work::Swap { node: below as u32, x } })
     } else {
         writes.slot(shape, level, node, j, Slot::holding(x, s.count));
-        Ok(Step { gives: s.element(), writes, loads: Work::Nothing })
+        Ok(Step { gives: s.element(), writes, loads: NOTHING })
     }
 }
 
@@ -120,7 +130,7 @@ fn swap_step(shape: Shape, store: &[u32], level: u64, node: u64, x: Element, at:
 fn pending_step(shape: Shape, store: &[u32], level: u64, work: Work) -> Result<Step, Causes> {
     let lacks = |node: u32| node as u64 >= shape.nodes(level);
     match work {
-        Work::Nothing => Ok(Step { gives: Element::default(), writes: Writes::new(), loads: Work::Nothing }),
+        Work::Nothing(_) => Ok(Step { gives: Element::default(), writes: Writes::new(), loads: NOTHING }),
         Work::Put { node, x } => {
             if lacks(node) {
                 return Err(cause::at(cause::PUT, cause::RANGE));
@@ -147,7 +157,7 @@ fn pending_step(shape: Shape, store: &[u32], level: u64, work: Work) -> Result<S
 fn root_step(shape: Shape, store: &[u32], mark: bool, request: Request) -> Result<Step, No> {
     let damaged = No::Damaged;
     match request {
-        Request::Idle => Ok(Step { gives: Element::default(), writes: Writes::new(), loads: Work::Nothing }),
+        Request::Idle => Ok(Step { gives: Element::default(), writes: Writes::new(), loads: NOTHING }),
         Request::Push(x) => {
             let n = tree::root(shape, store)?;
             if x.tag == 0 {
@@ -197,7 +207,7 @@ pub fn clear(store: &mut [u32], order: u32, levels: u32, pending: &mut [Work], m
     let shape = shape_of(store, order, levels, pending.len())?;
     tree::clear(store, order, levels)?;
     for record in &mut pending[..(shape.levels - 1) as usize] {
-        *record = Work::Nothing;
+        *record = NOTHING;
     }
     *mark = false;
     Ok(())
@@ -232,7 +242,7 @@ pub fn cycle(
     }
 
     // From here on the cycle runs: as asked, or as an idle one where the operation is refused.
-    let mut loaded = vec![Work::Nothing; shape.levels as usize + 1];
+    let mut loaded = vec![NOTHING; shape.levels as usize + 1];
     let mut writes = Writes::new();
     for (k, step) in steps.into_iter().enumerate() {
         // the step of level k + 2 loads the record of level k + 3
@@ -248,8 +258,11 @@ pub fn cycle(
         Err(no) => Err(no),
     };
     writes.done(store);
-    for level in 2..=shape.levels {
-        pending[(level - 2) as usize] = loaded[(level - 2) as usize];
+    for (record, load) in pending[..(shape.levels - 1) as usize].iter_mut().zip(loaded) {
+        // a level with nothing to do changes no word: its record stands, unless the level above loads it
+        if !(record.is_nothing() && load.is_nothing()) {
+            *record = load;
+        }
     }
     *mark = request != Request::Idle && answer.is_ok();
     answer
@@ -257,7 +270,7 @@ pub fn cycle(
 
 /// Whether any level's record is something other than nothing.
 pub fn any_pending(shape: Shape, pending: &[Work]) -> bool {
-    pending[..(shape.levels - 1) as usize].iter().any(|w| *w != Work::Nothing)
+    pending[..(shape.levels - 1) as usize].iter().any(|w| !w.is_nothing())
 }
 
 /// Idle cycles until nothing is pending or the budget is spent.

@@ -1,15 +1,14 @@
 //! Nothing lost in flight, from the paper's one sentence: take the elements in all slots, add those
 //! carried by pending puts and swaps, and for each pending take or swap strike out the element that
 //! its node would give next; what remains is, each as often, what was accepted less what was
-//! answered out. It reads the words of a store and of its records, and knows nothing of cycles.
+//! answered out. It reads the words of a store and its records, and knows nothing of cycles.
 
+use crate::call::Record;
 use crate::{element, Element};
 use std::collections::BTreeMap;
 
 /// The words of a slot: rank, tag, length, count.
 const SLOT: usize = 4;
-/// The words of a record: kind, node, rank, tag, length.
-const RECORD: usize = 5;
 
 /// The element of a slot, where it has one.
 fn held(slot: &[u32]) -> Option<Element> {
@@ -20,7 +19,7 @@ fn held(slot: &[u32]) -> Option<Element> {
 }
 
 /// The element that a record carries.
-fn carried(record: &[u32]) -> Element {
+fn carried(record: &Record) -> Element {
     element(record[2], record[3], record[4])
 }
 
@@ -87,9 +86,9 @@ impl Flight {
     }
 
     /// What pending work adds and strikes out, element by element.
-    fn pending(&self, records: &[u32]) -> Result<Vec<(Element, i64)>, String> {
+    fn pending(&self, records: &[Record]) -> Result<Vec<(Element, i64)>, String> {
         let mut all = Vec::new();
-        for (i, record) in records[..RECORD * (self.levels - 1)].chunks(RECORD).enumerate() {
+        for (i, record) in records[..self.levels - 1].iter().enumerate() {
             let (kind, level) = (record[0], i + 2);
             if kind == 1 || kind == 3 {
                 all.push((carried(record), 1));
@@ -105,7 +104,7 @@ impl Flight {
     }
 
     /// Whether nothing is lost and nothing is there too often, as the machine stands.
-    pub fn check(&mut self, store: &[u32], records: &[u32]) -> Result<(), String> {
+    pub fn check(&mut self, store: &[u32], records: &[Record]) -> Result<(), String> {
         self.look(store);
         let pending = self.pending(records)?;
         for &(x, by) in &pending {

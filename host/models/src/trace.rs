@@ -1,6 +1,6 @@
 //! The trace program: bytes in, bytes out. Of the two versions, 2 has a length in every record and in every `out` line.
 
-use crate::clocked::{self, Request, Work};
+use crate::clocked::{self, Request, NOTHING};
 use crate::tree::Shape;
 use crate::{Element, No};
 
@@ -65,7 +65,7 @@ pub fn play(input: &[u8]) -> Vec<u8> {
     };
     let (order, levels) = (shape.order as u32, shape.levels as u32);
     let mut store = vec![0; 4 * shape.capacity() as usize];
-    let mut pending = vec![Work::Nothing; levels as usize - 1];
+    let mut pending = vec![NOTHING; levels as usize - 1];
     let mut mark = false;
     let mut written = Vec::new();
 

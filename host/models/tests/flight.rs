@@ -1,5 +1,6 @@
 //! The account of a machine in flight: the worked stops of a pop and of a swap, and what it has to find.
 
+use models::call::Record;
 use models::flight::Flight;
 use models::{element, Element};
 
@@ -8,9 +9,9 @@ fn slots(all: &[(Element, u32)]) -> Vec<u32> {
     all.iter().flat_map(|&(x, count)| [x.rank, x.tag, x.length, count]).collect()
 }
 
-/// The words of a record.
-fn record(kind: u32, node: u32, x: Element) -> Vec<u32> {
-    vec![kind, node, x.rank, x.tag, x.length]
+/// A machine's one record.
+fn record(kind: u32, node: u32, x: Element) -> [Record; 1] {
+    [[kind, node, x.rank, x.tag, x.length]]
 }
 
 fn none() -> Element {

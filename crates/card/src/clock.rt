@@ -1,0 +1,268 @@
+// The clocked tree's calls: the host lends its pending records as structs and the mark as one word. Each call over records is proved by a walk of its
+// code by hand, so it is thin: it reads the records, has the call made on what was read, and writes the records back.
+ghost use mathlib.Core.Path.{_≡_};
+ghost use mathlib.Core.Bool.{cond};
+ghost use Rattle.strip.specs.Answers.{numberOf};
+ghost use Rattle.card.specs.Out.{Long, countAfter, drainWords};
+ghost use Rattle.card.specs.Clocked.{clockedAfter, clockedAfterOut, requestOf, marked, asked, drainOut, noneTurned, told, toldOut, clearTold, cycleTold, drainTold, clockedClear, clockedCycle, clockedDrain, clockedHeld};
+use crate::OUT;
+use crate::tell;
+use crate::tell_count;
+use clocked::fresh_state;
+use clocked::held;
+use lent_memory::hand_back;
+use lent_memory::load;
+use lent_steps::Read;
+use lent_steps::Record;
+use lent_steps::Turned;
+use lent_steps::clear_beside;
+use lent_steps::cycle_read;
+use lent_steps::drain_read;
+use lent_steps::refused;
+use strip::Answer;
+use strip::Element;
+use strip::Length;
+use strip::Rank;
+use strip::Refusal;
+use strip::Request;
+use strip::Tag;
+use strip::number;
+
+// The words of a drain's report: cycles run and whether work is left.
+const DRAIN_OUT: usize = 2;
+
+// ---- numbers
+
+fn wide(n: u32) -> usize
+    ensures { λ r. ⌜ r ≡ n ⌝ }
+{
+    n as usize
+}
+
+fn bit(on: bool) -> u32
+    ensures { λ r. ⌜ r ≡ cond on 1 0 ⌝ }
+{
+    if on { 1 } else { 0 }
+}
+
+fn request_of(request: u32, rank: u32, tag: u32, length: u32) -> Request
+    ensures { λ r. ⌜ r ≡ requestOf request rank tag length ⌝ }
+{
+    let x = Element {
+        rank: Rank(rank),
+        tag: Tag(tag),
+        length: Length(length),
+    };
+    if request == 1 {
+        return Request::Push(x);
+    }
+    if request == 2 {
+        return Request::Pop;
+    }
+    if request == 3 {
+        return Request::Replace(x);
+    }
+    Request::Idle
+}
+
+fn is_marked(mark: &[u32]) -> bool
+    ensures { λ r. ⌜ r ≡ marked (now (mark .entry)) ⌝ }
+{
+    if mark.len() < 1 {
+        return false;
+    }
+    mark[0] <= 1
+}
+
+// Whether the boundary takes a call: there is a mark, and the request is one.
+fn is_asked(mark: &[u32], request: u32) -> bool
+    ensures { λ r. ⌜ r ≡ asked (now (mark .entry)) request ⌝ }
+{
+    let there = is_marked(mark);
+    (request <= 3) & there
+}
+
+// Writes the cycles run and whether work is left.
+fn tell_drain(out: &mut [u32], cycles: u32, left: bool)
+    requires { ⌜ Long drainWords (now out) ⌝ }
+    ensures { λ _. ⌜ now (out .exit) ≡ drainOut cycles left (now (out .entry)) ⌝ }
+{
+    out[0] = cycles;
+    out[1] = bit(left);
+}
+
+// ---- the calls on what was read of the records: store, mark and `out` are written, and what is left says what to write of the records
+
+// Where the boundary says no, nothing is left to write.
+fn none_turned() -> Turned
+    ensures { λ r. ⌜ r ≡ noneTurned ⌝ }
+{
+    refused(fresh_state())
+}
+
+fn number_of(t: Turned) -> u32
+    ensures { λ r. ⌜ r ≡ numberOf (t .answer) ⌝ }
+{
+    let answer = t.answer;
+    number(answer)
+}
+
+fn clear_told(store: &mut [u32], order: u32, levels: u32, len: usize, mark: &mut [u32]) -> Turned
+    ensures { λ r. ⌜ told r (now (store .exit)) (now (mark .exit)) ≡ clearTold order levels len (now (store .entry)) (now (mark .entry)) ⌝ }
+{
+    if mark.len() < 1 {
+        return none_turned();
+    }
+    let on = mark[0] == 1;
+    let turned = clear_beside(store, order as usize, levels as usize, len, on);
+    if number_of(turned) == 0 {
+        mark[0] = 0;
+    }
+    turned
+}
+
+fn cycle_told(
+    store: &mut [u32],
+    order: u32,
+    levels: u32,
+    len: usize,
+    read: Read,
+    mark: &mut [u32],
+    request: u32,
+    rank: u32,
+    tag: u32,
+    length: u32,
+    out: &mut [u32],
+) -> Turned
+    ensures { λ r. ⌜ toldOut r (now (store .exit)) (now (mark .exit)) (now (out .exit)) ≡ cycleTold order levels len (now (store .entry)) (now (mark .entry)) read request rank tag length (now (out .entry)) ⌝ }
+{
+    if out.len() < OUT {
+        return none_turned();
+    }
+    if !is_asked(mark, request) {
+        tell(out, Answer::Refused(Refusal::BadShape));
+        return none_turned();
+    }
+    let on = mark[0] == 1;
+    let q = request_of(request, rank, tag, length);
+    let turned = cycle_read(store, order as usize, levels as usize, len, read, on, q);
+    let answer = turned.answer;
+    mark[0] = bit(turned.mark);
+    tell(out, answer);
+    turned
+}
+
+fn drain_told(
+    store: &mut [u32],
+    order: u32,
+    levels: u32,
+    len: usize,
+    read: Read,
+    mark: &mut [u32],
+    budget: u32,
+    out: &mut [u32],
+) -> Turned
+    ensures { λ r. ⌜ toldOut r (now (store .exit)) (now (mark .exit)) (now (out .exit)) ≡ drainTold order levels len (now (store .entry)) (now (mark .entry)) read budget (now (out .entry)) ⌝ }
+{
+    if out.len() < DRAIN_OUT {
+        return none_turned();
+    }
+    if !is_marked(mark) {
+        tell_drain(out, 0, false);
+        return none_turned();
+    }
+    let on = mark[0] == 1;
+    let turned = drain_read(
+        store,
+        order as usize,
+        levels as usize,
+        len,
+        read,
+        on,
+        budget as usize,
+    );
+    mark[0] = bit(turned.mark);
+    tell_drain(out, turned.cycles as u32, turned.left);
+    turned
+}
+
+// ---- the calls
+
+#[no_mangle]
+pub extern "C" fn card_clocked_clear(
+    store: &mut [u32],
+    order: u32,
+    levels: u32,
+    records: &mut [Record],
+    mark: &mut [u32],
+) -> u32
+    ensures { λ r. ⌜ clockedAfter r (now (store .exit)) (now (records .exit)) (now (mark .exit)) ≡ clockedClear order levels (now (store .entry)) (now (records .entry)) (now (mark .entry)) ⌝ }
+{
+    let turned = clear_told(store, order, levels, records.len(), mark);
+    hand_back(records, turned);
+    number_of(turned)
+}
+
+#[no_mangle]
+pub extern "C" fn card_clocked_cycle(
+    store: &mut [u32],
+    order: u32,
+    levels: u32,
+    records: &mut [Record],
+    mark: &mut [u32],
+    request: u32,
+    rank: u32,
+    tag: u32,
+    length: u32,
+    out: &mut [u32],
+) -> u32
+    ensures { λ r. ⌜ clockedAfterOut r (now (store .exit)) (now (records .exit)) (now (mark .exit)) (now (out .exit)) ≡ clockedCycle order levels (now (store .entry)) (now (records .entry)) (now (mark .entry)) request rank tag length (now (out .entry)) ⌝ }
+{
+    let l = wide(levels);
+    let read = load(records, l);
+    let turned = cycle_told(
+        store,
+        order,
+        levels,
+        records.len(),
+        read,
+        mark,
+        request,
+        rank,
+        tag,
+        length,
+        out,
+    );
+    hand_back(records, turned);
+    number_of(turned)
+}
+
+#[no_mangle]
+pub extern "C" fn card_clocked_drain(
+    store: &mut [u32],
+    order: u32,
+    levels: u32,
+    records: &mut [Record],
+    mark: &mut [u32],
+    budget: u32,
+    out: &mut [u32],
+) -> u32
+    ensures { λ r. ⌜ clockedAfterOut r (now (store .exit)) (now (records .exit)) (now (mark .exit)) (now (out .exit)) ≡ clockedDrain order levels (now (store .entry)) (now (records .entry)) (now (mark .entry)) budget (now (out .entry)) ⌝ }
+{
+    let l = wide(levels);
+    let read = load(records, l);
+    let turned = drain_told(store, order, levels, records.len(), read, mark, budget, out);
+    hand_back(records, turned);
+    number_of(turned)
+}
+
+#[no_mangle]
+pub extern "C" fn card_clocked_held(store: &[u32], order: u32, levels: u32, out: &mut [u32]) -> u32
+    ensures { λ r. ⌜ countAfter r (now (out .exit)) ≡ clockedHeld order levels (now (store .entry)) (now (out .entry)) ⌝ }
+{
+    if out.len() < 1 {
+        return 1;
+    }
+    let count = held(store, order as usize, levels as usize);
+    tell_count(out, count)
+}

@@ -1,0 +1,76 @@
+-- What the code between the slice and the by-value calls asks and says. Assumes nothing: these are definitions.
+use Prim.Native.Nat.{_-_, _<_, _≤_, ℕ}
+use mathlib.Core.Bool.{_&&_, Bool, cond, false, true}
+use mathlib.Core.List.{List}
+use lib.Dec.{leb, ltb}
+use lib.ListN.{getD, replicate, set}
+use Rattle.clocked_model.specs.Calls.{clockedCleared, cycled, cycleOutcome, CycleOutcome, drainOutcome, DrainOutcome, drains, fresh, recordCount}
+use Rattle.clocked_model.specs.declared.State.{State}
+use Rattle.lent_steps.specs.Lent.{hasRun, kindsOk, noRecord, recordOf, workOf, worksRead}
+use Rattle.lent_steps.specs.declared.Read.{Read}
+use Rattle.lent_steps.specs.declared.Record.{Record}
+use Rattle.lent_steps.specs.declared.Turned.{Turned}
+use Rattle.strip.specs.declared.Answer.{Answer}
+use Rattle.strip.specs.declared.Answer.the-variants.{Refused}
+use Rattle.strip.specs.declared.Refusal.the-variants.{BadShape}
+use Rattle.strip.specs.declared.Request.{Request}
+use Rattle.tree_model.specs.Levels.{idle}
+use Rattle.tree_model.specs.declared.Work.{Work}
+
+-- a word of 32 bits is below this
+abbrev pub wordLimit : ℕ
+wordLimit = 4294967296
+
+-- ---- reading
+-- some tree has so many levels, and a slice of so many records has one for each level from 2
+unfoldable pub lends : ℕ → ℕ → Bool
+lends levels len = leb 1 levels && (leb (levels - 1) recordCount && leb (levels - 1) len)
+
+-- how many records are read
+abbrev pub reach : ℕ → ℕ → ℕ
+reach levels len = cond (lends levels len) (levels - 1) 0
+
+abbrev pub noneRead : Read
+noneRead = record { works = replicate recordCount idle; ok = true }
+
+-- k of them
+abbrev pub readOf : ℕ → List Record → Read
+readOf k rs = record { works = worksRead k rs; ok = kindsOk k rs }
+
+-- one more
+abbrev pub readNext : Read → ℕ → Record → Read
+readNext d i r = record { works = set (d .works) i (workOf r); ok = d .ok && leb (r .kind) 3 }
+
+abbrev pub stateOf : Read → Bool → State
+stateOf d mark = record { records = d .works; mark = mark }
+
+-- a clear reads no record
+abbrev pub unread : Bool → State
+unread mark = record { records = fresh .records; mark = mark }
+
+-- ---- the by-value calls on what was read from a slice of so many records
+module _ (m levels len : ℕ) (mark : Bool) (ws : List ℕ) where
+  unfoldable pub cycleFrom : Read → Request → CycleOutcome
+  cycleFrom d r = cond (lends levels len && d .ok) (cycled m levels r (stateOf d mark) ws) (cycleOutcome (Refused BadShape) ws (stateOf d mark))
+
+  unfoldable pub drainFrom : Read → ℕ → DrainOutcome
+  drainFrom d budget = cond (lends levels len && d .ok) (drains m levels budget (stateOf d mark) ws) (drainOutcome (Refused BadShape) 0 false ws (stateOf d mark))
+
+  unfoldable pub clearFrom : CycleOutcome
+  clearFrom = cond (lends levels len) (clockedCleared m levels (unread mark) ws) (cycleOutcome (Refused BadShape) ws (unread mark))
+
+-- ---- what is left, and how many records are to be written
+abbrev pub turned : Answer → ℕ → Bool → State → ℕ → Turned
+turned a n left s count = record { answer = a; cycles = n; left = left; mark = s .mark; works = s .records; count = count }
+
+abbrev pub turnedCycle : ℕ → CycleOutcome → Turned
+turnedCycle levels o = turned (o .answer) 0 false (o .state) (cond (hasRun (o .answer)) (levels - 1) 0)
+
+abbrev pub turnedDrain : ℕ → DrainOutcome → Turned
+turnedDrain levels d = turned (d .answer) (d .cycles) (d .left) (d .state) (cond (ltb 0 (d .cycles)) (levels - 1) 0)
+
+-- the records to be written lie within so many, and their nodes within their words
+pub record Ready (t : Turned) (len : ℕ) : Type 0 where
+  pub few : t .count ≤ recordCount
+  pub within : t .count ≤ len
+  pub nodes : (i : ℕ) → i < t .count → recordOf (getD (t .works) i idle) .node < wordLimit

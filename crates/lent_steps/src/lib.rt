@@ -1,0 +1,381 @@
+// The steps between a lent slice of pending records and the by-value calls of the clocked tree: a record as the host keeps it, what is read of
+// the records, the by-value call on that, and what each record becomes.
+ghost use mathlib.Core.Path.{_≡_};
+ghost use mathlib.Core.Bool.{cond, false};
+ghost use Prim.Native.Nat.{_-_, _<_};
+ghost use lib.ListN.{getD};
+ghost use Rattle.clocked_model.specs.Calls.{recordCount};
+ghost use Rattle.tree_model.specs.Levels.{idle};
+ghost use Rattle.clocked_model.specs.Promise.{runsIdle};
+ghost use Rattle.lent_steps.specs.Lent.{workOf, bareRecord, ladenRecord, recordOf, stands, handed, hasRun};
+ghost use Rattle.lent_steps.specs.Steps.{wordLimit, lends, reach, noneRead, readNext, cycleFrom, drainFrom, clearFrom, turned, turnedCycle, turnedDrain};
+use clocked::clear;
+use clocked::cycle;
+use clocked::drain;
+use clocked::fresh_state;
+use clocked_model::RECORDS;
+use clocked_model::State;
+use strip::Answer;
+use strip::Element;
+use strip::Length;
+use strip::Rank;
+use strip::Refusal;
+use strip::Request;
+use strip::Tag;
+use tree_model::Op;
+use tree_model::Work;
+
+// A pending record as the host keeps it: kind 0 nothing, 1 put, 2 take, 3 swap; a node; an element's rank, tag and length.
+#[repr(C)]
+pub struct Record {
+    pub kind: u32,
+    pub node: u32,
+    pub rank: u32,
+    pub tag: u32,
+    pub length: u32,
+}
+
+// What was read of the records: the work of each, and whether all the kinds are kinds.
+pub struct Read {
+    pub works: [Work; RECORDS],
+    pub ok: bool,
+}
+
+// What a by-value call has left: its report, the work of each record, and how many records are to be written.
+pub struct Turned {
+    pub answer: Answer,
+    pub cycles: usize,
+    pub left: bool,
+    pub mark: bool,
+    pub works: [Work; RECORDS],
+    pub count: usize,
+}
+
+// What a lent clear or cycle answers, and the mark that it leaves.
+pub struct LentCycled {
+    pub answer: Answer,
+    pub mark: bool,
+}
+
+// What a lent drain reports, and the mark that it leaves.
+pub struct LentDrained {
+    pub answer: Answer,
+    pub cycles: usize,
+    pub left: bool,
+    pub mark: bool,
+}
+
+// ---- reading
+
+// Whether some tree has so many levels, and a slice of so many records has one for each level from 2.
+fn is_lent(levels: usize, len: usize) -> bool
+    ensures { λ r. ⌜ r ≡ lends levels len ⌝ }
+{
+    if levels == 0 {
+        return false;
+    }
+    (levels - 1 <= RECORDS) & (levels - 1 <= len)
+}
+
+// How many records are read.
+pub fn reached(levels: usize, len: usize) -> usize
+    ensures { λ r. ⌜ r ≡ reach levels len ⌝ }
+{
+    if is_lent(levels, len) {
+        return levels - 1;
+    }
+    0
+}
+
+// The work that a record holds; the numbers that its kind does not use are not read.
+fn work_of(r: Record) -> Work
+    ensures { λ w. ⌜ w ≡ workOf r ⌝ }
+{
+    let kind = r.kind;
+    let node = r.node as usize;
+    let x = Element {
+        rank: Rank(r.rank),
+        tag: Tag(r.tag),
+        length: Length(r.length),
+    };
+    if kind == 1 {
+        return Work {
+            op: Op::Put(x),
+            node,
+        };
+    }
+    if kind == 2 {
+        return Work { op: Op::Take, node };
+    }
+    if kind == 3 {
+        return Work {
+            op: Op::Swap(x),
+            node,
+        };
+    }
+    // no cycle writes this number, so that it tells afterwards that the record stands
+    Work {
+        op: Op::Nothing,
+        node: 1,
+    }
+}
+
+// No record read.
+pub fn none_read() -> Read
+    ensures { λ r. ⌜ r ≡ noneRead ⌝ }
+{
+    let w = Work {
+        op: Op::Nothing,
+        node: 0,
+    };
+    Read {
+        works: [w; RECORDS],
+        ok: true,
+    }
+}
+
+// One record more.
+pub fn read_next(read: Read, i: usize, r: Record) -> Read
+    requires { ⌜ i < recordCount ⌝ }
+    ensures { λ d. ⌜ d ≡ readNext read i r ⌝ }
+{
+    let mut next = read;
+    let kind = r.kind;
+    next.works[i] = work_of(r);
+    next.ok = read.ok & (kind <= 3);
+    next
+}
+
+// ---- the by-value calls
+
+// Whether a cycle with this answer ran: refusals 1 and 2 leave everything.
+fn has_run(a: Answer) -> bool
+    ensures { λ r. ⌜ r ≡ hasRun a ⌝ }
+{
+    match a {
+        Answer::Done => true,
+        Answer::Out(_) => true,
+        Answer::Refused(n) => is_later(n),
+    }
+}
+
+fn is_later(n: Refusal) -> bool
+    ensures { λ r. ⌜ r ≡ runsIdle n ⌝ }
+{
+    match n {
+        Refusal::BadShape => false,
+        Refusal::Damaged => false,
+        Refusal::TooSoon => true,
+        Refusal::BadRank => true,
+        Refusal::Full => true,
+        Refusal::Empty => true,
+        Refusal::NoTag => true,
+    }
+}
+
+// The records to be written: one for each level from 2 where a cycle ran, and else none.
+fn due(ran: bool, levels: usize) -> usize
+    ensures { λ r. ⌜ r ≡ cond ran (levels - 1) 0 ⌝ }
+{
+    if !ran {
+        return 0;
+    }
+    if levels == 0 {
+        return 0;
+    }
+    levels - 1
+}
+
+fn turned_by(answer: Answer, cycles: usize, left: bool, state: State, count: usize) -> Turned
+    ensures { λ r. ⌜ r ≡ turned answer cycles left state count ⌝ }
+{
+    let works = state.records;
+    Turned {
+        answer,
+        cycles,
+        left,
+        mark: state.mark,
+        works,
+        count,
+    }
+}
+
+pub fn refused(state: State) -> Turned
+    ensures { λ r. ⌜ r ≡ turned (Answer.Refused Refusal.BadShape) 0 false state 0 ⌝ }
+{
+    turned_by(Answer::Refused(Refusal::BadShape), 0, false, state, 0)
+}
+
+// One cycle on what was read of a slice of `len` records.
+pub fn cycle_read(
+    store: &mut [u32],
+    order: usize,
+    levels: usize,
+    len: usize,
+    read: Read,
+    mark: bool,
+    request: Request,
+) -> Turned
+    ensures { λ r. ⌜ (now (store .exit) ≡ cycleFrom order levels len mark (now (store .entry)) read request .words) × (r ≡ turnedCycle levels (cycleFrom order levels len mark (now (store .entry)) read request)) ⌝ }
+{
+    let works = read.works;
+    let state = State {
+        records: works,
+        mark,
+    };
+    if !(is_lent(levels, len) & read.ok) {
+        return refused(state);
+    }
+    let c = cycle(store, order, levels, state, request);
+    let answer = c.answer;
+    let next = c.state;
+    turned_by(answer, 0, false, next, due(has_run(answer), levels))
+}
+
+// A drain on what was read of a slice of `len` records.
+pub fn drain_read(
+    store: &mut [u32],
+    order: usize,
+    levels: usize,
+    len: usize,
+    read: Read,
+    mark: bool,
+    budget: usize,
+) -> Turned
+    ensures { λ r. ⌜ (now (store .exit) ≡ drainFrom order levels len mark (now (store .entry)) read budget .words) × (r ≡ turnedDrain levels (drainFrom order levels len mark (now (store .entry)) read budget)) ⌝ }
+{
+    let works = read.works;
+    let state = State {
+        records: works,
+        mark,
+    };
+    if !(is_lent(levels, len) & read.ok) {
+        return refused(state);
+    }
+    let d = drain(store, order, levels, state, budget);
+    let answer = d.answer;
+    let cycles = d.cycles;
+    let next = d.state;
+    turned_by(answer, cycles, d.left, next, due(0 < cycles, levels))
+}
+
+// A clear beside a slice of `len` records, none of which it reads.
+pub fn clear_beside(
+    store: &mut [u32],
+    order: usize,
+    levels: usize,
+    len: usize,
+    mark: bool,
+) -> Turned
+    ensures { λ r. ⌜ (now (store .exit) ≡ clearFrom order levels len mark (now (store .entry)) .words) × (r ≡ turnedCycle levels (clearFrom order levels len mark (now (store .entry)))) ⌝ }
+{
+    let mut state = fresh_state();
+    state.mark = mark;
+    if !is_lent(levels, len) {
+        return refused(state);
+    }
+    let c = clear(store, order, levels, state);
+    let answer = c.answer;
+    let next = c.state;
+    turned_by(answer, 0, false, next, due(has_run(answer), levels))
+}
+
+// ---- writing
+
+// How many records are to be written.
+pub fn count_of(t: Turned) -> usize
+    ensures { λ r. ⌜ r ≡ t .count ⌝ }
+{
+    t.count
+}
+
+fn record_of(w: Work) -> Record
+    requires { ⌜ recordOf w .node < wordLimit ⌝ }
+    ensures { λ r. ⌜ r ≡ recordOf w ⌝ }
+{
+    let op = w.op;
+    match op {
+        Op::Nothing => bare(0, 0),
+        Op::Put(x) => laden(1, w.node as u32, x),
+        Op::Take => bare(2, w.node as u32),
+        Op::Swap(x) => laden(3, w.node as u32, x),
+    }
+}
+
+// A record that carries no element.
+fn bare(kind: u32, node: u32) -> Record
+    ensures { λ r. ⌜ r ≡ bareRecord kind node ⌝ }
+{
+    Record {
+        kind,
+        node,
+        rank: 0,
+        tag: 0,
+        length: 0,
+    }
+}
+
+// A record that carries one.
+fn laden(kind: u32, node: u32, x: Element) -> Record
+    ensures { λ r. ⌜ r ≡ ladenRecord kind node x ⌝ }
+{
+    let rank = x.rank.0;
+    let tag = x.tag.0;
+    let length = x.length.0;
+    Record {
+        kind,
+        node,
+        rank,
+        tag,
+        length,
+    }
+}
+
+fn is_standing(w: Work) -> bool
+    ensures { λ r. ⌜ r ≡ stands w ⌝ }
+{
+    let op = w.op;
+    let node = w.node;
+    match op {
+        Op::Nothing => node != 0,
+        Op::Put(_) => false,
+        Op::Take => false,
+        Op::Swap(_) => false,
+    }
+}
+
+// What the host's record i becomes.
+pub fn returned(r: Record, t: Turned, i: usize) -> Record
+    requires { ⌜ (i < recordCount) × (recordOf (getD (t .works) i idle) .node < wordLimit) ⌝ }
+    ensures { λ e. ⌜ e ≡ handed r (getD (t .works) i idle) ⌝ }
+{
+    let w = t.works[i];
+    if is_standing(w) {
+        return r;
+    }
+    record_of(w)
+}
+
+// ---- what is answered
+
+pub fn cycled_of(t: Turned) -> LentCycled
+    ensures { λ r. ⌜ (r .answer ≡ t .answer) × (r .mark ≡ t .mark) ⌝ }
+{
+    let answer = t.answer;
+    LentCycled {
+        answer,
+        mark: t.mark,
+    }
+}
+
+pub fn drained_of(t: Turned) -> LentDrained
+    ensures { λ r. ⌜ (r .answer ≡ t .answer) × (r .cycles ≡ t .cycles) × (r .left ≡ t .left) × (r .mark ≡ t .mark) ⌝ }
+{
+    let answer = t.answer;
+    LentDrained {
+        answer,
+        cycles: t.cycles,
+        left: t.left,
+        mark: t.mark,
+    }
+}
