@@ -69,7 +69,7 @@ module _ (mark : List ℕ) where
 -- ---- what the calls leave
 -- a clear
 module _ (m levels len : ℕ) (ws mark : List ℕ) where
-  pub clear-unmarked : length mark < 1 → (t : Turned) → t ≡ noneTurned → told t ws mark ≡ clearTold m levels len ws mark
+  pub clear-unmarked : length mark < 1 → (t : Turned) → t ≡ noneTurned (fresh .records) → told t ws mark ≡ clearTold m levels len ws mark
   unfolding clearTold
   clear-unmarked h t e = rw (lt-leb 1 (length mark) h) (ap (λ (t : Turned). told t ws mark) e)
 
@@ -103,52 +103,52 @@ drain-few m levels len mark ws d budget t p = omega (arith, ap (λ (t : Turned).
 
 -- a cycle and a drain
 module _ (m levels len : ℕ) (ws mark : List ℕ) (d : Read) (out : List ℕ) where
-  no-short : (n : ℕ) → length out < n → (t : Turned) → t ≡ noneTurned → toldOut t ws mark out ≡ noneLeft m levels len ws mark n out
+  no-short : (n : ℕ) → length out < n → (t : Turned) → t ≡ noneTurned (d .works) → toldOut t ws mark out ≡ noneLeft m levels len ws mark d n out
   unfolding refusedOut
   no-short n h t e = rw (lt-leb n (length out) h) (ap (λ (t : Turned). toldOut t ws mark out) e)
 
-  no-zeros : (n : ℕ) → n ≤ length out → (t : Turned) → t ≡ noneTurned → (out₁ : List ℕ) → out₁ ≡ zeros n out → toldOut t ws mark out₁ ≡ noneLeft m levels len ws mark n out
+  no-zeros : (n : ℕ) → n ≤ length out → (t : Turned) → t ≡ noneTurned (d .works) → (out₁ : List ℕ) → out₁ ≡ zeros n out → toldOut t ws mark out₁ ≡ noneLeft m levels len ws mark d n out
   unfolding refusedOut
   no-zeros n h t e out₁ z = rw (le-leb n (length out) h) (λ i. toldOut (e i) ws mark (z i))
 
   module _ (request rank tag bytes : ℕ) where
-    pub cycle-short : length out < answerWords → (t : Turned) → t ≡ noneTurned → toldOut t ws mark out ≡ cycleTold m levels len ws mark d request rank tag bytes out
+    pub cycle-short : length out < answerWords → (t : Turned) → t ≡ noneTurned (d .works) → toldOut t ws mark out ≡ cycleTold m levels len ws mark d request rank tag bytes out
     unfolding cycleTold
     cycle-short h t e = rw (lt-leb answerWords (length out) h) (no-short answerWords h t e)
 
     module _ (room : answerWords ≤ length out) (b : Bool) (tested : b ≡ asked mark request) where
-      pub cycle-refused : not b ≡ true → (out₁ : List ℕ) → out₁ ≡ answerOut (Refused BadShape) out → (t : Turned) → t ≡ noneTurned → toldOut t ws mark out₁ ≡ cycleTold m levels len ws mark d request rank tag bytes out
+      pub cycle-refused : not b ≡ true → (out₁ : List ℕ) → out₁ ≡ answerOut (Refused BadShape) out → (t : Turned) → t ≡ noneTurned (d .works) → toldOut t ws mark out₁ ≡ cycleTold m levels len ws mark d request rank tag bytes out
       unfolding cycleTold blank
       cycle-refused e out₁ z t n = rw (le-leb answerWords (length out) room, sym tested ∙ not-true b e) (no-zeros answerWords room t n out₁ z)
 
       pub cycle-done : not b ≡ false → (q : Request) → q ≡ requestOf request rank tag bytes → (t : Turned) (after : List ℕ)
           → (after ≡ cycleFrom m levels len (markIn mark) ws d q .words) × (t ≡ turnedCycle levels (cycleFrom m levels len (markIn mark) ws d q))
-          → (n : ℕ) → n ≡ cond (t .mark) 1 0 → (out₁ : List ℕ) → out₁ ≡ answerOut (t .answer) out → toldOut t after (set mark 0 n) out₁ ≡ cycleTold m levels len ws mark d request rank tag bytes out
+          → (n : ℕ) → n ≡ cond (t .state .mark) 1 0 → (out₁ : List ℕ) → out₁ ≡ answerOut (t .answer) out → toldOut t after (set mark 0 n) out₁ ≡ cycleTold m levels len ws mark d request rank tag bytes out
       unfolding cycleTold
       cycle-done e q f t after p n w out₁ z =
           rw (le-leb answerWords (length out) room, sym tested ∙ not-false b e, ← f)
-          (λ i. toldOut (p .1 i) (p .0 i) ((ap (set mark 0) w ∙ ap (λ (t : Turned). markOut (t .mark) mark) (p .1)) i) ((z ∙ ap (λ (t : Turned). answerOut (t .answer) out) (p .1)) i))
+          (λ i. toldOut (p .1 i) (p .0 i) ((ap (set mark 0) w ∙ ap (λ (t : Turned). markOut (t .state .mark) mark) (p .1)) i) ((z ∙ ap (λ (t : Turned). answerOut (t .answer) out) (p .1)) i))
 
   module _ (budget : ℕ) where
-    pub drain-short : length out < drainWords → (t : Turned) → t ≡ noneTurned → toldOut t ws mark out ≡ drainTold m levels len ws mark d budget out
+    pub drain-short : length out < drainWords → (t : Turned) → t ≡ noneTurned (d .works) → toldOut t ws mark out ≡ drainTold m levels len ws mark d budget out
     unfolding drainTold
     drain-short h t e = rw (lt-leb drainWords (length out) h) (no-short drainWords h t e)
 
     module _ (room : drainWords ≤ length out) (b : Bool) (tested : b ≡ marked mark) where
-      pub drain-refused : not b ≡ true → (out₁ : List ℕ) → out₁ ≡ drainOut 0 false out → (t : Turned) → t ≡ noneTurned → toldOut t ws mark out₁ ≡ drainTold m levels len ws mark d budget out
+      pub drain-refused : not b ≡ true → (out₁ : List ℕ) → out₁ ≡ drainOut 0 false out → (t : Turned) → t ≡ noneTurned (d .works) → toldOut t ws mark out₁ ≡ drainTold m levels len ws mark d budget out
       unfolding drainTold
       drain-refused e out₁ z t n = rw (le-leb drainWords (length out) room, sym tested ∙ not-true b e) (no-zeros drainWords room t n out₁ z)
 
       module _ (t : Turned) (after : List ℕ) (p : (after ≡ drainFrom m levels len (markIn mark) ws d budget .words) × (t ≡ turnedDrain levels (drainFrom m levels len (markIn mark) ws d budget))) where
-        pub drain-done : not b ≡ false → (n : ℕ) → n ≡ cond (t .mark) 1 0 → (out₁ : List ℕ) → out₁ ≡ drainOut (t .cycles) (t .left) out → toldOut t after (set mark 0 n) out₁ ≡ drainTold m levels len ws mark d budget out
+        pub drain-done : not b ≡ false → (n : ℕ) → n ≡ cond (t .state .mark) 1 0 → (out₁ : List ℕ) → out₁ ≡ drainOut (t .cycles) (t .left) out → toldOut t after (set mark 0 n) out₁ ≡ drainTold m levels len ws mark d budget out
         unfolding drainTold
         drain-done e n w out₁ z =
             rw (le-leb drainWords (length out) room, sym tested ∙ not-false b e)
-            (λ i. toldOut (p .1 i) (p .0 i) ((ap (set mark 0) w ∙ ap (λ (t : Turned). markOut (t .mark) mark) (p .1)) i) ((z ∙ ap (λ (t : Turned). drainOut (t .cycles) (t .left) out) (p .1)) i))
+            (λ i. toldOut (p .1 i) (p .0 i) ((ap (set mark 0) w ∙ ap (λ (t : Turned). markOut (t .state .mark) mark) (p .1)) i) ((z ∙ ap (λ (t : Turned). drainOut (t .cycles) (t .left) out) (p .1)) i))
 
 -- ---- the calls: what is left of the records is written back
 abbrev pub cycleBack : List Record → ToldOut → ClockedAfterOut
-cycleBack rs u = clockedAfterOut (numberOf (u .turned .answer)) (u .store) (worksBack (u .turned .count) (u .turned .works) rs) (u .mark) (u .out)
+cycleBack rs u = clockedAfterOut (numberOf (u .turned .answer)) (u .store) (worksBack (u .turned .count) (u .turned .state .records) rs) (u .mark) (u .out)
 
 module _ (m levels : ℕ) (ws : List ℕ) (rs : List Record) (mark : List ℕ) where
   abbrev read : Read
@@ -157,8 +157,8 @@ module _ (m levels : ℕ) (ws : List ℕ) (rs : List Record) (mark : List ℕ) w
   full : length (read .works) ≡ recordCount
   full = works-few (reach levels (length rs)) rs
 
-  none-back : (n : ℕ) (out : List ℕ) → cycleBack rs (noneLeft m levels (length rs) ws mark n out) ≡ saysNo m levels ws rs mark n out
-  none-back n out = ap (λ (rs : List Record). clockedAfterOut 1 ws rs mark (refusedOut n out)) (back-none (fresh .records) rs)
+  none-back : (n : ℕ) (out : List ℕ) → cycleBack rs (noneLeft m levels (length rs) ws mark read n out) ≡ saysNo m levels ws rs mark n out
+  none-back n out = ap (λ (rs : List Record). clockedAfterOut 1 ws rs mark (refusedOut n out)) (back-none (read .works) rs)
 
   module _ (request rank tag bytes : ℕ) (out : List ℕ) where
     abbrev q : Request
@@ -168,7 +168,7 @@ module _ (m levels : ℕ) (ws : List ℕ) (rs : List Record) (mark : List ℕ) w
     unfolding cycleTold clockedCycle
     cycle-ends = go (leb answerWords (length out) && asked mark request)
       where
-        go : (b : Bool) → cycleBack rs (cond b (cycleLeft m levels (length rs) ws mark out (cycleFrom m levels (length rs) (markIn mark) ws read q)) (noneLeft m levels (length rs) ws mark answerWords out))
+        go : (b : Bool) → cycleBack rs (cond b (cycleLeft m levels (length rs) ws mark out (cycleFrom m levels (length rs) (markIn mark) ws read q)) (noneLeft m levels (length rs) ws mark read answerWords out))
             ≡ cond b (cycleOf mark (lentCycled m levels (markIn mark) rs ws q) out) (saysNo m levels ws rs mark answerWords out)
         go true = ap (λ (o : LentOutcome). cycleOf mark o out) (cycle-lent m levels (markIn mark) ws rs q)
         go false = none-back answerWords out
@@ -177,16 +177,16 @@ module _ (m levels : ℕ) (ws : List ℕ) (rs : List Record) (mark : List ℕ) w
     unfolding cycleTold
     cycle-goes = go (leb answerWords (length out) && asked mark request)
       where
-        go : (b : Bool) → Ready (cond b (cycleLeft m levels (length rs) ws mark out (cycleFrom m levels (length rs) (markIn mark) ws read q)) (noneLeft m levels (length rs) ws mark answerWords out) .turned) (length rs)
+        go : (b : Bool) → Ready (cond b (cycleLeft m levels (length rs) ws mark out (cycleFrom m levels (length rs) (markIn mark) ws read q)) (noneLeft m levels (length rs) ws mark read answerWords out) .turned) (length rs)
         go true = cycle-ready m levels (length rs) (markIn mark) ws read full q
-        go false = none-ready m levels (length rs) (markIn mark) ws noneTurned refl
+        go false = none-ready m levels (length rs) (markIn mark) ws (noneTurned (read .works)) refl
 
   module _ (budget : ℕ) (out : List ℕ) where
     pub drain-ends : cycleBack rs (drainTold m levels (length rs) ws mark read budget out) ≡ clockedDrain m levels ws rs mark budget out
     unfolding drainTold clockedDrain
     drain-ends = go (leb drainWords (length out) && marked mark)
       where
-        go : (b : Bool) → cycleBack rs (cond b (drainLeft m levels (length rs) ws mark out (drainFrom m levels (length rs) (markIn mark) ws read budget)) (noneLeft m levels (length rs) ws mark drainWords out))
+        go : (b : Bool) → cycleBack rs (cond b (drainLeft m levels (length rs) ws mark out (drainFrom m levels (length rs) (markIn mark) ws read budget)) (noneLeft m levels (length rs) ws mark read drainWords out))
             ≡ cond b (drainOf mark (lentDrains m levels (markIn mark) rs ws budget) out) (saysNo m levels ws rs mark drainWords out)
         go true = ap (λ (o : LentDrain). drainOf mark o out) (drain-lent m levels (markIn mark) ws rs budget)
         go false = none-back drainWords out
@@ -195,18 +195,18 @@ module _ (m levels : ℕ) (ws : List ℕ) (rs : List Record) (mark : List ℕ) w
     unfolding drainTold
     drain-goes = go (leb drainWords (length out) && marked mark)
       where
-        go : (b : Bool) → Ready (cond b (drainLeft m levels (length rs) ws mark out (drainFrom m levels (length rs) (markIn mark) ws read budget)) (noneLeft m levels (length rs) ws mark drainWords out) .turned) (length rs)
+        go : (b : Bool) → Ready (cond b (drainLeft m levels (length rs) ws mark out (drainFrom m levels (length rs) (markIn mark) ws read budget)) (noneLeft m levels (length rs) ws mark read drainWords out) .turned) (length rs)
         go true = drain-ready m levels (length rs) (markIn mark) ws read full budget
-        go false = none-ready m levels (length rs) (markIn mark) ws noneTurned refl
+        go false = none-ready m levels (length rs) (markIn mark) ws (noneTurned (read .works)) refl
 
   abbrev pub clearBack : Told → ClockedAfter
-  clearBack u = clockedAfter (numberOf (u .turned .answer)) (u .store) (worksBack (u .turned .count) (u .turned .works) rs) (u .mark)
+  clearBack u = clockedAfter (numberOf (u .turned .answer)) (u .store) (worksBack (u .turned .count) (u .turned .state .records) rs) (u .mark)
 
   pub clear-ends : clearBack (clearTold m levels (length rs) ws mark) ≡ clockedClear m levels ws rs mark
   unfolding clearTold clockedClear
   clear-ends = go (leb 1 (length mark))
     where
-      go : (b : Bool) → clearBack (cond b (clearLeft m levels (length rs) ws mark (clearFrom m levels (length rs) (markIn mark) ws)) (told noneTurned ws mark))
+      go : (b : Bool) → clearBack (cond b (clearLeft m levels (length rs) ws mark (clearFrom m levels (length rs) (markIn mark) ws)) (told (noneTurned (fresh .records)) ws mark))
           ≡ cond b (clearOf mark (lentCleared m levels (markIn mark) rs ws)) (clockedAfter 1 ws rs mark)
       go true = ap (λ (o : LentOutcome). clearOf mark o) (clear-lent m levels (markIn mark) ws rs)
       go false = ap (λ (rs : List Record). clockedAfter 1 ws rs mark) (back-none (fresh .records) rs)
@@ -215,6 +215,6 @@ module _ (m levels : ℕ) (ws : List ℕ) (rs : List Record) (mark : List ℕ) w
   unfolding clearTold
   clear-goes = go (leb 1 (length mark))
     where
-      go : (b : Bool) → Ready (cond b (clearLeft m levels (length rs) ws mark (clearFrom m levels (length rs) (markIn mark) ws)) (told noneTurned ws mark) .turned) (length rs)
+      go : (b : Bool) → Ready (cond b (clearLeft m levels (length rs) ws mark (clearFrom m levels (length rs) (markIn mark) ws)) (told (noneTurned (fresh .records)) ws mark) .turned) (length rs)
       go true = clear-ready m levels (length rs) (markIn mark) ws
-      go false = none-ready m levels (length rs) (markIn mark) ws noneTurned refl
+      go false = none-ready m levels (length rs) (markIn mark) ws (noneTurned (fresh .records)) refl

@@ -18,6 +18,7 @@ use Rattle.strip.specs.declared.Refusal.the-variants.{BadShape}
 use Rattle.strip.specs.declared.Request.{Request}
 use Rattle.strip.specs.declared.Request.the-variants.{Idle, Pop, Push, Replace}
 use Rattle.tree_model.specs.Calls.{heldCount}
+use Rattle.tree_model.specs.declared.Work.{Work}
 
 -- ---- clear: the number, and all words and records afterwards
 pub record ClockedAfter : Type 0 where
@@ -112,29 +113,29 @@ pub record ToldOut : Type 0 where
 abbrev pub toldOut : Turned → List ℕ → List ℕ → List ℕ → ToldOut
 toldOut t ws mark out = record { turned = t; store = ws; mark = mark; out = out }
 
--- where the boundary says no, none
-abbrev pub noneTurned : Turned
-noneTurned = turned (Refused BadShape) 0 false fresh 0
+-- where the boundary says no, none, whatever was read
+abbrev pub noneTurned : List Work → Turned
+noneTurned vs = turned (Refused BadShape) 0 false (record { records = vs; mark = false }) 0
 
 module _ (m levels len : ℕ) (ws mark : List ℕ) where
   abbrev pub clearLeft : CycleOutcome → Told
   clearLeft o = told (turnedCycle levels o) (o .words) (cond (eqb (numberOf (o .answer)) 0) (markOut false mark) mark)
 
   unfoldable pub clearTold : Told
-  clearTold = cond (leb 1 (length mark)) (clearLeft (clearFrom m levels len (markIn mark) ws)) (told noneTurned ws mark)
+  clearTold = cond (leb 1 (length mark)) (clearLeft (clearFrom m levels len (markIn mark) ws)) (told (noneTurned (fresh .records)) ws mark)
 
   abbrev pub cycleLeft : List ℕ → CycleOutcome → ToldOut
   cycleLeft out o = toldOut (turnedCycle levels o) (o .words) (markOut (o .state .mark) mark) (answerOut (o .answer) out)
 
-  abbrev pub noneLeft : ℕ → List ℕ → ToldOut
-  noneLeft n out = toldOut noneTurned ws mark (refusedOut n out)
+  abbrev pub noneLeft : Read → ℕ → List ℕ → ToldOut
+  noneLeft d n out = toldOut (noneTurned (d .works)) ws mark (refusedOut n out)
 
   unfoldable pub cycleTold : Read → ℕ → ℕ → ℕ → ℕ → List ℕ → ToldOut
   cycleTold d request rank tag bytes out =
-      cond (leb answerWords (length out) && asked mark request) (cycleLeft out (cycleFrom m levels len (markIn mark) ws d (requestOf request rank tag bytes))) (noneLeft answerWords out)
+      cond (leb answerWords (length out) && asked mark request) (cycleLeft out (cycleFrom m levels len (markIn mark) ws d (requestOf request rank tag bytes))) (noneLeft d answerWords out)
 
   abbrev pub drainLeft : List ℕ → DrainOutcome → ToldOut
   drainLeft out o = toldOut (turnedDrain levels o) (o .words) (markOut (o .state .mark) mark) (drainOut (o .cycles) (o .left) out)
 
   unfoldable pub drainTold : Read → ℕ → List ℕ → ToldOut
-  drainTold d budget out = cond (leb drainWords (length out) && marked mark) (drainLeft out (drainFrom m levels len (markIn mark) ws d budget)) (noneLeft drainWords out)
+  drainTold d budget out = cond (leb drainWords (length out) && marked mark) (drainLeft out (drainFrom m levels len (markIn mark) ws d budget)) (noneLeft d drainWords out)

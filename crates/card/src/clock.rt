@@ -10,6 +10,7 @@ use crate::tell;
 use crate::tell_count;
 use clocked::fresh_state;
 use clocked::held;
+use clocked_model::State;
 use lent_memory::hand_back;
 use lent_memory::load;
 use lent_steps::Read;
@@ -93,11 +94,16 @@ fn tell_drain(out: &mut [u32], cycles: u32, left: bool)
 
 // ---- the calls on what was read of the records: store, mark and `out` are written, and what is left says what to write of the records
 
-// Where the boundary says no, nothing is left to write.
-fn none_turned() -> Turned
-    ensures { λ r. ⌜ r ≡ noneTurned ⌝ }
+// Where the boundary says no, nothing is left to write. The works go on as they were read: an array made anew would be copied work by work.
+fn none_turned(read: Read) -> Turned
+    ensures { λ r. ⌜ r ≡ noneTurned (read .works) ⌝ }
 {
-    refused(fresh_state())
+    let works = read.works;
+    let state = State {
+        records: works,
+        mark: false,
+    };
+    refused(state)
 }
 
 fn number_of(t: Turned) -> u32
@@ -111,7 +117,7 @@ fn clear_told(store: &mut [u32], order: u32, levels: u32, len: usize, mark: &mut
     ensures { λ r. ⌜ told r (now (store .exit)) (now (mark .exit)) ≡ clearTold order levels len (now (store .entry)) (now (mark .entry)) ⌝ }
 {
     if mark.len() < 1 {
-        return none_turned();
+        return refused(fresh_state());
     }
     let on = mark[0] == 1;
     let turned = clear_beside(store, order as usize, levels as usize, len, on);
@@ -137,17 +143,17 @@ fn cycle_told(
     ensures { λ r. ⌜ toldOut r (now (store .exit)) (now (mark .exit)) (now (out .exit)) ≡ cycleTold order levels len (now (store .entry)) (now (mark .entry)) read request rank tag length (now (out .entry)) ⌝ }
 {
     if out.len() < OUT {
-        return none_turned();
+        return none_turned(read);
     }
     if !is_asked(mark, request) {
         tell(out, Answer::Refused(Refusal::BadShape));
-        return none_turned();
+        return none_turned(read);
     }
     let on = mark[0] == 1;
     let q = request_of(request, rank, tag, length);
     let turned = cycle_read(store, order as usize, levels as usize, len, read, on, q);
     let answer = turned.answer;
-    mark[0] = bit(turned.mark);
+    mark[0] = bit(turned.state.mark);
     tell(out, answer);
     turned
 }
@@ -165,11 +171,11 @@ fn drain_told(
     ensures { λ r. ⌜ toldOut r (now (store .exit)) (now (mark .exit)) (now (out .exit)) ≡ drainTold order levels len (now (store .entry)) (now (mark .entry)) read budget (now (out .entry)) ⌝ }
 {
     if out.len() < DRAIN_OUT {
-        return none_turned();
+        return none_turned(read);
     }
     if !is_marked(mark) {
         tell_drain(out, 0, false);
-        return none_turned();
+        return none_turned(read);
     }
     let on = mark[0] == 1;
     let turned = drain_read(
@@ -181,7 +187,7 @@ fn drain_told(
         on,
         budget as usize,
     );
-    mark[0] = bit(turned.mark);
+    mark[0] = bit(turned.state.mark);
     tell_drain(out, turned.cycles as u32, turned.left);
     turned
 }

@@ -13,6 +13,7 @@ use lent_steps::cycle_read;
 use lent_steps::cycled_of;
 use lent_steps::drain_read;
 use lent_steps::drained_of;
+use strip::Element;
 use strip::Request;
 
 // Zeros in the store and in the records, and the mark off.
@@ -30,7 +31,7 @@ pub fn clear(
     cycled_of(turned)
 }
 
-// One cycle with this request: a push, a pop and a replace are the cycle with that request.
+// One cycle with this request.
 pub fn cycle(
     store: &mut [u32],
     order: usize,
@@ -46,6 +47,48 @@ pub fn cycle(
     hand_back(records, turned);
     cycled_of(turned)
 }
+
+// ---- the faces of a cycle
+
+pub fn push(
+    store: &mut [u32],
+    order: usize,
+    levels: usize,
+    records: &mut [Record],
+    mark: bool,
+    x: Element,
+) -> LentCycled
+    ensures { λ r. ⌜ lentOutcome (r .answer) (now (store .exit)) (now (records .exit)) (r .mark) ≡ lentCycled order levels mark (now (records .entry)) (now (store .entry)) (Request.Push x) ⌝ }
+{
+    cycle(store, order, levels, records, mark, Request::Push(x))
+}
+
+pub fn pop(
+    store: &mut [u32],
+    order: usize,
+    levels: usize,
+    records: &mut [Record],
+    mark: bool,
+) -> LentCycled
+    ensures { λ r. ⌜ lentOutcome (r .answer) (now (store .exit)) (now (records .exit)) (r .mark) ≡ lentCycled order levels mark (now (records .entry)) (now (store .entry)) Request.Pop ⌝ }
+{
+    cycle(store, order, levels, records, mark, Request::Pop)
+}
+
+pub fn replace(
+    store: &mut [u32],
+    order: usize,
+    levels: usize,
+    records: &mut [Record],
+    mark: bool,
+    x: Element,
+) -> LentCycled
+    ensures { λ r. ⌜ lentOutcome (r .answer) (now (store .exit)) (now (records .exit)) (r .mark) ≡ lentCycled order levels mark (now (records .entry)) (now (store .entry)) (Request.Replace x) ⌝ }
+{
+    cycle(store, order, levels, records, mark, Request::Replace(x))
+}
+
+// ---- drain
 
 // Idle cycles until nothing is pending or the budget is spent: how many were run, and whether work is left.
 pub fn drain(

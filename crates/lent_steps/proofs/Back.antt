@@ -17,7 +17,7 @@ use Rattle.clocked_model.specs.Calls.{clockedCleared, cycled, cycleOutcome, Cyc
 use Rattle.clocked_model.specs.declared.State.{State}
 use Rattle.lent_steps.proofs.Records.{lends-few, lends-levels, lends-within}
 use Rattle.lent_steps.specs.Lent.{drainOf, handed, hasRun, kindsOk, lentCleared, lentCycled, lentDrain, LentDrain, lentDrains, lentOf, lentOutcome, LentOutcome, noRecord, readable, recordsBack, stateRead, workOf, worksBack, worksRead}
-use Rattle.lent_steps.specs.Steps.{clearFrom, cycleFrom, drainFrom, lends, noneRead, reach, readNext, readOf, stateOf, turnedCycle, turnedDrain, unread}
+use Rattle.lent_steps.specs.Steps.{clearFrom, cycleFrom, drainFrom, lends, reach, readOf, stateOf, turnedCycle, turnedDrain, unread}
 use Rattle.lent_steps.specs.declared.Read.{Read}
 use Rattle.lent_steps.specs.declared.Record.{Record}
 use Rattle.lent_steps.specs.declared.Turned.{Turned}
@@ -33,13 +33,21 @@ use Rattle.tree_model.specs.Words.{wipe}
 use Rattle.tree_model.specs.declared.Work.{Work}
 
 -- ---- reading, one after the other
-pub read-none : (rs : List Record) → noneRead ≡ readOf 0 rs
-unfolding worksRead kindsOk
-read-none rs = refl
+pub works-none : (rs : List Record) → replicate recordCount idle ≡ worksRead 0 rs
+unfolding worksRead
+works-none rs = refl
 
-pub read-more : (i : ℕ) (rs : List Record) → readNext (readOf i rs) i (getD rs i noRecord) ≡ readOf (suc i) rs
-unfolding worksRead kindsOk
-read-more i rs = refl
+pub works-more : (i : ℕ) (rs : List Record) (w : Work) → w ≡ workOf (getD rs i noRecord) → set (worksRead i rs) i w ≡ worksRead (suc i) rs
+unfolding worksRead
+works-more i rs w e = ap (set (worksRead i rs) i) e
+
+pub kinds-none : (rs : List Record) → true ≡ kindsOk 0 rs
+unfolding kindsOk
+kinds-none rs = refl
+
+pub kinds-more : (i : ℕ) (rs : List Record) (b : Bool) → b ≡ leb (getD rs i noRecord .kind) 3 → kindsOk i rs && b ≡ kindsOk (suc i) rs
+unfolding kindsOk
+kinds-more i rs b e = ap (λ (b : Bool). kindsOk i rs && b) e
 
 pub works-few : (k : ℕ) (rs : List Record) → length (worksRead k rs) ≡ recordCount
 unfolding worksRead
@@ -114,13 +122,13 @@ count-back levels rs false s = back-none (s .records) rs
 
 -- what is left of a turned outcome
 abbrev leftCycle : ℕ → List Record → CycleOutcome → LentOutcome
-leftCycle levels rs o = let t = turnedCycle levels o in lentOutcome (t .answer) (o .words) (worksBack (t .count) (t .works) rs) (t .mark)
+leftCycle levels rs o = let t = turnedCycle levels o in lentOutcome (t .answer) (o .words) (worksBack (t .count) (t .state .records) rs) (t .state .mark)
 
 cycle-parts : (levels : ℕ) (rs : List Record) (o : CycleOutcome) → leftCycle levels rs o ≡ lentOf levels rs o
 cycle-parts levels rs o = ap (λ (rs : List Record). lentOutcome (o .answer) (o .words) rs (o .state .mark)) (count-back levels rs (hasRun (o .answer)) (o .state))
 
 abbrev leftDrain : ℕ → List Record → DrainOutcome → LentDrain
-leftDrain levels rs o = let t = turnedDrain levels o in lentDrain (t .answer) (t .cycles) (t .left) (o .words) (worksBack (t .count) (t .works) rs) (t .mark)
+leftDrain levels rs o = let t = turnedDrain levels o in lentDrain (t .answer) (t .cycles) (t .left) (o .words) (worksBack (t .count) (t .state .records) rs) (t .state .mark)
 
 drain-parts : (levels : ℕ) (rs : List Record) (o : DrainOutcome) → leftDrain levels rs o ≡ drainOf levels rs o
 drain-parts levels rs o = ap (λ (rs : List Record). lentDrain (o .answer) (o .cycles) (o .left) (o .words) rs (o .state .mark)) (count-back levels rs (ltb 0 (o .cycles)) (o .state))

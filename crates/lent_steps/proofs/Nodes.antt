@@ -188,7 +188,7 @@ module _ (m levels len : ℕ) (mark : Bool) (ws : List ℕ) where
   pub none-ready : (t : Turned) → t .count ≡ 0 → Ready t len
   none-ready t e = record { few = omega arith; within = omega arith; nodes = λ i h. absurd (omega arith) }
 
-  some-ready : (t : Turned) (s : State) → lends levels len ≡ true → t .count ≡ levels - 1 → t .works ≡ s .records → Fits levels s → Ready t len
+  some-ready : (t : Turned) (s : State) → lends levels len ≡ true → t .count ≡ levels - 1 → t .state .records ≡ s .records → Fits levels s → Ready t len
   some-ready t s e c w f = record {
     few = omega (arith, lends-few levels len e);
     within = omega (arith, lends-within levels len e);

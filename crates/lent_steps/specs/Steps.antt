@@ -30,16 +30,12 @@ lends levels len = leb 1 levels && (leb (levels - 1) recordCount && leb (levels 
 abbrev pub reach : ℕ → ℕ → ℕ
 reach levels len = cond (lends levels len) (levels - 1) 0
 
-abbrev pub noneRead : Read
-noneRead = record { works = replicate recordCount idle; ok = true }
+abbrev pub read : List Work → Bool → Read
+read ws ok = record { works = ws; ok = ok }
 
 -- k of them
 abbrev pub readOf : ℕ → List Record → Read
-readOf k rs = record { works = worksRead k rs; ok = kindsOk k rs }
-
--- one more
-abbrev pub readNext : Read → ℕ → Record → Read
-readNext d i r = record { works = set (d .works) i (workOf r); ok = d .ok && leb (r .kind) 3 }
+readOf k rs = read (worksRead k rs) (kindsOk k rs)
 
 abbrev pub stateOf : Read → Bool → State
 stateOf d mark = record { records = d .works; mark = mark }
@@ -61,7 +57,7 @@ module _ (m levels len : ℕ) (mark : Bool) (ws : List ℕ) where
 
 -- ---- what is left, and how many records are to be written
 abbrev pub turned : Answer → ℕ → Bool → State → ℕ → Turned
-turned a n left s count = record { answer = a; cycles = n; left = left; mark = s .mark; works = s .records; count = count }
+turned a n left s count = record { state = s; answer = a; cycles = n; left = left; count = count }
 
 abbrev pub turnedCycle : ℕ → CycleOutcome → Turned
 turnedCycle levels o = turned (o .answer) 0 false (o .state) (cond (hasRun (o .answer)) (levels - 1) 0)
@@ -73,4 +69,4 @@ turnedDrain levels d = turned (d .answer) (d .cycles) (d .left) (d .state) (cond
 pub record Ready (t : Turned) (len : ℕ) : Type 0 where
   pub few : t .count ≤ recordCount
   pub within : t .count ≤ len
-  pub nodes : (i : ℕ) → i < t .count → recordOf (getD (t .works) i idle) .node < wordLimit
+  pub nodes : (i : ℕ) → i < t .count → recordOf (getD (t .state .records) i idle) .node < wordLimit

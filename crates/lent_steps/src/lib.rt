@@ -3,12 +3,11 @@
 ghost use mathlib.Core.Path.{_≡_};
 ghost use mathlib.Core.Bool.{cond, false};
 ghost use Prim.Native.Nat.{_-_, _<_};
-ghost use lib.ListN.{getD};
-ghost use Rattle.clocked_model.specs.Calls.{recordCount};
+ghost use lib.Dec.{leb};
 ghost use Rattle.tree_model.specs.Levels.{idle};
 ghost use Rattle.clocked_model.specs.Promise.{runsIdle};
 ghost use Rattle.lent_steps.specs.Lent.{workOf, bareRecord, ladenRecord, recordOf, stands, handed, hasRun};
-ghost use Rattle.lent_steps.specs.Steps.{wordLimit, lends, reach, noneRead, readNext, cycleFrom, drainFrom, clearFrom, turned, turnedCycle, turnedDrain};
+ghost use Rattle.lent_steps.specs.Steps.{wordLimit, lends, reach, read, cycleFrom, drainFrom, clearFrom, turned, turnedCycle, turnedDrain};
 use clocked::clear;
 use clocked::cycle;
 use clocked::drain;
@@ -41,13 +40,13 @@ pub struct Read {
     pub ok: bool,
 }
 
-// What a by-value call has left: its report, the work of each record, and how many records are to be written.
+// What a by-value call has left: the state as it came back, its report, and how many records are to be written. The state stands in it as it is,
+// so that it is copied once.
 pub struct Turned {
+    pub state: State,
     pub answer: Answer,
     pub cycles: usize,
     pub left: bool,
-    pub mark: bool,
-    pub works: [Work; RECORDS],
     pub count: usize,
 }
 
@@ -88,7 +87,7 @@ pub fn reached(levels: usize, len: usize) -> usize
 }
 
 // The work that a record holds; the numbers that its kind does not use are not read.
-fn work_of(r: Record) -> Work
+pub fn work_of(r: Record) -> Work
     ensures { λ w. ⌜ w ≡ workOf r ⌝ }
 {
     let kind = r.kind;
@@ -120,30 +119,27 @@ fn work_of(r: Record) -> Work
     }
 }
 
-// No record read.
-pub fn none_read() -> Read
-    ensures { λ r. ⌜ r ≡ noneRead ⌝ }
+// Whether a record's kind is one.
+pub fn is_kind(r: Record) -> bool
+    ensures { λ b. ⌜ b ≡ leb (r .kind) 3 ⌝ }
 {
-    let w = Work {
+    r.kind <= 3
+}
+
+// Where no record was read.
+pub fn no_work() -> Work
+    ensures { λ w. ⌜ w ≡ idle ⌝ }
+{
+    Work {
         op: Op::Nothing,
         node: 0,
-    };
-    Read {
-        works: [w; RECORDS],
-        ok: true,
     }
 }
 
-// One record more.
-pub fn read_next(read: Read, i: usize, r: Record) -> Read
-    requires { ⌜ i < recordCount ⌝ }
-    ensures { λ d. ⌜ d ≡ readNext read i r ⌝ }
+pub fn read_of(works: [Work; RECORDS], ok: bool) -> Read
+    ensures { λ r. ⌜ r ≡ read works ok ⌝ }
 {
-    let mut next = read;
-    let kind = r.kind;
-    next.works[i] = work_of(r);
-    next.ok = read.ok & (kind <= 3);
-    next
+    Read { works, ok }
 }
 
 // ---- the by-value calls
@@ -189,13 +185,11 @@ fn due(ran: bool, levels: usize) -> usize
 fn turned_by(answer: Answer, cycles: usize, left: bool, state: State, count: usize) -> Turned
     ensures { λ r. ⌜ r ≡ turned answer cycles left state count ⌝ }
 {
-    let works = state.records;
     Turned {
+        state,
         answer,
         cycles,
         left,
-        mark: state.mark,
-        works,
         count,
     }
 }
@@ -277,7 +271,8 @@ pub fn clear_beside(
     let c = clear(store, order, levels, state);
     let answer = c.answer;
     let next = c.state;
-    turned_by(answer, 0, false, next, due(has_run(answer), levels))
+    let written = due(has_run(answer), levels);
+    turned_by(answer, 0, false, next, written)
 }
 
 // ---- writing
@@ -287,6 +282,12 @@ pub fn count_of(t: Turned) -> usize
     ensures { λ r. ⌜ r ≡ t .count ⌝ }
 {
     t.count
+}
+
+pub fn works_of(t: Turned) -> [Work; RECORDS]
+    ensures { λ r. ⌜ r ≡ t .state .records ⌝ }
+{
+    t.state.records
 }
 
 fn record_of(w: Work) -> Record
@@ -344,12 +345,11 @@ fn is_standing(w: Work) -> bool
     }
 }
 
-// What the host's record i becomes.
-pub fn returned(r: Record, t: Turned, i: usize) -> Record
-    requires { ⌜ (i < recordCount) × (recordOf (getD (t .works) i idle) .node < wordLimit) ⌝ }
-    ensures { λ e. ⌜ e ≡ handed r (getD (t .works) i idle) ⌝ }
+// What a record of the host's becomes.
+pub fn returned(r: Record, w: Work) -> Record
+    requires { ⌜ recordOf w .node < wordLimit ⌝ }
+    ensures { λ e. ⌜ e ≡ handed r w ⌝ }
 {
-    let w = t.works[i];
     if is_standing(w) {
         return r;
     }
@@ -359,23 +359,23 @@ pub fn returned(r: Record, t: Turned, i: usize) -> Record
 // ---- what is answered
 
 pub fn cycled_of(t: Turned) -> LentCycled
-    ensures { λ r. ⌜ (r .answer ≡ t .answer) × (r .mark ≡ t .mark) ⌝ }
+    ensures { λ r. ⌜ (r .answer ≡ t .answer) × (r .mark ≡ t .state .mark) ⌝ }
 {
     let answer = t.answer;
     LentCycled {
         answer,
-        mark: t.mark,
+        mark: t.state.mark,
     }
 }
 
 pub fn drained_of(t: Turned) -> LentDrained
-    ensures { λ r. ⌜ (r .answer ≡ t .answer) × (r .cycles ≡ t .cycles) × (r .left ≡ t .left) × (r .mark ≡ t .mark) ⌝ }
+    ensures { λ r. ⌜ (r .answer ≡ t .answer) × (r .cycles ≡ t .cycles) × (r .left ≡ t .left) × (r .mark ≡ t .state .mark) ⌝ }
 {
     let answer = t.answer;
     LentDrained {
         answer,
         cycles: t.cycles,
         left: t.left,
-        mark: t.mark,
+        mark: t.state.mark,
     }
 }

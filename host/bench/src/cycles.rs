@@ -1,4 +1,5 @@
-//! The clocked tree beside the plain machine.
+//! The clocked tree, its records lent as structs of the host's memory, beside the plain machine.
+//! The by-value calls are not in the library: `SPEED.md` says what a lent cycle is held to.
 
 use crate::clock::Clock;
 use crate::count::bytes_of;

@@ -87,7 +87,7 @@ stayed = (
 
 -- what the answer says of what was turned
 abbrev Says : Turned → LentDrained → Type 0
-Says t r = (r .answer ≡ t .answer) × (r .cycles ≡ t .cycles) × (r .left ≡ t .left) × (r .mark ≡ t .mark)
+Says t r = (r .answer ≡ t .answer) × (r .cycles ≡ t .cycles) × (r .left ≡ t .left) × (r .mark ≡ t .state .mark)
 
 module _ {M : Type 1} (𝓤 : URA M) (H : Heap 𝓤) (A : Atoms 𝓤) (mem : Memory → SProp 𝓤) (run : Routine → Fun 𝓤) where
   -- the contracts that the proof cites
@@ -149,7 +149,7 @@ module _ {M : Type 1} (𝓤 : URA M) (H : Heap 𝓤) (A : Atoms 𝓤) (W : Given
   ready : Ready t₀ (length rs)
   ready = drain-ready m levels (length rs) mark ws d₀ (works-few (reach levels (length rs)) rs) e
 
-  exits : (w : Val) (p : LentDrained) (us : List ℕ) (zs : List Record) → Is P.the-row p (w ∷ []) → Says t₀ p → us ≡ o′ .words → zs ≡ worksBack (t₀ .count) (t₀ .works) rs → length us ≡ length ws → length zs ≡ length rs
+  exits : (w : Val) (p : LentDrained) (us : List ℕ) (zs : List Record) → Is P.the-row p (w ∷ []) → Says t₀ p → us ≡ o′ .words → zs ≡ worksBack (t₀ .count) (t₀ .state .records) rs → length us ≡ length ws → length zs ≡ length rs
       → ent 𝓤 (⋆ 𝓤 H A ((‵ (flft κ₀ q₀) ⊛ ‵ ftrue) ∷ (‵ (flft κ₁ q₁) ⊛ ‵ ftrue) ∷ ‵ (finally u32 γ₀ us) ∷ ‵ (finally R γ₁ zs) ∷ [])) (Post w)
   exits w p us zs is f eu ez lu lz =
       qed W ((‵ (flft κ₀ q₀) ⊛ ‵ ftrue) ∷ (‵ (flft κ₁ q₁) ⊛ ‵ ftrue) ∷ ‵ (finally u32 γ₀ us) ∷ ‵ (finally R γ₁ zs) ∷ []) ∵
@@ -241,8 +241,8 @@ module _ {M : Type 1} (𝓤 : URA M) (H : Heap 𝓤) (A : Atoms 𝓤) (W : Given
         -- `hand_back`: records is given up
         move ! (4 ∷ 3 ∷ []) $ use2 W (raw (Back 𝓤 H A mem run .pre (to-back v₂))) (goes-back v₂ (turned-is v₂ r₂ (e₂ .1) is₂)) $
         calls-at ! fm (Back 𝓤 H A mem run) known-back (to-back v₂) (and-then ! (load ! (from ! (stop !)) (look ! 6 refl)) (and-then ! (load ! (from ! (stop !)) (look ! 22 refl)) (no-more !))) (λ v₃.
-        use1 W (later (some (λ (r : Unit {0}). ((‵ (flft κ₁ q₁) ⊛ ‵ ftrue) ⊛ ‵ (unit .own r (v₃ ∷ []))) ⊛ some (λ (zs : Lasts hand-back.ended (κ₁, tt) (x₁ γ₁, (t₀, tt))). ‵ (lasts hand-back.ended (κ₁, tt) (x₁ γ₁, (t₀, tt)) zs) ⊛ raw (fact 𝓤 (zs .0 ≡ worksBack (t₀ .count) (t₀ .works) rs)))))) (id⊢ 𝓤 _) $ await ! tt $ pick ! (λ r₃.
-        split ! $ move ! (1 ∷ []) $ pick ! (λ zs. split ! $ move ! (1 ∷ []) $ heard ! (zs .0 ≡ worksBack (t₀ .count) (t₀ .works) rs) (λ e₃. fsplit ! $ fsplit ! $ move ! (1 ∷ []) $ feqL ! (λ lz.
+        use1 W (later (some (λ (r : Unit {0}). ((‵ (flft κ₁ q₁) ⊛ ‵ ftrue) ⊛ ‵ (unit .own r (v₃ ∷ []))) ⊛ some (λ (zs : Lasts hand-back.ended (κ₁, tt) (x₁ γ₁, (t₀, tt))). ‵ (lasts hand-back.ended (κ₁, tt) (x₁ γ₁, (t₀, tt)) zs) ⊛ raw (fact 𝓤 (zs .0 ≡ worksBack (t₀ .count) (t₀ .state .records) rs)))))) (id⊢ 𝓤 _) $ await ! tt $ pick ! (λ r₃.
+        split ! $ move ! (1 ∷ []) $ pick ! (λ zs. split ! $ move ! (1 ∷ []) $ heard ! (zs .0 ≡ worksBack (t₀ .count) (t₀ .state .records) rs) (λ e₃. fsplit ! $ fsplit ! $ move ! (1 ∷ []) $ feqL ! (λ lz.
         -- [the last records; …; the token and the result; κ₀'s token and true; the last words; …; true; true; _16; …]
         move ! (2 ∷ []) $ split ! $ move ! (1 ∷ []) $ peeks ! unit (Is unit) (shows 𝓤 H A unit) r₃ (v₃ ∷ []) (λ is₃. drop ! $
         -- [κ₁'s token and true; the last records; …; κ₀'s token and true; the last words; …; true; true; _16; …]: local i stands at 8 + 2 (16 − i)

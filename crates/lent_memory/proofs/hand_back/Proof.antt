@@ -1,10 +1,11 @@
--- `lent_memory::hand_back` meets its contract: a walk of its MIR, by hand, with a loop and two calls. The slice is opened once, before the loop, and closed once, after it, at the records written back.
+-- `lent_memory::hand_back` meets its contract: a walk of its MIR, by hand, with a loop and three calls. The slice is opened once, before the loop, and closed once, after it, at the records written back; the works are
+-- a local array, taken apart into its elements before the loop and put together after it.
 --     At i         the context at the head of a turn: i records are written.        Inv t    the invariant, where t records are left
 --     more, ends   a turn that writes one record, and the turn that leaves the loop, with the rest of the body
 -- Assumes nothing.
 use mathlib.Core.Path.{_≡_, refl, sym, _∙_, ap, subst}
 use mathlib.Core.Bool.{Bool}
-use Prim.Native.Nat.{ℕ, zero, suc, _+_, _<_, _≤_, _*_, _^_}
+use Prim.Native.Nat.{ℕ, zero, suc, _+_, _<_, _*_, _^_}
 use native.Mathlib.Nat.{add-zero, add-suc, zero-add, suc-add, lt-irrefl, lt-of-lt-of-le, lt-suc-self}
 use native.Mathlib.Omega.{arith}
 use mathlib.Core.List.{List, [], _∷_}
@@ -24,16 +25,16 @@ use prog.Wp.{Heap, Out, Env, afterSeq, afterBlock, afterTurn, Calls, Loops, Wp, 
 use ghost.Atoms.{Atoms, sem}
 use contract.Monad.{Fun, fact}
 use contract.Running.{givenOf, tables, tablesOf}
-use types.Kit.{Given, Item, ‵, raw, _⊛_, ⋆, anyQ, atRet, _$_, _∵_, !, qed, by, move, keep, drop, use0, split, join, rewrite, fsplit, fjoin, feqI, suffices, frame, done}
+use types.Kit.{Given, Item, ‵, raw, _⊛_, ⋆, anyQ, atRet, _$_, _∵_, !, qed, by, move, keep, drop, use0, use1, use2, split, join, rewrite, fsplit, fjoin, feqI, suffices, frame, done}
 use types.Part.{whole, sub, look-in}
-use types.Run.{look, look-raw, init, store, store-raw, forget, stop, hop, fld, from, load, lit, unit-lit, of-opd, and-then, no-more, bin, assigns, assigns-last, land, stays, leaves-loop, returns, enter, alloc1, alloc0, params1, pass1, pass0, free1, free0, exec}
+use types.Run.{look, look-raw, init, store, store-raw, forget, stop, hop, fld, from, load, lit, unit-lit, addr, of-opd, and-then, no-more, bin, assigns, assigns-last, land, stays, leaves-loop, returns, enter, alloc1, alloc0, params1, pass1, pass0, free1, free0, exec}
 use sound.Loop.{loop-rule}
 use sound.WpLaws.{FmC, fmOf, WpFn-mono}
 use denote.RattleType.{owns}
 use denote.Shadow.{pureI}
 use denote.Laws.{Is, shows}
 use denote.Memory.{pointee}
-use denote.Plain.{uint-makes, uint-lawful}
+use denote.Plain.{uint-lawful}
 use denote.Builtin.{usize}
 use denote.Ref.{RefT, now}
 use denote.Slice.{sliceTy, sliceVal, MutSlice, Room, heres, codedHoleys, at-slice, slice-vals, mut-slice-tells}
@@ -61,6 +62,7 @@ use Rattle.lent_steps.proofs.Record.Laws as T′
 use Rattle.lent_steps.proofs.Turned as U
 use Rattle.lent_steps.proofs.Turned.Laws as U′
 use Rattle.lent_memory.proofs.Recs.{R, vals, tells, makes, told, fits-place, one-more, holds, fails}
+use Rattle.lent_memory.proofs.Works.{Arr, arr-makes, arr-typed, arr-vals, K, work-makes, work-tells, work-typed, work-vals, works-apart, works-whole}
 use Rattle.lent_steps.proofs.count_of as count-of
 use Rattle.lent_steps.proofs.count_of.Symbol as count-of-def
 use Rattle.lent_steps.proofs.count_of.Symbol.{name as #count-of}
@@ -69,12 +71,17 @@ use Rattle.lent_steps.proofs.returned as returned
 use Rattle.lent_steps.proofs.returned.Symbol as returned-def
 use Rattle.lent_steps.proofs.returned.Symbol.{name as #returned}
 use Rattle.lent_steps.proofs.returned.Met as returned-thm
+use Rattle.lent_steps.proofs.works_of as works-of
+use Rattle.lent_steps.proofs.works_of.Symbol as works-of-def
+use Rattle.lent_steps.proofs.works_of.Symbol.{name as #works-of}
+use Rattle.lent_steps.proofs.works_of.Met as works-of-thm
 use Rattle.tree_model.specs.Levels.{idle}
+use Rattle.tree_model.specs.declared.Work.{Work}
 use Rattle.lent_memory.proofs.hand_back.Key.{name as #hand-back}
 use Rattle.lent_memory.proofs.hand_back as hand-back
 use Rattle.lent_memory.proofs.hand_back.Statement as stated
 use Rattle.lent_memory.proofs.hand_back.Code as code
-use Rattle.lent_memory.proofs.hand_back.Code.Mir.{table, turn-1, t-4}
+use Rattle.lent_memory.proofs.hand_back.Code.Mir.{table, turn-1, t-6}
 
 abbrev stayed : Stays (hand-back.ended .signature .params) (hand-back.ended .kept)
 stayed = (stay-slice (0 ∷ []) tt (plain (λ _. R)), (stay-dropped (plain (λ _. U.the-row)) yes, tt))
@@ -88,6 +95,12 @@ recTy = spell table (pointee (R .written))
 abbrev turnTy : Ty
 turnTy = spell table (pointee (U.the-row .written))
 
+abbrev workTy : Ty
+workTy = spell table (pointee (K .written))
+
+abbrev worksTy : Ty
+worksTy = spell table (pointee (Arr .written))
+
 abbrev slice : Ty
 slice = sliceTy (tyRef (named 0) mut (pointee (R .written)))
 
@@ -99,14 +112,20 @@ module _ {M : Type 1} (𝓤 : URA M) (H : Heap 𝓤) (A : Atoms 𝓤) (mem : Mem
   abbrev Count : Contract 𝓤
   Count = tripleOf 𝓤 H A count-of.signature (count-of.spec 𝓤 H A mem run)
 
+  abbrev Works : Contract 𝓤
+  Works = tripleOf 𝓤 H A works-of.signature (works-of.spec 𝓤 H A mem run)
+
   abbrev Back : Contract 𝓤
   Back = tripleOf 𝓤 H A returned.signature (returned.spec 𝓤 H A mem run)
 
   count-is : (t : Turned) (r : ℕ) → ent 𝓤 (ensured 𝓤 H A count-of.ended (count-of.clauses 𝓤 H A mem run) tt (t, tt) tt r) (fact 𝓤 (r ≡ t .count))
   count-is t r = exE 𝓤 _ (λ ws. snd∗ 𝓤 (sem 𝓤 H A (lasts count-of.ended tt (t, tt) ws)) (fact 𝓤 (r ≡ t .count)))
 
-  back-is : (p : Record) (t : Turned) (i : ℕ) (r : Record) → ent 𝓤 (ensured 𝓤 H A returned.ended (returned.clauses 𝓤 H A mem run) tt (p, (t, (i, tt))) tt r) (fact 𝓤 (r ≡ handed p (getD (t .works) i idle)))
-  back-is p t i r = exE 𝓤 _ (λ ws. snd∗ 𝓤 (sem 𝓤 H A (lasts returned.ended tt (p, (t, (i, tt))) ws)) (fact 𝓤 (r ≡ handed p (getD (t .works) i idle))))
+  works-are : (t : Turned) (r : List Work) → ent 𝓤 (ensured 𝓤 H A works-of.ended (works-of.clauses 𝓤 H A mem run) tt (t, tt) tt r) (fact 𝓤 (r ≡ t .state .records))
+  works-are t r = exE 𝓤 _ (λ ws. snd∗ 𝓤 (sem 𝓤 H A (lasts works-of.ended tt (t, tt) ws)) (fact 𝓤 (r ≡ t .state .records)))
+
+  back-is : (p : Record) (w : Work) (r : Record) → ent 𝓤 (ensured 𝓤 H A returned.ended (returned.clauses 𝓤 H A mem run) tt (p, (w, tt)) tt r) (fact 𝓤 (r ≡ handed p w))
+  back-is p w r = exE 𝓤 _ (λ ws. snd∗ 𝓤 (sem 𝓤 H A (lasts returned.ended tt (p, (w, tt)) ws)) (fact 𝓤 (r ≡ handed p w)))
 
 module _ {M : Type 1} (𝓤 : URA M) (H : Heap 𝓤) (A : Atoms 𝓤) (W : Given 𝓤 H A) (mem : Memory → SProp 𝓤) (run : Routine → Fun 𝓤) (κ : Lft) (q : Share) (b o : ℕ) (γ : GName) (ys : List Record) (t : Turned) where
   abbrev x : RefT (List Record) × (Turned × Unit {0})
@@ -122,16 +141,19 @@ module _ {M : Type 1} (𝓤 : URA M) (H : Heap 𝓤) (A : Atoms 𝓤) (W : Given
   abbrev Post : Val → SProp 𝓤
   Post = walkOf 𝓤 H A hand-back.ended stayed (hand-back.clauses 𝓤 H A mem run) .post (((κ, tt), (q, tt), tt, x, at), tt)
 
+  abbrev vs : List Work
+  vs = t .state .records
+
   -- the records after i are written
   abbrev so-far : ℕ → List Record
-  so-far i = worksBack i (t .works) ys
+  so-far i = worksBack i vs ys
 
   -- .. and at exit
   abbrev zs : List Record
   zs = so-far (t .count)
 
   len : length zs ≡ length ys
-  len = back-length (t .count) (t .works) ys
+  len = back-length (t .count) vs ys
 
   exits : Room R (length ys) → ent 𝓤 (⋆ 𝓤 H A (‵ (fobs γ (codedHoleys R .code (heres R zs))) ∷ ‵ (fbor κ (Held R (length zs) b o γ)) ∷ ‵ (flft κ q) ∷ [])) (Post vunit)
   exits room =
@@ -149,16 +171,20 @@ module _ {M : Type 1} (𝓤 : URA M) (H : Heap 𝓤) (A : Atoms 𝓤) (W : Given
   goes-count : Is U.the-row t (turn-vals t) → ent 𝓤 (emp 𝓤) (Count 𝓤 H A mem run .pre to-count)
   goes-count is = qed W [] ∵ nothing ! $ owned ! U.the-row (Is U.the-row) (LL.makes U.the-type U′.the-plain 𝓤 H A) t _ is $ fjoin ! $ nothing ! $ join ! $ frame ! $ done !
 
-  abbrev to-back : ℕ → Back 𝓤 H A mem run .Ghost
-  to-back i = ((tt, tt, tt, (getD (so-far i) i noRecord, (t, (i, tt))), (vals (getD (so-far i) i noRecord), (turn-vals t, (vint w64 i ∷ [], tt)))), tt)
+  abbrev to-works : Works 𝓤 H A mem run .Ghost
+  to-works = ((tt, tt, tt, (t, tt), (turn-vals t, tt)), tt)
 
-  goes-back : (i : ℕ) → (i < recordCount) × (recordOf (getD (t .works) i idle) .node < wordLimit) → i < 2 ^ 64 → Is R (getD (so-far i) i noRecord) (vals (getD (so-far i) i noRecord)) → Is U.the-row t (turn-vals t)
-      → ent 𝓤 (emp 𝓤) (Back 𝓤 H A mem run .pre (to-back i))
-  goes-back i h fits g is =
-      qed W [] ∵ says ! h $ nothing ! $ owned ! usize (Is usize) (uint-makes 𝓤 H A W w64) i _ (refl, fits) $ fjoin ! $ owned ! U.the-row (Is U.the-row) (LL.makes U.the-type U′.the-plain 𝓤 H A) t _ is $ fjoin ! $
-      owned ! R (Is R) (makes 𝓤 H A W) (getD (so-far i) i noRecord) _ g $ fjoin ! $ nothing ! $ frame ! $ done !
+  goes-works : Is U.the-row t (turn-vals t) → ent 𝓤 (emp 𝓤) (Works 𝓤 H A mem run .pre to-works)
+  goes-works is = qed W [] ∵ nothing ! $ owned ! U.the-row (Is U.the-row) (LL.makes U.the-type U′.the-plain 𝓤 H A) t _ is $ fjoin ! $ nothing ! $ join ! $ frame ! $ done !
 
-  module _ (𝓣 : Tables 𝓤 H) (known-count : Triple 𝓤 (𝓣 .C #count-of) (Count 𝓤 H A mem run)) (known-back : Triple 𝓤 (𝓣 .C #returned) (Back 𝓤 H A mem run)) (room : Room R (length ys)) (t-is : Is U.the-row t (turn-vals t)) (ready : Ready t (length ys)) where
+  abbrev to-back : Record → Work → Back 𝓤 H A mem run .Ghost
+  to-back p w = ((tt, tt, tt, (p, (w, tt)), (vals p, (work-vals w, tt))), tt)
+
+  goes-back : (p : Record) (w : Work) → recordOf w .node < wordLimit → Is R p (vals p) → Is K w (work-vals w) → ent 𝓤 (emp 𝓤) (Back 𝓤 H A mem run .pre (to-back p w))
+  goes-back p w h g is =
+      qed W [] ∵ says ! h $ nothing ! $ owned ! K (Is K) (work-makes 𝓤 H A W) w _ is $ fjoin ! $ owned ! R (Is R) (makes 𝓤 H A W) p _ g $ fjoin ! $ nothing ! $ frame ! $ done !
+
+  module _ (𝓣 : Tables 𝓤 H) (known-count : Triple 𝓤 (𝓣 .C #count-of) (Count 𝓤 H A mem run)) (known-works : Triple 𝓤 (𝓣 .C #works-of) (Works 𝓤 H A mem run)) (known-back : Triple 𝓤 (𝓣 .C #returned) (Back 𝓤 H A mem run)) (room : Room R (length ys)) (t-is : Is U.the-row t (turn-vals t)) (ready : Ready t (length ys)) where
     abbrev C : Calls 𝓤 H
     C = 𝓣 .C
 
@@ -168,20 +194,20 @@ module _ {M : Type 1} (𝓤 : URA M) (H : Heap 𝓤) (A : Atoms 𝓤) (W : Given
     fm : FmC 𝓤 H (W .laws) C
     fm = fmOf 𝓤 H (W .laws) 𝓣
 
-    -- n records are written
-    module _ (n : ℕ) (n-is : n ≡ t .count) (l₀ l₁ l₂ l₃ l₄ l₅ l₆ l₇ l₈ l₉ l₁₀ l₁₁ : ℕ) where
+    -- n records are written; v is the value of the works
+    module _ (n : ℕ) (n-is : n ≡ t .count) (v : Val) (full : length vs ≡ recordCount) (l₀ l₁ l₂ l₃ l₄ l₅ l₆ l₇ l₈ l₉ l₁₀ l₁₁ l₁₂ l₁₃ l₁₄ l₁₅ l₁₆ l₁₇ : ℕ) where
       abbrev En : Env 𝓤 H
-      En = (tyUnit, l₀) ∷ (slice, l₁) ∷ (turnTy, l₂) ∷ (word, l₃) ∷ (word, l₄) ∷ (tyBool, l₅) ∷ (recTy, l₆) ∷ (word, l₇) ∷ (tyPtr, l₈) ∷ (recTy, l₉) ∷ (word, l₁₀) ∷ (tyPtr, l₁₁) ∷ []
+      En = (tyUnit, l₀) ∷ (slice, l₁) ∷ (turnTy, l₂) ∷ (word, l₃) ∷ (worksTy, l₄) ∷ (word, l₅) ∷ (worksTy, l₆) ∷ (tyBool, l₇) ∷ (recTy, l₈) ∷ (word, l₉) ∷ (tyPtr, l₁₀) ∷ (recTy, l₁₁) ∷ (word, l₁₂) ∷ (tyPtr, l₁₃) ∷ (tyPtr, l₁₄) ∷ (workTy, l₁₅) ∷ (word, l₁₆) ∷ (tyPtr, l₁₇) ∷ []
 
       -- what no turn touches: the parameters' locals, the count's, the result's, the open borrow, and what observes and holds its value
       abbrev Frame : List (Item 𝓤)
-      Frame = ‵ (fat fullShare slice l₁ 0 (sliceVal (b, o) (length ys))) ∷ ‵ (fat fullShare turnTy l₂ 0 vt) ∷ ‵ (fat fullShare word l₃ 0 (vint w64 n)) ∷ ‵ (froom tyUnit l₀ 0)
+      Frame = ‵ (fat fullShare slice l₁ 0 (sliceVal (b, o) (length ys))) ∷ ‵ (fat fullShare turnTy l₂ 0 vt) ∷ ‵ (fat fullShare word l₃ 0 (vint w64 n)) ∷ ‵ (fat fullShare worksTy l₆ 0 v) ∷ ‵ (froom tyUnit l₀ 0)
           ∷ ‵ (fobor κ q (Held R (length ys) b o γ)) ∷ ‵ (fobs γ (codedHoleys R .code (heres R ys))) ∷ ‵ (fauth γ (codedHoleys R .code (heres R ys)))
-          ∷ ‵ (fdies tyUnit l₀) ∷ ‵ (fdies slice l₁) ∷ ‵ (fdies turnTy l₂) ∷ ‵ (fdies word l₃) ∷ ‵ (fdies word l₄) ∷ ‵ (fdies tyBool l₅) ∷ ‵ (fdies recTy l₆) ∷ ‵ (fdies word l₇) ∷ ‵ (fdies tyPtr l₈) ∷ ‵ (fdies recTy l₉) ∷ ‵ (fdies word l₁₀) ∷ ‵ (fdies tyPtr l₁₁) ∷ []
+          ∷ ‵ (fdies tyUnit l₀) ∷ ‵ (fdies slice l₁) ∷ ‵ (fdies turnTy l₂) ∷ ‵ (fdies word l₃) ∷ ‵ (fdies worksTy l₄) ∷ ‵ (fdies word l₅) ∷ ‵ (fdies worksTy l₆) ∷ ‵ (fdies tyBool l₇) ∷ ‵ (fdies recTy l₈) ∷ ‵ (fdies word l₉) ∷ ‵ (fdies tyPtr l₁₀) ∷ ‵ (fdies recTy l₁₁) ∷ ‵ (fdies word l₁₂) ∷ ‵ (fdies tyPtr l₁₃) ∷ ‵ (fdies tyPtr l₁₄) ∷ ‵ (fdies workTy l₁₅) ∷ ‵ (fdies word l₁₆) ∷ ‵ (fdies tyPtr l₁₇) ∷ []
 
       abbrev At : ℕ → List (Item 𝓤)
-      At i = ‵ (fat fullShare word l₄ 0 (vint w64 i)) ∷ ‵ (froom tyBool l₅ 0) ∷ ‵ (froom recTy l₆ 0) ∷ ‵ (froom word l₇ 0) ∷ ‵ (froom tyPtr l₈ 0) ∷ ‵ (froom recTy l₉ 0) ∷ ‵ (froom word l₁₀ 0) ∷ ‵ (froom tyPtr l₁₁ 0)
-          ∷ ‵ (row R fullShare (so-far i) b o) ∷ Frame
+      At i = ‵ (fat fullShare word l₅ 0 (vint w64 i)) ∷ ‵ (froom tyBool l₇ 0) ∷ ‵ (froom recTy l₈ 0) ∷ ‵ (froom word l₉ 0) ∷ ‵ (froom tyPtr l₁₀ 0) ∷ ‵ (froom recTy l₁₁ 0) ∷ ‵ (froom word l₁₂ 0) ∷ ‵ (froom tyPtr l₁₃ 0) ∷ ‵ (froom tyPtr l₁₄ 0) ∷ ‵ (froom workTy l₁₅ 0) ∷ ‵ (froom word l₁₆ 0) ∷ ‵ (froom tyPtr l₁₇ 0)
+          ∷ ‵ (row R fullShare (so-far i) b o) ∷ ‵ (row K fullShare vs l₄ 0) ∷ Frame
 
       abbrev Inv : ℕ → SProp 𝓤
       Inv k = ex 𝓤 (λ (i : ℕ). guard 𝓤 (i + k ≡ n) (⋆ 𝓤 H A (At i)))
@@ -191,40 +217,55 @@ module _ {M : Type 1} (𝓤 : URA M) (H : Heap 𝓤) (A : Atoms 𝓤) (W : Given
 
       -- when the loop is left, the rest of the body runs
       abbrev Left : Out → SProp 𝓤
-      Left = afterBlock 𝓤 H (afterSeq 𝓤 H (Wp 𝓤 H C Λ En t-4 (atReturn 𝓤 H En Post)) (atReturn 𝓤 H En Post))
+      Left = afterBlock 𝓤 H (afterSeq 𝓤 H (Wp 𝓤 H C Λ En t-6 (atReturn 𝓤 H En Post)) (atReturn 𝓤 H En Post))
 
       -- a turn that writes one record
       more : (i : ℕ) (X : SProp 𝓤) → i < n → ent 𝓤 (⋆ 𝓤 H A (At (suc i))) X → ent 𝓤 (⋆ 𝓤 H A (At i)) (Wp 𝓤 H C Λ En turn-1 (afterTurn 𝓤 H X Left))
       unfolding afterTurn
       more i X small k =
           qed W (At i) ∵ exec ! C Λ En turn-1 (anyQ (afterTurn 𝓤 H X Left)) $
-          assigns ! (bin ! (load ! (from ! (stop !)) (look ! 0 refl)) (load ! (from ! (stop !)) (look ! 11 refl)) tt) (from ! (stop !)) (init ! 1 refl (tt, tt)) $
-          rewrite ! 1 (λ (t : Bool). ‵ (fat fullShare tyBool l₅ 0 (vbool t))) (holds (ltb i n) (lt→ltb i n small)) refl $
+          assigns ! (bin ! (load ! (from ! (stop !)) (look ! 0 refl)) (load ! (from ! (stop !)) (look ! 16 refl)) tt) (from ! (stop !)) (init ! 1 refl (tt, tt)) $
+          rewrite ! 1 (λ (t : Bool). ‵ (fat fullShare tyBool l₇ 0 (vbool t))) (holds (ltb i n) (lt→ltb i n small)) refl $
           stays ! (load ! (from ! (stop !)) (look ! 1 refl)) $
           assigns ! (bin ! (load ! (from ! (stop !)) (look ! 0 refl)) (lit ! tt) (record { fits = fits })) (from ! (stop !)) (init ! 3 refl (tt, record { fits = fits })) $
-          assigns ! (bin ! (load ! (from ! (fld ! refl (stop !))) (look-in ! 9 (sub ! 0 refl (whole !)))) (load ! (from ! (stop !)) (look ! 3 refl)) tt) (from ! (stop !)) (init ! 4 refl (tt, tt)) $
-          rewrite ! 4 (λ (p : ℕ). ‵ (fat fullShare tyPtr l₈ 0 (vptr b p))) (sym (place-is 20 o i)) refl $
-          move ! (8 ∷ []) $ elem-out ! R (Is R) (shows 𝓤 H A R) vals tells fullShare (so-far i) i noRecord b o long (λ g.
-          -- [records[i]; what it owns; the others; _4; _5; _6; _7; _8; _9; _10; _11; _1; _2; _3; …]
-          assigns ! (of-opd ! (load ! (from ! (hop ! (look ! 7 refl) (stop !))) (look-raw ! 0 refl))) (from ! (stop !)) (init ! 8 refl (LL.lawful T.the-type T′.the-laws 𝓤 H A W .typed (getD (so-far i) i noRecord) _ g .0)) $
-          elem-back ! R fullShare (so-far i) i noRecord (vals (getD (so-far i) i noRecord)) b o long $
-          -- [the row; _4; _5; _6; _7; _8; _9; _10; _11; _1; _2; _3; …]
-          use0 W (raw (Back 𝓤 H A mem run .pre (to-back i))) (goes-back i (lt-of-lt-of-le in-count (ready .few), ready .nodes i in-count) i-fits g t-is) $
-          calls-at ! fm (Back 𝓤 H A mem run) known-back (to-back i) (and-then ! (load ! (from ! (stop !)) (look ! 7 refl)) (and-then ! (load ! (from ! (stop !)) (look ! 11 refl)) (and-then ! (load ! (from ! (stop !)) (look ! 2 refl)) (no-more !)))) (λ w.
-          told ! tt R (ensured 𝓤 H A returned.ended (returned.clauses 𝓤 H A mem run) tt (getD (so-far i) i noRecord, (t, (i, tt))) tt) (λ r. r ≡ handed (getD (so-far i) i noRecord) (getD (t .works) i idle)) (back-is 𝓤 H A mem run (getD (so-far i) i noRecord) t i) w (λ r e is.
-          land ! (from ! (stop !)) (init ! 3 refl (LL.lawful T.the-type T′.the-laws 𝓤 H A W .typed r _ is .0)) $
-          assigns ! (bin ! (load ! (from ! (stop !)) (look ! 1 refl)) (lit ! tt) (record { fits = fits })) (from ! (stop !)) (init ! 7 refl (tt, record { fits = fits })) $
-          assigns ! (bin ! (load ! (from ! (fld ! refl (stop !))) (look-in ! 9 (sub ! 0 refl (whole !)))) (load ! (from ! (stop !)) (look ! 7 refl)) tt) (from ! (stop !)) (init ! 8 refl (tt, tt)) $
-          rewrite ! 8 (λ (p : ℕ). ‵ (fat fullShare tyPtr l₁₁ 0 (vptr b p))) (sym (place-is 20 o i)) refl $
-          elem-out ! R (Is R) (shows 𝓤 H A R) vals tells fullShare (so-far i) i noRecord b o long (λ _.
-          -- [records[i]; what it owns; the others; _4; _5; _6; _7; _8; _9; _10; _11; _1; …]
-          assigns ! (of-opd ! (load ! (from ! (stop !)) (look ! 5 refl))) (from ! (hop ! (look ! 10 refl) (stop !))) (store-raw ! 0 refl (LL.lawful T.the-type T′.the-laws 𝓤 H A W .typed r _ is .0)) $
-          move ! (1 ∷ []) $ drop ! $ owned ! R (Is R) (makes 𝓤 H A W) r _ is $ move ! (1 ∷ 0 ∷ []) $ elem-put ! R fullShare (so-far i) i r (w ∷ []) b o long $
-          rewrite ! 0 (λ (l : List Record). ‵ (row R fullShare l b o)) (back-next i (t .works) ys r e) refl $
-          assigns-last ! (bin ! (load ! (from ! (stop !)) (look ! 1 refl)) (lit ! tt) (record { fits = next-fits })) (from ! (stop !)) (store ! 1 refl (tt, record { fits = next-fits })) $
-          forget ! 2 refl $ forget ! 3 refl $ forget ! 4 refl $ forget ! 5 refl $ forget ! 6 refl $ forget ! 7 refl $ forget ! 8 refl $
-          rewrite ! 1 (λ (j : ℕ). ‵ (fat fullShare word l₄ 0 (vint w64 j))) (one-more i) refl $ move ! (1 ∷ 2 ∷ 3 ∷ 4 ∷ 5 ∷ 6 ∷ 7 ∷ 8 ∷ 0 ∷ []) $ by ! k))))
+          assigns ! (bin ! (load ! (from ! (fld ! refl (stop !))) (look-in ! 14 (sub ! 0 refl (whole !)))) (load ! (from ! (stop !)) (look ! 3 refl)) tt) (from ! (stop !)) (init ! 4 refl (tt, tt)) $
+          rewrite ! 4 (λ (p : ℕ). ‵ (fat fullShare tyPtr l₁₀ 0 (vptr b p))) (sym (place-is 20 o i)) refl $
+          move ! (12 ∷ []) $ elem-out ! R (Is R) (shows 𝓤 H A R) vals tells fullShare (so-far i) i noRecord b o long (λ g.
+          -- [records[i]; what it owns; the others; _5; _7; _8; _9; _10; _11; …; _17; the works; _1; _2; _3; …]
+          assigns ! (of-opd ! (load ! (from ! (hop ! (look ! 7 refl) (stop !))) (look-raw ! 0 refl))) (from ! (stop !)) (init ! 8 refl (LL.lawful T.the-type T′.the-laws 𝓤 H A W .typed p _ g .0)) $
+          elem-back ! R fullShare (so-far i) i noRecord (vals p) b o long $
+          -- [the records; _5; _7; _8; _9; _10; _11; …; _17; the works; _1; _2; _3; …]
+          assigns ! (bin ! (load ! (from ! (stop !)) (look ! 1 refl)) (lit ! tt) (record { fits = fits-work })) (from ! (stop !)) (init ! 7 refl (tt, record { fits = fits-work })) $
+          assigns ! (addr ! (from ! (stop !))) (from ! (stop !)) (init ! 8 refl (tt, tt)) $
+          assigns ! (bin ! (load ! (from ! (stop !)) (look ! 8 refl)) (load ! (from ! (stop !)) (look ! 7 refl)) tt) (from ! (stop !)) (init ! 9 refl (tt, tt)) $
+          rewrite ! 9 (λ (p : ℕ). ‵ (fat fullShare tyPtr l₁₄ 0 (vptr l₄ p))) (sym (place-is 24 0 i)) refl $
+          move ! (13 ∷ []) $ elem-out ! K (Is K) (shows 𝓤 H A K) work-vals work-tells fullShare vs i idle l₄ 0 in-works (λ gw.
+          -- [works[i]; what it owns; the others; the records; _5; _7; _8; …; _17; _1; …]
+          assigns ! (of-opd ! (load ! (from ! (hop ! (look ! 12 refl) (stop !))) (look-raw ! 0 refl))) (from ! (stop !)) (init ! 13 refl (work-typed 𝓤 H A W w _ gw)) $
+          elem-back ! K fullShare vs i idle (work-vals w) l₄ 0 in-works $
+          -- [the works; the records; _5; _7; _8; _9; _10; _11; …; _17; _1; …]
+          use0 W (raw (Back 𝓤 H A mem run .pre (to-back p w))) (goes-back p w (ready .nodes i in-count) g gw) $
+          calls-at ! fm (Back 𝓤 H A mem run) known-back (to-back p w) (and-then ! (load ! (from ! (stop !)) (look ! 8 refl)) (and-then ! (load ! (from ! (stop !)) (look ! 12 refl)) (no-more !))) (λ u.
+          told ! tt R (ensured 𝓤 H A returned.ended (returned.clauses 𝓤 H A mem run) tt (p, (w, tt)) tt) (λ r. r ≡ handed p w) (back-is 𝓤 H A mem run p w) u (λ r e is.
+          land ! (from ! (stop !)) (init ! 4 refl (LL.lawful T.the-type T′.the-laws 𝓤 H A W .typed r _ is .0)) $
+          assigns ! (bin ! (load ! (from ! (stop !)) (look ! 2 refl)) (lit ! tt) (record { fits = fits })) (from ! (stop !)) (init ! 12 refl (tt, record { fits = fits })) $
+          assigns ! (bin ! (load ! (from ! (fld ! refl (stop !))) (look-in ! 14 (sub ! 0 refl (whole !)))) (load ! (from ! (stop !)) (look ! 12 refl)) tt) (from ! (stop !)) (init ! 13 refl (tt, tt)) $
+          rewrite ! 13 (λ (p : ℕ). ‵ (fat fullShare tyPtr l₁₇ 0 (vptr b p))) (sym (place-is 20 o i)) refl $
+          move ! (1 ∷ []) $ elem-out ! R (Is R) (shows 𝓤 H A R) vals tells fullShare (so-far i) i noRecord b o long (λ _.
+          -- [records[i]; what it owns; the others; the works; _5; _7; _8; …; _17; _1; …]
+          assigns ! (of-opd ! (load ! (from ! (stop !)) (look ! 6 refl))) (from ! (hop ! (look ! 15 refl) (stop !))) (store-raw ! 0 refl (LL.lawful T.the-type T′.the-laws 𝓤 H A W .typed r _ is .0)) $
+          move ! (1 ∷ []) $ drop ! $ owned ! R (Is R) (makes 𝓤 H A W) r _ is $ move ! (1 ∷ 0 ∷ []) $ elem-put ! R fullShare (so-far i) i r (u ∷ []) b o long $
+          rewrite ! 0 (λ (l : List Record). ‵ (row R fullShare l b o)) (back-next i vs ys r e) refl $
+          assigns-last ! (bin ! (load ! (from ! (stop !)) (look ! 2 refl)) (lit ! tt) (record { fits = next-fits })) (from ! (stop !)) (store ! 2 refl (tt, record { fits = next-fits })) $
+          forget ! 3 refl $ forget ! 4 refl $ forget ! 5 refl $ forget ! 6 refl $ forget ! 7 refl $ forget ! 8 refl $ forget ! 9 refl $ forget ! 10 refl $ forget ! 11 refl $ forget ! 12 refl $ forget ! 13 refl $
+          rewrite ! 2 (λ (j : ℕ). ‵ (fat fullShare word l₅ 0 (vint w64 j))) (one-more i) refl $ move ! (2 ∷ 3 ∷ 4 ∷ 5 ∷ 6 ∷ 7 ∷ 8 ∷ 9 ∷ 10 ∷ 11 ∷ 12 ∷ 13 ∷ 0 ∷ 1 ∷ []) $ by ! k)))))
         where
+          p : Record
+          p = getD (so-far i) i noRecord
+
+          w : Work
+          w = getD vs i idle
+
           in-count : i < t .count
           in-count = subst (λ (c : ℕ). i < c) n-is small
 
@@ -232,13 +273,16 @@ module _ {M : Type 1} (𝓤 : URA M) (H : Heap 𝓤) (A : Atoms 𝓤) (W : Given
           inside = lt-of-lt-of-le in-count (ready .within)
 
           long : i < length (so-far i)
-          long = subst (λ (m : ℕ). i < m) (sym (back-length i (t .works) ys)) inside
+          long = subst (λ (m : ℕ). i < m) (sym (back-length i vs ys)) inside
 
-          i-fits : i < 2 ^ 64
-          i-fits = omega (arith, in-count, ready .few)
+          in-works : i < length vs
+          in-works = subst (λ (m : ℕ). i < m) (sym full) (lt-of-lt-of-le in-count (ready .few))
 
           fits : i * 20 < 2 ^ 64
           fits = fits-place i (length ys) inside (room .1)
+
+          fits-work : i * 24 < 2 ^ 64
+          fits-work = omega (arith, in-count, ready .few)
 
           next-fits : i + 1 < 2 ^ 64
           next-fits = omega (arith, in-count, ready .few)
@@ -248,15 +292,18 @@ module _ {M : Type 1} (𝓤 : URA M) (H : Heap 𝓤) (A : Atoms 𝓤) (W : Given
       unfolding afterTurn
       ends X =
           qed W (At n) ∵ exec ! C Λ En turn-1 (anyQ (afterTurn 𝓤 H X Left)) $
-          assigns ! (bin ! (load ! (from ! (stop !)) (look ! 0 refl)) (load ! (from ! (stop !)) (look ! 11 refl)) tt) (from ! (stop !)) (init ! 1 refl (tt, tt)) $
-          rewrite ! 1 (λ (t : Bool). ‵ (fat fullShare tyBool l₅ 0 (vbool t))) (fails (ltb n n) (λ a. lt-irrefl n (ltb→lt n n a))) refl $
-          leaves-loop ! (load ! (from ! (stop !)) (look ! 1 refl)) $ exec ! C Λ En t-4 (atRet En Post) $
-          assigns ! (of-opd ! (unit-lit !)) (from ! (stop !)) (init ! 12 refl (tt, tt)) $
-          rewrite ! 8 (λ (k : ℕ). ‵ (row R fullShare (so-far k) b o)) n-is refl $
-          move ! (8 ∷ 13 ∷ 14 ∷ 15 ∷ []) $ closes-slice ! tt R ys zs len b o $
-          -- [obs; the borrow; the token; _4; _5; _6; _7; _8; _9; _10; _11; _1; _2; _3; _0; and that each local dies]
-          returns ! (look ! 14 refl) $ forget ! 3 refl $ forget ! 4 refl $ forget ! 11 refl $ forget ! 12 refl $ forget ! 13 refl $ forget ! 14 refl $
-          move ! (14 ∷ 15 ∷ []) $ free1 ! $ move ! (11 ∷ 14 ∷ []) $ free1 ! $ move ! (11 ∷ 13 ∷ []) $ free1 ! $ move ! (11 ∷ 12 ∷ []) $ free1 ! $ move ! (3 ∷ 11 ∷ []) $ free1 ! $ move ! (3 ∷ 10 ∷ []) $ free1 ! $
+          assigns ! (bin ! (load ! (from ! (stop !)) (look ! 0 refl)) (load ! (from ! (stop !)) (look ! 16 refl)) tt) (from ! (stop !)) (init ! 1 refl (tt, tt)) $
+          rewrite ! 1 (λ (t : Bool). ‵ (fat fullShare tyBool l₇ 0 (vbool t))) (fails (ltb n n) (λ a. lt-irrefl n (ltb→lt n n a))) refl $
+          leaves-loop ! (load ! (from ! (stop !)) (look ! 1 refl)) $ exec ! C Λ En t-6 (atRet En Post) $
+          assigns ! (of-opd ! (unit-lit !)) (from ! (stop !)) (init ! 18 refl (tt, tt)) $
+          rewrite ! 12 (λ (k : ℕ). ‵ (row R fullShare (so-far k) b o)) n-is refl $
+          move ! (12 ∷ 19 ∷ 20 ∷ 21 ∷ []) $ closes-slice ! tt R ys zs len b o $
+          -- [obs; the borrow; the token; _5; _7; …; _17; the works; _1; _2; _3; _6; _0; and that each local dies]
+          move ! (15 ∷ []) $ use1 W (‵ (fat fullShare worksTy l₄ 0 (only (arr-vals vs))) ⊛ ‵ (Arr .own vs (arr-vals vs))) (works-whole 𝓤 H A W l₄ vs full) $ split ! $ move ! (1 ∷ []) $ drop ! $
+          -- [_4; obs; the borrow; the token; _5; _7; …; _17; _1; _2; _3; _6; _0; …]
+          returns ! (look ! 20 refl) $ forget ! 0 refl $ forget ! 4 refl $ forget ! 5 refl $ forget ! 16 refl $ forget ! 17 refl $ forget ! 18 refl $ forget ! 19 refl $ forget ! 20 refl $
+          move ! (20 ∷ 21 ∷ []) $ free1 ! $ move ! (16 ∷ 20 ∷ []) $ free1 ! $ move ! (16 ∷ 19 ∷ []) $ free1 ! $ move ! (16 ∷ 18 ∷ []) $ free1 ! $ move ! (0 ∷ 17 ∷ []) $ free1 ! $ move ! (3 ∷ 16 ∷ []) $ free1 ! $
+          move ! (14 ∷ 15 ∷ []) $ free1 ! $ move ! (3 ∷ 14 ∷ []) $ free1 ! $ move ! (3 ∷ 13 ∷ []) $ free1 ! $ move ! (3 ∷ 12 ∷ []) $ free1 ! $ move ! (3 ∷ 11 ∷ []) $ free1 ! $ move ! (3 ∷ 10 ∷ []) $ free1 ! $
           move ! (3 ∷ 9 ∷ []) $ free1 ! $ move ! (3 ∷ 8 ∷ []) $ free1 ! $ move ! (3 ∷ 7 ∷ []) $ free1 ! $ move ! (3 ∷ 6 ∷ []) $ free1 ! $ move ! (3 ∷ 5 ∷ []) $ free1 ! $ move ! (3 ∷ 4 ∷ []) $ free1 ! $ free0 ! $ by ! (exits room)
 
       into : (k i : ℕ) → i + k ≡ n → ent 𝓤 (⋆ 𝓤 H A (At i)) (Inv k)
@@ -279,27 +326,35 @@ module _ {M : Type 1} (𝓤 : URA M) (H : Heap 𝓤) (A : Atoms 𝓤) (W : Given
     walk : ent 𝓤 (onEntry 𝓤 H A hand-back.signature (κ, tt) (q, tt) x at) (WpFn 𝓤 H C Λ code.function (sliceVal (b, o) (length ys) ∷ vt ∷ []) Post)
     walk =
         qed W ((‵ (flft κ q) ⊛ ‵ ftrue) ∷ ‵ (owns (MutSlice (named 0) κ R ∷ U.the-row ∷ []) x at) ∷ []) ∵ enter ! C Λ code.function (sliceVal (b, o) (length ys) ∷ vt ∷ []) _ $
-        alloc1 ! (λ l₀. alloc1 ! (λ l₁. alloc1 ! (λ l₂. alloc1 ! (λ l₃. alloc1 ! (λ l₄. alloc1 ! (λ l₅. alloc1 ! (λ l₆. alloc1 ! (λ l₇. alloc1 ! (λ l₈. alloc1 ! (λ l₉. alloc1 ! (λ l₁₀. alloc1 ! (λ l₁₁. alloc0 ! $ params1 ! $
-        pass1 ! (init ! 20 refl (tt, (tt, (record { fits = room .0 }, tt)))) $ pass1 ! (init ! 18 refl (LL.lawful U.the-type U′.the-laws 𝓤 H A W .typed t _ t-is .0)) $ pass0 ! $
-        -- [_11; …; _10; …; …; _1; …; _0; …; the token; what records and turned own]: local i stands at 2 (11 − i)
+        alloc1 ! (λ l₀. alloc1 ! (λ l₁. alloc1 ! (λ l₂. alloc1 ! (λ l₃. alloc1 ! (λ l₄. alloc1 ! (λ l₅. alloc1 ! (λ l₆. alloc1 ! (λ l₇. alloc1 ! (λ l₈. alloc1 ! (λ l₉. alloc1 ! (λ l₁₀. alloc1 ! (λ l₁₁. alloc1 ! (λ l₁₂. alloc1 ! (λ l₁₃. alloc1 ! (λ l₁₄. alloc1 ! (λ l₁₅. alloc1 ! (λ l₁₆. alloc1 ! (λ l₁₇. alloc0 ! $ params1 ! $
+        pass1 ! (init ! 32 refl (tt, (tt, (record { fits = room .0 }, tt)))) $ pass1 ! (init ! 30 refl (LL.lawful U.the-type U′.the-laws 𝓤 H A W .typed t _ t-is .0)) $ pass0 ! $
+        -- [_17; …; _16; …; …; _1; …; _0; …; the token; what records and turned own]: local i stands at 2 (17 − i)
         use0 W (raw (Count 𝓤 H A mem run .pre to-count)) (goes-count t-is) $
-        calls-at ! fm (Count 𝓤 H A mem run) known-count to-count (and-then ! (load ! (from ! (stop !)) (look ! 19 refl)) (no-more !)) (λ v₁.
+        calls-at ! fm (Count 𝓤 H A mem run) known-count to-count (and-then ! (load ! (from ! (stop !)) (look ! 31 refl)) (no-more !)) (λ v₁.
         told ! tt usize (ensured 𝓤 H A count-of.ended (count-of.clauses 𝓤 H A mem run) tt (t, tt) tt) (λ r. r ≡ t .count) (count-is 𝓤 H A mem run t) v₁ (λ n n-is is₁.
-        land ! (from ! (stop !)) (init ! 16 refl (uint-lawful 𝓤 H A W w64 .typed n _ is₁ .0)) $
-        rewrite ! 16 (λ (u : Val). ‵ (fat fullShare word l₃ 0 u)) (ap only (is₁ .0)) refl $
-        assigns ! (of-opd ! (lit ! tt)) (from ! (stop !)) (init ! 14 refl (tt, record { fits = lit< tt })) $
-        move ! (25 ∷ []) $ fsplit ! $ fsplit ! $ move ! (1 ∷ []) $ fsplit ! $ move ! (28 ∷ []) $ split ! $ move ! (2 ∷ 3 ∷ 0 ∷ []) $
-        opens-slice ! tt R ys b o $ rewrite ! 0 (λ (l : List Record). ‵ (row R fullShare l b o)) (sym (back-none (t .works) ys)) refl $
-        -- [the row; the open borrow; obs; auth; true; records' fact; turned's own; _11; …; _0; …]
-        keep ! (21 ∷ 19 ∷ 17 ∷ 15 ∷ 13 ∷ 11 ∷ 9 ∷ 7 ∷ 0 ∷ 27 ∷ 25 ∷ 23 ∷ 29 ∷ 1 ∷ 2 ∷ 3 ∷ 30 ∷ 28 ∷ 26 ∷ 24 ∷ 22 ∷ 20 ∷ 18 ∷ 16 ∷ 14 ∷ 12 ∷ 10 ∷ 8 ∷ []) $
-        by ! (loops n n-is l₀ l₁ l₂ l₃ l₄ l₅ l₆ l₇ l₈ l₉ l₁₀ l₁₁)))))))))))))))
+        land ! (from ! (stop !)) (init ! 28 refl (uint-lawful 𝓤 H A W w64 .typed n _ is₁ .0)) $
+        rewrite ! 28 (λ (u : Val). ‵ (fat fullShare word l₃ 0 u)) (ap only (is₁ .0)) refl $
+        use0 W (raw (Works 𝓤 H A mem run .pre to-works)) (goes-works t-is) $
+        calls-at ! fm (Works 𝓤 H A mem run) known-works to-works (and-then ! (load ! (from ! (stop !)) (look ! 31 refl)) (no-more !)) (λ v.
+        told ! tt Arr (ensured 𝓤 H A works-of.ended (works-of.clauses 𝓤 H A mem run) tt (t, tt) tt) (λ r. r ≡ vs) (works-are 𝓤 H A mem run t) v (λ r e is.
+        land ! (from ! (stop !)) (init ! 22 refl (arr-typed 𝓤 H A W r v is)) $
+        assigns ! (of-opd ! (load ! (from ! (stop !)) (look ! 22 refl))) (from ! (stop !)) (init ! 26 refl (arr-typed 𝓤 H A W r v is)) $
+        assigns ! (of-opd ! (lit ! tt)) (from ! (stop !)) (init ! 24 refl (tt, record { fits = lit< tt })) $
+        -- the works one by one
+        owned ! Arr (Is Arr) (arr-makes 𝓤 H A W) vs (v ∷ []) (subst (λ (z : List Work). Is Arr z (v ∷ [])) e is) $
+        move ! (27 ∷ 0 ∷ []) $ use2 W (‵ (row K fullShare vs l₄ 0)) (works-apart 𝓤 H A W l₄ vs v) $
+        move ! (37 ∷ []) $ fsplit ! $ fsplit ! $ move ! (1 ∷ []) $ fsplit ! $ move ! (40 ∷ []) $ split ! $ move ! (2 ∷ 3 ∷ 0 ∷ []) $
+        opens-slice ! tt R ys b o $ rewrite ! 0 (λ (l : List Record). ‵ (row R fullShare l b o)) (sym (back-none vs ys)) refl $
+        -- [the row; the open borrow; obs; auth; true; records' fact; turned's own; the works; _17; …; _0; …]
+        keep ! (32 ∷ 28 ∷ 26 ∷ 24 ∷ 22 ∷ 20 ∷ 18 ∷ 16 ∷ 14 ∷ 12 ∷ 10 ∷ 8 ∷ 0 ∷ 7 ∷ 39 ∷ 37 ∷ 35 ∷ 30 ∷ 41 ∷ 1 ∷ 2 ∷ 3 ∷ 42 ∷ 40 ∷ 38 ∷ 36 ∷ 34 ∷ 33 ∷ 31 ∷ 29 ∷ 27 ∷ 25 ∷ 23 ∷ 21 ∷ 19 ∷ 17 ∷ 15 ∷ 13 ∷ 11 ∷ 9 ∷ []) $
+        by ! (loops n n-is v (subst (λ (z : List Work). length z ≡ recordCount) e (is .1 .0 .1)) l₀ l₁ l₂ l₃ l₄ l₅ l₆ l₇ l₈ l₉ l₁₀ l₁₁ l₁₂ l₁₃ l₁₄ l₁₅ l₁₆ l₁₇)))))))))))))))))))))))
 
-module _ {M : Type 1} (𝓤 : URA M) (H : Heap 𝓤) (A : Atoms 𝓤) (W : Given 𝓤 H A) (mem : Memory → SProp 𝓤) (run : Routine → Fun 𝓤) (𝓣 : Tables 𝓤 H) (known-count : Triple 𝓤 (𝓣 .C #count-of) (Count 𝓤 H A mem run)) (known-back : Triple 𝓤 (𝓣 .C #returned) (Back 𝓤 H A mem run)) where
+module _ {M : Type 1} (𝓤 : URA M) (H : Heap 𝓤) (A : Atoms 𝓤) (W : Given 𝓤 H A) (mem : Memory → SProp 𝓤) (run : Routine → Fun 𝓤) (𝓣 : Tables 𝓤 H) (known-count : Triple 𝓤 (𝓣 .C #count-of) (Count 𝓤 H A mem run)) (known-works : Triple 𝓤 (𝓣 .C #works-of) (Works 𝓤 H A mem run)) (known-back : Triple 𝓤 (𝓣 .C #returned) (Back 𝓤 H A mem run)) where
   back-walks : Walks 𝓤 H A hand-back.ended stayed (WpFn 𝓤 H (𝓣 .C) (𝓣 .Λ) code.function) (hand-back.clauses 𝓤 H A mem run)
   back-walks = walked 𝓤 H A hand-back.ended stayed (hand-back.clauses 𝓤 H A mem run) (WpFn 𝓤 H (𝓣 .C) (𝓣 .Λ) code.function)
       (λ κs. (slice-vals, (turn-vals, tt))) (λ κs. (mut-slice-tells (named 0) (κs .0) R, (LL.tells U.the-type U′.the-laws, tt)))
       (λ κs qs bounds a g are. needs 𝓤 (Ready (a .1 .0) (length (now (a .0)))) _
-      (walk 𝓤 H A W mem run (κs .0) (qs .0) (a .0 .ptr .0) (a .0 .ptr .1) (a .0 .name) (a .0 .now) (a .1 .0) 𝓣 known-count known-back (are .0 .0 .1) (are .1 .0)))
+      (walk 𝓤 H A W mem run (κs .0) (qs .0) (a .0 .ptr .0) (a .0 .ptr .1) (a .0 .name) (a .0 .now) (a .1 .0) 𝓣 known-count known-works known-back (are .0 .0 .1) (are .1 .0)))
 
   back-meets : Meets 𝓤 H A hand-back.signature (WpFn 𝓤 H (𝓣 .C) (𝓣 .Λ) code.function) (hand-back.spec 𝓤 H A mem run)
   back-meets =
@@ -313,4 +368,5 @@ hand-back-spec 𝓤 H 𝓜 𝓖 𝓡 =
     (tables 𝓤 H 𝓜 𝓡 code.env .C) (tables 𝓤 H 𝓜 𝓡 code.env .Λ) #hand-back code.function (code.unfolded 𝓤 H 𝓜 𝓡)
     (back-meets 𝓤 H (𝓖 .A) (givenOf 𝓤 H 𝓜 𝓖) (𝓜 .mem) (𝓡 .run) (tablesOf 𝓤 H 𝓜 (tables 𝓤 H 𝓜 𝓡 code.env))
     (cited 𝓤 H (Count 𝓤 H (𝓖 .A) (𝓜 .mem) (𝓡 .run)) 𝓜 𝓡 code.env #count-of count-of-def.routine code.calls-lent-steps·count-of (count-of-thm.met 𝓤 H 𝓜 𝓖 𝓡))
+    (cited 𝓤 H (Works 𝓤 H (𝓖 .A) (𝓜 .mem) (𝓡 .run)) 𝓜 𝓡 code.env #works-of works-of-def.routine code.calls-lent-steps·works-of (works-of-thm.met 𝓤 H 𝓜 𝓖 𝓡))
     (cited 𝓤 H (Back 𝓤 H (𝓖 .A) (𝓜 .mem) (𝓡 .run)) 𝓜 𝓡 code.env #returned returned-def.routine code.calls-lent-steps·returned (returned-thm.met 𝓤 H 𝓜 𝓖 𝓡)))

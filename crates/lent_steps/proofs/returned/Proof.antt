@@ -8,12 +8,6 @@ use Rattle.lent_steps.proofs.returned.Lts as lts
 use Rattle.lent_steps.proofs.is_standing.Reads as is-standing-reads
 use Rattle.lent_steps.proofs.record_of.Reads as record-of-reads
 
-mul-w : tie.Need-mul-w
-mul-w c = search needs
-
-element-copy-out-w : tie.Need-element-copy-out-w
-element-copy-out-w c = search needs
-
 is-standing-requires : tie.Need-is-standing-requires
 is-standing-requires c κs = search needs
 
@@ -29,4 +23,4 @@ returns-2 c = handed-written _ _ _ (c .before .before .is-standing .ensures) (c 
 pub returned-spec : {M : Type 1} → statement M
 returned-spec =
     tie.close
-    (tie.spec mul-w element-copy-out-w is-standing-requires returns record-of-requires returns-2)
+    (tie.spec is-standing-requires returns record-of-requires returns-2)

@@ -127,7 +127,7 @@ module _ {M : Type 1} (𝓤 : URA M) (H : Heap 𝓤) (A : Atoms 𝓤) (W : Given
   ready : Ready t₀ (length rs)
   ready = clear-goes order levels ws rs ms
 
-  exits : (w : Val) (n : ℕ) (us : List ℕ) (zs : List Record) (ns : List ℕ) → Is u32 n (w ∷ []) → n ≡ numberOf (t₀ .answer) → told t₀ us ns ≡ u → zs ≡ worksBack (t₀ .count) (t₀ .works) rs → length us ≡ length ws → length zs ≡ length rs → length ns ≡ length ms
+  exits : (w : Val) (n : ℕ) (us : List ℕ) (zs : List Record) (ns : List ℕ) → Is u32 n (w ∷ []) → n ≡ numberOf (t₀ .answer) → told t₀ us ns ≡ u → zs ≡ worksBack (t₀ .count) (t₀ .state .records) rs → length us ≡ length ws → length zs ≡ length rs → length ns ≡ length ms
       → ent 𝓤 (⋆ 𝓤 H A ((‵ (flft κ₀ q₀) ⊛ (‵ (flft κ₂ q₂) ⊛ ‵ ftrue)) ∷ (‵ (flft κ₁ q₁) ⊛ ‵ ftrue) ∷ ‵ (finally u32 γ₀ us) ∷ ‵ (finally R γ₁ zs) ∷ ‵ (finally u32 γ₂ ns) ∷ [])) (Post w)
   exits w n us zs ns is f e ez l₀ l₁ l₂ =
       qed W ((‵ (flft κ₀ q₀) ⊛ (‵ (flft κ₂ q₂) ⊛ ‵ ftrue)) ∷ (‵ (flft κ₁ q₁) ⊛ ‵ ftrue) ∷ ‵ (finally u32 γ₀ us) ∷ ‵ (finally R γ₁ zs) ∷ ‵ (finally u32 γ₂ ns) ∷ []) ∵
@@ -192,8 +192,8 @@ module _ {M : Type 1} (𝓤 : URA M) (H : Heap 𝓤) (A : Atoms 𝓤) (W : Given
         -- `hand_back`: records is given up
         move ! (3 ∷ 4 ∷ []) $ use2 W (raw (Back 𝓤 H A mem run .pre (to-back v₂))) (goes-back v₂ (turned-is v₂ r₂ (ap (λ (z : Told). z .turned) e₂) is₂)) $
         calls-at ! fm (Back 𝓤 H A mem run) known-back (to-back v₂) (and-then ! (load ! (from ! (stop !)) (look ! 4 refl)) (and-then ! (load ! (from ! (stop !)) (look ! 20 refl)) (no-more !))) (λ v₃.
-        use1 W (later (some (λ (r : Unit {0}). ((‵ (flft κ₁ q₁) ⊛ ‵ ftrue) ⊛ ‵ (unit .own r (v₃ ∷ []))) ⊛ some (λ (zs : Lasts hand-back.ended (κ₁, tt) (x₁ γ₁, (t₀, tt))). ‵ (lasts hand-back.ended (κ₁, tt) (x₁ γ₁, (t₀, tt)) zs) ⊛ raw (fact 𝓤 (zs .0 ≡ worksBack (t₀ .count) (t₀ .works) rs)))))) (id⊢ 𝓤 _) $ await ! tt $ pick ! (λ r₃.
-        split ! $ move ! (1 ∷ []) $ pick ! (λ zs. split ! $ move ! (1 ∷ []) $ heard ! (zs .0 ≡ worksBack (t₀ .count) (t₀ .works) rs) (λ e₃. fsplit ! $ fsplit ! $ move ! (1 ∷ []) $ feqL ! (λ l₁.
+        use1 W (later (some (λ (r : Unit {0}). ((‵ (flft κ₁ q₁) ⊛ ‵ ftrue) ⊛ ‵ (unit .own r (v₃ ∷ []))) ⊛ some (λ (zs : Lasts hand-back.ended (κ₁, tt) (x₁ γ₁, (t₀, tt))). ‵ (lasts hand-back.ended (κ₁, tt) (x₁ γ₁, (t₀, tt)) zs) ⊛ raw (fact 𝓤 (zs .0 ≡ worksBack (t₀ .count) (t₀ .state .records) rs)))))) (id⊢ 𝓤 _) $ await ! tt $ pick ! (λ r₃.
+        split ! $ move ! (1 ∷ []) $ pick ! (λ zs. split ! $ move ! (1 ∷ []) $ heard ! (zs .0 ≡ worksBack (t₀ .count) (t₀ .state .records) rs) (λ e₃. fsplit ! $ fsplit ! $ move ! (1 ∷ []) $ feqL ! (λ l₁.
         move ! (2 ∷ []) $ split ! $ move ! (1 ∷ []) $ peeks ! unit (Is unit) (shows 𝓤 H A unit) r₃ (v₃ ∷ []) (λ is₃. drop ! $
         -- [the tokens; the last words and records; …; _14; …]: local i stands at 6 + 2 (14 − i)
         land ! (from ! (stop !)) (init ! 10 refl (nothing-lawful 𝓤 H A W .typed r₃ _ is₃ .0)) $

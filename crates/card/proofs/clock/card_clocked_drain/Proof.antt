@@ -161,7 +161,7 @@ module _ {M : Type 1} (𝓤 : URA M) (H : Heap 𝓤) (A : Atoms 𝓤) (W : Given
   ready : Ready t₀ (length rs)
   ready = drain-goes order levels ws rs ms budget os
 
-  exits : (w : Val) (n : ℕ) (us : List ℕ) (zs : List Record) (ns : List ℕ) (ps : List ℕ) → Is u32 n (w ∷ []) → n ≡ numberOf (t₀ .answer) → toldOut t₀ us ns ps ≡ u → zs ≡ worksBack (t₀ .count) (t₀ .works) rs → length us ≡ length ws → length zs ≡ length rs → length ns ≡ length ms → length ps ≡ length os
+  exits : (w : Val) (n : ℕ) (us : List ℕ) (zs : List Record) (ns : List ℕ) (ps : List ℕ) → Is u32 n (w ∷ []) → n ≡ numberOf (t₀ .answer) → toldOut t₀ us ns ps ≡ u → zs ≡ worksBack (t₀ .count) (t₀ .state .records) rs → length us ≡ length ws → length zs ≡ length rs → length ns ≡ length ms → length ps ≡ length os
       → ent 𝓤 (⋆ 𝓤 H A ((‵ (flft κ₀ q₀) ⊛ (‵ (flft κ₂ q₂) ⊛ (‵ (flft κ₃ q₃) ⊛ ‵ ftrue))) ∷ (‵ (flft κ₁ q₁) ⊛ ‵ ftrue) ∷ ‵ (finally u32 γ₀ us) ∷ ‵ (finally R γ₁ zs) ∷ ‵ (finally u32 γ₂ ns) ∷ ‵ (finally u32 γ₃ ps) ∷ [])) (Post w)
   exits w n us zs ns ps is f e ez l₀ l₁ l₂ l₃ =
       qed W ((‵ (flft κ₀ q₀) ⊛ (‵ (flft κ₂ q₂) ⊛ (‵ (flft κ₃ q₃) ⊛ ‵ ftrue))) ∷ (‵ (flft κ₁ q₁) ⊛ ‵ ftrue) ∷ ‵ (finally u32 γ₀ us) ∷ ‵ (finally R γ₁ zs) ∷ ‵ (finally u32 γ₂ ns) ∷ ‵ (finally u32 γ₃ ps) ∷ []) ∵
@@ -262,8 +262,8 @@ module _ {M : Type 1} (𝓤 : URA M) (H : Heap 𝓤) (A : Atoms 𝓤) (W : Given
         -- `hand_back`: records is given up
         move ! (5 ∷ 4 ∷ []) $ use2 W (raw (Back 𝓤 H A mem run .pre (to-back v₂))) (goes-back v₂ (turned-is v₂ r₂ (ap (λ (z : ToldOut). z .turned) e₂) is₂)) $
         calls-at ! fm (Back 𝓤 H A mem run) known-back (to-back v₂) (and-then ! (load ! (from ! (stop !)) (look ! 6 refl)) (and-then ! (load ! (from ! (stop !)) (look ! 30 refl)) (no-more !))) (λ v₃.
-        use1 W (later (some (λ (r : Unit {0}). ((‵ (flft κ₁ q₁) ⊛ ‵ ftrue) ⊛ ‵ (unit .own r (v₃ ∷ []))) ⊛ some (λ (zs : Lasts hand-back.ended (κ₁, tt) (x₁ γ₁, (t₀, tt))). ‵ (lasts hand-back.ended (κ₁, tt) (x₁ γ₁, (t₀, tt)) zs) ⊛ raw (fact 𝓤 (zs .0 ≡ worksBack (t₀ .count) (t₀ .works) rs)))))) (id⊢ 𝓤 _) $ await ! tt $ pick ! (λ r₃.
-        split ! $ move ! (1 ∷ []) $ pick ! (λ zs. split ! $ move ! (1 ∷ []) $ heard ! (zs .0 ≡ worksBack (t₀ .count) (t₀ .works) rs) (λ e₃. fsplit ! $ fsplit ! $ move ! (1 ∷ []) $ feqL ! (λ l₁.
+        use1 W (later (some (λ (r : Unit {0}). ((‵ (flft κ₁ q₁) ⊛ ‵ ftrue) ⊛ ‵ (unit .own r (v₃ ∷ []))) ⊛ some (λ (zs : Lasts hand-back.ended (κ₁, tt) (x₁ γ₁, (t₀, tt))). ‵ (lasts hand-back.ended (κ₁, tt) (x₁ γ₁, (t₀, tt)) zs) ⊛ raw (fact 𝓤 (zs .0 ≡ worksBack (t₀ .count) (t₀ .state .records) rs)))))) (id⊢ 𝓤 _) $ await ! tt $ pick ! (λ r₃.
+        split ! $ move ! (1 ∷ []) $ pick ! (λ zs. split ! $ move ! (1 ∷ []) $ heard ! (zs .0 ≡ worksBack (t₀ .count) (t₀ .state .records) rs) (λ e₃. fsplit ! $ fsplit ! $ move ! (1 ∷ []) $ feqL ! (λ l₁.
         move ! (2 ∷ []) $ split ! $ move ! (1 ∷ []) $ peeks ! unit (Is unit) (shows 𝓤 H A unit) r₃ (v₃ ∷ []) (λ is₃. drop ! $
         -- [the tokens; the last words and records; …; _22; …]: local i stands at 8 + 2 (22 − i)
         land ! (from ! (stop !)) (init ! 12 refl (nothing-lawful 𝓤 H A W .typed r₃ _ is₃ .0)) $

@@ -1,19 +1,31 @@
 -- `card::clock::clear_told` meets its contract. Assumes nothing.
 use Rattle.card.proofs.Clocked.{clear-done, clear-refused, clear-unmarked}
+use mathlib.Core.Bool.{false}
+use mathlib.Core.Path.{_∙_, ap}
+use Rattle.clocked_model.specs.Calls.{fresh}
+use Rattle.clocked_model.specs.declared.State.{State}
+use Rattle.lent_steps.specs.Steps.{turned}
+use Rattle.strip.specs.declared.Answer.the-variants.{Refused}
+use Rattle.strip.specs.declared.Refusal.the-variants.{BadShape}
 use borrow.Author.Needs.{needs}
 use Rattle.card.proofs.clock.clear_told.Statement.{statement}
 use Rattle.card.proofs.clock.clear_told.Tie as tie
 use Rattle.card.proofs.clock.clear_told.Reads as reads
 use Rattle.card.proofs.clock.clear_told.Lts as lts
-use Rattle.card.proofs.clock.none_turned.Reads as none-turned-reads
 use Rattle.card.proofs.clock.number_of.Reads as number-of-reads
+use Rattle.clocked.proofs.fresh_state.Reads as fresh-state-reads
 use Rattle.lent_steps.proofs.clear_beside.Reads as clear-beside-reads
+use Rattle.lent_steps.proofs.refused.Reads as refused-reads
 
-none-turned-requires : tie.Need-none-turned-requires
-none-turned-requires c κs = search needs
+fresh-state-requires : tie.Need-fresh-state-requires
+fresh-state-requires c κs = search needs
+
+refused-requires : tie.Need-refused-requires
+refused-requires c κs = search needs
 
 returns : tie.Need-returns
-returns c = clear-unmarked _ _ _ _ _ (c .before .if1 .taken) _ (c .none-turned .ensures)
+unfolding fresh
+returns c = clear-unmarked _ _ _ _ _ (c .before .before .if1 .taken) _ (c .refused .ensures ∙ ap (λ (s : State). turned (Refused BadShape) 0 false s 0) (c .before .fresh-state .ensures))
 
 slice-read-on : tie.Need-slice-read-on
 slice-read-on c = search needs
@@ -46,7 +58,8 @@ pub clear-told-spec : {M : Type 1} → statement M
 clear-told-spec =
     tie.close
     (tie.spec
-    none-turned-requires
+    fresh-state-requires
+    refused-requires
     returns
     slice-read-on
     clear-beside-requires

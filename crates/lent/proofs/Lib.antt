@@ -1,0 +1,2 @@
+-- What the walks of a cycle's faces share.
+pub mod Faces
