@@ -10,6 +10,9 @@
  *   5 full        a push on a full queue
  *   6 empty       a pop or replace on an empty queue
  *   7 no tag      a push or replace with tag 0, which stands for no strip
+ *   9 bad strip   fair ranks: a flow, weight or length outside the limits
+ *  10 clock spent fair ranks: a finish above 4294967295
+ *  11 not empty   fair ranks: a reset while something is held
  *
  * A slice is a pointer and then its length in words, that of records in records. The pointer must
  * really have so many, aligned as usual; it may be NULL where the length is 0. The slices of one call must not overlap.
@@ -42,6 +45,9 @@ extern "C" {
 #define CARD_FULL 5u
 #define CARD_EMPTY 6u
 #define CARD_NO_TAG 7u
+#define CARD_BAD_STRIP 9u
+#define CARD_CLOCK_SPENT 10u
+#define CARD_NOT_EMPTY 11u
 
 #define CARD_IDLE 0u
 #define CARD_PUSH 1u
@@ -50,9 +56,9 @@ extern "C" {
 
 /* The name of a number that a call answered. */
 static inline const char *card_name(uint32_t number) {
-    static const char *const names[8] = {"ok",       "bad shape", "damaged", "too soon",
-                                         "bad rank", "full",      "empty",   "no tag"};
-    return number < 8 ? names[number] : "no such number";
+    static const char *const names[12] = {"ok",    "bad shape", "damaged",        "too soon",  "bad rank",    "full",
+                                          "empty", "no tag",    "no such number", "bad strip", "clock spent", "not empty"};
+    return number < 12 ? names[number] : "no such number";
 }
 
 /*
@@ -64,6 +70,9 @@ uint32_t card_tree_words(uint32_t order, uint32_t levels);
 
 /* A cluster heap's store. */
 uint32_t card_cluster_words(uint32_t places, uint32_t levels);
+
+/* The state of fair ranks. */
+size_t card_fair_words(void);
 
 /* A bucket queue's words of 64 bits. */
 uint32_t card_bucket_bits(uint32_t storeys);
@@ -80,6 +89,7 @@ uint32_t card_bucket_words(uint32_t storeys, uint32_t nodes);
 /* The records of a clocked tree, one for each level from 2: none where there is one level. */
 #define CARD_RECORDS(levels) ((levels)-1u)
 #define CARD_MARK_WORDS 1u
+#define CARD_FAIR_WORDS 65u
 #define CARD_OUT_WORDS 3u
 /* order is 2 to this power */
 #define CARD_SHIFT(order) ((order) == 8u ? 3u : (order) / 2u)
@@ -127,6 +137,40 @@ uint32_t card_tree_check(const uint32_t *store, size_t store_len, uint32_t order
    written always passes the check. Refused 1 for either store, before anything is written. */
 uint32_t card_tree_mend(const uint32_t *from, size_t from_len, uint32_t *to, size_t to_len,
                         uint32_t order, uint32_t levels, uint32_t *out, size_t out_len);
+
+/*
+ * Fair ranks: a tree whose ranks come from weights, for up to 64 flows. Beside the tree's store there
+ * is a state of 65 words (card_fair_words): the clock, then the last finish of each flow. A strip of
+ * a flow has a weight of 1 to 1024 and a length of 1 to 9216 bytes, which counts in cells of 64 bytes,
+ * rounded up. Its rank is its finish: the larger of the clock and its flow's last finish, plus its
+ * cells times 65536 / weight, rounded down. The clock becomes the rank of what is popped.
+ *
+ * Before its first use the store is cleared (card_tree_clear) and the state reset. From then on state
+ * and store are handed on as the call before left them, and nothing else changes either: only then are
+ * the flows served by their weights. One flow of weight 1 with strips of 9216 bytes spends the clock
+ * with its 456th strip; then the host pops until nothing is held, resets, and goes on.
+ */
+
+/* Sets the clock and all finishes to 0. Reads the store alone. Refused 11 while anything is held; a
+   store that the tree would refuse holds nothing. */
+uint32_t card_fair_reset(uint32_t *state, size_t state_len, const uint32_t *store, size_t store_len,
+                         uint32_t order, uint32_t levels);
+
+/* Takes a strip of a flow in. Refused 9, before all else, for a flow above 63, a weight of 0 or above
+   1024, a length of 0 or above 9216; 1 for a short state; 10 where its finish is above 4294967295;
+   then as card_tree_push refuses it. A refusal changes nothing. */
+uint32_t card_fair_push(uint32_t *state, size_t state_len, uint32_t *store, size_t store_len,
+                        uint32_t order, uint32_t levels, uint32_t flow, uint32_t weight,
+                        uint32_t tag, uint32_t length);
+
+/* Gives the strip of lowest rank in out[0] to out[2], and the clock becomes its rank. Refused 6 where
+   nothing is held. */
+uint32_t card_fair_pop(uint32_t *state, size_t state_len, uint32_t *store, size_t store_len,
+                       uint32_t order, uint32_t levels, uint32_t *out, size_t out_len);
+
+/* Gives the number of held strips in out[0], as card_tree_held. */
+uint32_t card_fair_held(const uint32_t *store, size_t store_len, uint32_t order, uint32_t levels,
+                        uint32_t *out, size_t out_len);
 
 /*
  * The cluster heap beside the tree: a binary heap with K places in each node, K from 2 to 16, levels

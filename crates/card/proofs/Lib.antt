@@ -7,3 +7,4 @@ pub mod Cluster
 pub mod History
 pub mod Pinned
 pub mod Mend
+pub mod Fair

@@ -6,3 +6,4 @@ pub mod Clocked
 pub mod Sizes
 pub mod History
 pub mod Mend
+pub mod Fair

@@ -11,6 +11,7 @@ ghost use Rattle.card.specs.Sizes.{treeWords, bucketBits, bucketWords};
 
 mod clock;
 pub mod repair;
+pub mod weights;
 
 use bucket_nodes::queue_of;
 use bucket_tests::POOL;

@@ -11,6 +11,7 @@ use Rattle.bucket_model.specs.Plain.{answersFrom, bucketAnswers, Store}
 use Rattle.clocked_model.specs.Cases.{caseEmpty, caseEmptySays, caseLost, caseLostSays, caseSix, caseSixSays, caseUntagged, caseUntaggedSays}
 use Rattle.clocked_model.specs.Cases as clock
 use Rattle.cluster_model.specs.Cases.{caseCluster, caseClusterAnswers, caseClusterAnswersSay, caseClusterSays}
+use Rattle.fair_model.specs.Cases.{caseFair, caseFairSays, caseServed, caseServedSays, caseSpent, caseSpentSays, caseWords, caseWordsSays}
 use Rattle.promise.specs.Queue.{answers}
 use Rattle.strip.specs.Answers.{countNumber, countOf, element, lengthOf, numberOf, rankOf, tagOf}
 use Rattle.strip.specs.declared.Answer.{Answer}
@@ -128,6 +129,11 @@ table =
     ∷ answersAre (map told (getD caseClusterAnswers 0 [])) (map told (getD caseClusterAnswersSay 0 []))
     -- .. of equal ranks in one node the lower tag first, and 6 on the empty heap
     ∷ answersAre (map told (getD caseClusterAnswers 1 [])) (map told (getD caseClusterAnswersSay 1 []))
+    -- [10] fair ranks: the bound of two flows reached; every refusal, what is served, and the state's words; the largest finish, and 10 before the queue's 1
+    ∷ sums caseServed caseServedSays
+    ∷ answersAre caseFair caseFairSays
+    ∷ wordsAre caseWords caseWordsSays
+    ∷ answersAre caseSpent caseSpentSays
     -- held refused: 1, an order of 3; 2, a slot with count 0 and a rank, or a length
     ∷ held 3 1 (replicate 12 0) (1, 0)
     ∷ held 2 1 (9 ∷ 0 ∷ 0 ∷ 0 ∷ 0 ∷ 0 ∷ 0 ∷ 0 ∷ []) (2, 0)

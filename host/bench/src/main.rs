@@ -8,6 +8,7 @@
 mod clock;
 mod count;
 mod cycles;
+mod fairs;
 mod measure;
 mod mends;
 mod plain;
@@ -84,6 +85,7 @@ fn main() {
     show("bucket queue (N = 4096) beside BTreeMap<u32, VecDeque<(u32, u32)>>, 4,000 held", traces::buckets(&plan));
     show("bucket queue, three storeys (N = 65,536), beside the same map", traces::deep_buckets(&plan));
     show("tree beside std's BinaryHeap, 4,000 held", traces::trees(&plan));
+    show("fair ranks of 64 flows beside the bare tree at the same ranks", fairs::rows(&plan));
     show("check and mend of a full store, for one slot, beside a plain check and a heap", mends::rows(&plan));
     show("cluster heap beside std's BinaryHeap, then beside the tree of order 2, 4,000 held", traces::clusters(&plan));
     show("clocked tree beside a plain machine without damage tests, 4,000 held or three quarters", cycles::rows(&plan));

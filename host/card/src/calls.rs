@@ -95,6 +95,48 @@ pub fn tree_mend(from: &[u32], to: &mut [u32], order: u32, levels: u32, out: &mu
     unsafe { raw::card_tree_mend(f.as_ptr(), f.len(), t.as_mut_ptr(), t.len(), order, levels, o.as_mut_ptr(), o.len()) }
 }
 
+/// Sets the clock and all finishes of fair ranks to 0, where nothing is held.
+#[inline]
+pub fn fair_reset(state: &mut [u32], store: &[u32], order: u32, levels: u32) -> u32 {
+    let (t, s) = (state, store);
+    // SAFETY: borrowed slices, as said above.
+    unsafe { raw::card_fair_reset(t.as_mut_ptr(), t.len(), s.as_ptr(), s.len(), order, levels) }
+}
+
+/// Takes a strip of a flow in, at the rank that its weight and length give it.
+#[inline]
+pub fn fair_push(
+    state: &mut [u32],
+    store: &mut [u32],
+    order: u32,
+    levels: u32,
+    flow: u32,
+    weight: u32,
+    tag: u32,
+    length: u32,
+) -> u32 {
+    let (t, s) = (state, store);
+    let (state, store) = (t.as_mut_ptr(), s.as_mut_ptr());
+    // SAFETY: borrowed slices, as said above.
+    unsafe { raw::card_fair_push(state, t.len(), store, s.len(), order, levels, flow, weight, tag, length) }
+}
+
+/// Gives the strip of lowest rank, which the clock becomes.
+#[inline]
+pub fn fair_pop(state: &mut [u32], store: &mut [u32], order: u32, levels: u32, out: &mut [u32]) -> u32 {
+    let (t, s, o) = (state, store, out);
+    let (state, store, out) = (t.as_mut_ptr(), s.as_mut_ptr(), o.as_mut_ptr());
+    // SAFETY: borrowed slices, as said above.
+    unsafe { raw::card_fair_pop(state, t.len(), store, s.len(), order, levels, out, o.len()) }
+}
+
+/// Gives the number of strips held by fair ranks.
+#[inline]
+pub fn fair_held(store: &[u32], order: u32, levels: u32, out: &mut [u32]) -> u32 {
+    // SAFETY: borrowed slices, as said above.
+    unsafe { raw::card_fair_held(store.as_ptr(), store.len(), order, levels, out.as_mut_ptr(), out.len()) }
+}
+
 /// Empties a cluster heap.
 #[inline]
 pub fn cluster_clear(store: &mut [u32], places: u32, levels: u32) -> u32 {
@@ -294,6 +336,13 @@ pub fn tree_words(order: u32, levels: u32) -> u32 {
 pub fn cluster_words(places: u32, levels: u32) -> u32 {
     // SAFETY: two numbers, and they may be any.
     unsafe { raw::card_cluster_words(places, levels) }
+}
+
+/// How many words the state of fair ranks needs.
+#[inline]
+pub fn fair_words() -> usize {
+    // SAFETY: it is handed nothing.
+    unsafe { raw::card_fair_words() }
 }
 
 /// How many words of 64 bits a bucket queue of so many storeys needs; 0 for a depth that there is not.

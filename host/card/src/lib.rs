@@ -1,6 +1,6 @@
 //! Safe Rust over the card's library of proved priority queues.
 //!
-//! An [`Element`] is a [`Rank`], a [`Tag`] and a [`Length`]; the lowest rank leaves first. There are three queues:
+//! An [`Element`] is a [`Rank`], a [`Tag`] and a [`Length`]; the lowest rank leaves first. There are four queues:
 //!
 //! | queue | ranks | ties | over lent words or arrays | with a store of its own (feature `std`) |
 //! |---|---|---|---|---|
@@ -8,6 +8,8 @@
 //! | bucket queue | 0 to 4,095, or 262,143 | first in, first out | [`Bucket`] | `BucketQueue` |
 //! | cluster heap | any | in a node the lower tag, else its own order | [`Cluster`] | `ClusterQueue` |
 //! | multi-way tree by clock cycles | any | in a node the lower tag, else its own order | [`Clocked`] | `ClockedTree` |
+//!
+//! Above the tree stands [`Fair`] (`FairQueue`): ranks from weights, for up to 64 flows.
 //!
 //! A call that is refused says so by a [`Refusal`] and leaves behind what the paper's table says. No store's content makes a call
 //! unsafe, endless or a panic. The crate is `no_std` and allocates nothing; feature `std`, which is on unless it is switched off,
@@ -37,6 +39,7 @@ mod bucket;
 pub mod calls;
 mod clocked;
 mod cluster;
+mod fair;
 mod mend;
 #[cfg(feature = "std")]
 mod owned;
@@ -47,11 +50,13 @@ mod tree;
 pub use bucket::Bucket;
 pub use clocked::{Clocked, Drained, Record, Request, Stopped};
 pub use cluster::Cluster;
+pub use fair::{Fair, Flow, Weight};
 pub use mend::{Broken, Mended};
 #[cfg(feature = "std")]
-pub use owned::{BucketQueue, ClockedTree, ClusterQueue, TreeQueue};
+pub use owned::{BucketQueue, ClockedTree, ClusterQueue, FairQueue, TreeQueue};
 pub use sizes::{
-    bucket_bits, bucket_ranks, bucket_words, cluster_places, cluster_words, record_count, tree_slots, tree_words,
+    bucket_bits, bucket_ranks, bucket_words, cluster_places, cluster_words, fair_words, record_count, tree_slots,
+    tree_words,
 };
 pub use tree::Tree;
 
@@ -122,6 +127,12 @@ pub enum Refusal {
     Empty = 6,
     /// A push or replace with tag 0, which stands for no strip. The store stands; a cycle runs as an idle one.
     NoTag = 7,
+    /// Fair ranks: a flow, weight or length outside the limits. Everything stands.
+    BadStrip = 9,
+    /// Fair ranks: a finish above the highest rank. Everything stands; once nothing is held a reset sets the clock to 0.
+    ClockSpent = 10,
+    /// Fair ranks: a reset while something is held. Everything stands.
+    NotEmpty = 11,
 }
 
 impl Refusal {
@@ -143,6 +154,9 @@ impl Refusal {
             5 => Refusal::Full,
             6 => Refusal::Empty,
             7 => Refusal::NoTag,
+            9 => Refusal::BadStrip,
+            10 => Refusal::ClockSpent,
+            11 => Refusal::NotEmpty,
             _ => return None,
         })
     }
@@ -163,6 +177,9 @@ impl Refusal {
             Refusal::Full => "full",
             Refusal::Empty => "empty",
             Refusal::NoTag => "no tag",
+            Refusal::BadStrip => "bad strip",
+            Refusal::ClockSpent => "clock spent",
+            Refusal::NotEmpty => "not empty",
         }
     }
 }

@@ -1,7 +1,8 @@
 //! Queues that own their stores.
 
 use crate::{
-    bucket_bits, bucket_words, cluster_words, record_count, tree_words, Bucket, Clocked, Cluster, Record, Refusal, Tree,
+    bucket_bits, bucket_words, cluster_words, fair_words, record_count, tree_words, Bucket, Clocked, Cluster, Fair,
+    Record, Refusal, Tree,
 };
 use std::vec;
 use std::vec::Vec;
@@ -26,6 +27,29 @@ impl TreeQueue {
     /// An empty tree, its store allocated.
     pub fn new(order: u32, levels: u32) -> Result<TreeQueue, Refusal> {
         Tree::cleared(order, levels, vec![0; tree_words(order, levels)])
+    }
+}
+
+/// Fair ranks with a state and a store of their own. Everything else is [`Fair`]'s.
+///
+/// ```
+/// use card_host::{FairQueue, Flow, Length, Refusal, Tag, Weight};
+///
+/// # fn main() -> Result<(), Refusal> {
+/// let mut queue = FairQueue::new(4, 3)?;
+/// queue.push(Flow(0), Weight(1), Tag(50), Length(1500))?;
+/// let (state, words) = queue.into_words();
+/// let mut again = FairQueue::from_words(4, 3, state, words);
+/// assert_eq!(again.pop()?.tag, Tag(50));
+/// # Ok(())
+/// # }
+/// ```
+pub type FairQueue = Fair<Vec<u32>, Vec<u32>>;
+
+impl FairQueue {
+    /// Nothing held, clock and finishes 0, state and store allocated.
+    pub fn new(order: u32, levels: u32) -> Result<FairQueue, Refusal> {
+        Fair::cleared(order, levels, vec![0; fair_words()], vec![0; tree_words(order, levels)])
     }
 }
 

@@ -62,6 +62,45 @@ extern "C" {
         out_len: usize,
     ) -> u32;
 
+    pub fn card_fair_reset(
+        state: *mut u32,
+        state_len: usize,
+        store: *const u32,
+        store_len: usize,
+        order: u32,
+        levels: u32,
+    ) -> u32;
+    pub fn card_fair_push(
+        state: *mut u32,
+        state_len: usize,
+        store: *mut u32,
+        store_len: usize,
+        order: u32,
+        levels: u32,
+        flow: u32,
+        weight: u32,
+        tag: u32,
+        length: u32,
+    ) -> u32;
+    pub fn card_fair_pop(
+        state: *mut u32,
+        state_len: usize,
+        store: *mut u32,
+        store_len: usize,
+        order: u32,
+        levels: u32,
+        out: *mut u32,
+        out_len: usize,
+    ) -> u32;
+    pub fn card_fair_held(
+        store: *const u32,
+        store_len: usize,
+        order: u32,
+        levels: u32,
+        out: *mut u32,
+        out_len: usize,
+    ) -> u32;
+
     pub fn card_cluster_clear(store: *mut u32, store_len: usize, places: u32, levels: u32) -> u32;
     pub fn card_cluster_push(
         store: *mut u32,
@@ -203,6 +242,7 @@ extern "C" {
 
     pub fn card_tree_words(order: u32, levels: u32) -> u32;
     pub fn card_cluster_words(places: u32, levels: u32) -> u32;
+    pub fn card_fair_words() -> usize;
     pub fn card_bucket_bits(storeys: u32) -> u32;
     pub fn card_bucket_words(storeys: u32, nodes: u32) -> u32;
 }

@@ -34,6 +34,16 @@ pub const fn tree_words(order: u32, levels: u32) -> usize {
     4 * tree_slots(order, levels)
 }
 
+/// How many words the state of fair ranks needs: the clock, and the last finish of each of 64 flows.
+///
+/// ```
+/// static STATE: [u32; card_host::fair_words()] = [0; 65];
+/// # let _ = STATE;
+/// ```
+pub const fn fair_words() -> usize {
+    65
+}
+
 /// The most places that a cluster heap has.
 const PLACES: usize = 5460;
 

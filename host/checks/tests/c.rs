@@ -48,6 +48,13 @@ fn null_with_length_0() {
     }
 }
 
+#[test]
+fn fair_ranks() {
+    for (standard, written) in in_each("host/checks/c/fair.c") {
+        assert_eq!(written, "", "{standard}");
+    }
+}
+
 /// Included twice and in two files of one program: nothing is defined twice, nothing is unused.
 #[test]
 fn in_two_files_of_one_program() {

@@ -197,6 +197,7 @@ fn of_header(text: &str) -> Result<Functions, String> {
         let (answer, name) = start.trim().rsplit_once(' ').ok_or(format!("no type before {start}"))?;
         let answer = match answer {
             "uint32_t" => "u32".to_string(),
+            "size_t" => "usize".to_string(),
             other => other.to_string(),
         };
         let mut flat = Vec::new();
@@ -226,7 +227,10 @@ fn of_header(text: &str) -> Result<Functions, String> {
 #[test]
 fn header_declarations_and_source_agree() {
     let paths = ["host/card.h", "host/card/src/raw.rs", "crates/card/src"];
-    let source = ["lib.rt", "repair.rt", "clock.rt"].map(|name| text(&root().join(paths[2]).join(name))).concat();
+    // every module of the library's source
+    let files = std::fs::read_dir(root().join(paths[2])).unwrap().map(|entry| entry.unwrap().path());
+    let source: String =
+        files.filter(|path| path.extension().map_or(false, |e| e == "rt")).map(|path| text(&path)).collect();
     let tables = [of_header(&text(&root().join(paths[0]))), of_rust(&text(&root().join(paths[1]))), of_source(&source)];
     let tables: Vec<Functions> =
         tables.into_iter().zip(paths).map(|(t, path)| t.unwrap_or_else(|e| panic!("{path}: {e}"))).collect();

@@ -71,6 +71,13 @@ fn a_text_is_played() {
     std::fs::remove_dir_all(&elsewhere).unwrap();
 }
 
+/// The picture of the pages is the one that a run draws.
+#[test]
+fn the_plot_is_drawn_from_a_run() {
+    assert_eq!(done(script("plot.sh").arg("-").current_dir("/")), text(&root().join("docs/fair.svg")));
+    refused(run(script("plot.sh").args(["a", "b"])), 2, "plot.sh [FILE]");
+}
+
 /// The bench is no test: it is built, and runs.
 #[test]
 fn the_bench_runs() {
@@ -79,6 +86,7 @@ fn the_bench_runs() {
         "bucket, spread ranks refilled",
         "bucket, three storeys, spread ranks refilled, 65536 held",
         "tree, order 4 x 6, push and pop",
+        "fair, order 4 x 6, push and pop, 4000 held",
         "check, order 4 x 8, full",
         "mend, order 4 x 8, full",
         "cycle, order 4 x 6, idle",

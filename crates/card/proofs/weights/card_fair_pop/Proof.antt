@@ -1,0 +1,34 @@
+-- `card::weights::card_fair_pop` meets its contract. Assumes nothing.
+use Rattle.card.proofs.Fair.{fair-short, fair-told}
+use borrow.Author.Needs.{needs}
+use Rattle.card.proofs.weights.card_fair_pop.Statement.{statement}
+use Rattle.card.proofs.weights.card_fair_pop.Tie as tie
+
+returns : tie.Need-returns
+returns c = fair-short _ _ _ _ (c .if1 .taken)
+
+pop-requires : tie.Need-pop-requires
+pop-requires c κs = search needs
+
+tell-served-requires : tie.Need-tell-served-requires
+tell-served-requires c κs = search needs
+
+same-length : tie.Need-same-length
+same-length c = search needs
+
+same-length-2 : tie.Need-same-length-2
+same-length-2 c = search needs
+
+same-length-3 : tie.Need-same-length-3
+same-length-3 c = search needs
+
+returns-2 : tie.Need-returns-2
+returns-2 c =
+    let at-tell = c .before .before in
+    let at-pop = at-tell .before .before .before .before .before .before in
+    fair-told _ _ _ _ _ _ _ _ _ (at-pop .before .before .before .if1 .left) (at-pop .pop .ensures) (at-tell .tell-served .ensures)
+
+pub card-fair-pop-spec : {M : Type 1} → statement M
+card-fair-pop-spec =
+    tie.close
+    (tie.spec returns pop-requires tell-served-requires same-length same-length-2 same-length-3 returns-2)

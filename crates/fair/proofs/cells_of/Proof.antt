@@ -1,0 +1,16 @@
+-- `fair::cells_of` meets its contract.
+use mathlib.Core.Path.{refl}
+use borrow.Author.Needs.{needs}
+use Rattle.fair_model.specs.Ranks.{cells}
+use Rattle.fair.proofs.cells_of.Statement.{statement}
+use Rattle.fair.proofs.cells_of.Tie as tie
+
+add-result : tie.Need-add-result
+add-result c = search needs
+
+returns : tie.Need-returns
+unfolding cells
+returns c = refl
+
+pub cells-of-spec : {M : Type 1} → statement M
+cells-of-spec = tie.close (tie.spec add-result returns)

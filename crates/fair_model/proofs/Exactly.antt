@@ -1,0 +1,174 @@
+-- EXACTLY: each refusal is given for its causes and no others, and leaves everything, whatever the words. PINNED: no call has two outcomes.
+use Prim.Native.Nat.{_<_, _≤_, ℕ}
+use native.Mathlib.Nat.{pos-of-ne-zero}
+use native.Mathlib.Omega.{arith}
+use mathlib.Core.Bool.{Bool, cond, false, true}
+use mathlib.Core.Logic.{_⊎_, inl, inr, ⊎-elim}
+use mathlib.Core.Path.{_∙_, _≡_, ap, refl, subst, sym}
+use lib.Dec.{eqb, leb}
+use lib.ListN.{length}
+use borrow.Author.Tests.{eqb-false, eqb-true, leb-false, leb-true}
+use Rattle.laws.specs.Ladder.{climb, climb-fine, climb-stop, Exactly, fine, First, Ladder, rung, stop}
+use Rattle.laws.specs.Means.{means-leb}
+use Rattle.promise.specs.Queue.{pins}
+use Rattle.promise.specs.Refused.{refusal-told, zero-told}
+use Rattle.promise.specs.Served.{IsOut}
+use Rattle.strip.specs.Answers.{countOf, numberOf, refusalNumber}
+use Rattle.strip.specs.declared.Answer.{Answer}
+use Rattle.strip.specs.declared.Answer.the-variants.{Done, Out, Refused}
+use Rattle.strip.specs.declared.Refusal.{Refusal}
+use Rattle.strip.specs.declared.Refusal.the-variants.{BadRank, BadShape, Damaged, Empty, Full, NoTag, TooSoon}
+use Rattle.strip.specs.declared.Request.{Request}
+use Rattle.strip.specs.declared.Request.the-variants.{Pop, Push}
+use Rattle.tree_model.proofs.Exactly as tree
+use Rattle.tree_model.specs.Calls.{called, heldCount, Outcome, outcome}
+use Rattle.tree_model.specs.Promise.{refusals}
+use Rattle.fair_model.specs.Calls.{answerNumber, blankState, denied, Desk, desk, fairNumber, handedOut, nextElement, nextFinish, passedOn, pops, pushes, Reply, reply, resets, stateOk, stateWords, stripOk, told}
+use Rattle.fair_model.specs.Promise.{Call, FairKind, fairQueue, fairRefusals, IsServed, Long, Pinned, pop, push, queued, reset}
+use Rattle.fair_model.specs.Ranks.{Good, latest}
+use Rattle.fair_model.specs.declared.FairAnswer.the-variants.{Accepted}
+use Rattle.fair_model.specs.declared.FairRefusal.{FairRefusal}
+use Rattle.fair_model.specs.declared.FairRefusal.the-variants.{BadStrip, ClockSpent, NotEmpty, Queue}
+use Rattle.fair_model.proofs.Outcomes.{pop-either, push-either, reset-either, strip-means}
+
+-- ---- the numbers tell the refusals apart
+number-most : (r : Refusal) → refusalNumber r ≤ 7
+number-most BadShape = omega arith
+number-most Damaged = omega arith
+number-most TooSoon = omega arith
+number-most BadRank = omega arith
+number-most Full = omega arith
+number-most Empty = omega arith
+number-most NoTag = omega arith
+
+answer-most : (a : Answer) → numberOf a ≤ 7
+answer-most Done = omega arith
+answer-most (Out e) = omega arith
+answer-most (Refused r) = number-most r
+
+pub fair-told : (x y : FairRefusal) → fairNumber x ≡ fairNumber y → x ≡ y
+fair-told BadStrip BadStrip e = refl
+fair-told BadStrip ClockSpent e = absurd (omega arith)
+fair-told BadStrip NotEmpty e = absurd (omega arith)
+fair-told BadStrip (Queue y) e = absurd (omega (arith, e, number-most y))
+fair-told ClockSpent BadStrip e = absurd (omega arith)
+fair-told ClockSpent ClockSpent e = refl
+fair-told ClockSpent NotEmpty e = absurd (omega arith)
+fair-told ClockSpent (Queue y) e = absurd (omega (arith, e, number-most y))
+fair-told NotEmpty BadStrip e = absurd (omega arith)
+fair-told NotEmpty ClockSpent e = absurd (omega arith)
+fair-told NotEmpty NotEmpty e = refl
+fair-told NotEmpty (Queue y) e = absurd (omega (arith, e, number-most y))
+fair-told (Queue x) BadStrip e = absurd (omega (arith, e, number-most x))
+fair-told (Queue x) ClockSpent e = absurd (omega (arith, e, number-most x))
+fair-told (Queue x) NotEmpty e = absurd (omega (arith, e, number-most x))
+fair-told (Queue x) (Queue y) e = ap Queue (refusal-told x y e)
+
+told-number : (a : Answer) → answerNumber (told a) ≡ numberOf a
+told-number Done = refl
+told-number (Out e) = refl
+told-number (Refused r) = refl
+
+-- ---- the queue's own table
+first-queued : (l : Ladder Refusal) (q : Refusal) → First l q → First (queued l) (Queue q)
+first-queued fine q h = h
+first-queued (rung x P l) q h = ⊎-elim (λ u. inl (u .0, ap Queue (u .1))) (λ u. inr (u .0, first-queued l q (u .1))) h
+first-queued (stop x P l) q h = ⊎-elim (λ u. inl (u .0, ap Queue (u .1))) (λ u. inr (u .0, first-queued l q (u .1))) h
+
+pub queued-first : (Q : FairRefusal → Type 0) (l : Ladder Refusal) → ((q : Refusal) → First l q → Q (Queue q)) → (r : FairRefusal) → First (queued l) r → Q r
+queued-first Q fine k r h = absurd h
+queued-first Q (rung x P l) k r h = ⊎-elim (λ u. subst Q (sym (u .1)) (k x (inl (u .0, refl)))) (λ u. queued-first Q l (λ q v. k q (inr (u .0, v))) r (u .1)) h
+queued-first Q (stop x P l) k r h = ⊎-elim (λ u. subst Q (sym (u .1)) (k x (inl (u .0, refl)))) (λ u. queued-first Q l (λ q v. k q (inr (u .0, v))) r (u .1)) h
+
+module _ (m levels : ℕ) (d : Desk) where
+  abbrev says : Reply → ℕ
+  says o = answerNumber (o .said)
+
+  abbrev left : FairRefusal → Reply
+  left r = denied r d
+
+  -- what the queue answers is told on: g is what becomes of its outcome
+  queue-exactly : (r : Request) (g : Outcome → Reply) → ((o : Outcome) → g o .said ≡ told (o .answer)) → ((q : Refusal) → g (outcome (Refused q) (d .store)) ≡ left (Queue q))
+      → Exactly says left (g (called m levels r (d .store))) (queued (refusals m levels r (d .store)))
+  queue-exactly r g same stood =
+      record {
+        only = λ x e. by x (sym (told-number (called m levels r (d .store) .answer)) ∙ ap answerNumber (sym (same (called m levels r (d .store)))) ∙ e);
+        always = λ x h. queued-first (λ y. g (called m levels r (d .store)) ≡ left y) (refusals m levels r (d .store)) (λ q v. ap g (tree.exactly m levels (d .store) r .always q v) ∙ stood q) x h;
+      }
+    where
+      by : (x : FairRefusal) → numberOf (called m levels r (d .store) .answer) ≡ fairNumber x → First (queued (refusals m levels r (d .store))) x
+      by BadStrip e = absurd (omega (arith, e, answer-most (called m levels r (d .store) .answer)))
+      by ClockSpent e = absurd (omega (arith, e, answer-most (called m levels r (d .store) .answer)))
+      by NotEmpty e = absurd (omega (arith, e, answer-most (called m levels r (d .store) .answer)))
+      by (Queue q) e = first-queued (refusals m levels r (d .store)) q (tree.exactly m levels (d .store) r .only q e)
+
+  exactly-push : (f w n t : ℕ) → Exactly says left (pushes m levels f w n t d) (fairRefusals m levels (push f w n t) d)
+  unfolding pushes
+  exactly-push f w n t =
+      climb says left fair-told (stripOk f w n) (Good f w n) BadStrip _ _ (strip-means f w n) (λ good.
+      climb says left fair-told (stateOk (d .state)) (Long d) (Queue BadShape) _ _ (means-leb stateWords (length (d .state))) (λ long.
+      climb-stop says left fair-told ClockSpent (latest < nextFinish d f w n) _ _ (spent (leb (nextFinish d f w n) latest) refl)))
+    where
+      on : Outcome → Reply
+      on o = passedOn o f (nextFinish d f w n) (d .state)
+
+      spent : (b : Bool) → leb (nextFinish d f w n) latest ≡ b
+          → ((latest < nextFinish d f w n → ⊥) × Exactly says left (cond b (passedOn (called m levels (Push (nextElement d f w n t)) (d .store)) f (nextFinish d f w n) (d .state)) (denied ClockSpent d)) (queued (refusals m levels (Push (nextElement d f w n t)) (d .store))))
+          ⊎ ((latest < nextFinish d f w n) × (cond b (passedOn (called m levels (Push (nextElement d f w n t)) (d .store)) f (nextFinish d f w n) (d .state)) (denied ClockSpent d) ≡ left ClockSpent))
+      spent true e = inl ((λ h. omega (arith, h, leb-true (nextFinish d f w n) latest e)), queue-exactly (Push (nextElement d f w n t)) on (λ o. refl) (λ q. refl))
+      spent false e = inr (leb-false (nextFinish d f w n) latest e, refl)
+
+  exactly-pop : Exactly says left (pops m levels d) (fairRefusals m levels pop d)
+  unfolding pops
+  exactly-pop =
+      climb says left fair-told (stateOk (d .state)) (Long d) (Queue BadShape) _ _ (means-leb stateWords (length (d .state))) (λ long.
+      queue-exactly Pop (λ o. handedOut o (d .state)) (λ o. refl) (λ q. refl))
+
+  granted : (r : FairRefusal) → 0 ≡ fairNumber r → ⊥
+  granted BadStrip e = omega arith
+  granted ClockSpent e = omega arith
+  granted NotEmpty e = omega arith
+  granted (Queue q) e = zero-told q e
+
+  exactly-reset : Exactly says left (resets m levels d) (fairRefusals m levels reset d)
+  unfolding resets
+  exactly-reset =
+      climb says left fair-told (stateOk (d .state)) (Long d) (Queue BadShape) _ _ (means-leb stateWords (length (d .state))) (λ long.
+      climb-stop says left fair-told NotEmpty (0 < countOf (heldCount m levels (d .store))) _ fine (empty (eqb (countOf (heldCount m levels (d .store))) 0) refl))
+    where
+      empty : (b : Bool) → eqb (countOf (heldCount m levels (d .store))) 0 ≡ b
+          → ((0 < countOf (heldCount m levels (d .store)) → ⊥) × Exactly says left (cond b (reply Accepted (desk (blankState (d .state)) (d .store))) (denied NotEmpty d)) fine)
+          ⊎ ((0 < countOf (heldCount m levels (d .store))) × (cond b (reply Accepted (desk (blankState (d .state)) (d .store))) (denied NotEmpty d) ≡ left NotEmpty))
+      empty true e = inl ((λ h. omega (arith, h, eqb-true (countOf (heldCount m levels (d .store))) 0 e)), climb-fine says left _ granted)
+      empty false e = inr (pos-of-ne-zero (eqb-false (countOf (heldCount m levels (d .store))) 0 e), refl)
+
+  -- EXACTLY: the table, by the number that a call says, and with everything left behind
+  pub exactly : (c : Call) → Exactly says left (fairQueue m levels c d) (fairRefusals m levels c d)
+  unfolding fairQueue
+  exactly (push f w n t) = exactly-push f w n t
+  exactly pop = exactly-pop
+  exactly reset = exactly-reset
+
+  -- PINNED: every public call, for all inputs
+  pub pinned : Pinned m levels d
+  pinned = record { push = λ f w n t. pins _; pop = pins _; reset = pins _; held = pins _ }
+
+-- ---- KIND: no call says that it is done and does nothing
+push-kind : (b : Answer) → (numberOf b ≡ 0 → b ≡ Done) → answerNumber (told b) ≡ 0 → told b ≡ Accepted
+push-kind b h e = ap told (h (sym (told-number b) ∙ e))
+
+pop-kind : (b : Answer) → (numberOf b ≡ 0 → IsOut b) → answerNumber (told b) ≡ 0 → IsServed (told b)
+pop-kind Done h e = h refl
+pop-kind (Out y) h e = tt
+pop-kind (Refused r) h e = absurd (zero-told r (sym e))
+
+pub fair-kind : (m levels : ℕ) (c : Call) (d : Desk) → answerNumber (fairQueue m levels c d .said) ≡ 0 → FairKind c (fairQueue m levels c d .said)
+unfolding fairQueue
+fair-kind m levels (push f w n t) d =
+    push-either m levels d f w n t (λ (z : Reply). answerNumber (z .said) ≡ 0 → z .said ≡ Accepted) (λ x e. absurd (granted m levels d x (sym e)))
+    (λ good long fits. push-kind (called m levels (Push (nextElement d f w n t)) (d .store) .answer) (tree.kind m levels (Push (nextElement d f w n t)) (d .store)))
+fair-kind m levels pop d =
+    pop-either m levels d (λ (z : Reply). answerNumber (z .said) ≡ 0 → IsServed (z .said)) (λ x e. absurd (granted m levels d x (sym e)))
+    (λ long. pop-kind (called m levels Pop (d .store) .answer) (tree.kind m levels Pop (d .store)))
+fair-kind m levels reset d =
+    reset-either m levels d (λ (z : Reply). answerNumber (z .said) ≡ 0 → z .said ≡ Accepted) (λ x e. absurd (granted m levels d x (sym e))) (λ long e z. refl)

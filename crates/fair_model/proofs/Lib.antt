@@ -1,0 +1,10 @@
+pub mod Chain
+pub mod Orderly
+pub mod Bound
+pub mod Outcomes
+pub mod Exactly
+pub mod Agrees
+pub mod Promises
+pub mod Below
+pub mod Cases
+pub mod Slice

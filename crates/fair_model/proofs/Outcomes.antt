@@ -1,0 +1,97 @@
+-- What a call may come to: a refusal that leaves everything, or what the queue makes of what is passed on to it.
+use Prim.Native.Nat.{_<_, _≤_, ℕ}
+use native.Mathlib.Omega.{arith}
+use mathlib.Core.Bool.{Bool, cond, false, true}
+use mathlib.Core.List.{List}
+use mathlib.Core.Path.{_∙_, _≡_, ap, refl, subst, sym}
+use lib.Dec.{eqb, leb}
+use lib.ListN.{drop, getD, getD-replicate, length, length-append, length-replicate, List·getD-append, replicate}
+use borrow.Author.Tests.{eqb-true, leb-true}
+use Rattle.laws.specs.Ladder.{left-behind}
+use Rattle.laws.specs.Means.{Means, means-and, means-by, means-leb, means-ltb}
+use Rattle.promise.specs.Served.{IsOut}
+use Rattle.strip.specs.Answers.{countOf, numberOf}
+use Rattle.strip.specs.declared.Answer.{Answer}
+use Rattle.strip.specs.declared.Answer.the-variants.{Done, Out, Refused}
+use Rattle.strip.specs.declared.Element.{Element}
+use Rattle.strip.specs.declared.Refusal.{Refusal}
+use Rattle.strip.specs.declared.Refusal.the-variants.{BadShape}
+use Rattle.strip.specs.declared.Request.{Request}
+use Rattle.strip.specs.declared.Request.the-variants.{Pop, Push}
+use Rattle.tree_model.proofs.Exactly.{exactly, kind}
+use Rattle.tree_model.specs.Calls.{called, heldCount, Outcome, outcome}
+use Rattle.fair_model.specs.Calls.{blankState, denied, Desk, desk, handedOut, nextElement, nextFinish, passedOn, pops, pushes, Reply, reply, resets, stateOk, stateWords, stripOk}
+use Rattle.fair_model.specs.Promise.{Long}
+use Rattle.fair_model.specs.Ranks.{flows, Good, heaviest, latest, longest}
+use Rattle.fair_model.specs.declared.FairAnswer.the-variants.{Accepted}
+use Rattle.fair_model.specs.declared.FairRefusal.{FairRefusal}
+use Rattle.fair_model.specs.declared.FairRefusal.the-variants.{BadStrip, ClockSpent, NotEmpty, Queue}
+
+-- the test of a strip
+pub strip-means : (f w n : ℕ) → Means (stripOk f w n) (Good f w n)
+unfolding stripOk
+strip-means f w n =
+    means-by (means-and (means-ltb f flows) (means-and (means-leb 1 w) (means-and (means-leb w heaviest) (means-and (means-leb 1 n) (means-leb n longest)))))
+    (λ h. record { known = h .0; some = h .1 .0; light = h .1 .1 .0; long = h .1 .1 .1 .0; short = h .1 .1 .1 .1 })
+    (λ g. (g .known, (g .some, (g .light, (g .long, g .short)))))
+
+-- a push answers no element, a pop always one: whatever the words
+pub push-gives-none : (m levels : ℕ) (ws : List ℕ) (x e : Element) → called m levels (Push x) ws .answer ≡ Out e → ⊥
+push-gives-none m levels ws x e p =
+    let q : called m levels (Push x) ws .answer ≡ Done = kind m levels (Push x) ws (rw p) in
+    let z : _≡_ {A = ℕ} 0 1 = cc in
+    omega arith
+
+pub pop-not-done : (m levels : ℕ) (ws : List ℕ) → called m levels Pop ws .answer ≡ Done → ⊥
+pop-not-done m levels ws p = subst (λ (a : Answer). IsOut a) p (kind m levels Pop ws (rw p))
+
+-- .. and refused, the queue's words stand
+pub refused-stands : (m levels : ℕ) (r : Request) (ws : List ℕ) (y : Refusal) → called m levels r ws .answer ≡ Refused y → called m levels r ws .words ≡ ws
+refused-stands m levels r ws y e =
+    ap (λ (o : Outcome). o .words)
+    (left-behind (λ (o : Outcome). numberOf (o .answer)) (λ (x : Refusal). outcome (Refused x) ws) (exactly m levels ws r) y (ap numberOf e))
+
+module _ (m levels : ℕ) (d : Desk) where
+  -- what is so of every refusal, and of a push that is passed on, is so of a push
+  pub push-either : (f w n t : ℕ) (P : Reply → Type 0) → ((x : FairRefusal) → P (denied x d))
+      → (Good f w n → Long d → nextFinish d f w n ≤ latest
+      → P (passedOn (called m levels (Push (nextElement d f w n t)) (d .store)) f (nextFinish d f w n) (d .state))) → P (pushes m levels f w n t d)
+  unfolding pushes
+  push-either f w n t P refused done = go (stripOk f w n) refl (stateOk (d .state)) refl (leb (nextFinish d f w n) latest) refl
+    where
+      on : Reply
+      on = passedOn (called m levels (Push (nextElement d f w n t)) (d .store)) f (nextFinish d f w n) (d .state)
+
+      go : (a : Bool) → stripOk f w n ≡ a → (b : Bool) → stateOk (d .state) ≡ b → (c : Bool) → leb (nextFinish d f w n) latest ≡ c
+          → P (cond a (cond b (cond c (passedOn (called m levels (Push (nextElement d f w n t)) (d .store)) f (nextFinish d f w n) (d .state)) (denied ClockSpent d)) (denied (Queue BadShape) d)) (denied BadStrip d))
+      go false e b e′ c e″ = refused BadStrip
+      go true e false e′ c e″ = refused (Queue BadShape)
+      go true e true e′ false e″ = refused ClockSpent
+      go true e true e′ true e″ = done (strip-means f w n .says e) (leb-true stateWords (length (d .state)) e′) (leb-true (nextFinish d f w n) latest e″)
+
+  pub pop-either : (P : Reply → Type 0) → ((x : FairRefusal) → P (denied x d)) → (Long d → P (handedOut (called m levels Pop (d .store)) (d .state))) → P (pops m levels d)
+  unfolding pops
+  pop-either P refused done = go (stateOk (d .state)) refl
+    where
+      go : (b : Bool) → stateOk (d .state) ≡ b → P (cond b (handedOut (called m levels Pop (d .store)) (d .state)) (denied (Queue BadShape) d))
+      go false e = refused (Queue BadShape)
+      go true e = done (leb-true stateWords (length (d .state)) e)
+
+  pub reset-either : (P : Reply → Type 0) → ((x : FairRefusal) → P (denied x d))
+      → (Long d → countOf (heldCount m levels (d .store)) ≡ 0 → P (reply Accepted (desk (blankState (d .state)) (d .store)))) → P (resets m levels d)
+  unfolding resets
+  reset-either P refused done = go (stateOk (d .state)) refl (eqb (countOf (heldCount m levels (d .store))) 0) refl
+    where
+      go : (b : Bool) → stateOk (d .state) ≡ b → (c : Bool) → eqb (countOf (heldCount m levels (d .store))) 0 ≡ c
+          → P (cond b (cond c (reply Accepted (desk (blankState (d .state)) (d .store))) (denied NotEmpty d)) (denied (Queue BadShape) d))
+      go false e c e′ = refused (Queue BadShape)
+      go true e false e′ = refused NotEmpty
+      go true e true e′ = done (leb-true stateWords (length (d .state)) e) (eqb-true (countOf (heldCount m levels (d .store))) 0 e′)
+
+-- the state that a reset leaves
+pub blank-at : (st : List ℕ) (j : ℕ) → j < stateWords → getD (blankState st) j 0 ≡ 0
+blank-at st j h =
+    List·getD-append (replicate stateWords 0) (drop stateWords st) 0 j (subst (λ (v : ℕ). j < v) (sym (length-replicate {A = ℕ} stateWords 0)) h) ∙ getD-replicate stateWords j 0 0 h
+
+pub blank-length : (st : List ℕ) → stateWords ≤ length (blankState st)
+blank-length st = simp (length-append, length-replicate) (omega arith)

@@ -1,0 +1,133 @@
+-- The calls of fair ranks over the one-at-a-time tree, each a total function of all numbers and words handed in to an answer and all words afterwards.
+use Prim.Native.Nat.{suc, ℕ}
+use mathlib.Core.Bool.{_&&_, Bool, cond}
+use mathlib.Core.List.{_++_, List}
+use lib.Dec.{eqb, leb, ltb}
+use lib.ListN.{drop, getD, length, replicate, set}
+use Rattle.promise.specs.Queue.{step, Step}
+use Rattle.strip.specs.Answers.{blank, countOf, element, refusalNumber}
+use Rattle.strip.specs.declared.Answer.{Answer}
+use Rattle.strip.specs.declared.Answer.the-variants.{Done, Out, Refused}
+use Rattle.strip.specs.declared.Element.{Element}
+use Rattle.strip.specs.declared.Refusal.the-variants.{BadShape}
+use Rattle.strip.specs.declared.Request.the-variants.{Pop, Push}
+use Rattle.tree_model.specs.Calls.{called, heldCount, Outcome}
+use Rattle.fair_model.specs.Ranks.{finish, flows, heaviest, latest, longest}
+use Rattle.fair_model.specs.declared.FairAnswer.{FairAnswer}
+use Rattle.fair_model.specs.declared.FairAnswer.the-variants.{Accepted, Denied, Served}
+use Rattle.fair_model.specs.declared.FairRefusal.{FairRefusal}
+use Rattle.fair_model.specs.declared.FairRefusal.the-variants.{BadStrip, ClockSpent, NotEmpty, Queue}
+
+-- ---- the numbers of the refusals, and what an answer gives
+abbrev pub fairNumber : FairRefusal → ℕ
+fairNumber BadStrip = 9
+fairNumber ClockSpent = 10
+fairNumber NotEmpty = 11
+fairNumber (Queue r) = refusalNumber r
+
+-- .. and 0 where nothing is refused
+abbrev pub answerNumber : FairAnswer → ℕ
+answerNumber Accepted = 0
+answerNumber (Served e) = 0
+answerNumber (Denied r) = fairNumber r
+
+abbrev pub servedElement : FairAnswer → Element
+servedElement Accepted = blank
+servedElement (Served e) = e
+servedElement (Denied r) = blank
+
+-- the queue's answer, told on
+abbrev pub told : Answer → FairAnswer
+told Done = Accepted
+told (Out e) = Served e
+told (Refused r) = Denied (Queue r)
+
+-- ---- the lent state: the clock, then the last finish of each flow. A shorter slice is refused, of a longer one the rest is never touched
+abbrev pub stateWords : ℕ
+stateWords = 65
+
+abbrev pub clockOf : List ℕ → ℕ
+clockOf st = getD st 0 0
+
+abbrev pub lastOf : List ℕ → ℕ → ℕ
+lastOf st f = getD st (suc f) 0
+
+abbrev pub stateOk : List ℕ → Bool
+stateOk st = leb stateWords (length st)
+
+-- the words lent to a call: the state, and the queue's store
+pub record Desk : Type 0 where
+  pub state : List ℕ
+  pub store : List ℕ
+
+abbrev pub desk : List ℕ → List ℕ → Desk
+desk st ws = record { state = st; store = ws }
+
+-- what a call comes to: its answer, and the words that it leaves
+abbrev pub Reply : Type 0
+Reply = Step FairAnswer Desk
+
+abbrev pub reply : FairAnswer → Desk → Reply
+reply a d = step a d
+
+-- refused, everything is left
+abbrev pub denied : FairRefusal → Desk → Reply
+denied r d = reply (Denied r) d
+
+-- ---- the rules
+-- "A flow, weight or length outside these limits is refused first"
+unfoldable pub stripOk : ℕ → ℕ → ℕ → Bool
+stripOk f w n = ltb f flows && (leb 1 w && (leb w heaviest && (leb 1 n && leb n longest)))
+
+-- the finish of a strip of flow f, weight w and n bytes that is pushed now; "that is its rank"
+abbrev pub nextFinish : Desk → ℕ → ℕ → ℕ → ℕ
+nextFinish d f w n = finish (clockOf (d .state)) (lastOf (d .state) f) w n
+
+-- .. and the element that the queue gets
+abbrev pub nextElement : Desk → ℕ → ℕ → ℕ → ℕ → Element
+nextElement d f w n t = element (nextFinish d f w n) t n
+
+-- the queue has taken a strip: its finish is its flow's last
+abbrev pub noted : Answer → ℕ → ℕ → List ℕ → List ℕ
+noted Done f r st = set st (suc f) r
+noted (Out e) f r st = st
+noted (Refused n) f r st = st
+
+-- "the clock becomes the rank of what is popped"
+abbrev pub timed : Answer → List ℕ → List ℕ
+timed Done st = st
+timed (Out e) st = set st 0 (e .rank .0)
+timed (Refused n) st = st
+
+abbrev pub passedOn : Outcome → ℕ → ℕ → List ℕ → Reply
+passedOn o f r st = reply (told (o .answer)) (desk (noted (o .answer) f r st) (o .words))
+
+abbrev pub handedOut : Outcome → List ℕ → Reply
+handedOut o st = reply (told (o .answer)) (desk (timed (o .answer) st) (o .words))
+
+-- "a reset sets the clock and all finishes to 0"
+abbrev pub blankState : List ℕ → List ℕ
+blankState st = replicate stateWords 0 ++ drop stateWords st
+
+module _ (m levels : ℕ) where
+  -- order of tests: 9; a state too short, 1; 10; the queue's own
+  unfoldable pub pushes : ℕ → ℕ → ℕ → ℕ → Desk → Reply
+  pushes f w n t d =
+      cond (stripOk f w n)
+      (cond (stateOk (d .state))
+      (cond (leb (nextFinish d f w n) latest)
+      (passedOn (called m levels (Push (nextElement d f w n t)) (d .store)) f (nextFinish d f w n) (d .state))
+      (denied ClockSpent d))
+      (denied (Queue BadShape) d))
+      (denied BadStrip d)
+
+  -- a state too short, 1; the queue's own
+  unfoldable pub pops : Desk → Reply
+  pops d = cond (stateOk (d .state)) (handedOut (called m levels Pop (d .store)) (d .state)) (denied (Queue BadShape) d)
+
+  -- a state too short, 1; 11: refused "while anything is held". A refused held answers 0
+  unfoldable pub resets : Desk → Reply
+  resets d =
+      cond (stateOk (d .state))
+      (cond (eqb (countOf (heldCount m levels (d .store))) 0) (reply Accepted (desk (blankState (d .state)) (d .store))) (denied NotEmpty d))
+      (denied (Queue BadShape) d)

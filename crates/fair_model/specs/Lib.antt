@@ -1,0 +1,5 @@
+pub mod Ranks
+pub mod Calls
+pub mod Ledger
+pub mod Promise
+pub mod Cases
