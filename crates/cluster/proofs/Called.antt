@@ -27,7 +27,8 @@ use Rattle.cluster_nodes.proofs.Bridge.{test-is, look-count}
 use Rattle.cluster.specs.Down.{putDown, takeDown, swapDown}
 use Rattle.cluster.specs.Coded.{heldBy, heldDown, openedTo, popDown, pushDown, replaceDown}
 use Rattle.cluster.proofs.Shapes.{shape-is}
-use Rattle.cluster.proofs.Commute.{run-none, low-place, low-elem, and-l, and-r}
+use Rattle.cluster_nodes.proofs.Fulls.{and-l, and-r}
+use Rattle.cluster.proofs.Commute.{run-none, low-place, low-elem}
 use Rattle.cluster.proofs.Taken.{way-none, take-main}
 use Rattle.cluster.proofs.Swapped.{swap-main}
 use Rattle.cluster.proofs.Putted.{put-main}

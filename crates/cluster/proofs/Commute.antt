@@ -17,6 +17,7 @@ use Rattle.cluster_model.specs.Words.{word, width, rowOf, placeBy, placeOf, nod
 use Rattle.cluster_model.specs.Way.{touch, works}
 use Rattle.cluster_model.specs.Words.{writeRow, writeNode}
 use Rattle.cluster_model.specs.Way.{child, nodeIn, lowIn, stepIn, runWords, neatTo, wayOk}
+use Rattle.cluster_nodes.proofs.Fulls.{and-l, and-r}
 use Rattle.cluster_nodes.specs.Leaf.{elemAt, lookNode, placeIn, sinkWords, raiseWords}
 use Rattle.cluster.specs.Down.{Went}
 use Rattle.cluster_nodes.specs.Scan.{lowerThan, scan}
@@ -105,14 +106,6 @@ run-none K zero m ws = refl
 run-none K (suc k) m ws = run-none K k (child m lhs) ws
 
 -- ---- the test D2 makes a node neat
-pub and-l : (a b : Bool) → (a && b) ≡ true → a ≡ true
-and-l true b e = refl
-and-l false b e = e
-
-pub and-r : (a b : Bool) → (a && b) ≡ true → b ≡ true
-and-r true b e = e
-and-r false b e = let z : _≡_ {A = ℕ} 0 1 = cc in absurd (not-suc-le-zero {n = 0} (omega arith))
-
 neat-every : (K : ℕ) (ws : List ℕ) (o n : ℕ) → neatTo K ws o n ≡ true → (j : ℕ) → j < n → NeatPlace ws (o + j * 4)
 unfolding neatTo
 neat-every K ws o zero e j h = absurd (not-suc-le-zero h)

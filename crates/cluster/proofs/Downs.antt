@@ -11,27 +11,16 @@ use borrow.Author.Tests.{not-true, not-false, lt-ltb, le-ltb, leb-true}
 use Rattle.strip.specs.declared.Element.{Element}
 use Rattle.strip.specs.Answers.{key}
 use Rattle.cluster_nodes.specs.declared.Seen.{Seen}
-use Rattle.cluster_nodes.specs.declared.Found.{Found}
+use Rattle.cluster_nodes.specs.declared.Lead.{Lead}
 use Rattle.cluster_nodes.specs.declared.Chosen.{Chosen}
 use Rattle.cluster_model.specs.Node.{gap, has, keep, pass}
 use Rattle.cluster_model.specs.Words.{word, width, writePlace}
 use Rattle.cluster_nodes.specs.Seeing.{lookTo}
-use Rattle.cluster_nodes.specs.Leaf.{elemAt, underOf, bareAt, okBy, raiseWords, sinkWords, lookNode, placeIn, peekOf, rightLower, choiceBy, choiceOf, Here}
-use Rattle.cluster.specs.Down.{Went, went, fewerRight, takeBack, takeNode, takeDown, swapBack, swapNode, swapDown, putBack, putNode, putDown, Reach, TakeReady, PutReady}
-use Rattle.cluster_nodes.proofs.Looks.{low-lt, high-lt}
-use Rattle.cluster_nodes.proofs.Children.{peek-place}
-
-module _ (K limit : ℕ) (ws : List ℕ) (m : ℕ) where
-  pub choice-place : (c : Chosen) → 0 < K → c ≡ choiceOf K limit ws m → c .place < K
-  unfolding choiceOf choiceBy
-  choice-place c h e =
-      subst (λ (u : Chosen). u .place < K) (sym e)
-      (go (choiceOf K limit ws m .right) (peekOf K limit ws (m + m + 2) (word ws (m * width K + 1)) .place) (peekOf K limit ws (m + m + 1) (word ws (m * width K)) .place)
-      (peek-place K limit ws (m + m + 2) (word ws (m * width K + 1)) _ h refl) (peek-place K limit ws (m + m + 1) (word ws (m * width K)) _ h refl))
-    where
-      go : (b : Bool) (x y : ℕ) → x < K → y < K → cond b x y < K
-      go true x y p q = p
-      go false x y p q = q
+use Rattle.cluster_nodes.specs.Full.{fullTo, highLead, isHigh, ranks}
+use Rattle.cluster_nodes.specs.Leaf.{elemAt, underOf, bareAt, okBy, raiseWords, sinkWords, lookNode, placeIn, peekOf, choiceBy, choiceOf, countsOk, begun, ChoiceFrom, Here, Lies, Under}
+use Rattle.cluster.specs.Down.{Went, went, fewerRight, takeBack, takeNode, takeDown, swapBack, swapNode, swapDown, putBack, putNode, putDown, putIn, putEnd, Reach, TakeReady, PutReady, TakeMeets, SwapMeets, PutMeets}
+use Rattle.cluster_nodes.proofs.Children.{choice-place, left-begins, right-begins}
+use Rattle.cluster_nodes.proofs.Fulls.{and-l, full-look, full-high, ok-full, counts-in, neat-room, best-lt}
 
 -- ---- where the nodes lie
 pub lies-here : (K left m len : ℕ) → Reach K left m len → Here K m len
@@ -53,22 +42,40 @@ lies-side K (suc k) m len b d n l e = subst (λ (j : ℕ). Reach K j d len) (sym
     go true = l .2
     go false = l .1
 
--- the child that holds fewer
-pub side-here : (K left m : ℕ) (ws : List ℕ) (d : ℕ) → (left ≡ 0 → ⊥) → Reach K left m (length ws) → d ≡ cond (ltb (word ws (m * width K + 1)) (word ws (m * width K))) (m + m + 2) (m + m + 1) → Here K d (length ws)
-side-here K left m ws d n l e = lies-here K (left - 1) d (length ws) (lies-side K left m (length ws) (ltb (word ws (m * width K + 1)) (word ws (m * width K))) d n l e)
+pub lies-within : (K left m o len : ℕ) → o ≡ m * width K → Reach K left m len → Lies K o len
+lies-within K left m o len at l =
+    let h = lies-here K left m len l in
+    record { some = h .some; few = h .few; words = omega (arith, at, h .words) }
 
-pub child-ready : (K left m limit j : ℕ) (ws : List ℕ) (c : Chosen) → (left ≡ 0 → ⊥) → TakeReady K left m j ws → c ≡ choiceOf K limit ws m → TakeReady K (left - 1) (c .child) (c .place) ws
-unfolding choiceOf choiceBy
-child-ready K left m limit j ws c n r e = record {
-  lies = lies-side K left m (length ws) (choiceOf K limit ws m .right) (c .child) n (r .lies) (ap (λ (u : Chosen). u .child) e);
-  place = choice-place K limit ws m c (omega (arith, lies-here K left m (length ws) (r .lies))) e;
-}
+pub lies-under : (K left m o len : ℕ) → o ≡ m * width K → (left ≡ 0 → ⊥) → Reach K left m len → Under K o len
+lies-under K left m o len at n l =
+    let h = lies-one K left m len n l .2 in
+    record { some = h .some; few = h .few; words = omega (arith, at, h .words) }
+
+module _ (K left o j : ℕ) (ws : List ℕ) (r : TakeReady K left o j ws) where
+  pub take-within : Lies K o (length ws)
+  take-within = lies-within K left (r .node) o (length ws) (r .begins) (r .lies)
+
+  pub take-under : (left ≡ 0 → ⊥) → Under K o (length ws)
+  take-under n = lies-under K left (r .node) o (length ws) (r .begins) n (r .lies)
+
+  pub child-ready : (limit : ℕ) (c : Chosen) → (left ≡ 0 → ⊥) → ChoiceFrom K limit ws o c → TakeReady K (left - 1) (c .child) (c .place) ws
+  unfolding choiceOf choiceBy
+  child-ready limit c n chosen =
+      let m : ℕ = r .node in
+      let e = chosen m (r .begins) in
+      record {
+        node = choiceOf K limit ws m .child;
+        begins = ap (λ (u : Chosen). u .child) e;
+        lies = lies-side K left m (length ws) (choiceOf K limit ws m .right) (choiceOf K limit ws m .child) n (r .lies) refl;
+        place = subst (λ (i : ℕ). i < K) (sym (ap (λ (u : Chosen). u .place) e)) (choice-place K limit ws m (choiceOf K limit ws m) (omega (arith, lies-here K left m (length ws) (r .lies))) refl);
+      }
 
 -- ---- take
-module _ (K left m limit j : ℕ) (ws : List ℕ) where
-  pub take-zero : (q : List ℕ) → left ≡ 0 → q ≡ writePlace ws (placeIn K m j) gap → went true q ≡ takeDown K left m limit j ws
+module _ (K left m limit j : ℕ) (ws : List ℕ) (o : ℕ) (at : o ≡ m * width K) where
+  pub take-zero : (q : List ℕ) → left ≡ 0 → q ≡ writePlace ws (o + 2 + j * 4) gap → went true q ≡ takeDown K left m limit j ws
   unfolding takeDown
-  take-zero q z e = rw (z, e) refl
+  take-zero q z e = rw z (ap (went true) (e ∙ ap (λ (o : ℕ). writePlace ws (o + 2 + j * 4) gap) at))
 
   unroll : (left ≡ 0 → ⊥) → takeDown K left m limit j ws ≡ takeNode K (takeDown K (left - 1)) m limit j ws
   unfolding takeDown
@@ -78,35 +85,58 @@ module _ (K left m limit j : ℕ) (ws : List ℕ) where
       go zero n = absurd (n refl)
       go (suc k) n = ap (λ (i : ℕ). takeNode K (takeDown K i) m limit j ws) (sym (less-one k))
 
-  module _ (n : left ≡ 0 → ⊥) (bare : Bool) (tested : bare ≡ bareAt ws (m * width K)) where
-    pub take-bare : (q : List ℕ) → bare ≡ true → q ≡ writePlace ws (placeIn K m j) gap → went true q ≡ takeDown K left m limit j ws
-    unfolding takeNode
-    take-bare q t e = rw (unroll n, ← tested, t, e) refl
+  module _ (n : left ≡ 0 → ⊥) (bare : Bool) (read : bare ≡ bareAt ws o) where
+    tested : bare ≡ bareAt ws (m * width K)
+    tested = read ∙ ap (bareAt ws) at
 
-    module _ (some : bare ≡ false) (below : ℕ) (under : below ≡ underOf K limit) (c : Chosen) (chosen : c ≡ choiceOf K below ws m) where
+    pub take-bare : (q : List ℕ) → bare ≡ true → q ≡ writePlace ws (o + 2 + j * 4) gap → went true q ≡ takeDown K left m limit j ws
+    unfolding takeNode
+    take-bare q t e = rw (unroll n, ← tested, t) (ap (went true) (e ∙ ap (λ (o : ℕ). writePlace ws (o + 2 + j * 4) gap) at))
+
+    module _ (some : bare ≡ false) (below : ℕ) (under : below ≡ underOf K limit) (c : Chosen) (chosen : ChoiceFrom K below ws o c) where
+      abbrev C : Chosen
+      C = choiceOf K below ws m
+
+      is : c ≡ begun K C
+      is = chosen m at
+
+      fine : c .ok ≡ C .ok
+      fine = ap (λ (u : Chosen). u .ok) is
+
       here : takeNode K (takeDown K (left - 1)) m limit j ws
-          ≡ cond (c .ok) (takeBack K m j (word ws (m * width K)) (word ws (m * width K + 1)) c (takeDown K (left - 1) (c .child) below (c .place) ws)) (went false ws)
+          ≡ cond (C .ok) (takeBack K m j (word ws (m * width K)) (word ws (m * width K + 1)) C (takeDown K (left - 1) (C .child) below (C .place) ws)) (went false ws)
       unfolding takeNode
-      here = rw (← tested, some, ← under, ← chosen) refl
+      here = rw (← tested, some, ← under) refl
 
       pub take-bad : not (c .ok) ≡ true → went false ws ≡ takeDown K left m limit j ws
-      take-bad t = rw (unroll n, here, not-true (c .ok) t) refl
+      take-bad t = rw (unroll n, here, ← fine, not-true (c .ok) t) refl
 
-      module _ (ok : not (c .ok) ≡ false) (g : Bool) (q : List ℕ) (goes : went g q ≡ takeDown K (left - 1) (c .child) below (c .place) ws) where
+      module _ (ok : not (c .ok) ≡ false) (g : Bool) (q : List ℕ) (goes : TakeMeets K (left - 1) (c .child) below (c .place) ws g q) where
+        gone : went g q ≡ takeDown K (left - 1) (C .child) below (C .place) ws
+        gone = goes (C .child) (ap (λ (u : Chosen). u .child) is) ∙ ap (λ (u : Chosen). takeDown K (left - 1) (C .child) below (u .place) ws) is
+
         pub take-stop : not g ≡ true → went false q ≡ takeDown K left m limit j ws
         unfolding takeBack
-        take-stop t = rw (unroll n, here, not-false (c .ok) ok, ← goes, not-true g t) refl
+        take-stop t = rw (unroll n, here, ← fine, not-false (c .ok) ok, ← gone, not-true g t) refl
 
-        pub take-done : not g ≡ false → (l r : ℕ) → l ≡ word ws (m * width K) → r ≡ word ws (m * width K + 1) → (q₁ q₂ : List ℕ) → q₁ ≡ sinkWords (c .right) q (m * width K) l r
-            → q₂ ≡ writePlace q₁ (placeIn K m j) (has (c .up)) → went true q₂ ≡ takeDown K left m limit j ws
+        pub take-done : not g ≡ false → (l r : ℕ) → l ≡ word ws o → r ≡ word ws (o + 1) → (q₁ q₂ : List ℕ) → q₁ ≡ sinkWords (c .right) q o l r
+            → q₂ ≡ writePlace q₁ (o + 2 + j * 4) (has (c .up)) → went true q₂ ≡ takeDown K left m limit j ws
         unfolding takeBack
-        take-done t l r el er q₁ q₂ e₁ e₂ = rw (unroll n, here, not-false (c .ok) ok, ← goes, not-false g t, e₂, e₁, el, er) refl
+        take-done t l r el er q₁ q₂ e₁ e₂ =
+            rw (unroll n, here, ← fine, not-false (c .ok) ok, ← gone, not-false g t)
+            (ap (went true)
+            (e₂ ∙ ap (λ (q : List ℕ). writePlace q (o + 2 + j * 4) (has (c .up))) (e₁ ∙ ap₂ (λ (l r : ℕ). sinkWords (c .right) q o l r) el er)
+            ∙ ap (λ (o : ℕ). writePlace (sinkWords (c .right) q o (word ws o) (word ws (o + 1))) (o + 2 + j * 4) (has (c .up))) at
+            ∙ ap (λ (u : Chosen). writePlace (sinkWords (u .right) q (m * width K) (word ws (m * width K)) (word ws (m * width K + 1))) (placeIn K m j) (has (u .up))) is))
 
 -- ---- swap
-module _ (K left m limit j : ℕ) (x : Element) (ws : List ℕ) where
-  pub swap-zero : (q : List ℕ) → left ≡ 0 → q ≡ writePlace ws (placeIn K m j) (has x) → went true q ≡ swapDown K left m limit j x ws
+module _ (K left m limit j : ℕ) (x : Element) (ws : List ℕ) (o : ℕ) (at : o ≡ m * width K) where
+  swap-put : (q : List ℕ) → q ≡ writePlace ws (o + 2 + j * 4) (has x) → went true q ≡ went true (writePlace ws (placeIn K m j) (has x))
+  swap-put q e = ap (went true) (e ∙ ap (λ (o : ℕ). writePlace ws (o + 2 + j * 4) (has x)) at)
+
+  pub swap-zero : (q : List ℕ) → left ≡ 0 → q ≡ writePlace ws (o + 2 + j * 4) (has x) → went true q ≡ swapDown K left m limit j x ws
   unfolding swapDown
-  swap-zero q z e = rw (z, e) refl
+  swap-zero q z e = rw z (swap-put q e)
 
   swap-unroll : (left ≡ 0 → ⊥) → swapDown K left m limit j x ws ≡ swapNode K (λ m limit j ws. swapDown K (left - 1) m limit j x ws) m limit j x ws
   unfolding swapDown
@@ -116,118 +146,244 @@ module _ (K left m limit j : ℕ) (x : Element) (ws : List ℕ) where
       go zero n = absurd (n refl)
       go (suc k) n = ap (λ (i : ℕ). swapNode K (λ m limit j ws. swapDown K i m limit j x ws) m limit j x ws) (sym (less-one k))
 
-  module _ (n : left ≡ 0 → ⊥) (bare : Bool) (tested : bare ≡ bareAt ws (m * width K)) where
-    pub swap-bare : (q : List ℕ) → bare ≡ true → q ≡ writePlace ws (placeIn K m j) (has x) → went true q ≡ swapDown K left m limit j x ws
-    unfolding swapNode
-    swap-bare q t e = rw (swap-unroll n, ← tested, t, e) refl
+  module _ (n : left ≡ 0 → ⊥) (bare : Bool) (read : bare ≡ bareAt ws o) where
+    swap-tested : bare ≡ bareAt ws (m * width K)
+    swap-tested = read ∙ ap (bareAt ws) at
 
-    module _ (some : bare ≡ false) (below : ℕ) (under : below ≡ underOf K limit) (c : Chosen) (chosen : c ≡ choiceOf K below ws m) where
+    pub swap-bare : (q : List ℕ) → bare ≡ true → q ≡ writePlace ws (o + 2 + j * 4) (has x) → went true q ≡ swapDown K left m limit j x ws
+    unfolding swapNode
+    swap-bare q t e = rw (swap-unroll n, ← swap-tested, t) (swap-put q e)
+
+    module _ (some : bare ≡ false) (below : ℕ) (under : below ≡ underOf K limit) (c : Chosen) (chosen : ChoiceFrom K below ws o c) where
+      abbrev D : Chosen
+      D = choiceOf K below ws m
+
+      swap-is : c ≡ begun K D
+      swap-is = chosen m at
+
+      swap-fine : c .ok ≡ D .ok
+      swap-fine = ap (λ (u : Chosen). u .ok) swap-is
+
       swap-here : swapNode K (λ m limit j ws. swapDown K (left - 1) m limit j x ws) m limit j x ws
-          ≡ cond (c .ok)
-          (cond (ltb (key (c .up)) (key x)) (swapBack K m j c (swapDown K (left - 1) (c .child) below (c .place) x ws)) (went true (writePlace ws (placeIn K m j) (has x))))
+          ≡ cond (D .ok)
+          (cond (ltb (key (D .up)) (key x)) (swapBack K m j D (swapDown K (left - 1) (D .child) below (D .place) x ws)) (went true (writePlace ws (placeIn K m j) (has x))))
           (went false ws)
       unfolding swapNode
-      swap-here = rw (← tested, some, ← under, ← chosen) refl
+      swap-here = rw (← swap-tested, some, ← under) refl
 
       pub swap-bad : not (c .ok) ≡ true → went false ws ≡ swapDown K left m limit j x ws
-      swap-bad t = rw (swap-unroll n, swap-here, not-true (c .ok) t) refl
+      swap-bad t = rw (swap-unroll n, swap-here, ← swap-fine, not-true (c .ok) t) refl
 
       module _ (ok : not (c .ok) ≡ false) (low : Bool) (compared : low ≡ ltb (key (c .up)) (key x)) where
-        pub swap-stays : (q : List ℕ) → not low ≡ true → q ≡ writePlace ws (placeIn K m j) (has x) → went true q ≡ swapDown K left m limit j x ws
-        swap-stays q t e = rw (swap-unroll n, swap-here, not-false (c .ok) ok, ← compared, not-true low t, e) refl
+        lows : low ≡ ltb (key (D .up)) (key x)
+        lows = compared ∙ ap (λ (u : Chosen). ltb (key (u .up)) (key x)) swap-is
 
-        module _ (lifts : not low ≡ false) (g : Bool) (q : List ℕ) (goes : went g q ≡ swapDown K (left - 1) (c .child) below (c .place) x ws) where
+        pub swap-stays : (q : List ℕ) → not low ≡ true → q ≡ writePlace ws (o + 2 + j * 4) (has x) → went true q ≡ swapDown K left m limit j x ws
+        swap-stays q t e = rw (swap-unroll n, swap-here, ← swap-fine, not-false (c .ok) ok, ← lows, not-true low t) (swap-put q e)
+
+        module _ (lifts : not low ≡ false) (g : Bool) (q : List ℕ) (goes : SwapMeets K (left - 1) (c .child) below (c .place) x ws g q) where
+          swap-gone : went g q ≡ swapDown K (left - 1) (D .child) below (D .place) x ws
+          swap-gone = goes (D .child) (ap (λ (u : Chosen). u .child) swap-is) ∙ ap (λ (u : Chosen). swapDown K (left - 1) (D .child) below (u .place) x ws) swap-is
+
           pub swap-stop : not g ≡ true → went false q ≡ swapDown K left m limit j x ws
           unfolding swapBack
-          swap-stop t = rw (swap-unroll n, swap-here, not-false (c .ok) ok, ← compared, not-false low lifts, ← goes, not-true g t) refl
+          swap-stop t = rw (swap-unroll n, swap-here, ← swap-fine, not-false (c .ok) ok, ← lows, not-false low lifts, ← swap-gone, not-true g t) refl
 
-          pub swap-done : not g ≡ false → (q₂ : List ℕ) → q₂ ≡ writePlace q (placeIn K m j) (has (c .up)) → went true q₂ ≡ swapDown K left m limit j x ws
+          pub swap-done : not g ≡ false → (q₂ : List ℕ) → q₂ ≡ writePlace q (o + 2 + j * 4) (has (c .up)) → went true q₂ ≡ swapDown K left m limit j x ws
           unfolding swapBack
-          swap-done t q₂ e = rw (swap-unroll n, swap-here, not-false (c .ok) ok, ← compared, not-false low lifts, ← goes, not-false g t, e) refl
+          swap-done t q₂ e =
+              rw (swap-unroll n, swap-here, ← swap-fine, not-false (c .ok) ok, ← lows, not-false low lifts, ← swap-gone, not-false g t)
+              (ap (went true) (e ∙ ap (λ (o : ℕ). writePlace q (o + 2 + j * 4) (has (c .up))) at ∙ ap (λ (u : Chosen). writePlace q (placeIn K m j) (has (u .up))) swap-is))
+
+-- ---- a node that is not full has room, if it is in order
+module _ (K limit : ℕ) (x : Element) (ws : List ℕ) (o : ℕ) where
+  abbrev seen : Seen
+  seen = lookTo ws (o + 2) K
+
+  ok-neat : okBy K limit ws o seen ≡ true → seen .neat ≡ true
+  unfolding okBy
+  ok-neat e = and-l (seen .neat) (leb (word ws o) limit && (leb (word ws (o + 1)) limit && (bareAt ws o || leb K (seen .count)))) e
+
+  module _ (v : Seen) (looked : v ≡ seen) (fine : Bool) (told : fine ≡ okBy K limit ws o v) where
+    known : fine ≡ okBy K limit ws o seen
+    known = told ∙ ap (okBy K limit ws o) looked
+
+    pub end-bad : not fine ≡ true → went false ws ≡ putEnd K limit o x ws
+    unfolding putEnd
+    end-bad t = rw (← known, not-true fine t) refl
+
+    module _ (ok : not fine ≡ false) where
+      frees : v .free ≡ seen .free
+      frees = ap (λ (u : Seen). u .free) looked
+
+      pub end-room : v .free < K → (q : List ℕ) → q ≡ writePlace ws (o + 2 + v .free * 4) (has x) → went true q ≡ putEnd K limit o x ws
+      unfolding putEnd
+      end-room h q w = rw (← known, not-false fine ok, lt-ltb (seen .free) K (omega (arith, frees, h))) (ap (went true) (w ∙ ap (λ (i : ℕ). writePlace ws (o + 2 + i * 4) (has x)) frees))
+
+      pub end-none : K ≤ v .free → went false ws ≡ putEnd K limit o x ws
+      unfolding putEnd
+      end-none h = rw (← known, not-false fine ok, le-ltb (seen .free) K (omega (arith, frees, h))) refl
 
 -- ---- put
-pub ok-counts : (K limit : ℕ) (ws : List ℕ) (o : ℕ) (v : Seen) → okBy K limit ws o v ≡ true → (word ws o ≤ limit) × (word ws (o + 1) ≤ limit)
-unfolding okBy
-ok-counts K limit ws o v e = go (v .neat) (leb (word ws o) limit) refl (leb (word ws (o + 1)) limit) refl e
-  where
-    go : (a b : Bool) → leb (word ws o) limit ≡ b → (d : Bool) → leb (word ws (o + 1)) limit ≡ d → (a && (b && (d && (bareAt ws o || leb K (v .count))))) ≡ true → (word ws o ≤ limit) × (word ws (o + 1) ≤ limit)
-    go true true p true q e = (leb-true (word ws o) limit p, leb-true (word ws (o + 1)) limit q)
-    go true true p false q e = absurd (false≢true e)
-    go true false p d q e = absurd (false≢true e)
-    go false b p d q e = absurd (false≢true e)
+module _ (K left m limit : ℕ) (x : Element) (ws : List ℕ) (o : ℕ) (at : o ≡ m * width K) where
+  abbrev v : Seen
+  v = lookNode K ws m
 
-module _ (K left m limit : ℕ) (v : Seen) (x : Element) (ws : List ℕ) (ready : PutReady K left m limit v ws) where
-  pub put-counts : (word ws (m * width K) ≤ 5460) × (word ws (m * width K + 1) ≤ 5460)
-  put-counts = let h = ok-counts K limit ws (m * width K) v (ready .fine) in (omega (arith, h .0, ready .small), omega (arith, h .1, ready .small))
-
-  pub put-high : v .high < K
-  unfolding lookNode
-  put-high = subst (λ (u : Seen). u .high < K) (sym (ready .seen)) (high-lt ws (m * width K + 2) K (omega (arith, lies-here K left m (length ws) (ready .lies))))
-
-  pub put-free : (q : List ℕ) → v .free < K → q ≡ writePlace ws (placeIn K m (v .free)) (has x) → went true q ≡ putDown K left m limit v x ws
-  unfolding putDown putNode
-  put-free q t e = go left
+  end-in : fullTo ws (m * width K + 2) K ≡ false → putEnd K limit (m * width K) x ws ≡ putIn K left m limit x ws
+  unfolding putEnd putIn lookNode putDown putNode
+  end-in nf = go (okBy K limit ws (m * width K) (lookTo ws (m * width K + 2) K)) refl
     where
-      go : (left : ℕ) → went true q ≡ putDown K left m limit v x ws
-      go zero = rw (lt-ltb (v .free) K t, e) refl
-      go (suc k) = rw (lt-ltb (v .free) K t, e) refl
+      room : okBy K limit ws (m * width K) (lookTo ws (m * width K + 2) K) ≡ true → lookTo ws (m * width K + 2) K .free < K
+      room e = neat-room ws (m * width K + 2) K (ok-neat K limit x ws (m * width K) e) nf
 
-  module _ (full : K ≤ v .free) where
-    pub put-last : left ≡ 0 → went false ws ≡ putDown K left m limit v x ws
-    unfolding putDown
-    put-last z = rw (z, le-ltb (v .free) K full) refl
+      down : (left : ℕ) → lookTo ws (m * width K + 2) K .free < K
+          → went true (writePlace ws (m * width K + 2 + lookTo ws (m * width K + 2) K .free * 4) (has x)) ≡ putDown K left m limit (lookTo ws (m * width K + 2) K) x ws
+      down zero h = rw (lt-ltb (lookTo ws (m * width K + 2) K .free) K h) refl
+      down (suc k) h = rw (lt-ltb (lookTo ws (m * width K + 2) K .free) K h) refl
 
-    put-unroll : (left ≡ 0 → ⊥) → putDown K left m limit v x ws ≡ putNode K (putDown K (left - 1)) m limit v x ws
-    unfolding putDown
-    put-unroll n = go left n
-      where
-        go : (left : ℕ) → (left ≡ 0 → ⊥) → putDown K left m limit v x ws ≡ putNode K (putDown K (left - 1)) m limit v x ws
-        go zero n = absurd (n refl)
-        go (suc k) n = ap (λ (i : ℕ). putNode K (putDown K i) m limit v x ws) (sym (less-one k))
+      go : (b : Bool) → okBy K limit ws (m * width K) (lookTo ws (m * width K + 2) K) ≡ b
+          → cond b (cond (ltb (lookTo ws (m * width K + 2) K .free) K) (went true (writePlace ws (m * width K + 2 + lookTo ws (m * width K + 2) K .free * 4) (has x))) (went false ws)) (went false ws)
+          ≡ cond b (putDown K left m limit (lookTo ws (m * width K + 2) K) x ws) (went false ws)
+      go true e = rw (lt-ltb (lookTo ws (m * width K + 2) K .free) K (room e)) (down left (room e))
+      go false e = refl
 
-    module _ (n : left ≡ 0 → ⊥) (most : Bool) (filled : most ≡ (leb limit (word ws (m * width K)) && leb limit (word ws (m * width K + 1)))) where
-      pub put-full : most ≡ true → went false ws ≡ putDown K left m limit v x ws
-      unfolding putNode
-      put-full t = rw (put-unroll n, le-ltb (v .free) K full, ← filled, t) refl
+  module _ (f : Lead) (led : f ≡ highLead ws (o + 2) K) where
+    lead : f ≡ highLead ws (m * width K + 2) K
+    lead = led ∙ ap (λ (o : ℕ). highLead ws (o + 2) K) at
 
-      module _ (some : most ≡ false) (d : ℕ) (side : d ≡ cond (ltb (word ws (m * width K + 1)) (word ws (m * width K))) (m + m + 2) (m + m + 1)) (below : ℕ) (under : below ≡ underOf K limit)
-          (w : Seen) (looked : w ≡ lookTo ws (d * width K + 2) K) (fine : Bool) (tested : fine ≡ okBy K below ws (d * width K) w) where
-        put-here : putNode K (putDown K (left - 1)) m limit v x ws
-            ≡ cond fine
-            (putBack K (ltb (word ws (m * width K + 1)) (word ws (m * width K))) m (v .high) (word ws (m * width K)) (word ws (m * width K + 1)) (keep x (elemAt ws (placeIn K m (v .high))))
-            (putDown K (left - 1) d below w (pass x (elemAt ws (placeIn K m (v .high)))) ws))
-            (went false ws)
-        unfolding putNode lookNode fewerRight
-        put-here = rw (le-ltb (v .free) K full, ← filled, some, ← side, ← under, ← looked, ← tested) refl
+    marks : f .full ≡ fullTo ws (m * width K + 2) K
+    marks = ap (λ (u : Lead). u .full) lead
 
-        pub put-bad : not fine ≡ true → went false ws ≡ putDown K left m limit v x ws
-        put-bad t = rw (put-unroll n, put-here, not-true fine t) refl
+    pub put-end : not (f .full) ≡ true → (g : Bool) (q : List ℕ) → went g q ≡ putEnd K limit o x ws → went g q ≡ putIn K left m limit x ws
+    put-end t g q e = e ∙ ap (λ (o : ℕ). putEnd K limit o x ws) at ∙ end-in (sym marks ∙ not-true (f .full) t)
 
-        module _ (ok : not fine ≡ false) where
-          pub goes-ready : PutReady K (left - 1) d below w ws
-          unfolding lookNode underOf
-          goes-ready = record {
-            lies = lies-side K left m (length ws) (ltb (word ws (m * width K + 1)) (word ws (m * width K))) d n (ready .lies) side;
-            seen = looked;
-            fine = sym tested ∙ not-false fine ok;
-            small = small-under;
-          }
-            where
-              small-under : below ≤ 5460
-              small-under = omega (arith, under, ready .small)
+    module _ (full : not (f .full) ≡ false) (big : 1 < K) (fine : Bool) (counted : fine ≡ countsOk limit ws o) where
+      filled : fullTo ws (m * width K + 2) K ≡ true
+      filled = sym marks ∙ not-false (f .full) full
 
-          module _ (e : Element) (met : e ≡ elemAt ws (placeIn K m (v .high))) (stays goes : Element) (kept : stays ≡ keep x e) (passed : goes ≡ pass x e)
-              (g : Bool) (q : List ℕ) (gone : went g q ≡ putDown K (left - 1) d below w goes ws) where
-            gone-as : went g q ≡ putDown K (left - 1) d below w (pass x (elemAt ws (placeIn K m (v .high)))) ws
-            gone-as = gone ∙ ap (λ (y : Element). putDown K (left - 1) d below w y ws) (passed ∙ ap (pass x) met)
+      tests : okBy K limit ws (m * width K) v ≡ fine
+      unfolding lookNode
+      tests = let u = full-look ws (m * width K + 2) K filled in ok-full K limit ws (m * width K) (lookTo ws (m * width K + 2) K) (u .0) (u .1) ∙ sym (counted ∙ ap (countsOk limit ws) at)
 
-            pub put-stop : not g ≡ true → went false q ≡ putDown K left m limit v x ws
+      pub put-bad : not fine ≡ true → went false ws ≡ putIn K left m limit x ws
+      unfolding putIn
+      put-bad t = rw (tests, not-true fine t) refl
+
+      module _ (ok : not fine ≡ false) where
+        free-none : K ≤ v .free
+        unfolding lookNode
+        free-none = omega (arith, full-look ws (m * width K + 2) K filled .2)
+
+        in-down : putIn K left m limit x ws ≡ putDown K left m limit v x ws
+        unfolding putIn
+        in-down = rw (tests, not-false fine ok) refl
+
+        full-zero : went false ws ≡ putDown K 0 m limit v x ws
+        unfolding putDown
+        full-zero = rw (le-ltb (v .free) K free-none) refl
+
+        pub put-last : left ≡ 0 → went false ws ≡ putIn K left m limit x ws
+        put-last z = subst (λ (k : ℕ). went false ws ≡ putDown K k m limit v x ws) (sym z) full-zero ∙ sym in-down
+
+        pub put-counts : limit ≤ 5460 → (word ws o ≤ 5460) × (word ws (o + 1) ≤ 5460)
+        put-counts h = let b = counts-in limit ws o (sym counted ∙ not-false fine ok) in (omega (arith, b .0), omega (arith, b .1))
+
+        put-unroll : (left ≡ 0 → ⊥) → putDown K left m limit v x ws ≡ putNode K (putDown K (left - 1)) m limit v x ws
+        unfolding putDown
+        put-unroll n = go left n
+          where
+            go : (left : ℕ) → (left ≡ 0 → ⊥) → putDown K left m limit v x ws ≡ putNode K (putDown K (left - 1)) m limit v x ws
+            go zero n = absurd (n refl)
+            go (suc k) n = ap (λ (i : ℕ). putNode K (putDown K i) m limit v x ws) (sym (less-one k))
+
+        module _ (n : left ≡ 0 → ⊥) (most : Bool) (both : most ≡ (leb limit (word ws o) && leb limit (word ws (o + 1)))) where
+          both-at : most ≡ (leb limit (word ws (m * width K)) && leb limit (word ws (m * width K + 1)))
+          both-at = both ∙ ap (λ (o : ℕ). leb limit (word ws o) && leb limit (word ws (o + 1))) at
+
+          down-full : most ≡ true → went false ws ≡ putDown K left m limit v x ws
+          unfolding putNode
+          down-full t = rw (put-unroll n, le-ltb (v .free) K free-none, ← both-at, t) refl
+
+          pub put-full : most ≡ true → went false ws ≡ putIn K left m limit x ws
+          put-full t = down-full t ∙ sym in-down
+
+          module _ (some : most ≡ false) (d : ℕ) (side : d ≡ cond (ltb (word ws (o + 1)) (word ws o)) (o + o + width K + width K) (o + o + width K)) (below : ℕ) (under : below ≡ underOf K limit)
+              (small : (i : ℕ) → word ws i < 4294967296) (e : Element) (met : e ≡ elemAt ws (o + 2 + f .place * 4)) (stays goes : Element) (kept : stays ≡ keep x e) (passed : goes ≡ pass x e)
+              (g : Bool) (q : List ℕ) (went-on : PutMeets K (left - 1) d below goes ws g q) where
+            abbrev R : Bool
+            R = ltb (word ws (m * width K + 1)) (word ws (m * width K))
+
+            abbrev M : ℕ
+            M = cond R (m + m + 2) (m + m + 1)
+
+            node-at : d ≡ M * width K
+            node-at = side ∙ ap (λ (o : ℕ). cond (ltb (word ws (o + 1)) (word ws o)) (o + o + width K + width K) (o + o + width K)) at ∙ go R
+              where
+                go : (b : Bool) → cond b (m * width K + m * width K + width K + width K) (m * width K + m * width K + width K) ≡ cond b (m + m + 2) (m + m + 1) * width K
+                go true = right-begins K m (m * width K) refl
+                go false = left-begins K m (m * width K) refl
+
+            high-at : f .place ≡ v .high
+            unfolding lookNode
+            high-at = ap (λ (u : Lead). u .place) lead ∙ sym (full-high ws (m * width K + 2) small K filled)
+
+            abbrev E : Element
+            E = elemAt ws (placeIn K m (v .high))
+
+            met-at : e ≡ E
+            met-at = met ∙ ap₂ (λ (o j : ℕ). elemAt ws (o + 2 + j * 4)) at high-at
+
+            put-gone : went g q ≡ putIn K (left - 1) M below (pass x E) ws
+            put-gone = went-on M node-at ∙ ap (λ (y : Element). putIn K (left - 1) M below y ws) (passed ∙ ap (pass x) met-at)
+
+            back : (b : Bool) (h : Went) → cond b (putBack K R m (v .high) (word ws (m * width K)) (word ws (m * width K + 1)) (keep x E) h) (went false ws)
+                ≡ putBack K R m (v .high) (word ws (m * width K)) (word ws (m * width K + 1)) (keep x E) (cond b h (went false ws))
             unfolding putBack
-            put-stop t = rw (put-unroll n, put-here, not-false fine ok, ← gone-as, not-true g t) refl
+            back true h = refl
+            back false h = refl
 
-            pub put-done : not g ≡ false → (q₁ q₂ : List ℕ) → q₁ ≡ raiseWords (ltb (word ws (m * width K + 1)) (word ws (m * width K))) q (m * width K) (word ws (m * width K)) (word ws (m * width K + 1))
-                → q₂ ≡ writePlace q₁ (placeIn K m (v .high)) (has stays) → went true q₂ ≡ putDown K left m limit v x ws
+            put-here : putNode K (putDown K (left - 1)) m limit v x ws ≡ putBack K R m (v .high) (word ws (m * width K)) (word ws (m * width K + 1)) (keep x E) (putIn K (left - 1) M below (pass x E) ws)
+            unfolding putNode fewerRight putIn
+            put-here =
+                rw (le-ltb (v .free) K free-none, ← both-at, some, ← under)
+                (back (okBy K below ws (M * width K) (lookNode K ws M)) (putDown K (left - 1) M below (lookNode K ws M) (pass x E) ws))
+
+            pub put-stop : not g ≡ true → went false q ≡ putIn K left m limit x ws
+            unfolding putBack
+            put-stop t = rw (in-down, put-unroll n, put-here, ← put-gone, not-true g t) refl
+
+            pub put-done : not g ≡ false → (q₁ q₂ : List ℕ) → q₁ ≡ raiseWords (ltb (word ws (o + 1)) (word ws o)) q o (word ws o) (word ws (o + 1))
+                → q₂ ≡ writePlace q₁ (o + 2 + f .place * 4) (has stays) → went true q₂ ≡ putIn K left m limit x ws
             unfolding putBack
             put-done t q₁ q₂ e₁ e₂ =
-                let k : stays ≡ keep x (elemAt ws (placeIn K m (v .high))) = kept ∙ ap (keep x) met in
-                rw (put-unroll n, put-here, not-false fine ok, ← gone-as, not-false g t, e₂, e₁, k) refl
+                rw (in-down, put-unroll n, put-here, ← put-gone, not-false g t)
+                (ap (went true)
+                (e₂ ∙ ap₂ (λ (q : List ℕ) (y : Element). writePlace q (o + 2 + f .place * 4) (has y)) e₁ (kept ∙ ap (keep x) met-at)
+                ∙ ap₂ (λ (o j : ℕ). writePlace (raiseWords (ltb (word ws (o + 1)) (word ws o)) q o (word ws o) (word ws (o + 1))) (o + 2 + j * 4) (has (keep x E))) at high-at))
+
+-- ---- what a put asks
+module _ (K left o limit : ℕ) (ws : List ℕ) (r : PutReady K left o limit ws) where
+  pub put-within : Lies K o (length ws)
+  put-within = lies-within K left (r .node) o (length ws) (r .begins) (r .lies)
+
+  pub put-under : (left ≡ 0 → ⊥) → Under K o (length ws)
+  put-under n = lies-under K left (r .node) o (length ws) (r .begins) n (r .lies)
+
+  pub goes-ready : (left ≡ 0 → ⊥) → (b : Bool) (d below : ℕ) → d ≡ cond b (o + o + width K + width K) (o + o + width K) → below ≡ underOf K limit → PutReady K (left - 1) d below ws
+  unfolding underOf
+  goes-ready n b d below e u = record {
+    node = cond b (r .node + r .node + 2) (r .node + r .node + 1);
+    begins = e ∙ go b;
+    lies = lies-side K left (r .node) (length ws) b (cond b (r .node + r .node + 2) (r .node + r .node + 1)) n (r .lies) refl;
+    small = smaller;
+  }
+    where
+      go : (b : Bool) → cond b (o + o + width K + width K) (o + o + width K) ≡ cond b (r .node + r .node + 2) (r .node + r .node + 1) * width K
+      go true = right-begins K (r .node) o (r .begins)
+      go false = left-begins K (r .node) o (r .begins)
+
+      smaller : below ≤ 5460
+      smaller = omega (arith, u, r .small)
+
+pub high-in : (ws : List ℕ) (o n : ℕ) (f : Lead) → 0 < n → f ≡ highLead ws o n → f .place < n
+high-in ws o n f h e = subst (λ (u : Lead). u .place < n) (sym e) (best-lt isHigh (ranks ws o) n h)

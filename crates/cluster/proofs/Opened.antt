@@ -2,11 +2,11 @@
 use Prim.Native.Nat.{ℕ, zero, suc, _+_, _*_, _-_, _≤_, _<_}
 use native.Mathlib.Omega.{arith}
 use mathlib.Core.Path.{_≡_, refl, sym, ap, ap₂, _∙_, subst}
-use mathlib.Core.Bool.{Bool, true, false, cond, not}
+use mathlib.Core.Bool.{Bool, true, false, cond, not, _&&_, _||_, false≢true}
 use mathlib.Core.List.{List, _++_}
-use lib.Dec.{eqb}
+use lib.Dec.{eqb, leb}
 use lib.ListN.{length, drop, replicate}
-use borrow.Author.Tests.{not-true, not-false, eq-eqb, ne-eqb}
+use borrow.Author.Tests.{not-true, not-false, eq-eqb, ne-eqb, leb-true}
 use Rattle.strip.specs.declared.Element.{Element}
 use Rattle.strip.specs.declared.Answer.{Answer}
 use Rattle.strip.specs.declared.Answer.the-variants.{Done, Out, Refused}
@@ -19,10 +19,11 @@ use Rattle.cluster_model.specs.Words.{word, width}
 use Rattle.cluster_model.specs.Way.{extent}
 use Rattle.cluster_model.specs.Calls.{shapeOk, outcome, Outcome, cleared, wipe}
 use Rattle.cluster.specs.Coded.{nodesOf, Nodes, heldBy, wentTo, openedTo, heldDown, pushDown, popDown, replaceDown}
-use Rattle.cluster_nodes.specs.Leaf.{elemAt, okBy, lookNode, placeIn, Here}
-use Rattle.cluster.specs.Down.{Went, went, putDown, takeDown, swapDown, Reach, PutReady, TakeReady}
+use Rattle.cluster_nodes.specs.Seeing.{lowOnly}
+use Rattle.cluster_nodes.specs.Leaf.{elemAt, bareAt, okBy, lookNode, placeIn, Here}
+use Rattle.cluster.specs.Down.{Went, went, putDown, putIn, takeDown, swapDown, Reach, PutReady, TakeReady, PutMeets, TakeMeets, SwapMeets}
 use Rattle.cluster_nodes.proofs.Looks.{within, low-lt}
-use Rattle.cluster.proofs.Downs.{lies-here, ok-counts}
+use Rattle.cluster.proofs.Downs.{lies-here}
 use Rattle.cluster.proofs.Shapes.{shape-true, shape-here, nodes-here, root-lies, extent-nodes}
 
 room-suc : (K k : ℕ) → room K k ≤ room K (suc k)
@@ -32,6 +33,17 @@ room-suc K k = omega arith
 room-pred : (K levels : ℕ) → room K (levels - 1) ≤ room K levels
 room-pred K zero = let e : 0 - 1 ≡ 0 = omega arith in subst (λ (j : ℕ). room K j ≤ room K zero) (sym e) (omega arith)
 room-pred K (suc k) = let e : suc k - 1 ≡ k = omega arith in subst (λ (j : ℕ). room K j ≤ room K (suc k)) (sym e) (room-suc K k)
+
+-- a node in order has its counts within the limit
+ok-counts : (K limit : ℕ) (ws : List ℕ) (o : ℕ) (v : Seen) → okBy K limit ws o v ≡ true → (word ws o ≤ limit) × (word ws (o + 1) ≤ limit)
+unfolding okBy
+ok-counts K limit ws o v e = go (v .neat) (leb (word ws o) limit) refl (leb (word ws (o + 1)) limit) refl e
+  where
+    go : (a b : Bool) → leb (word ws o) limit ≡ b → (d : Bool) → leb (word ws (o + 1)) limit ≡ d → (a && (b && (d && (bareAt ws o || leb K (v .count))))) ≡ true → (word ws o ≤ limit) × (word ws (o + 1) ≤ limit)
+    go true true p true q e = (leb-true (word ws o) limit p, leb-true (word ws (o + 1)) limit q)
+    go true true p false q e = absurd (false≢true e)
+    go true false p d q e = absurd (false≢true e)
+    go false b p d q e = absurd (false≢true e)
 
 pub bad-shape : (K levels : ℕ) (ws : List ℕ) (o : Outcome) (t : Bool) → t ≡ shapeOk K levels (length ws) → not t ≡ true → outcome (Refused BadShape) ws ≡ openedTo K levels ws o
 unfolding openedTo
@@ -45,16 +57,17 @@ module _ (K levels : ℕ) (ws : List ℕ) (t : Bool) (shaped : t ≡ shapeOk K l
   pub root-here : Here K 0 (length ws)
   root-here = lies-here K (levels - 1) 0 (length ws) (root-lies K levels ws t shaped yes)
 
-  pub look-count : (v : Seen) → v ≡ lookNode K ws 0 → v .count ≤ 16
+  pub look-count : (v : Seen) → v ≡ lowOnly (lookNode K ws 0) → v .count ≤ 16
   unfolding lookNode
   look-count v e = let h = within ws (0 * width K + 2) K .count in omega (arith, ap (λ (u : Seen). u .count) e, h, root-here .few)
 
-  pub look-low : (v : Seen) → v ≡ lookNode K ws 0 → v .low < K
+  pub look-low : (v : Seen) → v ≡ lowOnly (lookNode K ws 0) → v .low < K
   unfolding lookNode
   look-low v e = subst (λ (u : Seen). u .low < K) (sym e) (low-lt ws (0 * width K + 2) K (omega (arith, root-here .some)))
 
-  module _ (limit : ℕ) (most : limit ≡ room K (levels - 1)) (v : Seen) (seen : v ≡ lookNode K ws 0) (u : Bool) (tested : u ≡ okBy K limit ws (0 * width K) v) where
+  module _ (limit : ℕ) (most : limit ≡ room K (levels - 1)) (v : Seen) (seen : v ≡ lowOnly (lookNode K ws 0)) (u : Bool) (tested : u ≡ okBy K limit ws (0 * width K) v) where
     tested-as : u ≡ okBy K (room K (levels - 1)) ws (0 * width K) (lookNode K ws 0)
+    unfolding okBy
     tested-as = tested ∙ ap₂ (λ (l : ℕ) (v : Seen). okBy K l ws (0 * width K) v) most seen
 
     pub bad-root : (o : Outcome) → not u ≡ true → outcome (Refused Damaged) ws ≡ openedTo K levels ws o
@@ -78,19 +91,24 @@ module _ (K levels : ℕ) (ws : List ℕ) (t : Bool) (shaped : t ≡ shapeOk K l
       held-small h e = let c = ok-counts K limit ws (0 * width K) v (sym tested ∙ not-false u fine) in omega (arith, e, c .0, c .1, limit-small, look-count v seen)
 
       pub held-done : (h : ℕ) → h ≡ heldBy K ws v → Held h ≡ heldDown K levels ws
-      unfolding heldDown
+      unfolding heldDown heldBy
       held-done h e =
           let w : h ≡ heldBy K ws (lookNode K ws 0) = e ∙ ap (heldBy K ws) seen in
           rw (shape-true K levels ws t shaped yes, ← tested-as, not-false u fine, w) refl
 
-      pub put-ready : PutReady K (levels - 1) 0 limit v ws
-      put-ready = record { lies = root-lies K levels ws t shaped yes; seen = seen; fine = sym tested ∙ not-false u fine; small = limit-small }
+      -- the root begins at word 0
+      root-begins : 0 ≡ 0 * width K
+      root-begins = omega arith
+
+      pub put-ready : PutReady K (levels - 1) 0 limit ws
+      put-ready = record { node = 0; begins = root-begins; lies = root-lies K levels ws t shaped yes; small = limit-small }
 
       pub take-ready : TakeReady K (levels - 1) 0 (v .low) ws
-      take-ready = record { lies = root-lies K levels ws t shaped yes; place = look-low v seen }
+      take-ready = record { node = 0; begins = root-begins; lies = root-lies K levels ws t shaped yes; place = look-low v seen }
 
       module _ (h : ℕ) (counted : h ≡ heldBy K ws v) where
         counted-as : h ≡ heldBy K ws (lookNode K ws 0)
+        unfolding heldBy
         counted-as = counted ∙ ap (heldBy K ws) seen
 
         module _ (x : Element) (cap : ℕ) (capped : cap ≡ room K levels) where
@@ -98,9 +116,10 @@ module _ (K levels : ℕ) (ws : List ℕ) (t : Bool) (shaped : t ≡ shapeOk K l
           unfolding pushDown
           push-full e = rw (← counted-as, eq-eqb h (room K levels) (e ∙ capped)) (good (outcome (Refused Full) ws))
 
-          module _ (more : h ≡ cap → ⊥) (g : Bool) (q : List ℕ) (done : went g q ≡ putDown K (levels - 1) 0 limit v x ws) where
+          module _ (more : h ≡ cap → ⊥) (g : Bool) (q : List ℕ) (done : PutMeets K (levels - 1) 0 limit x ws g q) where
             put-as : went g q ≡ putDown K (levels - 1) 0 (room K (levels - 1)) (lookNode K ws 0) x ws
-            put-as = done ∙ ap₂ (λ (l : ℕ) (v : Seen). putDown K (levels - 1) 0 l v x ws) most seen
+            unfolding putIn
+            put-as = done 0 root-begins ∙ rw (most, ← tested-as, not-false u fine) refl
 
             pub push-stop : not g ≡ true → outcome (Refused Damaged) q ≡ pushDown K levels x ws
             unfolding pushDown
@@ -122,9 +141,9 @@ module _ (K levels : ℕ) (ws : List ℕ) (t : Bool) (shaped : t ≡ shapeOk K l
           lowest-as : e ≡ elemAt ws (placeIn K 0 (lookNode K ws 0 .low))
           lowest-as = lowest ∙ ap (λ (v : Seen). elemAt ws (placeIn K 0 (v .low))) seen
 
-          module _ (g : Bool) (q : List ℕ) (done : went g q ≡ takeDown K (levels - 1) 0 limit (v .low) ws) where
+          module _ (g : Bool) (q : List ℕ) (done : TakeMeets K (levels - 1) 0 limit (v .low) ws g q) where
             take-as : went g q ≡ takeDown K (levels - 1) 0 (room K (levels - 1)) (lookNode K ws 0 .low) ws
-            take-as = done ∙ ap₂ (λ (l : ℕ) (v : Seen). takeDown K (levels - 1) 0 l (v .low) ws) most seen
+            take-as = done 0 root-begins ∙ ap₂ (λ (l : ℕ) (v : Seen). takeDown K (levels - 1) 0 l (v .low) ws) most seen
 
             pub pop-stop : not g ≡ true → outcome (Refused Damaged) q ≡ popDown K levels ws
             unfolding popDown
@@ -134,9 +153,9 @@ module _ (K levels : ℕ) (ws : List ℕ) (t : Bool) (shaped : t ≡ shapeOk K l
             unfolding popDown
             pop-done p = rw (← counted-as, ne-eqb h 0 some, ← take-as, not-false g p, ← lowest-as) (good (outcome (Out e) q))
 
-          module _ (x : Element) (g : Bool) (q : List ℕ) (done : went g q ≡ swapDown K (levels - 1) 0 limit (v .low) x ws) where
+          module _ (x : Element) (g : Bool) (q : List ℕ) (done : SwapMeets K (levels - 1) 0 limit (v .low) x ws g q) where
             swap-as : went g q ≡ swapDown K (levels - 1) 0 (room K (levels - 1)) (lookNode K ws 0 .low) x ws
-            swap-as = done ∙ ap₂ (λ (l : ℕ) (v : Seen). swapDown K (levels - 1) 0 l (v .low) x ws) most seen
+            swap-as = done 0 root-begins ∙ ap₂ (λ (l : ℕ) (v : Seen). swapDown K (levels - 1) 0 l (v .low) x ws) most seen
 
             pub replace-stop : not g ≡ true → outcome (Refused Damaged) q ≡ replaceDown K levels x ws
             unfolding replaceDown

@@ -1,7 +1,6 @@
 -- For the code of the shape.
-use Prim.Native.Nat.{ℕ, zero, suc, _+_, _*_, _-_, _≤_, _<_, pred}
+use Prim.Native.Nat.{ℕ, zero, suc, _+_, _*_, _-_, _≤_, _<_, pred, _^_, _%_}
 use native.Mathlib.Nat.{not-suc-le-zero, mul-le-mul-right, mul-le-mul}
-use native.Mathlib.Numerals.{add-one}
 use native.Mathlib.Omega.{arith}
 use mathlib.Core.Path.{_≡_, refl, sym, ap, ap₂, _∙_, subst}
 use mathlib.Core.Bool.{Bool, true, false, cond, not, _&&_, _||_, false≢true}
@@ -16,10 +15,6 @@ use Rattle.cluster_model.specs.Calls.{shapeOk}
 use Rattle.cluster.specs.Coded.{nodesOf, Nodes}
 use Rattle.cluster_nodes.specs.Leaf.{Here}
 use Rattle.cluster.specs.Down.{Reach}
-
-pub nodes-next : (i n r : ℕ) → n ≡ nodesOf i → r ≡ n + n + 1 → r ≡ nodesOf (i + 1)
-unfolding nodesOf
-nodes-next i n r e p = rw (add-one, ← e) p
 
 nodes-suc : (k : ℕ) → nodesOf (suc k) ≡ nodesOf k + nodesOf k + 1
 unfolding nodesOf
@@ -42,6 +37,34 @@ pub nodes-above : (levels i r : ℕ) → i ≤ levels → 5460 < r → r ≡ nod
 nodes-above levels i r l a p = record { within = λ w. absurd (not-suc-le-zero {n = 0} (omega (arith, nodes-up i levels l))); above = λ w. a }
 
 -- K (2^k − 1), and the words of 2^k − 1 nodes
+many : 8191 ≡ nodesOf 13
+unfolding nodesOf
+many = refl
+
+-- a shift of 1 by so many levels
+pub shift-is : (k : ℕ) → k ≤ 12 → 1 * 2 ^ k % 2 ^ 64 ≡ nodesOf k + 1
+unfolding nodesOf
+shift-is zero h = refl
+shift-is (suc zero) h = refl
+shift-is (suc (suc zero)) h = refl
+shift-is (suc (suc (suc zero))) h = refl
+shift-is (suc (suc (suc (suc zero)))) h = refl
+shift-is (suc (suc (suc (suc (suc zero))))) h = refl
+shift-is (suc (suc (suc (suc (suc (suc zero)))))) h = refl
+shift-is (suc (suc (suc (suc (suc (suc (suc zero))))))) h = refl
+shift-is (suc (suc (suc (suc (suc (suc (suc (suc zero)))))))) h = refl
+shift-is (suc (suc (suc (suc (suc (suc (suc (suc (suc zero))))))))) h = refl
+shift-is (suc (suc (suc (suc (suc (suc (suc (suc (suc (suc zero)))))))))) h = refl
+shift-is (suc (suc (suc (suc (suc (suc (suc (suc (suc (suc (suc zero))))))))))) h = refl
+shift-is (suc (suc (suc (suc (suc (suc (suc (suc (suc (suc (suc (suc zero)))))))))))) h = refl
+shift-is (suc (suc (suc (suc (suc (suc (suc (suc (suc (suc (suc (suc (suc k))))))))))))) h = absurd (not-suc-le-zero {n = k} (omega arith))
+
+pub nodes-shift : (levels p : ℕ) → levels ≤ 12 → p ≡ nodesOf levels + 1 → Nodes levels (p - 1)
+nodes-shift levels p h e = let q : p - 1 ≡ nodesOf levels = omega (arith, e) in nodes-end levels levels (p - 1) refl q
+
+pub nodes-many : (levels : ℕ) → 12 < levels → Nodes levels 8191
+nodes-many levels h = nodes-above levels 13 8191 h (omega arith) many
+
 pub room-nodes : (K k : ℕ) → K * nodesOf k ≡ room K k
 unfolding room nodesOf
 room-nodes K zero = omega arith

@@ -28,7 +28,8 @@ use Rattle.cluster_model.proofs.Pass.{node-count}
 use Rattle.cluster_model.proofs.Neat.{few-words, set-word}
 use Rattle.cluster_nodes.proofs.Bridge.{test-is, look-count, both-zero}
 use Rattle.cluster.proofs.Taken.{way-none, under-room, one-place, choice-ok, neat-here, low-here, Chose, chose, last-bare}
-use Rattle.cluster.proofs.Commute.{run-place, run-none, neat-of, low-place, low-elem, and-l, and-r}
+use Rattle.cluster_nodes.proofs.Fulls.{and-l, and-r}
+use Rattle.cluster.proofs.Commute.{run-place, run-none, neat-of, low-place, low-elem}
 
 store-twice : (i : ℕ) (p q : Place) (n : Node) → store i p (store i q n) ≡ store i p n
 store-twice i p q n = let e = set-set (n .places) i q p in λ t. record { left = n .left; right = n .right; places = e t }

@@ -21,13 +21,15 @@ use Rattle.cluster_model.specs.Words.{word, width, nodeOf, writePlace, Neat}
 use Rattle.cluster_model.specs.Way.{touch, works}
 use Rattle.cluster_model.specs.Words.{writeNode}
 use Rattle.cluster_model.specs.Way.{child, nodeIn, lowIn, stepIn, runWords, neatTo, nodeOk, readOk, childrenOk, ownOk, wayOk}
-use Rattle.cluster_nodes.specs.Leaf.{underOf, bareAt, okBy, lookNode, placeIn, peekOf, rightLower, choiceBy, choiceOf, sinkWords, elemAt}
+use Rattle.cluster_nodes.specs.Seeing.{lookTo}
+use Rattle.cluster_nodes.specs.Leaf.{underOf, bareAt, okBy, lookNode, placeIn, peekHere, peekAt, peekOf, rightLower, choiceBy, choiceOf, sinkWords, elemAt}
 use Rattle.cluster.specs.Down.{Went, went, takeBack, takeNode, takeDown}
 use Rattle.cluster_model.proofs.Places.{low-is, place-here}
 use Rattle.cluster_model.proofs.Pass.{node-count}
 use Rattle.cluster_model.proofs.Neat.{few-words, set-word}
 use Rattle.cluster_nodes.proofs.Bridge.{test-is, look-count, both-zero}
-use Rattle.cluster.proofs.Commute.{run-place, run-sink, run-none, neat-of, low-place, low-elem, and-l, and-r}
+use Rattle.cluster_nodes.proofs.Fulls.{and-l, and-r}
+use Rattle.cluster.proofs.Commute.{run-place, run-sink, run-none, neat-of, low-place, low-elem}
 
 pub way-none : (K k m : ℕ) (ws : List ℕ) → wayOk K k none m ws ≡ true
 unfolding wayOk stepIn begin finish ownOk
@@ -73,14 +75,13 @@ unfolding lookNode nodeOf
 node-counts K ws d = look-count ws (d * width K + 2) K
 
 pub peek-ok : (K limit : ℕ) (ws : List ℕ) (d x : ℕ) → peekOf K limit ws d x .ok ≡ readOk K (eqb x 0) limit ws d
-unfolding peekOf readOk some
+unfolding peekAt peekHere readOk some lookNode
 peek-ok K limit ws d x = go (eqb x 0)
   where
-    counts : lookNode K ws d .count ≡ inside always (nodeIn K ws d .places)
+    counts : lookTo ws (d * width K + 2) K .count ≡ inside always (nodeIn K ws d .places)
     counts = node-counts K ws d
 
-    go : (b : Bool) → cond {A = Found} b (record { ok = true; place = 0 })
-        (record { ok = okBy K limit ws (d * width K) (lookNode K ws d) && not (eqb (lookNode K ws d .count) 0); place = lookNode K ws d .low }) .ok ≡ readOk K b limit ws d
+    go : (b : Bool) → cond {A = Found} b (record { ok = true; place = 0; rank = 0 }) (peekHere K limit ws (d * width K)) .ok ≡ readOk K b limit ws d
     go true = refl
     go false = ap₂ (λ (a b : Bool). a && b) (test-is K limit ws d) (ap (λ (c : ℕ). not (eqb c 0)) counts ∙ not-zero (inside always (nodeIn K ws d .places)))
 
@@ -126,7 +127,7 @@ pub record Read (K limit : ℕ) (ws : List ℕ) (d x : ℕ) : Type 0 where
   pub elem : elemAt ws (placeIn K d (peekOf K limit ws d x .place)) ≡ lowElem (nodeIn K ws d .places)
 
 pub read-is : (K limit : ℕ) (ws : List ℕ) (d x : ℕ) → eqb x 0 ≡ false → readOk K (eqb x 0) limit ws d ≡ true → Read K limit ws d x
-unfolding readOk some peekOf
+unfolding readOk some peekAt peekHere lookNode
 read-is K limit ws d x z e =
     let t : readOk K false limit ws d ≡ true = ap (λ (b : Bool). readOk K b limit ws d) (sym z) ∙ e in
     let f : nodeOk K limit ws d ≡ true = and-l (nodeOk K limit ws d) (ltb 0 (inside always (nodeIn K ws d .places))) t in

@@ -11,6 +11,7 @@ use Rattle.cluster_model.specs.Node.{gap, has, keep, pass}
 use Rattle.cluster_model.specs.Words.{word, width, writePlace}
 use Rattle.cluster_nodes.specs.declared.Seen.{Seen}
 use Rattle.cluster_nodes.specs.declared.Chosen.{Chosen}
+use Rattle.cluster_nodes.specs.Seeing.{lookTo}
 use Rattle.cluster_nodes.specs.Leaf.{elemAt, underOf, bareAt, okBy, raiseWords, sinkWords, lookNode, placeIn, choiceOf, Here}
 
 -- went through, or not; and the words
@@ -79,13 +80,35 @@ abbrev pub Reach : ℕ → (k : ℕ) → ℕ → ℕ → Type 0
 Reach K zero m len = Here K m len
 Reach K (suc k) m len = Here K m len × Reach K k (m + m + 1) len × Reach K k (m + m + 2) len
 
--- .. and of a put: the node has been scanned and tested
-pub record PutReady (K k m limit : ℕ) (v : Seen) (ws : List ℕ) : Type 0 where
-  pub lies : Reach K k m (length ws)
-  pub seen : v ≡ lookNode K ws m
-  pub fine : okBy K limit ws (m * width K) v ≡ true
+-- .. of the node at word o, with a place of it
+pub record TakeReady (K k o j : ℕ) (ws : List ℕ) : Type 0 where
+  pub node : ℕ
+  pub begins : o ≡ node * width K
+  pub lies : Reach K k node (length ws)
+  pub place : j < K
+
+pub record PutReady (K k o limit : ℕ) (ws : List ℕ) : Type 0 where
+  pub node : ℕ
+  pub begins : o ≡ node * width K
+  pub lies : Reach K k node (length ws)
   pub small : limit ≤ 5460
 
-pub record TakeReady (K k m j : ℕ) (ws : List ℕ) : Type 0 where
-  pub lies : Reach K k m (length ws)
-  pub place : j < K
+-- ---- what they come to, whichever node begins at word o
+abbrev pub TakeMeets : ℕ → ℕ → ℕ → ℕ → ℕ → List ℕ → Bool → List ℕ → Type 0
+TakeMeets K k o limit j ws ok ws′ = (m : ℕ) → o ≡ m * width K → went ok ws′ ≡ takeDown K k m limit j ws
+
+abbrev pub SwapMeets : ℕ → ℕ → ℕ → ℕ → ℕ → Element → List ℕ → Bool → List ℕ → Type 0
+SwapMeets K k o limit j x ws ok ws′ = (m : ℕ) → o ≡ m * width K → went ok ws′ ≡ swapDown K k m limit j x ws
+
+-- a put tests the node itself
+unfoldable pub putIn : ℕ → ℕ → ℕ → ℕ → Element → List ℕ → Went
+putIn K k m limit x ws = cond (okBy K limit ws (m * width K) (lookNode K ws m)) (putDown K k m limit (lookNode K ws m) x ws) (went false ws)
+
+abbrev pub PutMeets : ℕ → ℕ → ℕ → ℕ → Element → List ℕ → Bool → List ℕ → Type 0
+PutMeets K k o limit x ws ok ws′ = (m : ℕ) → o ≡ m * width K → went ok ws′ ≡ putIn K k m limit x ws
+
+-- the node at word o, looked at place by place, has room or is refused
+unfoldable pub putEnd : ℕ → ℕ → ℕ → Element → List ℕ → Went
+putEnd K limit o x ws =
+    let v = lookTo ws (o + 2) K in
+    cond (okBy K limit ws o v) (cond (ltb (v .free) K) (went true (writePlace ws (o + 2 + v .free * 4) (has x))) (went false ws)) (went false ws)

@@ -7,8 +7,9 @@ ghost use lib.ListN.{length, drop, replicate};
 ghost use Rattle.cluster_model.specs.Words.{width};
 ghost use Rattle.cluster_model.specs.Heap.{room};
 ghost use Rattle.cluster_model.specs.Calls.{shapeOk, outcome, called, cleared, heldCount};
-ghost use Rattle.cluster_nodes.specs.Leaf.{elemAt, okBy, lookNode, placeIn, Here};
-ghost use Rattle.cluster.specs.Down.{went, takeDown, swapDown, putDown, TakeReady, PutReady};
+ghost use Rattle.cluster_nodes.specs.Seeing.{lowOnly};
+ghost use Rattle.cluster_nodes.specs.Leaf.{elemAt, okBy, lookNode, placeIn, Here, Lies};
+ghost use Rattle.cluster.specs.Down.{went, putEnd, TakeReady, PutReady, TakeMeets, SwapMeets, PutMeets};
 ghost use Rattle.cluster.specs.Coded.{nodesOf, Nodes, heldBy, pushDown, replaceDown, Bars};
 use cluster_nodes::Seen;
 use cluster_nodes::bare_at;
@@ -16,9 +17,12 @@ use cluster_nodes::both_full;
 use cluster_nodes::choice;
 use cluster_nodes::choose;
 use cluster_nodes::clear_place;
+use cluster_nodes::counts_ok;
 use cluster_nodes::elem_at;
+use cluster_nodes::high_lead;
 use cluster_nodes::keep_of;
 use cluster_nodes::look;
+use cluster_nodes::look_each;
 use cluster_nodes::lower;
 use cluster_nodes::node_ok;
 use cluster_nodes::pass_of;
@@ -35,12 +39,12 @@ use strip::is_untagged;
 
 // ---- the three operations
 
-// Node m has been tested, and gives from this place; so many levels are left below it, and each of its children has room for limit.
-fn take(s: &mut [u32], k: usize, left: usize, m: usize, limit: usize, place: usize) -> bool
-    requires { ⌜ TakeReady k left m place (now s) ⌝ }
-    ensures { λ r. ⌜ went r (now (s .exit)) ≡ takeDown k left m limit place (now (s .entry)) ⌝ }
+// The node at word at has been tested, and gives from this place; so many levels are left below it, and each of its children has room for
+// limit. A node's children begin at twice its own word and one or two widths of a node on, so that no word is found by a multiplication.
+fn take(s: &mut [u32], k: usize, left: usize, at: usize, limit: usize, place: usize) -> bool
+    requires { ⌜ TakeReady k left at place (now s) ⌝ }
+    ensures { λ r. ⌜ TakeMeets k left at limit place (now (s .entry)) r (now (s .exit)) ⌝ }
 {
-    let at = m * (2 + k * 4);
     let i = at + 2 + place * 4;
     if left == 0 {
         clear_place(s, i);
@@ -51,7 +55,7 @@ fn take(s: &mut [u32], k: usize, left: usize, m: usize, limit: usize, place: usi
         return true;
     }
     let below = room_under(k, limit);
-    let c = choice(s, k, below, m);
+    let c = choice(s, k, below, at);
     if !c.ok {
         return false;
     }
@@ -72,15 +76,14 @@ fn swap(
     s: &mut [u32],
     k: usize,
     left: usize,
-    m: usize,
+    at: usize,
     limit: usize,
     place: usize,
     x: Element,
 ) -> bool
-    requires { ⌜ TakeReady k left m place (now s) ⌝ }
-    ensures { λ r. ⌜ went r (now (s .exit)) ≡ swapDown k left m limit place x (now (s .entry)) ⌝ }
+    requires { ⌜ TakeReady k left at place (now s) ⌝ }
+    ensures { λ r. ⌜ SwapMeets k left at limit place x (now (s .entry)) r (now (s .exit)) ⌝ }
 {
-    let at = m * (2 + k * 4);
     let i = at + 2 + place * 4;
     if left == 0 {
         set_place(s, i, x);
@@ -91,7 +94,7 @@ fn swap(
         return true;
     }
     let below = room_under(k, limit);
-    let c = choice(s, k, below, m);
+    let c = choice(s, k, below, at);
     if !c.ok {
         return false;
     }
@@ -108,15 +111,33 @@ fn swap(
     true
 }
 
-// Node m has been scanned and tested.
-fn put(s: &mut [u32], k: usize, left: usize, m: usize, limit: usize, v: Seen, x: Element) -> bool
-    requires { ⌜ PutReady k left m limit v (now s) ⌝ }
-    ensures { λ r. ⌜ went r (now (s .exit)) ≡ putDown k left m limit v x (now (s .entry)) ⌝ }
+// The node at word at is not full: if it is in order, x goes to its first empty place.
+fn put_end(s: &mut [u32], k: usize, limit: usize, at: usize, x: Element) -> bool
+    requires { ⌜ Lies k at (length (now s)) ⌝ }
+    ensures { λ r. ⌜ went r (now (s .exit)) ≡ putEnd k limit at x (now (s .entry)) ⌝ }
 {
-    let at = m * (2 + k * 4);
+    let v = look_each(s, at + 2, k);
+    if !node_ok(s, k, limit, at, v) {
+        return false;
+    }
     if v.free < k {
         set_place(s, at + 2 + v.free * 4, x);
         return true;
+    }
+    false
+}
+
+// x is put into the node at word at, which has not been tested. A full one's highest by rank exchanges with x or not, and one of them goes on.
+fn put(s: &mut [u32], k: usize, left: usize, at: usize, limit: usize, x: Element) -> bool
+    requires { ⌜ PutReady k left at limit (now s) ⌝ }
+    ensures { λ r. ⌜ PutMeets k left at limit x (now (s .entry)) r (now (s .exit)) ⌝ }
+{
+    let f = high_lead(s, at + 2, k);
+    if !f.full {
+        return put_end(s, k, limit, at, x);
+    }
+    if !counts_ok(s, limit, at) {
+        return false;
     }
     if left == 0 {
         return false;
@@ -127,17 +148,15 @@ fn put(s: &mut [u32], k: usize, left: usize, m: usize, limit: usize, v: Seen, x:
         return false;
     }
     let right = r < l;
-    let d = choose(right, m + m + 2, m + m + 1);
-    let below = room_under(k, limit);
-    let w = look(s, d * (2 + k * 4) + 2, k);
-    if !node_ok(s, k, below, d * (2 + k * 4), w) {
-        return false;
-    }
-    let i = at + 2 + v.high * 4;
+    let width = 2 + k * 4;
+    let lc = at + at + width;
+    let d = choose(right, lc + width, lc);
+    let i = at + 2 + f.place * 4;
     let e = elem_at(s, i);
     let stays = keep_of(x, e);
     let goes = pass_of(x, e);
-    let done = put(s, k, left - 1, d, below, w, goes);
+    let below = room_under(k, limit);
+    let done = put(s, k, left - 1, d, below, goes);
     if !done {
         return false;
     }
@@ -148,17 +167,15 @@ fn put(s: &mut [u32], k: usize, left: usize, m: usize, limit: usize, v: Seen, x:
 
 // ---- the calls
 
-// 2^levels − 1 where that is within the limit, else a number above it.
+// 2^levels − 1 where that is within the limit, else a number above it. Every call asks for it, so it is a shift and no loop.
 pub fn nodes(levels: usize) -> usize
     ensures { λ r. ⌜ Nodes levels r ⌝ }
 {
-    let mut n: usize = 0;
-    let mut i = 0;
-    while i < levels && n <= 5460 {
-        n = n + n + 1;
-        i += 1;
+    if 12 < levels {
+        return 8191;
     }
-    n
+    let power: usize = 1 << levels;
+    power - 1
 }
 
 pub fn shape_ok(k: usize, levels: usize, len: usize) -> bool
@@ -192,7 +209,7 @@ fn capacity(k: usize, levels: usize) -> usize
 // The root is node 0: its counts are words 0 and 1, its places begin at word 2. Its scan, its tests, what is held and an element of it.
 fn root_look(s: &[u32], k: usize) -> Seen
     requires { ⌜ Here k 0 (length (now s)) ⌝ }
-    ensures { λ r. ⌜ r ≡ lookNode k (now (s .entry)) 0 ⌝ }
+    ensures { λ r. ⌜ r ≡ lowOnly (lookNode k (now (s .entry)) 0) ⌝ }
 {
     look(s, 2, k)
 }
@@ -266,7 +283,7 @@ fn push_tagged(store: &mut [u32], k: usize, levels: usize, x: Element) -> Answer
     if root_held(store, k, v) == capacity(k, levels) {
         return Answer::Refused(Refusal::Full);
     }
-    if !put(store, k, levels - 1, 0, limit, v, x) {
+    if !put(store, k, levels - 1, 0, limit, x) {
         return Answer::Refused(Refusal::Damaged);
     }
     Answer::Done

@@ -3,3 +3,4 @@ pub mod ScanCode
 pub mod Looks
 pub mod Children
 pub mod Bridge
+pub mod Fulls

@@ -1,5 +1,6 @@
 -- For the code of the scan and of a node's tests.
-use Prim.Native.Nat.{ℕ, zero, suc, _+_, _*_, _-_, _/_, _≤_, _<_}
+use Prim.Native.Nat.{ℕ, zero, suc, _+_, _*_, _-_, _/_, _≤_, _<_, pred}
+use lib.ListN.{set}
 use native.Mathlib.Nat.{not-suc-le-zero}
 use native.Mathlib.Numerals.{add-one}
 use native.Mathlib.Omega.{arith}
@@ -16,7 +17,7 @@ use Rattle.cluster_model.specs.Node.{keep, pass}
 use Rattle.cluster_model.specs.Words.{word, placeOf, neatPlace, width}
 use Rattle.cluster_nodes.specs.Scan.{lowerThan, highAs}
 use Rattle.cluster_nodes.specs.Seeing.{isMarked, seeOne, lookTo, noLook}
-use Rattle.cluster_nodes.specs.Leaf.{okBy, bareAt, underOf, lookNode, peekOf}
+use Rattle.cluster_nodes.specs.Leaf.{okBy, bareAt, underOf, lookNode, peekHere, peekAt, raiseWords, sinkWords}
 
 pub see-is : (ws : List ℕ) (o j : ℕ) (v : Seen) (count free low high : ℕ) (lower higher : Bool)
     → lower ≡ lowerThan (placeOf ws (o + j * 4)) (placeOf ws (o + v .low * 4)) → higher ≡ highAs (placeOf ws (o + j * 4)) (placeOf ws (o + v .high * 4))
@@ -100,16 +101,20 @@ pub under-none : (K limit : ℕ) → limit < K → 0 ≡ underOf K limit
 unfolding underOf
 under-none K limit h = let z : limit - K ≡ 0 = omega arith in rw z refl
 
-pub peek-none : (K limit : ℕ) (ws : List ℕ) (m count : ℕ) → count ≡ 0 → _≡_ {A = Found} (record { ok = true; place = 0 }) (peekOf K limit ws m count)
-unfolding peekOf
-peek-none K limit ws m count e = rw (eq-eqb count 0 e) refl
+pub peek-none : (K limit : ℕ) (ws : List ℕ) (o count : ℕ) → count ≡ 0 → _≡_ {A = Found} (record { ok = true; place = 0; rank = 0 }) (peekAt K limit ws o count)
+unfolding peekAt
+peek-none K limit ws o count e = rw (eq-eqb count 0 e) refl
 
-pub peek-some : (K limit : ℕ) (ws : List ℕ) (m count : ℕ) (v : Seen) (fine : Bool) → (count ≡ 0 → ⊥) → v ≡ lookTo ws (m * width K + 2) K → fine ≡ okBy K limit ws (m * width K) v
-    → _≡_ {A = Found} (record { ok = fine && not (eqb (v .count) 0); place = v .low }) (peekOf K limit ws m count)
-unfolding peekOf lookNode
-peek-some K limit ws m count v fine n e p =
-    let q : fine ≡ okBy K limit ws (m * width K) (lookTo ws (m * width K + 2) K) = p ∙ ap (okBy K limit ws (m * width K)) e in
-    rw (ne-eqb count 0 n) (λ i. record { ok = q i && not (eqb (e i .count) 0); place = e i .low })
+pub peek-here : (K limit : ℕ) (ws : List ℕ) (o : ℕ) (v : Seen) (fine : Bool) → v ≡ lookTo ws (o + 2) K → fine ≡ okBy K limit ws o v
+    → _≡_ {A = Found} (record { ok = fine && not (eqb (v .count) 0); place = v .low; rank = word ws (o + 2 + v .low * 4) }) (peekHere K limit ws o)
+unfolding peekHere
+peek-here K limit ws o v fine e p =
+    let q : fine ≡ okBy K limit ws o (lookTo ws (o + 2) K) = p ∙ ap (okBy K limit ws o) e in
+    λ i. record { ok = q i && not (eqb (e i .count) 0); place = e i .low; rank = word ws (o + 2 + e i .low * 4) }
+
+pub peek-some : (K limit : ℕ) (ws : List ℕ) (o count : ℕ) (p : Found) → (count ≡ 0 → ⊥) → p ≡ peekHere K limit ws o → p ≡ peekAt K limit ws o count
+unfolding peekAt
+peek-some K limit ws o count p n e = rw (ne-eqb count 0 n) e
 
 -- ---- the two elements of a put
 pub keep-low : (x e : Element) (r : Element) → key x < key e → r ≡ x → r ≡ keep x e
@@ -127,3 +132,28 @@ pass-low x e r h p = rw (lt-ltb (key x) (key e) h) p
 pub pass-high : (x e : Element) (r : Element) → key e ≤ key x → r ≡ x → r ≡ pass x e
 unfolding pass
 pass-high x e r h p = rw (le-ltb (key x) (key e) h) p
+
+-- ---- the count of one side
+pub side-le : (b : Bool) (i : ℕ) → i ≡ cond b 1 0 → i ≤ 1
+side-le true i e = omega (arith, e)
+side-le false i e = omega (arith, e)
+
+pub word-le : (b : Bool) (w l r n : ℕ) → w ≡ cond b r l → l ≤ n → r ≤ n → w ≤ n
+word-le true w l r n e p q = omega (arith, e)
+word-le false w l r n e p q = omega (arith, e)
+
+pub raise-is : (right : Bool) (ws : List ℕ) (o l r i w : ℕ) → i ≡ cond right 1 0 → w ≡ cond right r l → set ws (o + i) (w + 1) ≡ raiseWords right ws o l r
+unfolding raiseWords
+raise-is right ws o l r i w ei ew = ap₂ (λ (i w : ℕ). set ws (o + i) (w + 1)) ei ew ∙ go right
+  where
+    go : (b : Bool) → set ws (o + cond b 1 0) (cond b r l + 1) ≡ cond b (set ws (o + 1) (r + 1)) (set ws o (l + 1))
+    go true = refl
+    go false = let z : o + 0 ≡ o = omega arith in ap (λ (i : ℕ). set ws i (l + 1)) z
+
+pub sink-is : (right : Bool) (ws : List ℕ) (o l r i w n : ℕ) → i ≡ cond right 1 0 → w ≡ cond right r l → n ≡ pred w → set ws (o + i) n ≡ sinkWords right ws o l r
+unfolding sinkWords
+sink-is right ws o l r i w n ei ew en = ap₂ (λ (i n : ℕ). set ws (o + i) n) ei (en ∙ ap pred ew) ∙ go right
+  where
+    go : (b : Bool) → set ws (o + cond b 1 0) (pred (cond b r l)) ≡ cond b (set ws (o + 1) (pred r)) (set ws o (pred l))
+    go true = refl
+    go false = let z : o + 0 ≡ o = omega arith in ap (λ (i : ℕ). set ws i (pred l)) z

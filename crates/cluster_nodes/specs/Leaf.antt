@@ -29,6 +29,10 @@ bareAt ws o = eqb (word ws o) 0 && eqb (word ws (o + 1)) 0
 unfoldable pub okBy : ℕ → ℕ → List ℕ → ℕ → Seen → Bool
 okBy K limit ws o v = v .neat && (leb (word ws o) limit && (leb (word ws (o + 1)) limit && (bareAt ws o || leb K (v .count))))
 
+-- its counts are within the room of its children
+unfoldable pub countsOk : ℕ → List ℕ → ℕ → Bool
+countsOk limit ws o = leb (word ws o) limit && leb (word ws (o + 1)) limit
+
 unfoldable pub raiseWords : Bool → List ℕ → ℕ → ℕ → ℕ → List ℕ
 raiseWords right ws o l r = cond right (set ws (o + 1) (r + 1)) (set ws o (l + 1))
 
@@ -57,10 +61,18 @@ module _ (K : ℕ) where
   abbrev pub placeIn : ℕ → ℕ → ℕ
   placeIn m j = m * width K + 2 + j * 4
 
-  unfoldable pub peekOf : ℕ → List ℕ → ℕ → ℕ → Found
-  peekOf limit ws m count =
-      cond (eqb count 0) (record { ok = true; place = 0 })
-      (record { ok = okBy K limit ws (m * width K) (lookNode ws m) && not (eqb (lookNode ws m .count) 0); place = lookNode ws m .low })
+  -- the node at word o, read for its lowest; limit is the room of its children
+  unfoldable pub peekHere : ℕ → List ℕ → ℕ → Found
+  peekHere limit ws o =
+      let v = lookTo ws (o + 2) K in
+      record { ok = okBy K limit ws o v && not (eqb (v .count) 0); place = v .low; rank = word ws (o + 2 + v .low * 4) }
+
+  -- .. if its count is not 0
+  unfoldable pub peekAt : ℕ → List ℕ → ℕ → ℕ → Found
+  peekAt limit ws o count = cond (eqb count 0) (record { ok = true; place = 0; rank = 0 }) (peekHere limit ws o)
+
+  abbrev pub peekOf : ℕ → List ℕ → ℕ → ℕ → Found
+  peekOf limit ws m count = peekAt limit ws (m * width K) count
 
   -- limit is the room of a child's child
   unfoldable pub choiceOf : ℕ → List ℕ → ℕ → Chosen
@@ -71,13 +83,33 @@ module _ (K : ℕ) where
       let q = peekOf limit ws (m + m + 2) r in
       choiceBy p q m l r (elemAt ws (placeIn (m + m + 1) (p .place))) (elemAt ws (placeIn (m + m + 2) (q .place)))
 
+-- whether that is the right one, by the ranks of their lowest
+unfoldable pub rightRank : ℕ → ℕ → ℕ → ℕ → Bool
+rightRank l r a b = not (eqb r 0) && (eqb l 0 || ltb b a)
+
+-- a choice whose child goes by the word where it begins
+abbrev pub begun : ℕ → Chosen → Chosen
+begun K c = record { ok = c .ok; right = c .right; child = c .child * width K; place = c .place; up = c .up }
+
+-- what the code finds at word o: whichever node begins there, the lower of its children
+abbrev pub ChoiceFrom : ℕ → ℕ → List ℕ → ℕ → Chosen → Type 0
+ChoiceFrom K limit ws o c = (m : ℕ) → o ≡ m * width K → c ≡ begun K (choiceOf K limit ws m)
+
+-- the node at word o lies within the words
+pub record Lies (K o len : ℕ) : Type 0 where
+  pub some : 1 < K
+  pub few : K ≤ 16
+  pub words : o + width K ≤ len
+
+-- .. and so do its children, which lie behind it
+pub record Under (K o len : ℕ) : Type 0 where
+  pub some : 1 < K
+  pub few : K ≤ 16
+  pub words : o + o + width K * 3 ≤ len
+
 -- node m lies within the words
 pub record Here (K m len : ℕ) : Type 0 where
   pub some : 1 < K
   pub few : K ≤ 16
   pub node : m ≤ 5460
   pub words : m * width K + width K ≤ len
-
--- .. and so do its children
-abbrev pub Three : ℕ → ℕ → ℕ → Type 0
-Three K m len = Here K m len × Here K (m + m + 1) len × Here K (m + m + 2) len

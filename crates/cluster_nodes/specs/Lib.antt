@@ -1,3 +1,4 @@
 pub mod Scan
 pub mod Seeing
+pub mod Full
 pub mod Leaf

@@ -9,8 +9,9 @@ ghost use Rattle.strip.specs.Answers.{key};
 ghost use Rattle.cluster_model.specs.Node.{gap, has, keep, pass};
 ghost use Rattle.cluster_model.specs.Words.{placeOf, writePlace};
 ghost use Rattle.cluster_nodes.specs.Scan.{lowerThan, highAs};
-ghost use Rattle.cluster_nodes.specs.Seeing.{seeOne, lookTo};
-ghost use Rattle.cluster_nodes.specs.Leaf.{elemAt, underOf, bareAt, okBy, raiseWords, sinkWords, peekOf, rightLower, choiceOf, Here, Three};
+ghost use Rattle.cluster_nodes.specs.Seeing.{seeOne, lookTo, lowOnly};
+ghost use Rattle.cluster_nodes.specs.Full.{turnAt, lowLead, highLead};
+ghost use Rattle.cluster_nodes.specs.Leaf.{elemAt, underOf, bareAt, okBy, raiseWords, sinkWords, countsOk, peekHere, peekAt, rightRank, ChoiceFrom, Lies, Under};
 use strip::Element;
 use strip::Length;
 use strip::Rank;
@@ -25,13 +26,22 @@ pub struct Seen {
     pub high: usize,
 }
 
-// A child read for its lowest: whether it is in order, and the place.
+// A scan that takes every place for occupied: whether all marks are 1, the best place and the number that it is the best by.
+pub struct Lead {
+    pub full: bool,
+    pub place: usize,
+    pub best: u64,
+}
+
+// A child read for its lowest: whether it is in order, the place and the rank there.
 pub struct Found {
     pub ok: bool,
     pub place: usize,
+    pub rank: u64,
 }
 
-// The lower of two children: whether both are in order, whether it is the right one, its node, its lowest place and the element there.
+// The lower of two children: whether both are in order, whether it is the right one, the word where it begins, its lowest place and the
+// element there.
 pub struct Chosen {
     pub ok: bool,
     pub right: bool,
@@ -148,8 +158,8 @@ pub fn see(s: &[u32], at: usize, j: usize, v: Seen) -> Seen
     }
 }
 
-// The scan of n places that begin at word at.
-pub fn look(s: &[u32], at: usize, n: usize) -> Seen
+// The scan of n places that begin at word at, place by place.
+pub fn look_each(s: &[u32], at: usize, n: usize) -> Seen
     requires { ⌜ (at + n * 4 ≤ length (now s)) × (n ≤ 16) ⌝ }
     ensures { λ r. ⌜ r ≡ lookTo (now (s .entry)) at n ⌝ }
 {
@@ -166,6 +176,107 @@ pub fn look(s: &[u32], at: usize, n: usize) -> Seen
         j += 1;
     }
     v
+}
+
+// Rank and tag of the place at word i as one number: the lower leaves first.
+pub fn turn_at(s: &[u32], i: usize) -> u64
+    requires { ⌜ i + 4 ≤ length (now s) ⌝ }
+    ensures { λ r. ⌜ r ≡ turnAt (now (s .entry)) i ⌝ }
+{
+    let rank = s[i] as u64;
+    let tag = s[i + 1] as u64;
+    rank * 4294967296 + tag
+}
+
+// The lowest of n places that begin at word at, all taken for occupied. The best turn stays in a local, and each place is read once.
+pub fn low_each(s: &[u32], at: usize, n: usize) -> Lead
+    requires { ⌜ (at + n * 4 ≤ length (now s)) × (0 < n) × (n ≤ 16) ⌝ }
+    ensures { λ r. ⌜ r ≡ lowLead (now (s .entry)) at n ⌝ }
+{
+    let mut full = true;
+    let mut place = 0;
+    let mut best = turn_at(s, at);
+    let mut j = 0;
+    while j < n {
+        let i = at + j * 4;
+        let turn = turn_at(s, i);
+        full = full & (s[i + 3] == 1);
+        if turn < best {
+            place = j;
+            best = turn;
+        }
+        j += 1;
+    }
+    Lead { full, place, best }
+}
+
+// The highest, by rank.
+pub fn high_each(s: &[u32], at: usize, n: usize) -> Lead
+    requires { ⌜ (at + n * 4 ≤ length (now s)) × (0 < n) × (n ≤ 16) ⌝ }
+    ensures { λ r. ⌜ r ≡ highLead (now (s .entry)) at n ⌝ }
+{
+    let mut full = true;
+    let mut place = 0;
+    let mut best = s[at] as u64;
+    let mut j = 0;
+    while j < n {
+        let i = at + j * 4;
+        let rank = s[i] as u64;
+        full = full & (s[i + 3] == 1);
+        if best <= rank {
+            place = j;
+            best = rank;
+        }
+        j += 1;
+    }
+    Lead { full, place, best }
+}
+
+// .. where the compiler is told that there are four, it lays the loop out flat.
+pub fn low_lead(s: &[u32], at: usize, n: usize) -> Lead
+    requires { ⌜ (at + n * 4 ≤ length (now s)) × (0 < n) × (n ≤ 16) ⌝ }
+    ensures { λ r. ⌜ r ≡ lowLead (now (s .entry)) at n ⌝ }
+{
+    if n == 4 {
+        return low_each(s, at, 4);
+    }
+    low_each(s, at, n)
+}
+
+pub fn high_lead(s: &[u32], at: usize, n: usize) -> Lead
+    requires { ⌜ (at + n * 4 ≤ length (now s)) × (0 < n) × (n ≤ 16) ⌝ }
+    ensures { λ r. ⌜ r ≡ highLead (now (s .entry)) at n ⌝ }
+{
+    if n == 4 {
+        return high_each(s, at, 4);
+    }
+    high_each(s, at, n)
+}
+
+// The scan of n places for a root: what it takes for the tests and the lowest; free and high are left 0. Most nodes are full, and then the
+// rest is known.
+pub fn look(s: &[u32], at: usize, n: usize) -> Seen
+    requires { ⌜ (at + n * 4 ≤ length (now s)) × (0 < n) × (n ≤ 16) ⌝ }
+    ensures { λ r. ⌜ r ≡ lowOnly (lookTo (now (s .entry)) at n) ⌝ }
+{
+    let a = low_lead(s, at, n);
+    if a.full {
+        return Seen {
+            neat: true,
+            count: n,
+            free: 0,
+            low: a.place,
+            high: 0,
+        };
+    }
+    let v = look_each(s, at, n);
+    Seen {
+        neat: v.neat,
+        count: v.count,
+        free: 0,
+        low: v.low,
+        high: 0,
+    }
 }
 
 pub fn bare_at(s: &[u32], at: usize) -> bool
@@ -195,54 +306,79 @@ pub fn room_under(k: usize, limit: usize) -> usize
     (limit - k) / 2
 }
 
-// Node m, read for its lowest if its count is not 0.
-pub fn peek(s: &[u32], k: usize, limit: usize, m: usize, count: u32) -> Found
-    requires { ⌜ Here k m (length (now s)) ⌝ }
-    ensures { λ r. ⌜ r ≡ peekOf k limit (now (s .entry)) m count ⌝ }
+// Are both counts of the node at word at within its children's room?
+pub fn counts_ok(s: &[u32], limit: usize, at: usize) -> bool
+    requires { ⌜ at + 2 ≤ length (now s) ⌝ }
+    ensures { λ r. ⌜ r ≡ countsOk limit (now (s .entry)) at ⌝ }
 {
-    if count == 0 {
-        return Found { ok: true, place: 0 };
-    }
-    let at = m * (2 + k * 4);
-    let v = look(s, at + 2, k);
+    let l = wide(s[at]);
+    let r = wide(s[at + 1]);
+    (l <= limit) & (r <= limit)
+}
+
+// The node at word at, read for its lowest place by place.
+pub fn peek_each(s: &[u32], k: usize, limit: usize, at: usize) -> Found
+    requires { ⌜ Lies k at (length (now s)) ⌝ }
+    ensures { λ r. ⌜ r ≡ peekHere k limit (now (s .entry)) at ⌝ }
+{
+    let v = look_each(s, at + 2, k);
     let fine = node_ok(s, k, limit, at, v);
+    let rank = s[at + 2 + v.low * 4] as u64;
     Found {
         ok: fine & (v.count != 0),
         place: v.low,
+        rank,
     }
 }
 
-pub fn choose_element(b: bool, x: Element, y: Element) -> Element
-    ensures { λ r. ⌜ r ≡ cond b x y ⌝ }
+// .. if its count is not 0; a full node by its turns alone.
+pub fn peek(s: &[u32], k: usize, limit: usize, at: usize, count: u32) -> Found
+    requires { ⌜ Lies k at (length (now s)) ⌝ }
+    ensures { λ r. ⌜ r ≡ peekAt k limit (now (s .entry)) at count ⌝ }
 {
-    if b { x } else { y }
+    if count == 0 {
+        return Found {
+            ok: true,
+            place: 0,
+            rank: 0,
+        };
+    }
+    let a = low_lead(s, at + 2, k);
+    if a.full {
+        let fine = counts_ok(s, limit, at);
+        let rank = a.best / 4294967296;
+        return Found {
+            ok: fine,
+            place: a.place,
+            rank,
+        };
+    }
+    peek_each(s, k, limit, at)
 }
 
-// Of the children whose count is not 0, is the right one's lowest the lower?
-pub fn right_lower(l: u32, r: u32, a: Element, b: Element) -> bool
-    ensures { λ q. ⌜ q ≡ rightLower l r a b ⌝ }
+// Of the children whose count is not 0, is the right one's lowest rank the lower?
+pub fn right_lower(l: u32, r: u32, a: u64, b: u64) -> bool
+    ensures { λ q. ⌜ q ≡ rightRank l r a b ⌝ }
 {
-    (r != 0) & ((l == 0) | (b.rank.0 < a.rank.0))
+    (r != 0) & ((l == 0) | (b < a))
 }
 
-// The lower of the children of node m.
-pub fn choice(s: &[u32], k: usize, limit: usize, m: usize) -> Chosen
-    requires { ⌜ Three k m (length (now s)) ⌝ }
-    ensures { λ r. ⌜ r ≡ choiceOf k limit (now (s .entry)) m ⌝ }
+// The lower of the children of the node at word at. They begin at twice that word and one node's width, and one width on.
+pub fn choice(s: &[u32], k: usize, limit: usize, at: usize) -> Chosen
+    requires { ⌜ Under k at (length (now s)) ⌝ }
+    ensures { λ r. ⌜ ChoiceFrom k limit (now (s .entry)) at r ⌝ }
 {
-    let at = m * (2 + k * 4);
     let l = s[at];
     let r = s[at + 1];
-    let lc = m + m + 1;
-    let rc = m + m + 2;
+    let width = 2 + k * 4;
+    let lc = at + at + width;
+    let rc = lc + width;
     let p = peek(s, k, limit, lc, l);
     let q = peek(s, k, limit, rc, r);
-    let a = elem_at(s, lc * (2 + k * 4) + 2 + p.place * 4);
-    let b = elem_at(s, rc * (2 + k * 4) + 2 + q.place * 4);
-    let right = right_lower(l, r, a, b);
+    let right = right_lower(l, r, p.rank, q.rank);
     let child = choose(right, rc, lc);
     let place = choose(right, q.place, p.place);
-    let up = choose_element(right, b, a);
+    let up = elem_at(s, child + 2 + place * 4);
     Chosen {
         ok: p.ok & q.ok,
         right,
@@ -261,16 +397,20 @@ pub fn less(x: u32) -> u32
     x - 1
 }
 
-// The count of one side, one less.
+pub fn choose_word(b: bool, x: u32, y: u32) -> u32
+    ensures { λ r. ⌜ r ≡ cond b x y ⌝ }
+{
+    if b { x } else { y }
+}
+
+// The count of one side, one less. Which side cannot be foretold, so the word is computed and no branch taken.
 pub fn sink(s: &mut [u32], at: usize, right: bool, l: u32, r: u32)
     requires { ⌜ at + 2 ≤ length (now s) ⌝ }
     ensures { λ _. ⌜ now (s .exit) ≡ sinkWords right (now (s .entry)) at l r ⌝ }
 {
-    if right {
-        s[at + 1] = less(r);
-    } else {
-        s[at] = less(l);
-    }
+    let side = choose(right, 1, 0);
+    let count = choose_word(right, r, l);
+    s[at + side] = less(count);
 }
 
 // The count of one side, one more.
@@ -278,11 +418,9 @@ pub fn raise(s: &mut [u32], at: usize, right: bool, l: u32, r: u32)
     requires { ⌜ (at + 2 ≤ length (now s)) × (l ≤ 5460) × (r ≤ 5460) ⌝ }
     ensures { λ _. ⌜ now (s .exit) ≡ raiseWords right (now (s .entry)) at l r ⌝ }
 {
-    if right {
-        s[at + 1] = r + 1;
-    } else {
-        s[at] = l + 1;
-    }
+    let side = choose(right, 1, 0);
+    let count = choose_word(right, r, l);
+    s[at + side] = count + 1;
 }
 
 pub fn lower(x: Element, y: Element) -> bool

@@ -1,8 +1,7 @@
-use Rattle.cluster.proofs.Downs.{lies-here, lies-one, child-ready, swap-zero, swap-bare, swap-bad, swap-stays, swap-stop, swap-done}
-use native.Mathlib.Omega.{arith}
-use mathlib.Core.Path.{_≡_, _∙_, ap, refl, sym}
-use lib.ListN.{length}
 use borrow.Author.Needs.{needs}
+use native.Mathlib.Omega.{arith}
+use mathlib.Core.Path.{_≡_, _∙_, refl}
+use Rattle.cluster.proofs.Downs.{take-within, take-under, child-ready, swap-zero, swap-bare, swap-bad, swap-stays, swap-stop, swap-done}
 use Prim.Native.Nat.{ℕ, _<_}
 use borrow.Fn.Kinds.{In}
 use borrow.Fn.PlainCycle.{Measures, is, falls, and}
@@ -26,474 +25,88 @@ swap-at t = and 1 swap-kinds.ps (is 1 swap-kinds.ps μ-swap t) swap.Pre
 abbrev swap-below : ℕ → In 1 swap-kinds.ps
 swap-below t = and 1 swap-kinds.ps (falls 1 swap-kinds.ps _<_ μ-swap t) swap.Pre
 
-swap-mul-at : (t : ℕ) → swap-lts.Need-mul-at (
-  set-place-reads.Asked,
-  set-place-reads.Learnt,
-  bare-at-reads.Asked,
-  bare-at-reads.Learnt,
-  room-under-reads.Asked,
-  room-under-reads.Learnt,
-  choice-reads.Asked,
-  choice-reads.Learnt,
-  lower-reads.Asked,
-  lower-reads.Learnt,
-  swap-below t,
-  swap.Post,
-) (swap-at t) swap.Post
-swap-mul-at t c = omega (arith, lies-here (c .before .args .k) (c .before .args .left) (c .before .args .m) (length (c .before .args .s .now)) (c .before .pre .1 .lies))
+abbrev cs : ℕ → swap-lts.Claims
+cs t = (set-place-reads.Asked, set-place-reads.Learnt, bare-at-reads.Asked, bare-at-reads.Learnt, room-under-reads.Asked, room-under-reads.Learnt, choice-reads.Asked, choice-reads.Learnt, lower-reads.Asked, lower-reads.Learnt, swap-below t, swap.Post)
 
-swap-add-at : (t : ℕ) → swap-lts.Need-add-at (
-  set-place-reads.Asked,
-  set-place-reads.Learnt,
-  bare-at-reads.Asked,
-  bare-at-reads.Learnt,
-  room-under-reads.Asked,
-  room-under-reads.Learnt,
-  choice-reads.Asked,
-  choice-reads.Learnt,
-  lower-reads.Asked,
-  lower-reads.Learnt,
-  swap-below t,
-  swap.Post,
-) (swap-at t) swap.Post
-swap-add-at t c = omega (arith, lies-here (c .before .args .k) (c .before .args .left) (c .before .args .m) (length (c .before .args .s .now)) (c .before .pre .1 .lies))
+swap-add-i : (t : ℕ) → swap-lts.Need-add-i (cs t) (swap-at t) swap.Post
+swap-add-i t c = omega (arith, take-within (c .before .args .k) (c .before .args .left) (c .before .args .at) (c .before .args .place) (c .before .args .s .now) (c .before .pre .1))
 
-swap-mul-at-2 : (t : ℕ) → swap-lts.Need-mul-at-2 (
-  set-place-reads.Asked,
-  set-place-reads.Learnt,
-  bare-at-reads.Asked,
-  bare-at-reads.Learnt,
-  room-under-reads.Asked,
-  room-under-reads.Learnt,
-  choice-reads.Asked,
-  choice-reads.Learnt,
-  lower-reads.Asked,
-  lower-reads.Learnt,
-  swap-below t,
-  swap.Post,
-) (swap-at t) swap.Post
-swap-mul-at-2 t c = omega (arith, lies-here (c .before .args .k) (c .before .args .left) (c .before .args .m) (length (c .before .args .s .now)) (c .before .pre .1 .lies))
+swap-mul-i : (t : ℕ) → swap-lts.Need-mul-i (cs t) (swap-at t) swap.Post
+swap-mul-i t c = omega (arith, take-within (c .before .args .k) (c .before .args .left) (c .before .args .at) (c .before .args .place) (c .before .args .s .now) (c .before .pre .1), c .before .pre .1 .place)
 
-swap-add-i : (t : ℕ) → swap-lts.Need-add-i (
-  set-place-reads.Asked,
-  set-place-reads.Learnt,
-  bare-at-reads.Asked,
-  bare-at-reads.Learnt,
-  room-under-reads.Asked,
-  room-under-reads.Learnt,
-  choice-reads.Asked,
-  choice-reads.Learnt,
-  lower-reads.Asked,
-  lower-reads.Learnt,
-  swap-below t,
-  swap.Post,
-) (swap-at t) swap.Post
-swap-add-i t c = omega (arith, lies-here (c .before .args .k) (c .before .args .left) (c .before .args .m) (length (c .before .args .s .now)) (c .before .pre .1 .lies))
+swap-add-i-2 : (t : ℕ) → swap-lts.Need-add-i-2 (cs t) (swap-at t) swap.Post
+swap-add-i-2 t c = omega (arith, take-within (c .before .args .k) (c .before .args .left) (c .before .args .at) (c .before .args .place) (c .before .args .s .now) (c .before .pre .1), c .before .pre .1 .place)
 
-swap-mul-i : (t : ℕ) → swap-lts.Need-mul-i (
-  set-place-reads.Asked,
-  set-place-reads.Learnt,
-  bare-at-reads.Asked,
-  bare-at-reads.Learnt,
-  room-under-reads.Asked,
-  room-under-reads.Learnt,
-  choice-reads.Asked,
-  choice-reads.Learnt,
-  lower-reads.Asked,
-  lower-reads.Learnt,
-  swap-below t,
-  swap.Post,
-) (swap-at t) swap.Post
-swap-mul-i t c = omega (arith, lies-here (c .before .args .k) (c .before .args .left) (c .before .args .m) (length (c .before .args .s .now)) (c .before .pre .1 .lies), c .before .pre .1 .place)
+swap-set-place-requires : (t : ℕ) → swap-lts.Need-set-place-requires (cs t) (swap-at t) swap.Post
+swap-set-place-requires t c κs = omega (arith, take-within (c .before .before .before .args .k) (c .before .before .before .args .left) (c .before .before .before .args .at) (c .before .before .before .args .place) (c .before .before .before .args .s .now) (c .before .before .before .pre .1), c .before .before .before .pre .1 .place)
 
-swap-add-i-2 : (t : ℕ) → swap-lts.Need-add-i-2 (
-  set-place-reads.Asked,
-  set-place-reads.Learnt,
-  bare-at-reads.Asked,
-  bare-at-reads.Learnt,
-  room-under-reads.Asked,
-  room-under-reads.Learnt,
-  choice-reads.Asked,
-  choice-reads.Learnt,
-  lower-reads.Asked,
-  lower-reads.Learnt,
-  swap-below t,
-  swap.Post,
-) (swap-at t) swap.Post
-swap-add-i-2 t c = omega (arith, lies-here (c .before .args .k) (c .before .args .left) (c .before .args .m) (length (c .before .args .s .now)) (c .before .pre .1 .lies), c .before .pre .1 .place)
-
-swap-set-place-requires : (t : ℕ) → swap-lts.Need-set-place-requires (
-  set-place-reads.Asked,
-  set-place-reads.Learnt,
-  bare-at-reads.Asked,
-  bare-at-reads.Learnt,
-  room-under-reads.Asked,
-  room-under-reads.Learnt,
-  choice-reads.Asked,
-  choice-reads.Learnt,
-  lower-reads.Asked,
-  lower-reads.Learnt,
-  swap-below t,
-  swap.Post,
-) (swap-at t) swap.Post
-swap-set-place-requires t c κs = omega (arith, lies-here (c .before .before .before .args .k) (c .before .before .before .args .left) (c .before .before .before .args .m) (length (c .before .before .before .args .s .now)) (c .before .before .before .pre .1 .lies), c .before .before .before .pre .1 .place)
-
-swap-same-length : (t : ℕ) → swap-lts.Need-same-length (
-  set-place-reads.Asked,
-  set-place-reads.Learnt,
-  bare-at-reads.Asked,
-  bare-at-reads.Learnt,
-  room-under-reads.Asked,
-  room-under-reads.Learnt,
-  choice-reads.Asked,
-  choice-reads.Learnt,
-  lower-reads.Asked,
-  lower-reads.Learnt,
-  swap-below t,
-  swap.Post,
-) (swap-at t) swap.Post
+swap-same-length : (t : ℕ) → swap-lts.Need-same-length (cs t) (swap-at t) swap.Post
 swap-same-length t c = c .before .before .set-place .kept .0
 
-swap-returns : (t : ℕ) → swap-lts.Need-returns (
-  set-place-reads.Asked,
-  set-place-reads.Learnt,
-  bare-at-reads.Asked,
-  bare-at-reads.Learnt,
-  room-under-reads.Asked,
-  room-under-reads.Learnt,
-  choice-reads.Asked,
-  choice-reads.Learnt,
-  lower-reads.Asked,
-  lower-reads.Learnt,
-  swap-below t,
-  swap.Post,
-) (swap-at t) swap.Post
-swap-returns t c = swap-zero _ _ _ _ _ _ _ _ (c .before .before .before .before .if1 .taken) (c .before .before .set-place .ensures)
+swap-returns : (t : ℕ) → swap-lts.Need-returns (cs t) (swap-at t) swap.Post
+swap-returns t c = λ m e. swap-zero _ _ m _ _ _ _ _ e _ (c .before .before .before .before .if1 .taken) (c .before .before .set-place .ensures)
 
-swap-bare-at-requires : (t : ℕ) → swap-lts.Need-bare-at-requires (
-  set-place-reads.Asked,
-  set-place-reads.Learnt,
-  bare-at-reads.Asked,
-  bare-at-reads.Learnt,
-  room-under-reads.Asked,
-  room-under-reads.Learnt,
-  choice-reads.Asked,
-  choice-reads.Learnt,
-  lower-reads.Asked,
-  lower-reads.Learnt,
-  swap-below t,
-  swap.Post,
-) (swap-at t) swap.Post
-swap-bare-at-requires t c κs = omega (arith, lies-here (c .before .before .before .args .k) (c .before .before .before .args .left) (c .before .before .before .args .m) (length (c .before .before .before .args .s .now)) (c .before .before .before .pre .1 .lies))
+swap-bare-at-requires : (t : ℕ) → swap-lts.Need-bare-at-requires (cs t) (swap-at t) swap.Post
+swap-bare-at-requires t c κs = omega (arith, take-within (c .before .before .before .args .k) (c .before .before .before .args .left) (c .before .before .before .args .at) (c .before .before .before .args .place) (c .before .before .before .args .s .now) (c .before .before .before .pre .1))
 
-swap-set-place-requires-2 : (t : ℕ) → swap-lts.Need-set-place-requires-2 (
-  set-place-reads.Asked,
-  set-place-reads.Learnt,
-  bare-at-reads.Asked,
-  bare-at-reads.Learnt,
-  room-under-reads.Asked,
-  room-under-reads.Learnt,
-  choice-reads.Asked,
-  choice-reads.Learnt,
-  lower-reads.Asked,
-  lower-reads.Learnt,
-  swap-below t,
-  swap.Post,
-) (swap-at t) swap.Post
-swap-set-place-requires-2 t c κs = omega (arith, lies-here (c .before .before .before .before .before .before .args .k) (c .before .before .before .before .before .before .args .left) (c .before .before .before .before .before .before .args .m) (length (c .before .before .before .before .before .before .args .s .now)) (c .before .before .before .before .before .before .pre .1 .lies), c .before .before .before .before .before .before .pre .1 .place)
+swap-set-place-requires-2 : (t : ℕ) → swap-lts.Need-set-place-requires-2 (cs t) (swap-at t) swap.Post
+swap-set-place-requires-2 t c κs = omega (arith, take-within (c .before .before .before .before .before .before .args .k) (c .before .before .before .before .before .before .args .left) (c .before .before .before .before .before .before .args .at) (c .before .before .before .before .before .before .args .place) (c .before .before .before .before .before .before .args .s .now) (c .before .before .before .before .before .before .pre .1), c .before .before .before .before .before .before .pre .1 .place)
 
-swap-same-length-2 : (t : ℕ) → swap-lts.Need-same-length-2 (
-  set-place-reads.Asked,
-  set-place-reads.Learnt,
-  bare-at-reads.Asked,
-  bare-at-reads.Learnt,
-  room-under-reads.Asked,
-  room-under-reads.Learnt,
-  choice-reads.Asked,
-  choice-reads.Learnt,
-  lower-reads.Asked,
-  lower-reads.Learnt,
-  swap-below t,
-  swap.Post,
-) (swap-at t) swap.Post
+swap-same-length-2 : (t : ℕ) → swap-lts.Need-same-length-2 (cs t) (swap-at t) swap.Post
 swap-same-length-2 t c = c .before .before .set-place2 .kept .0
 
-swap-returns-2 : (t : ℕ) → swap-lts.Need-returns-2 (
-  set-place-reads.Asked,
-  set-place-reads.Learnt,
-  bare-at-reads.Asked,
-  bare-at-reads.Learnt,
-  room-under-reads.Asked,
-  room-under-reads.Learnt,
-  choice-reads.Asked,
-  choice-reads.Learnt,
-  lower-reads.Asked,
-  lower-reads.Learnt,
-  swap-below t,
-  swap.Post,
-) (swap-at t) swap.Post
-swap-returns-2 t c = swap-bare _ _ _ _ _ _ _ (c .before .before .before .before .before .before .before .if1 .left) _ (c .before .before .before .before .before .bare-at .ensures) _ (c .before .before .before .before .if2 .taken) (c .before .before .set-place2 .ensures)
+swap-returns-2 : (t : ℕ) → swap-lts.Need-returns-2 (cs t) (swap-at t) swap.Post
+swap-returns-2 t c = λ m e. swap-bare _ _ m _ _ _ _ _ e (c .before .before .before .before .before .before .before .if1 .left) _ (c .before .before .before .before .before .bare-at .ensures) _ (c .before .before .before .before .if2 .taken) (c .before .before .set-place2 .ensures)
 
-swap-room-under-requires : (t : ℕ) → swap-lts.Need-room-under-requires (
-  set-place-reads.Asked,
-  set-place-reads.Learnt,
-  bare-at-reads.Asked,
-  bare-at-reads.Learnt,
-  room-under-reads.Asked,
-  room-under-reads.Learnt,
-  choice-reads.Asked,
-  choice-reads.Learnt,
-  lower-reads.Asked,
-  lower-reads.Learnt,
-  swap-below t,
-  swap.Post,
-) (swap-at t) swap.Post
+swap-room-under-requires : (t : ℕ) → swap-lts.Need-room-under-requires (cs t) (swap-at t) swap.Post
 swap-room-under-requires t c κs = search needs
 
-swap-choice-requires : (t : ℕ) → swap-lts.Need-choice-requires (
-  set-place-reads.Asked,
-  set-place-reads.Learnt,
-  bare-at-reads.Asked,
-  bare-at-reads.Learnt,
-  room-under-reads.Asked,
-  room-under-reads.Learnt,
-  choice-reads.Asked,
-  choice-reads.Learnt,
-  lower-reads.Asked,
-  lower-reads.Learnt,
-  swap-below t,
-  swap.Post,
-) (swap-at t) swap.Post
-swap-choice-requires t c κs = lies-one _ _ _ _ (c .before .before .before .before .before .if1 .left) (c .before .before .before .before .before .before .before .pre .1 .lies)
+swap-choice-requires : (t : ℕ) → swap-lts.Need-choice-requires (cs t) (swap-at t) swap.Post
+swap-choice-requires t c κs = take-under _ _ _ _ _ (c .before .before .before .before .before .before .before .pre .1) (c .before .before .before .before .before .if1 .left)
 
-swap-same-length-3 : (t : ℕ) → swap-lts.Need-same-length-3 (
-  set-place-reads.Asked,
-  set-place-reads.Learnt,
-  bare-at-reads.Asked,
-  bare-at-reads.Learnt,
-  room-under-reads.Asked,
-  room-under-reads.Learnt,
-  choice-reads.Asked,
-  choice-reads.Learnt,
-  lower-reads.Asked,
-  lower-reads.Learnt,
-  swap-below t,
-  swap.Post,
-) (swap-at t) swap.Post
+swap-same-length-3 : (t : ℕ) → swap-lts.Need-same-length-3 (cs t) (swap-at t) swap.Post
 swap-same-length-3 t c = refl
 
-swap-returns-3 : (t : ℕ) → swap-lts.Need-returns-3 (
-  set-place-reads.Asked,
-  set-place-reads.Learnt,
-  bare-at-reads.Asked,
-  bare-at-reads.Learnt,
-  room-under-reads.Asked,
-  room-under-reads.Learnt,
-  choice-reads.Asked,
-  choice-reads.Learnt,
-  lower-reads.Asked,
-  lower-reads.Learnt,
-  swap-below t,
-  swap.Post,
-) (swap-at t) swap.Post
-swap-returns-3 t c = swap-bad _ _ _ _ _ _ _ (c .before .before .before .before .before .before .before .before .if1 .left) _ (c .before .before .before .before .before .before .bare-at .ensures) (c .before .before .before .before .before .if2 .left) _ (c .before .before .before .before .room-under .ensures) _ (c .before .before .choice .ensures) (c .if3 .taken)
+swap-returns-3 : (t : ℕ) → swap-lts.Need-returns-3 (cs t) (swap-at t) swap.Post
+swap-returns-3 t c = λ m e. swap-bad _ _ m _ _ _ _ _ e (c .before .before .before .before .before .before .before .before .if1 .left) _ (c .before .before .before .before .before .before .bare-at .ensures) (c .before .before .before .before .before .if2 .left) _ (c .before .before .before .before .room-under .ensures) _ (c .before .before .choice .ensures) (c .if3 .taken)
 
-swap-lower-requires : (t : ℕ) → swap-lts.Need-lower-requires (
-  set-place-reads.Asked,
-  set-place-reads.Learnt,
-  bare-at-reads.Asked,
-  bare-at-reads.Learnt,
-  room-under-reads.Asked,
-  room-under-reads.Learnt,
-  choice-reads.Asked,
-  choice-reads.Learnt,
-  lower-reads.Asked,
-  lower-reads.Learnt,
-  swap-below t,
-  swap.Post,
-) (swap-at t) swap.Post
+swap-lower-requires : (t : ℕ) → swap-lts.Need-lower-requires (cs t) (swap-at t) swap.Post
 swap-lower-requires t c κs = search needs
 
-swap-set-place-requires-3 : (t : ℕ) → swap-lts.Need-set-place-requires-3 (
-  set-place-reads.Asked,
-  set-place-reads.Learnt,
-  bare-at-reads.Asked,
-  bare-at-reads.Learnt,
-  room-under-reads.Asked,
-  room-under-reads.Learnt,
-  choice-reads.Asked,
-  choice-reads.Learnt,
-  lower-reads.Asked,
-  lower-reads.Learnt,
-  swap-below t,
-  swap.Post,
-) (swap-at t) swap.Post
-swap-set-place-requires-3 t c κs = omega (arith, lies-here (c .before .before .before .before .before .before .before .before .before .before .before .before .before .before .args .k) (c .before .before .before .before .before .before .before .before .before .before .before .before .before .before .args .left) (c .before .before .before .before .before .before .before .before .before .before .before .before .before .before .args .m) (length (c .before .before .before .before .before .before .before .before .before .before .before .before .before .before .args .s .now)) (c .before .before .before .before .before .before .before .before .before .before .before .before .before .before .pre .1 .lies), c .before .before .before .before .before .before .before .before .before .before .before .before .before .before .pre .1 .place)
+swap-set-place-requires-3 : (t : ℕ) → swap-lts.Need-set-place-requires-3 (cs t) (swap-at t) swap.Post
+swap-set-place-requires-3 t c κs = omega (arith, take-within (c .before .before .before .before .before .before .before .before .before .before .before .before .before .before .args .k) (c .before .before .before .before .before .before .before .before .before .before .before .before .before .before .args .left) (c .before .before .before .before .before .before .before .before .before .before .before .before .before .before .args .at) (c .before .before .before .before .before .before .before .before .before .before .before .before .before .before .args .place) (c .before .before .before .before .before .before .before .before .before .before .before .before .before .before .args .s .now) (c .before .before .before .before .before .before .before .before .before .before .before .before .before .before .pre .1), c .before .before .before .before .before .before .before .before .before .before .before .before .before .before .pre .1 .place)
 
-swap-same-length-4 : (t : ℕ) → swap-lts.Need-same-length-4 (
-  set-place-reads.Asked,
-  set-place-reads.Learnt,
-  bare-at-reads.Asked,
-  bare-at-reads.Learnt,
-  room-under-reads.Asked,
-  room-under-reads.Learnt,
-  choice-reads.Asked,
-  choice-reads.Learnt,
-  lower-reads.Asked,
-  lower-reads.Learnt,
-  swap-below t,
-  swap.Post,
-) (swap-at t) swap.Post
+swap-same-length-4 : (t : ℕ) → swap-lts.Need-same-length-4 (cs t) (swap-at t) swap.Post
 swap-same-length-4 t c = c .before .before .set-place3 .kept .0
 
-swap-returns-4 : (t : ℕ) → swap-lts.Need-returns-4 (
-  set-place-reads.Asked,
-  set-place-reads.Learnt,
-  bare-at-reads.Asked,
-  bare-at-reads.Learnt,
-  room-under-reads.Asked,
-  room-under-reads.Learnt,
-  choice-reads.Asked,
-  choice-reads.Learnt,
-  lower-reads.Asked,
-  lower-reads.Learnt,
-  swap-below t,
-  swap.Post,
-) (swap-at t) swap.Post
-swap-returns-4 t c = swap-stays _ _ _ _ _ _ _ (c .before .before .before .before .before .before .before .before .before .before .before .before .before .before .before .if1 .left) _ (c .before .before .before .before .before .before .before .before .before .before .before .before .before .bare-at .ensures) (c .before .before .before .before .before .before .before .before .before .before .before .before .if2 .left) _ (c .before .before .before .before .before .before .before .before .before .before .before .room-under .ensures) _ (c .before .before .before .before .before .before .before .before .before .choice .ensures) (c .before .before .before .before .before .before .before .if3 .left) _ (c .before .before .before .before .before .lower .ensures) _ (c .before .before .before .before .if4 .taken) (c .before .before .set-place3 .ensures)
+swap-returns-4 : (t : ℕ) → swap-lts.Need-returns-4 (cs t) (swap-at t) swap.Post
+swap-returns-4 t c = λ m e. swap-stays _ _ m _ _ _ _ _ e (c .before .before .before .before .before .before .before .before .before .before .before .before .before .before .before .if1 .left) _ (c .before .before .before .before .before .before .before .before .before .before .before .before .before .bare-at .ensures) (c .before .before .before .before .before .before .before .before .before .before .before .before .if2 .left) _ (c .before .before .before .before .before .before .before .before .before .before .before .room-under .ensures) _ (c .before .before .before .before .before .before .before .before .before .choice .ensures) (c .before .before .before .before .before .before .before .if3 .left) _ (c .before .before .before .before .before .lower .ensures) _ (c .before .before .before .before .if4 .taken) (c .before .before .set-place3 .ensures)
 
-swap-sub-swap : (t : ℕ) → swap-lts.Need-sub-swap (
-  set-place-reads.Asked,
-  set-place-reads.Learnt,
-  bare-at-reads.Asked,
-  bare-at-reads.Learnt,
-  room-under-reads.Asked,
-  room-under-reads.Learnt,
-  choice-reads.Asked,
-  choice-reads.Learnt,
-  lower-reads.Asked,
-  lower-reads.Learnt,
-  swap-below t,
-  swap.Post,
-) (swap-at t) swap.Post
+swap-sub-swap : (t : ℕ) → swap-lts.Need-sub-swap (cs t) (swap-at t) swap.Post
 swap-sub-swap t c = let h : c .before .before .before .before .before .before .before .before .before .before .before .before .before .before .args .left ≡ 0 → ⊥ = c .before .before .before .before .before .before .before .before .before .before .before .before .if1 .left in omega arith
 
-swap-swap-requires : (t : ℕ) → swap-lts.Need-swap-requires (
-  set-place-reads.Asked,
-  set-place-reads.Learnt,
-  bare-at-reads.Asked,
-  bare-at-reads.Learnt,
-  room-under-reads.Asked,
-  room-under-reads.Learnt,
-  choice-reads.Asked,
-  choice-reads.Learnt,
-  lower-reads.Asked,
-  lower-reads.Learnt,
-  swap-below t,
-  swap.Post,
-) (swap-at t) swap.Post
-swap-swap-requires t c κs = (let h : c .before .before .before .before .before .before .before .before .before .before .before .before .before .before .args .left ≡ 0 → ⊥ = c .before .before .before .before .before .before .before .before .before .before .before .before .if1 .left in omega (arith, c .before .before .before .before .before .before .before .before .before .before .before .before .before .before .pre .0), child-ready _ _ _ _ _ _ _ (c .before .before .before .before .before .before .before .before .before .before .before .before .if1 .left) (c .before .before .before .before .before .before .before .before .before .before .before .before .before .before .pre .1) (c .before .before .before .before .before .before .choice .ensures))
+swap-swap-requires : (t : ℕ) → swap-lts.Need-swap-requires (cs t) (swap-at t) swap.Post
+swap-swap-requires t c κs = (let h : c .before .before .before .before .before .before .before .before .before .before .before .before .before .before .args .left ≡ 0 → ⊥ = c .before .before .before .before .before .before .before .before .before .before .before .before .if1 .left in omega (arith, c .before .before .before .before .before .before .before .before .before .before .before .before .before .before .pre .0), child-ready _ _ _ _ _ (c .before .before .before .before .before .before .before .before .before .before .before .before .before .before .pre .1) _ _ (c .before .before .before .before .before .before .before .before .before .before .before .before .if1 .left) (c .before .before .before .before .before .before .choice .ensures))
 
-swap-same-length-5 : (t : ℕ) → swap-lts.Need-same-length-5 (
-  set-place-reads.Asked,
-  set-place-reads.Learnt,
-  bare-at-reads.Asked,
-  bare-at-reads.Learnt,
-  room-under-reads.Asked,
-  room-under-reads.Learnt,
-  choice-reads.Asked,
-  choice-reads.Learnt,
-  lower-reads.Asked,
-  lower-reads.Learnt,
-  swap-below t,
-  swap.Post,
-) (swap-at t) swap.Post
+swap-same-length-5 : (t : ℕ) → swap-lts.Need-same-length-5 (cs t) (swap-at t) swap.Post
 swap-same-length-5 t c = c .before .before .before .swap .kept .0
 
-swap-returns-5 : (t : ℕ) → swap-lts.Need-returns-5 (
-  set-place-reads.Asked,
-  set-place-reads.Learnt,
-  bare-at-reads.Asked,
-  bare-at-reads.Learnt,
-  room-under-reads.Asked,
-  room-under-reads.Learnt,
-  choice-reads.Asked,
-  choice-reads.Learnt,
-  lower-reads.Asked,
-  lower-reads.Learnt,
-  swap-below t,
-  swap.Post,
-) (swap-at t) swap.Post
-swap-returns-5 t c = swap-stop _ _ _ _ _ _ _ (c .before .before .before .before .before .before .before .before .before .before .before .before .before .before .before .before .if1 .left) _ (c .before .before .before .before .before .before .before .before .before .before .before .before .before .before .bare-at .ensures) (c .before .before .before .before .before .before .before .before .before .before .before .before .before .if2 .left) _ (c .before .before .before .before .before .before .before .before .before .before .before .before .room-under .ensures) _ (c .before .before .before .before .before .before .before .before .before .before .choice .ensures) (c .before .before .before .before .before .before .before .before .if3 .left) _ (c .before .before .before .before .before .before .lower .ensures) (c .before .before .before .before .before .if4 .left) _ _ (c .before .before .before .swap .ensures) (c .if5 .taken)
+swap-returns-5 : (t : ℕ) → swap-lts.Need-returns-5 (cs t) (swap-at t) swap.Post
+swap-returns-5 t c = λ m e. swap-stop _ _ m _ _ _ _ _ e (c .before .before .before .before .before .before .before .before .before .before .before .before .before .before .before .before .if1 .left) _ (c .before .before .before .before .before .before .before .before .before .before .before .before .before .before .bare-at .ensures) (c .before .before .before .before .before .before .before .before .before .before .before .before .before .if2 .left) _ (c .before .before .before .before .before .before .before .before .before .before .before .before .room-under .ensures) _ (c .before .before .before .before .before .before .before .before .before .before .choice .ensures) (c .before .before .before .before .before .before .before .before .if3 .left) _ (c .before .before .before .before .before .before .lower .ensures) (c .before .before .before .before .before .if4 .left) _ _ (c .before .before .before .swap .ensures) (c .if5 .taken)
 
-swap-set-place-requires-4 : (t : ℕ) → swap-lts.Need-set-place-requires-4 (
-  set-place-reads.Asked,
-  set-place-reads.Learnt,
-  bare-at-reads.Asked,
-  bare-at-reads.Learnt,
-  room-under-reads.Asked,
-  room-under-reads.Learnt,
-  choice-reads.Asked,
-  choice-reads.Learnt,
-  lower-reads.Asked,
-  lower-reads.Learnt,
-  swap-below t,
-  swap.Post,
-) (swap-at t) swap.Post
-swap-set-place-requires-4 t c κs = omega (arith, lies-here (c .before .before .before .before .before .before .before .before .before .before .before .before .before .before .before .before .before .before .before .args .k) (c .before .before .before .before .before .before .before .before .before .before .before .before .before .before .before .before .before .before .before .args .left) (c .before .before .before .before .before .before .before .before .before .before .before .before .before .before .before .before .before .before .before .args .m) (length (c .before .before .before .before .before .before .before .before .before .before .before .before .before .before .before .before .before .before .before .args .s .now)) (c .before .before .before .before .before .before .before .before .before .before .before .before .before .before .before .before .before .before .before .pre .1 .lies), c .before .before .before .before .before .before .before .before .before .before .before .before .before .before .before .before .before .before .before .pre .1 .place, c .before .before .before .before .swap .kept .0)
+swap-set-place-requires-4 : (t : ℕ) → swap-lts.Need-set-place-requires-4 (cs t) (swap-at t) swap.Post
+swap-set-place-requires-4 t c κs = omega (arith, take-within (c .before .before .before .before .before .before .before .before .before .before .before .before .before .before .before .before .before .before .before .args .k) (c .before .before .before .before .before .before .before .before .before .before .before .before .before .before .before .before .before .before .before .args .left) (c .before .before .before .before .before .before .before .before .before .before .before .before .before .before .before .before .before .before .before .args .at) (c .before .before .before .before .before .before .before .before .before .before .before .before .before .before .before .before .before .before .before .args .place) (c .before .before .before .before .before .before .before .before .before .before .before .before .before .before .before .before .before .before .before .args .s .now) (c .before .before .before .before .before .before .before .before .before .before .before .before .before .before .before .before .before .before .before .pre .1), c .before .before .before .before .before .before .before .before .before .before .before .before .before .before .before .before .before .before .before .pre .1 .place, c .before .before .before .before .swap .kept .0)
 
-swap-same-length-6 : (t : ℕ) → swap-lts.Need-same-length-6 (
-  set-place-reads.Asked,
-  set-place-reads.Learnt,
-  bare-at-reads.Asked,
-  bare-at-reads.Learnt,
-  room-under-reads.Asked,
-  room-under-reads.Learnt,
-  choice-reads.Asked,
-  choice-reads.Learnt,
-  lower-reads.Asked,
-  lower-reads.Learnt,
-  swap-below t,
-  swap.Post,
-) (swap-at t) swap.Post
+swap-same-length-6 : (t : ℕ) → swap-lts.Need-same-length-6 (cs t) (swap-at t) swap.Post
 swap-same-length-6 t c = c .before .before .set-place4 .kept .0 ∙ c .before .before .before .before .before .before .before .swap .kept .0
 
-swap-returns-6 : (t : ℕ) → swap-lts.Need-returns-6 (
-  set-place-reads.Asked,
-  set-place-reads.Learnt,
-  bare-at-reads.Asked,
-  bare-at-reads.Learnt,
-  room-under-reads.Asked,
-  room-under-reads.Learnt,
-  choice-reads.Asked,
-  choice-reads.Learnt,
-  lower-reads.Asked,
-  lower-reads.Learnt,
-  swap-below t,
-  swap.Post,
-) (swap-at t) swap.Post
-swap-returns-6 t c = swap-done _ _ _ _ _ _ _ (c .before .before .before .before .before .before .before .before .before .before .before .before .before .before .before .before .before .before .before .before .if1 .left) _ (c .before .before .before .before .before .before .before .before .before .before .before .before .before .before .before .before .before .before .bare-at .ensures) (c .before .before .before .before .before .before .before .before .before .before .before .before .before .before .before .before .before .if2 .left) _ (c .before .before .before .before .before .before .before .before .before .before .before .before .before .before .before .before .room-under .ensures) _ (c .before .before .before .before .before .before .before .before .before .before .before .before .before .before .choice .ensures) (c .before .before .before .before .before .before .before .before .before .before .before .before .if3 .left) _ (c .before .before .before .before .before .before .before .before .before .before .lower .ensures) (c .before .before .before .before .before .before .before .before .before .if4 .left) _ _ (c .before .before .before .before .before .before .before .swap .ensures) (c .before .before .before .before .if5 .left) _ (c .before .before .set-place4 .ensures)
+swap-returns-6 : (t : ℕ) → swap-lts.Need-returns-6 (cs t) (swap-at t) swap.Post
+swap-returns-6 t c = λ m e. swap-done _ _ m _ _ _ _ _ e (c .before .before .before .before .before .before .before .before .before .before .before .before .before .before .before .before .before .before .before .before .if1 .left) _ (c .before .before .before .before .before .before .before .before .before .before .before .before .before .before .before .before .before .before .bare-at .ensures) (c .before .before .before .before .before .before .before .before .before .before .before .before .before .before .before .before .before .if2 .left) _ (c .before .before .before .before .before .before .before .before .before .before .before .before .before .before .before .before .room-under .ensures) _ (c .before .before .before .before .before .before .before .before .before .before .before .before .before .before .choice .ensures) (c .before .before .before .before .before .before .before .before .before .before .before .before .if3 .left) _ (c .before .before .before .before .before .before .before .before .before .before .lower .ensures) (c .before .before .before .before .before .before .before .before .before .if4 .left) _ _ (c .before .before .before .before .before .before .before .swap .ensures) (c .before .before .before .before .if5 .left) _ (c .before .before .set-place4 .ensures)
 
 pub +swap-spec : {M : Type 1} → statement M
-+swap-spec = close μ-swap λ t. swap-lts.spec (
-  set-place-reads.Asked,
-  set-place-reads.Learnt,
-  bare-at-reads.Asked,
-  bare-at-reads.Learnt,
-  room-under-reads.Asked,
-  room-under-reads.Learnt,
-  choice-reads.Asked,
-  choice-reads.Learnt,
-  lower-reads.Asked,
-  lower-reads.Learnt,
-  swap-below t,
-  swap.Post,
-)
++swap-spec = close μ-swap λ t. swap-lts.spec (cs t)
     (swap-at t)
     swap.Post
-    (swap-mul-at t)
-    (swap-add-at t)
-    (swap-mul-at-2 t)
     (swap-add-i t)
     (swap-mul-i t)
     (swap-add-i-2 t)

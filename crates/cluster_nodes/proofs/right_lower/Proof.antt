@@ -1,13 +1,13 @@
-use Rattle.cluster_nodes.specs.Leaf.{rightLower}
-use Rattle.strip.specs.Answers.{key}
-use mathlib.Core.Path.{_≡_, _∙_, ap, refl, sym}
+use borrow.Author.Needs.{needs}
+use mathlib.Core.Path.{refl}
+use Rattle.cluster_nodes.specs.Leaf.{rightRank}
 use Rattle.cluster_nodes.proofs.right_lower.Statement.{statement}
 use Rattle.cluster_nodes.proofs.right_lower.Tie as tie
 use Rattle.cluster_nodes.proofs.right_lower.Reads as reads
 use Rattle.cluster_nodes.proofs.right_lower.Lts as lts
 
 returns : tie.Need-returns
-unfolding rightLower key
+unfolding rightRank
 returns c = refl
 
 pub right-lower-spec : {M : Type 1} → statement M
