@@ -3,16 +3,17 @@
  *
  * Every call but the sizes answers a number: 0 where it is not refused, else
  *
- *   1 bad shape   order, places, levels, storeys, nodes or a slice's length outside the rules
- *   2 damaged     a store or a pending record does not hold together
- *   3 too soon    a clocked pop or replace just after an answered operation
- *   4 bad rank    a bucket rank above its last: 4095, or 262143 with three storeys
- *   5 full        a push on a full queue
- *   6 empty       a pop or replace on an empty queue
- *   7 no tag      a push or replace with tag 0, which stands for no strip
- *   9 bad strip   fair ranks: a flow, weight or length outside the limits
- *  10 clock spent fair ranks: a finish above 4294967295
- *  11 not empty   fair ranks: a reset while something is held
+ *   1 bad shape     order, places, levels, storeys, nodes, ports, limits or a slice's length outside the rules
+ *   2 damaged       a store or a pending record does not hold together
+ *   3 too soon      a clocked pop or replace just after an answered operation
+ *   4 bad rank      a bucket rank above its last: 4095, or 262143 with three storeys
+ *   5 full          a push on a full queue
+ *   6 empty         a pop or replace on an empty queue
+ *   7 no tag        a push or replace with tag 0, which stands for no strip
+ *   8 no such port  a port above the last
+ *   9 bad strip     fair ranks: a flow, weight or length outside the limits
+ *  10 clock spent   fair ranks: a finish above 4294967295
+ *  11 not empty     fair ranks: a reset while something is held
  *
  * A slice is a pointer and then its length in words, that of records in records. The pointer must
  * really have so many, aligned as usual; it may be NULL where the length is 0. The slices of one call must not overlap.
@@ -45,6 +46,7 @@ extern "C" {
 #define CARD_FULL 5u
 #define CARD_EMPTY 6u
 #define CARD_NO_TAG 7u
+#define CARD_NO_PORT 8u
 #define CARD_BAD_STRIP 9u
 #define CARD_CLOCK_SPENT 10u
 #define CARD_NOT_EMPTY 11u
@@ -56,8 +58,8 @@ extern "C" {
 
 /* The name of a number that a call answered. */
 static inline const char *card_name(uint32_t number) {
-    static const char *const names[12] = {"ok",    "bad shape", "damaged",        "too soon",  "bad rank",    "full",
-                                          "empty", "no tag",    "no such number", "bad strip", "clock spent", "not empty"};
+    static const char *const names[12] = {"ok",    "bad shape", "damaged",      "too soon",  "bad rank",    "full",
+                                          "empty", "no tag",    "no such port", "bad strip", "clock spent", "not empty"};
     return number < 12 ? names[number] : "no such number";
 }
 
@@ -80,12 +82,22 @@ uint32_t card_bucket_bits(uint32_t storeys);
 /* A bucket queue's words of 32 bits. */
 uint32_t card_bucket_words(uint32_t storeys, uint32_t nodes);
 
+/* The words of 64 bits of several ports on one pool. */
+uint32_t card_ports_bits(uint32_t storeys, uint32_t ports);
+
+/* The words of 32 bits of several ports on one pool. */
+uint32_t card_ports_words(uint32_t storeys, uint32_t nodes, uint32_t ports);
+
 /*
- * The same as constants, for arrays. They test nothing: order, levels, storeys and nodes must be good.
+ * The same as constants, for arrays. They test nothing: order, levels, storeys, nodes and ports must be good.
  */
 #define CARD_TREE_WORDS(order, levels) (4u * ((((order) << (CARD_SHIFT(order) * (levels))) - (order)) / ((order)-1u)))
 #define CARD_BUCKET_BITS(storeys) ((storeys) == 3u ? 4161u : 65u)
 #define CARD_BUCKET_WORDS(storeys, nodes) ((2u << (6u * (storeys))) + 3u * (nodes) + 2u)
+#define CARD_PORTS_BITS(storeys, ports) ((ports) * CARD_BUCKET_BITS(storeys))
+#define CARD_PORTS_WORDS(storeys, nodes, ports) ((ports) * (2u << (6u * (storeys))) + 3u * (nodes) + 1u + 3u * (ports))
+/* A floor and a ceiling for each port. */
+#define CARD_LIMIT_WORDS(ports) (2u * (ports))
 /* The records of a clocked tree, one for each level from 2: none where there is one level. */
 #define CARD_RECORDS(levels) ((levels)-1u)
 #define CARD_MARK_WORDS 1u
@@ -234,6 +246,47 @@ uint32_t card_bucket_replace(uint64_t *bits, size_t bits_len, uint32_t *words, s
 uint32_t card_bucket_held(const uint64_t *bits, size_t bits_len, const uint32_t *words,
                           size_t words_len, uint32_t storeys, uint32_t nodes, uint32_t *out,
                           size_t out_len);
+
+/*
+ * Several ports on one pool: 1 to 16 bucket queues, numbered from 0, each with ranks, bits and lists of
+ * its own, that share the nodes of one pool. Each port has a floor and a ceiling, which are fixed when
+ * clearing: floor at most ceiling, and the floors together at most the number of nodes. A port that
+ * holds less than its floor is never full, whatever the others hold; none holds more than its ceiling.
+ * The store is card_ports_bits words of 64 bits and card_ports_words of 32; it must be cleared before its
+ * first use, and storeys, nodes and ports are the same in every call.
+ */
+
+/* Empties all ports, makes the chain of free nodes and fixes the limits: port p's floor is limits[2p],
+   its ceiling limits[2p + 1]. Refused 1 also where the limits are too few, a floor is above its ceiling
+   or the floors are more than the nodes. Never refused 2. */
+uint32_t card_ports_clear(uint64_t *bits, size_t bits_len, uint32_t *words, size_t words_len,
+                          uint32_t storeys, uint32_t nodes, uint32_t ports, const uint32_t *limits,
+                          size_t limits_len);
+
+/* Takes an element in at a port, behind those of its rank. Refused 8 for a port that there is not, 4
+   above the last rank, 7 with tag 0. Refused 5 where the port holds its floor or more and either holds
+   its ceiling, or the nodes less the larger of held and floor of each port come to none. */
+uint32_t card_ports_push(uint64_t *bits, size_t bits_len, uint32_t *words, size_t words_len,
+                         uint32_t storeys, uint32_t nodes, uint32_t ports, uint32_t port,
+                         uint32_t rank, uint32_t tag, uint32_t length);
+
+/* Gives the port's first element of its lowest rank in out[0] to out[2]. Refused 8 for a port that there
+   is not, 6 where the port holds nothing. */
+uint32_t card_ports_pop(uint64_t *bits, size_t bits_len, uint32_t *words, size_t words_len,
+                        uint32_t storeys, uint32_t nodes, uint32_t ports, uint32_t port,
+                        uint32_t *out, size_t out_len);
+
+/* A pop, and then a push of the new element at the same port, which needs no room. Refused 8 for a port
+   that there is not, 4 above the last rank, 7 with tag 0, 6 where the port holds nothing. */
+uint32_t card_ports_replace(uint64_t *bits, size_t bits_len, uint32_t *words, size_t words_len,
+                            uint32_t storeys, uint32_t nodes, uint32_t ports, uint32_t port,
+                            uint32_t rank, uint32_t tag, uint32_t length, uint32_t *out,
+                            size_t out_len);
+
+/* Gives the number of elements that the port holds in out[0]. Refused 8 for a port that there is not. */
+uint32_t card_ports_held(const uint64_t *bits, size_t bits_len, const uint32_t *words,
+                         size_t words_len, uint32_t storeys, uint32_t nodes, uint32_t ports,
+                         uint32_t port, uint32_t *out, size_t out_len);
 
 /*
  * The same tree, worked by clock cycles. Beside the store there are a pending record for each level

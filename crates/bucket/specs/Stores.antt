@@ -1,31 +1,9 @@
--- What the calls ask of a layout, and a push's writes of a store. These are definitions.
-use mathlib.Core.Bool.{true}
-use mathlib.Core.List.{List}
-use Prim.Native.Nat.{ℕ, _≤_}
-use lib.Dec.{eqb}
+-- What the calls ask of a layout. These are definitions.
+use Prim.Native.Nat.{_≤_}
 use Rattle.bucket_model.specs.declared.Lay.{Lay}
-use Rattle.bucket_model.specs.declared.Lowest.{Lowest}
-use Rattle.bucket_model.specs.declared.Room.{Room}
 use Rattle.bucket_model.specs.Layout.{Laid, bitWords}
-use Rattle.bucket_model.specs.Storeys.{storeysAt}
-use Rattle.bucket_model.specs.Calls.{takenBits}
-use Rattle.bucket_bits.specs.Climbs.{Marking}
-use Rattle.bucket_nodes.specs.Places.{Joinable, Swappable}
-use Rattle.bucket_tests.specs.Stores.{Stands, Freeing}
 
 -- a layout whose numbers fit the machine's
 pub record Placed (k : Lay) : Type 0 where
   pub laid : Laid k
   pub small : bitWords k ≤ 4294967296
-
--- a bucket that a push can join; its bits can be set where it is empty, and are set where it is not
-pub record Joining (k : Lay) (b w : List ℕ) (r tail : ℕ) : Type 0 where
-  pub stands : Stands k b w
-  pub joinable : Joinable k w r tail
-  pub marks : Marking true (eqb tail 0) b (storeysAt k) r
-
--- .. once the head of low is taken out
-pub record Swapping (k : Lay) (b w : List ℕ) (low : Lowest) (r : ℕ) (to : Room) : Type 0 where
-  pub frees : Freeing k b w low
-  pub swappable : Swappable k w low r to
-  pub marks : Marking true (eqb (to .tail) 0) (takenBits k b low) (storeysAt k) r

@@ -7,20 +7,20 @@
 //
 // Push and pop go through the depths one by one, and do their call at the one that is asked for: the compiler unrolls such a
 // loop, so that each depth has code of its own with its numbers in it. Replace is too long for that.
-use bucket_bits::mark;
 use bucket_bits::wipe;
 use bucket_model::Lay;
-use bucket_model::Lowest;
-use bucket_model::Room;
 use bucket_nodes::LEAST_STOREYS;
 use bucket_nodes::MOST_STOREYS;
 use bucket_nodes::element_of;
 use bucket_nodes::held_count;
-use bucket_nodes::join_words;
 use bucket_nodes::queue_of;
-use bucket_nodes::swap_words;
-use bucket_nodes::take_words;
 use bucket_nodes::wipe_words;
+use bucket_steps::join;
+use bucket_steps::show;
+use bucket_steps::swap;
+use bucket_steps::take;
+use bucket_tests::agrees;
+use bucket_tests::agrees_after;
 use bucket_tests::find_lowest;
 use bucket_tests::find_room;
 use bucket_tests::has_room;
@@ -38,9 +38,8 @@ use strip::Element;
 use strip::Refusal;
 ghost use mathlib.Core.Path.{_≡_};
 ghost use Rattle.bucket_model.specs.Layout.{queue};
-ghost use Rattle.bucket_model.specs.Calls.{outcome, cleared, pushed, popped, replaced, heldCount, takenBits, takenWords, joinedBits, joinedWords};
-ghost use Rattle.bucket_tests.specs.Stores.{Freeing};
-ghost use Rattle.bucket.specs.Stores.{Placed, Joining, Swapping};
+ghost use Rattle.bucket_model.specs.Calls.{outcome, cleared, pushed, popped, replaced, heldCount};
+ghost use Rattle.bucket.specs.Stores.{Placed};
 
 // ---- a queue of n nodes, of either depth
 
@@ -131,52 +130,6 @@ fn held_laid(bits: &[u64], words: &[u32], k: Lay) -> Count
     Count::Held(held_count(words, k))
 }
 
-// Takes the head out of the lowest bucket, with its bits where that empties it.
-fn take(bits: &mut [u64], words: &mut [u32], k: Lay, low: Lowest)
-    requires { ⌜ Freeing k (now bits) (now words) low ⌝ }
-    ensures { λ _. ⌜ (now (bits .exit) ≡ takenBits k (now (bits .entry)) low) × (now (words .exit) ≡ takenWords k (now (words .entry)) low) ⌝ }
-{
-    take_words(words, k, low);
-    mark(
-        bits,
-        false,
-        low.next == 0,
-        k.bits,
-        k.storeys,
-        k.tower,
-        low.rank,
-    );
-}
-
-// Joins a newcomer to its bucket, with its bits where that was empty.
-fn join(bits: &mut [u64], words: &mut [u32], k: Lay, e: Element, to: Room)
-    requires { ⌜ Joining k (now bits) (now words) (e .rank .0) (to .tail) ⌝ }
-    ensures { λ _. ⌜ (now (bits .exit) ≡ joinedBits k (now (bits .entry)) e to) × (now (words .exit) ≡ joinedWords k (now (words .entry)) e to) ⌝ }
-{
-    let rank = e.rank;
-    join_words(words, k, e, to);
-    mark(bits, true, to.tail == 0, k.bits, k.storeys, k.tower, rank.0);
-}
-
-// Takes the head out of the lowest bucket and joins its node, with what the newcomer carries, to the newcomer's.
-fn swap(bits: &mut [u64], words: &mut [u32], k: Lay, low: Lowest, e: Element, to: Room)
-    requires { ⌜ Swapping k (now bits) (now words) low (e .rank .0) to ⌝ }
-    ensures { λ _. ⌜ (now (bits .exit) ≡ joinedBits k (takenBits k (now (bits .entry)) low) e to) × (now (words .exit) ≡ joinedWords k (takenWords k (now (words .entry)) low) e to) ⌝ }
-{
-    let rank = e.rank;
-    swap_words(words, k, low, e, to);
-    mark(
-        bits,
-        false,
-        low.next == 0,
-        k.bits,
-        k.storeys,
-        k.tower,
-        low.rank,
-    );
-    mark(bits, true, to.tail == 0, k.bits, k.storeys, k.tower, rank.0);
-}
-
 fn pop_laid(bits: &mut [u64], words: &mut [u32], k: Lay) -> Answer
     requires { ⌜ Placed k ⌝ }
     ensures { λ r. ⌜ outcome r (now (bits .exit)) (now (words .exit)) ≡ popped k (now (bits .entry)) (now (words .entry)) ⌝ }
@@ -210,8 +163,9 @@ fn push_laid(bits: &mut [u64], words: &mut [u32], k: Lay, e: Element) -> Answer
     if !has_room(bits, words, k) {
         return Answer::Refused(limit_or_damage(bits, words, k, Refusal::Full));
     }
-    let to = find_room(bits, words, k, rank.0);
-    if !to.good {
+    let held = held_count(words, k);
+    let to = find_room(words, k, held, rank.0);
+    if !(to.good & agrees(bits, k, rank.0, to.tail == 0)) {
         return Answer::Refused(Refusal::Damaged);
     }
     join(bits, words, k, e, to);
@@ -236,11 +190,13 @@ fn replace_laid(bits: &mut [u64], words: &mut [u32], k: Lay, e: Element) -> Answ
     if !low.good {
         return Answer::Refused(Refusal::Damaged);
     }
-    let room = room_after(bits, words, k, low, rank.0);
-    if !room.good {
+    let room = room_after(words, k, low, rank.0);
+    let held = held_count(words, k);
+    if !(room.good & agrees_after(bits, k, low, rank.0, room.tail == 0, held)) {
         return Answer::Refused(Refusal::Damaged);
     }
     let first = element_of(words, k, low.rank, low.head);
     swap(bits, words, k, low, e, room);
+    show(bits, k, e, room);
     Answer::Out(first)
 }

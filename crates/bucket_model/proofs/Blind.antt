@@ -13,7 +13,7 @@ use Rattle.strip.specs.declared.Count.the-variants.{Held}
 use Rattle.strip.specs.declared.Request.the-variants.{Idle, Push, Pop, Replace}
 use Rattle.bucket_model.specs.Layout.{Lay, Laid}
 use Rattle.bucket_model.specs.Causes.{Shaped}
-use Rattle.bucket_model.specs.Plain.{Call, ask, held, Said, answered, counted, Step, step, says, after, start, insert, tagged, roomy, plainPop, plainReplace, plain, plainSays, plainAfter, stored}
+use Rattle.bucket_model.specs.Plain.{Call, ask, held, Said, answered, counted, Step, step, says, after, start, insert, tagged, roomy, plainPop, plainReplace, plain, plainWith, plainSays, plainAfter, stored}
 use Rattle.bucket_model.specs.Promise.{shortCall, shortSaid, Blind}
 use Rattle.promise.specs.Lengths.{short}
 use Rattle.bucket_model.proofs.Promises.{answers, keeps}
@@ -45,7 +45,7 @@ replace-short e (x ∷ l) = ap (step (shortSaid (plainReplace e (x ∷ l) .said)
 -- ---- the plain list
 
 plain-short : (k : Lay) (c : Call) (l : List Element) → plain k (shortCall c) (map short l) ≡ shortStep (plain k c l)
-unfolding plain untagged
+unfolding plainWith untagged
 plain-short k (ask Idle) l = refl
 plain-short k (ask (Push e)) l =
     let put = step (answered Done) (insert e l) in

@@ -15,14 +15,14 @@ use Rattle.bucket_model.specs.Case8.{case8, case8Answers, case8Three, ca
 use Rattle.bucket_model.specs.Layout.{Lay, Laid, queue, pool, leastStoreys, mostStoreys, bitWords, storeWords}
 use Rattle.bucket_model.specs.Storeys.{marked, lowestRank, lowestOpen, rankAgrees}
 use Rattle.bucket_model.specs.Checks.{shapeOk, wholeOk, nextOf, popOk, pushOk}
-use Rattle.bucket_model.specs.Calls.{fill, blankWord, cleared, lowestOf, tailLeft, takenWords, takenBits, popFound, popped, roomOf, linkAt, joinedWords, joinedBits, pushFound, pushed}
+use Rattle.bucket_model.specs.Calls.{fill, blankWord, cleared, lowestOf, tailLeft, takenWords, takenBits, popFound, popped, roomWith, linkAt, joinedWords, joinedBits, pushFound, pushed}
 use Rattle.bucket_model.specs.Causes.{Shaped}
-use Rattle.bucket_model.specs.Plain.{ask, Said, answered, counted, Store, store, asked, called, says, plain, plainSays, start, answersFrom, bucketAnswers}
+use Rattle.bucket_model.specs.Plain.{ask, Said, answered, counted, Store, store, asked, called, says, plain, plainWith, plainSays, start, answersFrom, bucketAnswers}
 use Rattle.bucket_model.proofs.Queue.{laid-of}
 use Rattle.bucket_model.proofs.Promises.{answers}
 
 pub case8-holds : bucketAnswers (queue 2 3) case8 ≡ case8Answers
-unfolding bucketAnswers answersFrom asked marked lowestRank lowestOpen rankAgrees shapeOk wholeOk nextOf popOk pushOk fill blankWord cleared lowestOf tailLeft takenWords takenBits popFound popped roomOf linkAt joinedWords joinedBits pushFound pushed untagged bitAt trailingZeros
+unfolding bucketAnswers answersFrom asked marked lowestRank lowestOpen rankAgrees shapeOk wholeOk nextOf popOk pushOk fill blankWord cleared lowestOf tailLeft takenWords takenBits popFound popped roomWith linkAt joinedWords joinedBits pushFound pushed untagged bitAt trailingZeros
 case8-holds = refl
 
 -- ---- at three storeys a store has half a million words: its answers are those of the plain list, and these are computed
@@ -47,7 +47,7 @@ module _ (k : Lay) (laid : Laid k) (two : leastStoreys ≤ k .storeys) (three : 
       ∙ ap (map answerOf) (answers k laid (replicate (bitWords k) 0) (replicate (storeWords k) 0) zeros (map ask qs))
 
 three-listed : map answerOf (plainSays (queue 3 3) (map ask case8Three) []) ≡ case8ThreeAnswers
-unfolding plainSays plain untagged
+unfolding plainSays plainWith untagged
 three-listed = refl
 
 pub case8-three : bucketAnswers (queue 3 3) case8Three ≡ case8ThreeAnswers

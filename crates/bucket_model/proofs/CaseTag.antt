@@ -7,13 +7,13 @@ use Rattle.bucket_model.specs.CaseTag.{tagCase, tagCaseAnswers, spoilt, 
 use Rattle.bucket_model.specs.Layout.{queue}
 use Rattle.bucket_model.specs.Storeys.{marked, lowestRank, lowestOpen, rankAgrees}
 use Rattle.bucket_model.specs.Checks.{shapeOk, wholeOk, nextOf, popOk, pushOk}
-use Rattle.bucket_model.specs.Calls.{fill, blankWord, cleared, lowestOf, tailLeft, takenWords, takenBits, popFound, popped, roomOf, linkAt, joinedWords, joinedBits, pushFound, pushed, roomAfter, replaceFound, replaceJoined, replaced}
+use Rattle.bucket_model.specs.Calls.{fill, blankWord, cleared, lowestOf, tailLeft, takenWords, takenBits, popFound, popped, roomWith, linkAt, joinedWords, joinedBits, pushFound, pushed, roomAfter, replaceFound, replaceJoined, replaced}
 use Rattle.bucket_model.specs.Plain.{asked, answersFrom, bucketAnswers}
 
 pub tag-case : bucketAnswers (queue 2 3) tagCase ≡ tagCaseAnswers
-unfolding bucketAnswers answersFrom asked marked lowestRank lowestOpen rankAgrees shapeOk wholeOk nextOf popOk pushOk fill blankWord cleared lowestOf tailLeft takenWords takenBits popFound popped roomOf linkAt joinedWords joinedBits pushFound pushed roomAfter replaceFound replaceJoined replaced untagged bitAt trailingZeros
+unfolding bucketAnswers answersFrom asked marked lowestRank lowestOpen rankAgrees shapeOk wholeOk nextOf popOk pushOk fill blankWord cleared lowestOf tailLeft takenWords takenBits popFound popped roomWith linkAt joinedWords joinedBits pushFound pushed roomAfter replaceFound replaceJoined replaced untagged bitAt trailingZeros
 tag-case = refl
 
 pub spoilt-case : answersFrom (queue 2 3) spoiltCase spoilt ≡ spoiltCaseAnswers
-unfolding answersFrom asked marked lowestRank lowestOpen rankAgrees shapeOk wholeOk nextOf popOk pushOk fill blankWord cleared lowestOf tailLeft takenWords takenBits popFound popped roomOf linkAt joinedWords joinedBits pushFound pushed roomAfter replaceFound replaceJoined replaced untagged bitAt trailingZeros
+unfolding answersFrom asked marked lowestRank lowestOpen rankAgrees shapeOk wholeOk nextOf popOk pushOk fill blankWord cleared lowestOf tailLeft takenWords takenBits popFound popped roomWith linkAt joinedWords joinedBits pushFound pushed roomAfter replaceFound replaceJoined replaced untagged bitAt trailingZeros
 spoilt-case = refl

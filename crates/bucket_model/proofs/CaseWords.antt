@@ -9,30 +9,30 @@ use Rattle.bucket_model.specs.CaseWords.{filled, leftBy, popCase, popCas
 use Rattle.bucket_model.specs.Layout.{queue}
 use Rattle.bucket_model.specs.Storeys.{marked, lowestRank, lowestOpen, rankAgrees}
 use Rattle.bucket_model.specs.Checks.{shapeOk, wholeOk, nextOf, popOk, pushOk}
-use Rattle.bucket_model.specs.Calls.{fill, blankWord, cleared, lowestOf, tailLeft, takenWords, takenBits, popFound, popped, roomOf, linkAt, joinedWords, joinedBits, pushFound, pushed, roomAfter, replaceFound, replaceJoined, replaced}
-use Rattle.bucket_model.specs.Plain.{ask, after, asked, called, plain, plainSays, bucketAnswers}
+use Rattle.bucket_model.specs.Calls.{fill, blankWord, cleared, lowestOf, tailLeft, takenWords, takenBits, popFound, popped, roomWith, linkAt, joinedWords, joinedBits, pushFound, pushed, roomAfter, replaceFound, replaceJoined, replaced}
+use Rattle.bucket_model.specs.Plain.{ask, after, asked, called, plain, plainWith, plainSays, bucketAnswers}
 use Rattle.bucket_model.proofs.Case8.{answerOf, as-list}
 use Rattle.bucket_model.proofs.Queue.{laid-of}
 
 pub pop-case-bits : filled 0 (leftBy 4 popCase .bits) ≡ popCaseBits
-unfolding filled after called asked marked lowestRank lowestOpen rankAgrees shapeOk wholeOk nextOf popOk pushOk fill blankWord cleared lowestOf tailLeft takenWords takenBits popFound popped roomOf linkAt joinedWords joinedBits pushFound pushed untagged bitAt trailingZeros
+unfolding filled after called asked marked lowestRank lowestOpen rankAgrees shapeOk wholeOk nextOf popOk pushOk fill blankWord cleared lowestOf tailLeft takenWords takenBits popFound popped roomWith linkAt joinedWords joinedBits pushFound pushed untagged bitAt trailingZeros
 pop-case-bits = refl
 
 pub pop-case-words : filled 0 (leftBy 4 popCase .words) ≡ popCaseWords
-unfolding filled after called asked marked lowestRank lowestOpen rankAgrees shapeOk wholeOk nextOf popOk pushOk fill blankWord cleared lowestOf tailLeft takenWords takenBits popFound popped roomOf linkAt joinedWords joinedBits pushFound pushed untagged bitAt trailingZeros
+unfolding filled after called asked marked lowestRank lowestOpen rankAgrees shapeOk wholeOk nextOf popOk pushOk fill blankWord cleared lowestOf tailLeft takenWords takenBits popFound popped roomWith linkAt joinedWords joinedBits pushFound pushed untagged bitAt trailingZeros
 pop-case-words = refl
 
 pub replace-case-bits : filled 0 (leftBy 4 replaceCase .bits) ≡ replaceCaseBits
-unfolding filled after called asked marked lowestRank lowestOpen rankAgrees shapeOk wholeOk nextOf popOk pushOk fill blankWord cleared lowestOf tailLeft takenWords takenBits popFound popped roomOf linkAt joinedWords joinedBits pushFound pushed roomAfter replaceFound replaceJoined replaced untagged bitAt trailingZeros
+unfolding filled after called asked marked lowestRank lowestOpen rankAgrees shapeOk wholeOk nextOf popOk pushOk fill blankWord cleared lowestOf tailLeft takenWords takenBits popFound popped roomWith linkAt joinedWords joinedBits pushFound pushed roomAfter replaceFound replaceJoined replaced untagged bitAt trailingZeros
 replace-case-bits = refl
 
 pub replace-case-words : filled 0 (leftBy 4 replaceCase .words) ≡ replaceCaseWords
-unfolding filled after called asked marked lowestRank lowestOpen rankAgrees shapeOk wholeOk nextOf popOk pushOk fill blankWord cleared lowestOf tailLeft takenWords takenBits popFound popped roomOf linkAt joinedWords joinedBits pushFound pushed roomAfter replaceFound replaceJoined replaced untagged bitAt trailingZeros
+unfolding filled after called asked marked lowestRank lowestOpen rankAgrees shapeOk wholeOk nextOf popOk pushOk fill blankWord cleared lowestOf tailLeft takenWords takenBits popFound popped roomWith linkAt joinedWords joinedBits pushFound pushed roomAfter replaceFound replaceJoined replaced untagged bitAt trailingZeros
 replace-case-words = refl
 
 -- the answers, by those of the plain list
 listed : map answerOf (plainSays (queue 2 4) (map ask lengthCase) []) ≡ lengthCaseAnswers
-unfolding plainSays plain untagged
+unfolding plainSays plainWith untagged
 listed = refl
 
 pub length-case : bucketAnswers (queue 2 4) lengthCase ≡ lengthCaseAnswers

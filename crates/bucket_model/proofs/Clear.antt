@@ -1,7 +1,7 @@
 -- A cleared store holds nothing.
 use mathlib.Core.Path.{_≡_, refl, sym, ap, subst, _∙_}
 use mathlib.Core.List.{List, [], _∷_}
-use mathlib.Core.Logic.{_⊎_, ⊎-elim}
+use mathlib.Core.Logic.{⊎-elim}
 use Prim.Native.Nat.{ℕ, zero, suc, _+_, _-_, _/_, _%_, _^_, _≤_, _<_}
 use native.Mathlib.Nat.{pow-suc}
 use native.Mathlib.Omega.{arith}
@@ -22,9 +22,9 @@ use Rattle.bucket_model.proofs.Load.{load-blank}
 use Rattle.bucket_model.proofs.Tells.{zero-bit, nz, up}
 use Rattle.bucket_model.proofs.Tower.{Tower}
 use Rattle.bucket_model.proofs.Chain.{Node, node, Seg, Distinct, Mine, Chain, Chains}
-use Rattle.bucket_model.proofs.Linked.{Id, lastLink}
+use Rattle.bucket_model.proofs.Linked.{Id, Linked, lastLink}
 use Rattle.bucket_model.proofs.Order.{order-none}
-use Rattle.bucket_model.proofs.Queue.{flag, loads, area, Holds, shaped-after}
+use Rattle.bucket_model.proofs.Queue.{flag, NoLoads, loads, Seat, alone, area, Holds, shaped-after}
 
 -- ---- the free chain: the nodes i, i + 1, .., j of them, each without a load
 
@@ -73,14 +73,14 @@ module _ (k : Lay) (laid : Laid k) where
       let m : (cell (k .stem) l i - k .stem) % nodeWords ≡ i = omega arith in
       rw (le-ltb j (k .stem + nodeWords) (omega arith), lt-ltb j (k .free) (omega (arith, laid .pool)), d, m) refl
 
-  module _ (w : List ℕ) (is : (j : ℕ) → j < storeWords k → word w j ≡ blankWord k j) where
+  module _ (w : List ℕ) (is : (j : ℕ) → j ≤ k .free → word w j ≡ blankWord k j) where
     -- the free chain from node i on: j nodes, up to the last
     row-seg : (p i j : ℕ) → 1 ≤ i → i + j ≡ suc (k .nodes) → word w p ≡ firstOf j i → Seg (k .stem) w p (row i j)
     row-seg p i zero a b e = e
     row-seg p i (suc j) a b e = (
       e,
-      load-blank (k .stem) w i (λ c c<. is (cell (k .stem) i c) (omega (arith, laid .pool, laid .held)) ∙ blank-node i c a (omega arith) (omega arith) ∙ no-load c c<),
-      row-seg (nextAt k i) (suc i) j (omega arith) (omega arith) (is (nextAt k i) (omega (arith, laid .pool, laid .held)) ∙ blank-node i loadWords a (omega arith) (omega arith) ∙ next j b),
+      load-blank (k .stem) w i (λ c c<. is (cell (k .stem) i c) (omega (arith, laid .pool)) ∙ blank-node i c a (omega arith) (omega arith) ∙ no-load c c<),
+      row-seg (nextAt k i) (suc i) j (omega arith) (omega arith) (is (nextAt k i) (omega (arith, laid .pool)) ∙ blank-node i loadWords a (omega arith) (omega arith) ∙ next j b),
     )
       where
         no-load : (c : ℕ) → c < loadWords → blankCell (k .nodes) i c ≡ 0
@@ -90,9 +90,68 @@ module _ (k : Lay) (laid : Laid k) where
         next zero b = rw (eq-eqb i (k .nodes) (omega arith)) refl
         next (suc j) b = rw (ne-eqb i (k .nodes) (λ e. omega arith)) (omega arith)
 
+-- ---- the chains of a cleared store, of any queues over one pool: every list is empty, and the free chain has all nodes
+
+module _ (k : Lay) where
+  abbrev none : ℕ → List Node
+  none r = []
+
+  abbrev pub freshQ : ℕ → List Node
+  freshQ = upd none (k .free) (row 1 (k .nodes))
+
+  abbrev pub freshOwn : ℕ → ℕ
+  freshOwn l = k .free
+
+  fresh-is : freshQ (k .free) ≡ row 1 (k .nodes)
+  fresh-is = is-upd none (k .free) (row 1 (k .nodes)) .here
+
+  pub fresh-free : length (freshQ (k .free)) ≡ k .nodes
+  fresh-free = ap length fresh-is ∙ row-length 1 (k .nodes)
+
+  pub fresh-blank : NoLoads (freshQ (k .free))
+  fresh-blank = rw fresh-is (row-all (λ (x : Node). x .load ≡ noLoad) 1 (k .nodes) (λ l a b. refl))
+
+  module _ (S : Seat k) where
+    abbrev laid : Laid k
+    laid = S .laid
+
+    pub fresh-list : (c : ℕ) → S .Head c → freshQ c ≡ []
+    fresh-list c h = is-upd none (k .free) (row 1 (k .nodes)) .else c (λ e. omega (arith, S .low c h, laid .pool))
+
+    module _ (W : List ℕ) (is : (j : ℕ) → j ≤ k .free → word W j ≡ blankWord k j) (long : k .free < length W) (some : 1 ≤ k .nodes) where
+      one : (n : ℕ) → 1 ≤ n → 1 ≡ firstOf n 1
+      one zero h = absurd (omega arith)
+      one (suc n) h = refl
+
+      chains0 : Chains (k .stem) W (Id (area k S)) (k .nodes) freshOwn freshQ
+      chains0 c i = ⊎-elim list free i
+        where
+          list : S .Head c → Chain (k .stem) W (k .nodes) freshOwn c (freshQ c)
+          list h =
+              subst (Chain (k .stem) W (k .nodes) freshOwn c) (sym (fresh-list c h))
+              (record { seg = is c (omega (arith, S .low c h, laid .pool)) ∙ blank-low k laid c (omega (arith, S .low c h)); mine = tt; once = tt })
+
+          free : c ≡ k .free → Chain (k .stem) W (k .nodes) freshOwn c (freshQ c)
+          free e =
+              subst (λ (c : ℕ). Chain (k .stem) W (k .nodes) freshOwn c (freshQ c)) (sym e)
+              (subst (Chain (k .stem) W (k .nodes) freshOwn (k .free)) (sym fresh-is)
+              (record {
+                seg = row-seg k laid W is (k .free) 1 (k .nodes) (omega arith) (omega arith) (is (k .free) (omega arith) ∙ blank-free k laid ∙ one (k .nodes) some);
+                mine = row-all (Mine freshOwn (k .nodes) (k .free)) 1 (k .nodes) (λ l a b. record { owner = refl; low = a; high = omega arith });
+                once = row-once 1 (k .nodes);
+              }))
+
+      pub fresh-linked : Linked (area k S) W freshQ freshOwn
+      fresh-linked =
+          record {
+            long = long;
+            chains = chains0;
+            tails = λ c h. is (c + k .ranks) (omega (arith, S .low c h, laid .pool)) ∙ blank-low k laid (c + k .ranks) (S .low c h) ∙ ap lastLink (sym (fresh-list c h));
+          }
+
 -- ---- bits that are all 0, at any depth
 
-blank-from : (b : List ℕ) (o d : ℕ) → o + wordsOf d ≤ length b → ((a : ℕ) → o ≤ a → a < o + wordsOf d → word b a ≡ 0) → (f : ℕ → ℕ) → ((j : ℕ) → j < 64 ^ d → f j ≡ 0) → Tower b (storeysFrom o d) f
+pub blank-from : (b : List ℕ) (o d : ℕ) → o + wordsOf d ≤ length b → ((a : ℕ) → o ≤ a → a < o + wordsOf d → word b a ≡ 0) → (f : ℕ → ℕ) → ((j : ℕ) → j < 64 ^ d → f j ≡ 0) → Tower b (storeysFrom o d) f
 blank-from b o zero l h f z = tt
 blank-from b o (suc d) l h f z = (
   record {
@@ -113,59 +172,18 @@ module _ (k : Lay) (laid : Laid k) (b w : List ℕ) (H : Shaped k b w) where
   word-is : (j : ℕ) → j < storeWords k → word W j ≡ blankWord k j
   word-is j h = fill-at (blankWord k) (storeWords k) w j h (H .words)
 
-  abbrev none : ℕ → List Node
-  none r = []
-
-  abbrev q0 : ℕ → List Node
-  q0 = upd none (k .free) (row 1 (k .nodes))
-
-  abbrev own0 : ℕ → ℕ
-  own0 l = k .free
-
-  q0-list : (c : ℕ) → c < k .heads + k .ranks → q0 c ≡ []
-  q0-list c h = is-upd none (k .free) (row 1 (k .nodes)) .else c (λ e. omega (arith, laid .lists, laid .pool))
-
-  q0-free : q0 (k .free) ≡ row 1 (k .nodes)
-  q0-free = is-upd none (k .free) (row 1 (k .nodes)) .here
-
-  one : (n : ℕ) → 1 ≤ n → 1 ≡ firstOf n 1
-  one zero h = absurd (omega arith)
-  one (suc n) h = refl
-
-  chains0 : Chains (k .stem) W (Id (area k laid)) (k .nodes) own0 q0
-  chains0 c i = ⊎-elim list free i
-    where
-      list : (k .heads ≤ c) × (c < k .heads + k .ranks) → Chain (k .stem) W (k .nodes) own0 c (q0 c)
-      list h =
-          subst (Chain (k .stem) W (k .nodes) own0 c) (sym (q0-list c (h .1)))
-          (record { seg = word-is c (omega (arith, h .1, laid .lists, laid .pool, laid .held)) ∙ blank-low k laid c (omega (arith, h .1, laid .lists)); mine = tt; once = tt })
-
-      free : c ≡ k .free → Chain (k .stem) W (k .nodes) own0 c (q0 c)
-      free e =
-          subst (λ (c : ℕ). Chain (k .stem) W (k .nodes) own0 c (q0 c)) (sym e)
-          (subst (Chain (k .stem) W (k .nodes) own0 (k .free)) (sym q0-free)
-          (record {
-            seg = row-seg k laid W word-is (k .free) 1 (k .nodes) (omega arith) (omega arith) (word-is (k .free) (omega (arith, laid .held)) ∙ blank-free k laid ∙ one (k .nodes) (H .low));
-            mine = row-all (Mine own0 (k .nodes) (k .free)) 1 (k .nodes) (λ l a b. record { owner = refl; low = a; high = omega arith });
-            once = row-once 1 (k .nodes);
-          }))
-
   pub clear-holds : Holds k laid B W []
   clear-holds =
       record {
-        q = q0;
-        own = own0;
+        q = freshQ k;
+        own = freshOwn k;
         shaped = shaped-after k b w B W (fill-length (λ j. 0) (bitWords k) b) (fill-length (blankWord k) (storeWords k) w) H;
-        linked = record {
-          long = omega (arith, H .words, fill-length (blankWord k) (storeWords k) w, laid .held);
-          chains = chains0;
-          tails = λ c h. word-is (c + k .ranks) (omega (arith, h .1, laid .lists, laid .pool, laid .held)) ∙ blank-low k laid (c + k .ranks) (omega (arith, h .1, laid .lists)) ∙ ap lastLink (sym (q0-list c (h .1)));
-        };
-        bits = record { tower = blank-from B (k .bits) (k .storeys) (omega (arith, H .bits, laid .tower, fill-length (λ j. 0) (bitWords k) b)) (λ a l m. fill-at (λ j. 0) (bitWords k) b a (omega (arith, laid .tower)) (H .bits)) (λ r. flag (q0 (headAt k r))) (λ j l. ap flag (q0-list (headAt k j) (omega (arith, laid .ranks)))) };
-        is = sym (order-none (λ r. loads (q0 (headAt k r))) 0 (k .ranks) (λ j a l. ap loads (q0-list (headAt k j) (omega arith))));
+        linked = fresh-linked k (alone k laid) W (λ j l. word-is j (omega (arith, laid .held))) (omega (arith, H .words, fill-length (blankWord k) (storeWords k) w, laid .held)) (H .low);
+        bits = record { tower = blank-from B (k .bits) (k .storeys) (omega (arith, H .bits, laid .tower, fill-length (λ j. 0) (bitWords k) b)) (λ a l m. fill-at (λ j. 0) (bitWords k) b a (omega (arith, laid .tower)) (H .bits)) (λ r. flag (freshQ k (headAt k r))) (λ j l. ap flag (fresh-list k (alone k laid) (headAt k j) (omega arith, omega (arith, laid .ranks)))) };
+        is = sym (order-none (λ r. loads (freshQ k (headAt k r))) 0 (k .ranks) (λ j a l. ap loads (fresh-list k (alone k laid) (headAt k j) (omega arith, omega arith))));
         held = word-is (k .held) (omega arith) ∙ blank-held k laid;
-        room = omega (arith, ap length q0-free, row-length 1 (k .nodes));
-        blank = rw q0-free (row-all (λ (x : Node). x .load ≡ noLoad) 1 (k .nodes) (λ l a b. refl));
+        room = omega (arith, fresh-free k);
+        blank = fresh-blank k;
       }
 
   pub clear-done : cleared k b w ≡ outcome Done B W

@@ -24,13 +24,13 @@ use Rattle.bucket_model.proofs.Facts.{shape-means, whole-means, pop-mea
 -- ---- one rung of a call that leaves b and w behind
 
 module _ (b w : List ℕ) where
-  step : (t : Bool) (P : Type 0) (x : Refusal) (o : Outcome) (l : Ladder Refusal) → Means t P → (P → Exactly o b w l) → Exactly (cond t o (refused x b w)) b w (rung x P l)
+  pub step : (t : Bool) (P : Type 0) (x : Refusal) (o : Outcome) (l : Ladder Refusal) → Means t P → (P → Exactly o b w l) → Exactly (cond t o (refused x b w)) b w (rung x P l)
   step = ladder.climb (λ (o : Outcome). numberOf (o .answer)) (λ (r : Refusal). refused r b w) refusal-told
 
-  done : (b′ w′ : List ℕ) → Exactly (outcome Done b′ w′) b w fine
+  pub done : (b′ w′ : List ℕ) → Exactly (outcome Done b′ w′) b w fine
   done b′ w′ = ladder.climb-fine (λ (o : Outcome). numberOf (o .answer)) (λ (r : Refusal). refused r b w) (outcome Done b′ w′) zero-told
 
-  out : (x : Element) (b′ w′ : List ℕ) → Exactly (outcome (Out x) b′ w′) b w fine
+  pub out : (x : Element) (b′ w′ : List ℕ) → Exactly (outcome (Out x) b′ w′) b w fine
   out x b′ w′ = ladder.climb-fine (λ (o : Outcome). numberOf (o .answer)) (λ (r : Refusal). refused r b w) (outcome (Out x) b′ w′) zero-told
 
 -- ---- the table

@@ -2,7 +2,7 @@
 use mathlib.Core.Path.{_≡_, refl, ap}
 use mathlib.Core.Bool.{Bool, true, false, not, cond, _&&_}
 use mathlib.Core.List.{List, [], _∷_}
-use Prim.Native.Nat.{ℕ, _+_, _/_, _%_, _≤_, _<_}
+use Prim.Native.Nat.{ℕ, _+_, _/_, _%_, _<_}
 use native.Mathlib.Omega.{arith}
 use lib.Dec.{eqb}
 use lib.ListN.{length}
@@ -11,8 +11,8 @@ use Rattle.bitmap.specs.Bits.{bit-lt}
 use Rattle.bucket_model.specs.Layout.{Lay, pool, leastStoreys, mostStoreys, bitWords, word, headAt, tailAt}
 use Rattle.bucket_model.specs.Storeys.{Storey, storeysAt, wordOf, bitOf, find, opens, agree, lowestOpen, lowestRank, rankAgrees}
 use Rattle.bucket_model.specs.Checks.{shapeOk, wholeOk, nextOf, popOk, pushOk}
-use Rattle.bucket_model.specs.Calls.{isShaped, isWhole, Lowest, lowestOf, lowestIn, noLowest, roomOf, roomAfter}
-use Rattle.bucket_model.specs.Causes.{Shaped, Whole, Opens, bitNo, Agrees, PopFit, PushFit}
+use Rattle.bucket_model.specs.Calls.{isShaped, isWhole, Lowest, lowestOf, lowestIn, noLowest, roomOf, roomWith, roomAfter}
+use Rattle.bucket_model.specs.Causes.{Shaped, Whole, Opens, bitNo, Agrees, PopFit, JoinFit, PushFit}
 
 -- a bit that is clear: "bit is set" answers no
 clear-means : (x : ℕ) → x < 2 → Means (not (eqb x 1)) (x ≡ 0)
@@ -92,9 +92,9 @@ module _ (k : Lay) (b w : List ℕ) where
 -- ---- a push's bucket
 
 module _ (k : Lay) (b w : List ℕ) (r : ℕ) where
-  pub push-means : Means (roomOf k b w r .good) (PushFit k b w r)
-  unfolding pushOk roomOf rankAgrees
-  push-means =
+  pub join-means : (used : ℕ) → Means (roomWith k used b w r .good) (JoinFit k used b w r)
+  unfolding pushOk roomWith rankAgrees
+  join-means used =
       let n = k .nodes in
       let head = word w (headAt k r) in
       let tail = word w (tailAt k r) in
@@ -105,9 +105,12 @@ module _ (k : Lay) (b w : List ℕ) (r : ℕ) where
       (means-and (means-and (means-and (means-and (means-and (means-and (means-and
       (means-beq (means-eqb head 0) (means-eqb tail 0)) (agree-means b (storeysAt k) r (eqb head 0) (head ≡ 0) (means-eqb head 0)))
       (means-leb head n)) (means-leb tail n)) (means-leb next n)) (means-eqb behind 0)) (means-not (means-eqb free tail)))
-      (means-beq (means-eqb next 0) (means-eqb (word w (k .held) + 1) n)))
+      (means-beq (means-eqb next 0) (means-eqb (used + 1) n)))
       (λ x. record { both = x .0 .0 .0 .0 .0 .0 .0; bits = x .0 .0 .0 .0 .0 .0 .1; head≤ = x .0 .0 .0 .0 .0 .1; tail≤ = x .0 .0 .0 .0 .1; next≤ = x .0 .0 .0 .1; behind0 = x .0 .0 .1; free≢ = x .0 .1; ends = x .1 })
       (λ h. (((((((h .both, h .bits), h .head≤), h .tail≤), h .next≤), h .behind0), h .free≢), h .ends))
+
+  pub push-means : Means (roomOf k b w r .good) (PushFit k b w r)
+  push-means = join-means (word w (k .held))
 
   pub room-means : Means (roomAfter k b w r .good) (Whole k b w × PushFit k b w r)
   unfolding roomAfter

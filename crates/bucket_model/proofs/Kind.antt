@@ -21,11 +21,11 @@ use Rattle.bucket_model.specs.Plain.{Store, asked}
 use Rattle.bucket_model.specs.Promise.{Pinned}
 
 -- the answer's kind, where it is no refusal
-abbrev Fits : Request → Outcome → Type 0
+abbrev pub Fits : Request → Outcome → Type 0
 Fits q o = numberOf (o .answer) ≡ 0 → Kind q (o .answer)
 
 -- a test, and a refusal where it does not hold
-tested : (q : Request) (b w : List ℕ) (t : Bool) (o : Outcome) (x : Refusal) → Fits q o → Fits q (cond t o (refused x b w))
+pub tested : (q : Request) (b w : List ℕ) (t : Bool) (o : Outcome) (x : Refusal) → Fits q o → Fits q (cond t o (refused x b w))
 tested q b w t o x f = cond-both (Fits q) t o (refused x b w) (λ e. f) (λ e n. absurd (zero-told x (sym n)))
 
 module _ (k : Lay) (b w : List ℕ) where

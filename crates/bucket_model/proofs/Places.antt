@@ -20,18 +20,18 @@ use Rattle.bucket_model.proofs.Queue.{laid-of}
 use Rattle.bucket_model.proofs.Untouched.{rest-clear}
 
 -- what makes the numbers of a depth those of the queue
-record Right (d : Depth) : Type 0 where
-  two : leastStoreys ≤ d .storeys
-  three : d .storeys ≤ mostStoreys
-  ranks : d .ranks ≡ 64 ^ d .storeys
-  some : 2 ≤ d .ranks
-  places : d .places ≡ storeysFrom 0 (d .storeys)
-  bits : d .bits ≡ wordsOf (d .storeys)
+pub record Right (d : Depth) : Type 0 where
+  pub two : leastStoreys ≤ d .storeys
+  pub three : d .storeys ≤ mostStoreys
+  pub ranks : d .ranks ≡ 64 ^ d .storeys
+  pub some : 2 ≤ d .ranks
+  pub places : d .places ≡ storeysFrom 0 (d .storeys)
+  pub bits : d .bits ≡ wordsOf (d .storeys)
 
-right-two : Right twoStoreys
+pub right-two : Right twoStoreys
 right-two = record { two = lit≤ tt; three = lit≤ tt; ranks = refl; some = lit≤ tt; places = refl; bits = refl }
 
-right-three : Right threeStoreys
+pub right-three : Right threeStoreys
 right-three = record { two = lit≤ tt; three = lit≤ tt; ranks = refl; some = lit≤ tt; places = refl; bits = refl }
 
 module _ (d : Depth) (ok : Right d) (n : ℕ) where

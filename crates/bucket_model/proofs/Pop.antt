@@ -3,7 +3,7 @@ use mathlib.Core.Path.{_≡_, refl, sym, ap, subst, _∙_}
 use mathlib.Core.Bool.{true, false}
 use mathlib.Core.List.{List, [], _∷_}
 use mathlib.Core.Logic.{inl}
-use Prim.Native.Nat.{ℕ, suc, _+_, _-_, _≤_, _<_}
+use Prim.Native.Nat.{ℕ, suc, _-_, _≤_, _<_}
 use native.Mathlib.Omega.{arith}
 use borrow.Author.Tests.{eq-eqb, ne-eqb, le-ltb}
 use lib.Dec.{eqb}
@@ -26,7 +26,7 @@ use Rattle.bucket_model.proofs.Tower.{Ranks, ranks-ext, marks, marked-l
 use Rattle.bucket_model.proofs.Chain.{Node, Seg, Apart, Mine, Chain}
 use Rattle.bucket_model.proofs.Linked.{lastFrom, lastLink, last≤, linked-off, taking, takenQ, takenOwn, take-linked, taken-else, taken-free}
 use Rattle.bucket_model.proofs.Order.{order-pop}
-use Rattle.bucket_model.proofs.Queue.{flag, loads, flag-zero, seg-le, area, head, Holds, lowest, top-held, Change, changed, shaped-after}
+use Rattle.bucket_model.proofs.Queue.{flag, loads, flag-zero, seg-le, Seat, area, HoldsIn, lowest, top-held, Change, changed, changed-else, shaped-after}
 
 -- ---- the next of a node
 
@@ -66,7 +66,10 @@ pub taken-length : (k : Lay) (w : List ℕ) (low : Lowest) → length (takenWord
 unfolding takenWords
 taken-length k w low = write-length w (takes k w low)
 
-module _ (k : Lay) (laid : Laid k) (b w : List ℕ) (l : List Element) (h : Holds k laid b w l) where
+module _ (k : Lay) (S : Seat k) (others : ℕ) (b w : List ℕ) (l : List Element) (h : HoldsIn k S others b w l) where
+  abbrev laid : Laid k
+  laid = S .laid
+
   abbrev r : ℕ
   r = lowestRank k b
 
@@ -74,19 +77,21 @@ module _ (k : Lay) (laid : Laid k) (b w : List ℕ) (l : List Element) (h : Hold
   pub record Popped (x : Element) (l′ : List Element) : Type 0 where
     pub list : l ≡ x ∷ l′
     pub lowest : x .rank .0 ≡ lowestRank k b
+    pub within : lowestRank k b < k .ranks
     pub fit : PopFit k b w (lowestRank k b)
     pub gives : given k w (lowestOf k b w) ≡ x
-    pub after : Holds k laid (takenBits k b (lowestOf k b w)) (takenWords k w (lowestOf k b w)) l′
+    pub after : HoldsIn k S others (takenBits k b (lowestOf k b w)) (takenWords k w (lowestOf k b w)) l′
+    pub else : (c : ℕ) → S .Head c → (c ≡ headAt k (lowestRank k b) → ⊥) → after .q c ≡ h .q c
 
   module _ (some : word w (k .held) ≡ 0 → ⊥) (x : Node) (xs : List Node) (e : h .q (headAt k (lowestRank k b)) ≡ x ∷ xs) where
     top> : 0 < word b (k .bits)
-    top> = let g : word b (k .bits) ≡ 0 → ⊥ = λ z. some (top-held k laid b w l h .to z) in omega arith
+    top> = let g : word b (k .bits) ≡ 0 → ⊥ = λ z. some (top-held k S others b w l h .to z) in omega arith
 
     F : tower.Lowest k laid b (λ r. flag (h .q (headAt k r))) (h .bits)
-    F = lowest k laid b w l h top>
+    F = lowest k S others b w l h top>
 
-    hc : (k .heads ≤ headAt k r) × (headAt k r < k .heads + k .ranks)
-    hc = head k laid r (F .within)
+    hc : S .Head (headAt k (lowestRank k b))
+    hc = S .head r (F .within)
 
     C : Chain (k .stem) w (k .nodes) (h .own) (headAt k r) (x ∷ xs)
     C = subst (Chain (k .stem) w (k .nodes) (h .own) (headAt k r)) e (h .linked .chains (headAt k r) (inl hc))
@@ -104,7 +109,7 @@ module _ (k : Lay) (laid : Laid k) (b w : List ℕ) (l : List Element) (h : Hold
     next-is = ap (nextOf k w) head-is ∙ next-in k w (x .link) (C .mine .0 .low) (C .mine .0 .high)
 
     ends≤ : (1 ≤ lastFrom (x .link) xs) × (lastFrom (x .link) xs ≤ k .nodes)
-    ends≤ = last≤ (area k laid) (h .own) (headAt k r) (x .link) xs (C .mine .0 .low) (C .mine .0 .high) (C .mine .1)
+    ends≤ = last≤ (area k S) (h .own) (headAt k r) (x .link) xs (C .mine .0 .low) (C .mine .0 .high) (C .mine .1)
 
     behind-is : nextOf k w (word w (tailAt k r)) ≡ 0
     behind-is = ap (nextOf k w) tail-is ∙ next-in k w (lastFrom (x .link) xs) (ends≤ .0) (ends≤ .1) ∙ last-next (k .stem) w (x .link) xs (C .seg .2)
@@ -133,7 +138,7 @@ module _ (k : Lay) (laid : Laid k) (b w : List ℕ) (l : List Element) (h : Hold
     -- ---- the words and the bits
 
     abbrev T : List ℕ
-    T = taking (area k laid) w (h .q) (h .own) (h .linked) (headAt k r) hc x xs e
+    T = taking (area k S) w (h .q) (h .own) (h .linked) (headAt k r) hc x xs e
 
     abbrev W : List ℕ
     W = set T (k .held) (word w (k .held) - 1)
@@ -169,33 +174,42 @@ module _ (k : Lay) (laid : Laid k) (b w : List ℕ) (l : List Element) (h : Hold
         h .is ∙ order-pop (λ j. loads (h .q (headAt k j))) r (x .load) (loads xs) (ap loads e) 0 (k .ranks) (omega arith) (omega (arith, F .within))
         (λ j l. ap loads (flag-zero (h .q (headAt k j)) (F .below j l)))
 
-    change : Change k laid b w l h r (takenBits k b lo) W left xs
+    change : Change k S others b w l h r (takenBits k b lo) W left xs
     change =
         let z = h .linked in
         let n : length l ≡ suc (length left) = ap length list-is in
         record {
-          q′ = takenQ (area k laid) w (h .q) (h .own) z (headAt k r) hc x xs e;
-          own′ = takenOwn (area k laid) w (h .q) (h .own) z (headAt k r) hc x xs e;
+          q′ = takenQ (area k S) w (h .q) (h .own) z (headAt k r) hc x xs e;
+          own′ = takenOwn (area k S) w (h .q) (h .own) z (headAt k r) hc x xs e;
           shaped = shaped-after k b w (takenBits k b lo) W (taken-bits-length k b lo) long-is (h .shaped);
-          linked = linked-off (area k laid) T (k .held) (word w (k .held) - 1) _ _ (laid .held) (take-linked (area k laid) w (h .q) (h .own) z (headAt k r) hc x xs e);
-          here = taken-else (area k laid) w (h .q) (h .own) z (headAt k r) hc x xs e (headAt k r) hc ∙ is-upd (h .q) (headAt k r) xs .here;
-          else = λ j j< i. taken-else (area k laid) w (h .q) (h .own) z (headAt k r) hc x xs e (headAt k j) (head k laid j j<) ∙ is-upd (h .q) (headAt k r) xs .else (headAt k j) (λ p. i (omega arith));
+          linked = linked-off (area k S) T (k .held) (word w (k .held) - 1) _ _ (laid .held) (take-linked (area k S) w (h .q) (h .own) z (headAt k r) hc x xs e);
+          here = taken-else (area k S) w (h .q) (h .own) z (headAt k r) hc x xs e (headAt k r) hc ∙ is-upd (h .q) (headAt k r) xs .here;
+          else = λ c i n. taken-else (area k S) w (h .q) (h .own) z (headAt k r) hc x xs e c i ∙ is-upd (h .q) (headAt k r) xs .else c n;
           bits = bits-are xs refl;
           list = refl;
           count = same T (k .held) (word w (k .held) - 1) (omega (arith, h .shaped .words, long-is, length-set T (k .held) (word w (k .held) - 1))) ∙ omega (arith, h .held);
-          free = omega (arith, ap length (taken-free (area k laid) w (h .q) (h .own) z (headAt k r) hc x xs e));
-          blank = rw (taken-free (area k laid) w (h .q) (h .own) z (headAt k r) hc x xs e) (refl, h .blank);
+          free = omega (arith, ap length (taken-free (area k S) w (h .q) (h .own) z (headAt k r) hc x xs e));
+          blank = rw (taken-free (area k S) w (h .q) (h .own) z (headAt k r) hc x xs e) (refl, h .blank);
         }
+
+    abbrev Left : Lowest → List ℕ → Type 0
+    Left low v = (y : HoldsIn k S others (takenBits k b low) v left) × ((c : ℕ) → S .Head c → (c ≡ headAt k r → ⊥) → y .q c ≡ h .q c)
+
+    leaves : Left (lowestOf k b w) (takenWords k w (lowestOf k b w))
+    leaves =
+        subst (λ (low : Lowest). Left low (takenWords k w low)) (sym low-lo)
+        (subst (Left lo) (sym words-are) (changed k S others b w l h r (takenBits k b lo) W left xs change, changed-else k S others b w l h r (takenBits k b lo) W left xs change))
 
     does : Popped (loaded r (x .load)) left
     does =
         record {
           list = list-is;
           lowest = refl;
+          within = F .within;
           fit = fits;
           gives = ap (given k w) low-lo ∙ ap (loaded r) (C .seg .1);
-          after = subst (λ (l : Lowest). Holds k laid (takenBits k b l) (takenWords k w l) left) (sym low-lo)
-              (subst (λ (v : List ℕ). Holds k laid (takenBits k b lo) v left) (sym words-are) (changed k laid b w l h r (takenBits k b lo) W left xs change));
+          after = leaves .0;
+          else = leaves .1;
         }
 
   -- with something held a pop gives the first of the list
@@ -204,8 +218,8 @@ module _ (k : Lay) (laid : Laid k) (b w : List ℕ) (l : List Element) (h : Hold
     where
       go : (ys : List Node) → h .q (headAt k r) ≡ ys → (x : Element) × (l′ : List Element) × Popped x l′
       go [] p =
-          let g : word b (k .bits) ≡ 0 → ⊥ = λ z. some (top-held k laid b w l h .to z) in
-          let one : flag (h .q (headAt k r)) ≡ 1 = lowest k laid b w l h (omega arith) .here in
+          let g : word b (k .bits) ≡ 0 → ⊥ = λ z. some (top-held k S others b w l h .to z) in
+          let one : flag (h .q (headAt k r)) ≡ 1 = lowest k S others b w l h (omega arith) .here in
           let nil : flag (h .q (headAt k r)) ≡ 0 = ap flag p in
           absurd (omega arith)
       go (x ∷ xs) p = (loaded r (x .load), _, does some x xs p)

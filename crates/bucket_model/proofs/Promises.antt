@@ -17,12 +17,12 @@ use Rattle.strip.specs.declared.Request.the-variants.{Idle, Push, Pop, Replace}
 use Rattle.bucket_model.specs.Layout.{Lay, Laid, queue, word, headAt, tailAt}
 use Rattle.bucket_model.specs.Calls.{Outcome, outcome, Lowest, lowestOf, takenBits, takenWords, roomOf, joinedBits, joinedWords, popped}
 use Rattle.bucket_model.specs.Causes.{Shaped}
-use Rattle.bucket_model.specs.Plain.{Call, ask, held, answered, saidNumber, Step, step, Store, store, asked, called, says, after, start, Reached, insert, tagged, roomy, plainReplace, plain, plainSays, plainAfter, stored, brought, gone, ofRank, times, Sorted, FirstOut, Reused}
+use Rattle.bucket_model.specs.Plain.{Call, ask, held, answered, saidNumber, Step, step, Store, store, asked, called, says, after, start, Reached, insert, tagged, roomy, plainReplace, plain, plainWith, plainSays, plainAfter, stored, brought, gone, ofRank, times, Sorted, FirstOut, Reused}
 use Rattle.bucket_model.proofs.Sorted.{Through, through}
 use Rattle.bucket_model.proofs.Facts.{pop-means, pop-way, low-is}
 use Rattle.bucket_model.proofs.Taken.{free-after}
 use Rattle.bucket_model.proofs.Joined.{joined-tail}
-use Rattle.bucket_model.proofs.Queue.{Holds, laid-of}
+use Rattle.bucket_model.proofs.Queue.{alone, Holds, laid-of}
 use Rattle.bucket_model.proofs.Pop.{Popped, pops}
 use Rattle.bucket_model.proofs.Push.{pushes}
 use Rattle.bucket_model.proofs.Clear.{clear-holds, clear-done}
@@ -34,7 +34,7 @@ queue-laid d n b w h = laid-of d n (omega (arith, h .two))
 
 -- ---- the plain list is never damaged
 
-abbrev Sane : Step (List Element) → Type 0
+abbrev pub Sane : Step (List Element) → Type 0
 Sane x = saidNumber (x .said) ≡ 2 → ⊥
 
 sane-either : (t : Bool) (x y : Step (List Element)) → Sane x → Sane y → Sane (cond t x y)
@@ -45,26 +45,26 @@ sane-replace : (e : Element) (l : List Element) → Sane (plainReplace e l)
 sane-replace e [] = λ p. omega arith
 sane-replace e (x ∷ l) = λ p. omega arith
 
-plain-sane : (k : Lay) (c : Call) (l : List Element) → Sane (plain k c l)
-unfolding plain
-plain-sane k (ask Idle) l = λ e. omega arith
-plain-sane k (ask (Push e)) l =
+pub plain-sane : (ranks : ℕ) (room : Bool) (c : Call) (l : List Element) → Sane (plainWith ranks room c l)
+unfolding plainWith
+plain-sane ranks room (ask Idle) l = λ e. omega arith
+plain-sane ranks room (ask (Push e)) l =
     let yes = step (answered Done) (insert e l) in
-    let put = roomy (ltb (length l) (k .nodes)) l yes in
-    sane-either (ltb (e .rank .0) (k .ranks)) (tagged e l put) (step (answered (Refused BadRank)) l)
+    let put = roomy room l yes in
+    sane-either (ltb (e .rank .0) ranks) (tagged e l put) (step (answered (Refused BadRank)) l)
     (sane-either (not (untagged e)) put (step (answered (Refused NoTag)) l)
-    (sane-either (ltb (length l) (k .nodes)) yes (step (answered (Refused Full)) l) (λ e. omega arith) (λ e. omega arith)) (λ e. omega arith)) (λ e. omega arith)
-plain-sane k (ask Pop) [] = λ e. omega arith
-plain-sane k (ask Pop) (x ∷ l) = λ e. omega arith
-plain-sane k (ask (Replace e)) l =
-    sane-either (ltb (e .rank .0) (k .ranks)) (tagged e l (plainReplace e l)) (step (answered (Refused BadRank)) l)
+    (sane-either room yes (step (answered (Refused Full)) l) (λ e. omega arith) (λ e. omega arith)) (λ e. omega arith)) (λ e. omega arith)
+plain-sane ranks room (ask Pop) [] = λ e. omega arith
+plain-sane ranks room (ask Pop) (x ∷ l) = λ e. omega arith
+plain-sane ranks room (ask (Replace e)) l =
+    sane-either (ltb (e .rank .0) ranks) (tagged e l (plainReplace e l)) (step (answered (Refused BadRank)) l)
     (sane-either (not (untagged e)) (plainReplace e l) (step (answered (Refused NoTag)) l) (sane-replace e l) (λ e. omega arith)) (λ e. omega arith)
-plain-sane k held l = λ e. omega arith
+plain-sane ranks room held l = λ e. omega arith
 
 plain-undamaged : (k : Lay) (cs : List Call) (l : List Element) → All (λ s. saidNumber s ≡ 2 → ⊥) (plainSays k cs l)
 unfolding plainSays
 plain-undamaged k [] l = tt
-plain-undamaged k (c ∷ cs) l = (plain-sane k c l, plain-undamaged k cs (plain k c l .next))
+plain-undamaged k (c ∷ cs) l = (plain-sane (k .ranks) (ltb (length l) (k .nodes)) c l, plain-undamaged k cs (plain k c l .next))
 
 module _ (k : Lay) (laid : Laid k) where
   pub start-holds : (b w : List ℕ) → Shaped k b w → Holds k laid (start k b w .bits) (start k b w .words) []
@@ -79,7 +79,7 @@ module _ (k : Lay) (laid : Laid k) where
 
     -- what the store holds then is that list
     pub keeps : stored k (after k cs (start k b w) .words) ≡ plainAfter k cs []
-    keeps = stored-is k laid (after k cs (start k b w) .bits) (after k cs (start k b w) .words) (plainAfter k cs []) (after-holds k laid cs (start k b w) [] (start-holds b w shaped))
+    keeps = stored-is k (alone k laid) 0 (after k cs (start k b w) .bits) (after k cs (start k b w) .words) (plainAfter k cs []) (after-holds k laid cs (start k b w) [] (start-holds b w shaped))
 
     whole-run : Through cs (says k cs (start k b w)) [] (stored k (after k cs (start k b w) .words))
     whole-run = rw (answers, keeps) (through k cs [] tt)
@@ -114,13 +114,13 @@ module _ (k : Lay) (laid : Laid k) where
   -- a pop that gives x was of a store that holds x first
   module _ (s : Store) (x : Element) (l : List Element) (h : Holds k laid (s .bits) (s .words) l) (a : asked k Pop s .answer ≡ Out x) where
     pop-some : word (s .words) (k .held) ≡ 0 → ⊥
-    unfolding called plain
+    unfolding called plainWith
     pop-some z =
         let p : answered (asked k Pop s .answer) ≡ answered (Refused Empty) = subst (λ (l : List Element). (h : Holds k laid (s .bits) (s .words) l) → answered (asked k Pop s .answer) ≡ plain k (ask Pop) l .said) (empty-list k laid s l h z) (λ h. calls k laid s l h (ask Pop) .alike) (subst (Holds k laid (s .bits) (s .words)) (empty-list k laid s l h z) h) in
         let y : _≡_ {A = ℕ} 0 1 = cc in
         omega arith
 
-    pop-gives : (y : Element) (l′ : List Element) → Popped k laid (s .bits) (s .words) l h y l′ → y ≡ x
+    pop-gives : (y : Element) (l′ : List Element) → Popped k (alone k laid) 0 (s .bits) (s .words) l h y l′ → y ≡ x
     unfolding asked
     pop-gives y l′ p = let e : Out y ≡ Out x = sym (ap (λ (o : Outcome). o .answer) (pop-is k laid s l h pop-some y l′ p)) ∙ a in cc
 
@@ -130,25 +130,25 @@ module _ (k : Lay) (laid : Laid k) where
   least s x r a = go (reached-holds s r .0) (reached-holds s r .1) (reached-holds s r .2)
     where
       go : (l : List Element) → Sorted l → Holds k laid (s .bits) (s .words) l → FirstOut k s x
-      go l o h = first (pops k laid (s .bits) (s .words) l h (pop-some s x l h a))
+      go l o h = first (pops k (alone k laid) 0 (s .bits) (s .words) l h (pop-some s x l h a))
         where
-          first : (y : Element) × (l′ : List Element) × Popped k laid (s .bits) (s .words) l h y l′ → FirstOut k s x
+          first : (y : Element) × (l′ : List Element) × Popped k (alone k laid) 0 (s .bits) (s .words) l h y l′ → FirstOut k s x
           first z =
               let y = z .0 in
               let l′ = z .1 in
               let p = z .2 in
               let e = pop-gives s x l h a y l′ p in
               let q : l ≡ x ∷ l′ = p .list ∙ ap (λ (y : Element). y ∷ l′) e in
-              let m : stored k (asked k Pop s .words) ≡ l′ = ap (λ (o : Outcome). stored k (o .words)) (pop-is k laid s l h (pop-some s x l h a) y l′ p) ∙ stored-is k laid _ _ l′ (p .after) in
+              let m : stored k (asked k Pop s .words) ≡ l′ = ap (λ (o : Outcome). stored k (o .words)) (pop-is k laid s l h (pop-some s x l h a) y l′ p) ∙ stored-is k (alone k laid) 0 _ _ l′ (p .after) in
               record {
-                first = stored-is k laid (s .bits) (s .words) l h ∙ q ∙ ap (λ (m : List Element). x ∷ m) (sym m);
-                lowest = rw (stored-is k laid (s .bits) (s .words) l h, q) (omega arith, (subst Sorted q o) .0);
+                first = stored-is k (alone k laid) 0 (s .bits) (s .words) l h ∙ q ∙ ap (λ (m : List Element). x ∷ m) (sym m);
+                lowest = rw (stored-is k (alone k laid) 0 (s .bits) (s .words) l h, q) (omega arith, (subst Sorted q o) .0);
               }
 
   -- ---- "The freed node .. becomes first in the free chain, so freed room is used at once"
 
   module _ (s : Store) (l : List Element) (h : Holds k laid (s .bits) (s .words) l) (some : word (s .words) (k .held) ≡ 0 → ⊥) (x : Element) (l′ : List Element)
-      (p : Popped k laid (s .bits) (s .words) l h x l′) (e : Element) (r< : e .rank .0 < k .ranks) (t : untagged e ≡ false) where
+      (p : Popped k (alone k laid) 0 (s .bits) (s .words) l h x l′) (e : Element) (r< : e .rank .0 < k .ranks) (t : untagged e ≡ false) where
     abbrev b1 : List ℕ
     b1 = takenBits k (s .bits) (lowestOf k (s .bits) (s .words))
 
@@ -167,7 +167,7 @@ module _ (k : Lay) (laid : Laid k) where
 
     pushed-on : asked k (Push e) (store b1 w1) ≡ outcome Done (joinedBits k b1 e (roomOf k b1 w1 (e .rank .0))) (joinedWords k w1 e (roomOf k b1 w1 (e .rank .0)))
     unfolding asked
-    pushed-on = push-is k laid (store b1 w1) l′ (p .after) e r< t again (pushes k laid b1 w1 l′ (p .after) e r< again)
+    pushed-on = push-is k laid (store b1 w1) l′ (p .after) e r< t again (pushes k (alone k laid) 0 b1 w1 l′ (p .after) e r< (word w1 (k .held)) (omega (arith, p .after .held)) again)
 
     reused : Reused k s (store b1 w1) x e
     reused =
@@ -182,9 +182,9 @@ module _ (k : Lay) (laid : Laid k) where
   reuse s x e r a r< t = go (reached-holds s r .0) (reached-holds s r .2)
     where
       go : (l : List Element) → Holds k laid (s .bits) (s .words) l → Reused k s (store (popped k (s .bits) (s .words) .bits) (popped k (s .bits) (s .words) .words)) x e
-      go l h = some (pops k laid (s .bits) (s .words) l h (pop-some s x l h a))
+      go l h = some (pops k (alone k laid) 0 (s .bits) (s .words) l h (pop-some s x l h a))
         where
-          some : (y : Element) × (l′ : List Element) × Popped k laid (s .bits) (s .words) l h y l′ → Reused k s (store (popped k (s .bits) (s .words) .bits) (popped k (s .bits) (s .words) .words)) x e
+          some : (y : Element) × (l′ : List Element) × Popped k (alone k laid) 0 (s .bits) (s .words) l h y l′ → Reused k s (store (popped k (s .bits) (s .words) .bits) (popped k (s .bits) (s .words) .words)) x e
           some z =
               let held = pop-some s x l h a in
               rw (← pop-gives s x l h a (z .0) (z .1) (z .2), pop-is k laid s l h held (z .0) (z .1) (z .2)) (reused s l h held (z .0) (z .1) (z .2) e r< (means-off (untagged-means e) t))

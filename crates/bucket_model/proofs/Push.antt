@@ -16,17 +16,17 @@ use Rattle.strip.specs.declared.Element.{Element}
 use Rattle.bucket_model.specs.Layout.{Lay, Laid, word, headAt, tailAt, nextAt, Load, loadOf}
 use Rattle.bucket_model.specs.Storeys.{marked}
 use Rattle.bucket_model.specs.Checks.{nextOf}
-use Rattle.bucket_model.specs.Calls.{Room, roomOf, linkAt, joins, joinedWords, joinedBits}
-use Rattle.bucket_model.specs.Causes.{PushFit}
+use Rattle.bucket_model.specs.Calls.{Room, roomWith, linkAt, joins, joinedWords, joinedBits}
+use Rattle.bucket_model.specs.Causes.{JoinFit}
 use Rattle.bucket_model.specs.Plain.{insert, inOrder}
-use Rattle.bucket_model.proofs.Facts.{push-means}
+use Rattle.bucket_model.proofs.Facts.{join-means}
 use Rattle.bucket_model.proofs.Writes.{same, write-length}
 use Rattle.bucket_model.proofs.Tower.{Ranks, ranks-ext, ranks-agree, marks, marked-length}
 use Rattle.bucket_model.proofs.Chain.{Node, node, Mine, Chain, endSlot}
 use Rattle.bucket_model.proofs.Linked.{lastFrom, lastLink, last≤, linked-off, slot-end, joining, joinedQ, joinedOwn, join-linked, joined-other, joined-here, joined-free}
 use Rattle.bucket_model.proofs.Order.{order-push}
 use Rattle.bucket_model.proofs.Sorted.{insert-length}
-use Rattle.bucket_model.proofs.Queue.{NoLoads, flag, loads, seg-zero, seg-le, area, head, Holds, chainOf, Change, changed, shaped-after}
+use Rattle.bucket_model.proofs.Queue.{NoLoads, flag, loads, seg-zero, seg-le, Seat, area, HoldsIn, chainOf, Change, changed, changed-else, shaped-after}
 use Rattle.bucket_model.proofs.Pop.{next-in, next-none, last-next}
 
 -- ---- the bucket of a rank
@@ -35,9 +35,9 @@ last-own : (own : ℕ → ℕ) (n c l : ℕ) (xs : List Node) → own l ≡ c �
 last-own own n c l [] h m = h
 last-own own n c l (x ∷ xs) h m = last-own own n c (x .link) xs (m .0 .owner) (m .1)
 
-module _ (k : Lay) (laid : Laid k) (w : List ℕ) (own : ℕ → ℕ) (c : ℕ) where
+module _ (k : Lay) (S : Seat k) (w : List ℕ) (own : ℕ → ℕ) (c : ℕ) where
   last-in : (x : Node) (xs : List Node) → Chain (k .stem) w (k .nodes) own c (x ∷ xs) → (1 ≤ lastFrom (x .link) xs) × (lastFrom (x .link) xs ≤ k .nodes)
-  last-in x xs z = last≤ (area k laid) own c (x .link) xs (z .mine .0 .low) (z .mine .0 .high) (z .mine .1)
+  last-in x xs z = last≤ (area k S) own c (x .link) xs (z .mine .0 .low) (z .mine .0 .high) (z .mine .1)
 
   both-zero : (xs : List Node) → Chain (k .stem) w (k .nodes) own c xs → Iff (word w c ≡ 0) (lastLink xs ≡ 0)
   both-zero [] z = record { to = λ e. refl; from = λ e. z .seg }
@@ -76,12 +76,16 @@ flag-snoc [] y = refl
 flag-snoc (x ∷ xs) y = refl
 
 -- a bucket by its parts
-room-by : (k : Lay) (b w : List ℕ) (r next : ℕ) → roomOf k b w r .good ≡ true → nextOf k w (word w (k .free)) ≡ next
-    → _≡_ {A = Room} (roomOf k b w r) (record { good = true; tail = word w (tailAt k r); next = next })
-unfolding roomOf
-room-by k b w r next g e = λ i. record { good = g i; tail = word w (tailAt k r); next = e i }
+room-by : (k : Lay) (used : ℕ) (b w : List ℕ) (r next : ℕ) → roomWith k used b w r .good ≡ true → nextOf k w (word w (k .free)) ≡ next
+    → _≡_ {A = Room} (roomWith k used b w r) (record { good = true; tail = word w (tailAt k r); next = next })
+unfolding roomWith
+room-by k used b w r next g e = λ i. record { good = g i; tail = word w (tailAt k r); next = e i }
 
-module _ (k : Lay) (laid : Laid k) (b w : List ℕ) (l : List Element) (h : Holds k laid b w l) (e : Element) (r< : e .rank .0 < k .ranks) where
+-- used: how many nodes are held, the others' too
+module _ (k : Lay) (S : Seat k) (others : ℕ) (b w : List ℕ) (l : List Element) (h : HoldsIn k S others b w l) (e : Element) (r< : e .rank .0 < k .ranks) (used : ℕ) where
+  abbrev laid : Laid k
+  laid = S .laid
+
   abbrev r : ℕ
   r = e .rank .0
 
@@ -93,19 +97,20 @@ module _ (k : Lay) (laid : Laid k) (b w : List ℕ) (l : List Element) (h : Hold
 
   -- the push that puts the newcomer in behind all of its rank
   pub record Pushed : Type 0 where
-    pub fit : PushFit k b w (e .rank .0)
-    pub after : Holds k laid (joinedBits k b e (roomOf k b w (e .rank .0))) (joinedWords k w e (roomOf k b w (e .rank .0))) (insert e l)
+    pub fit : JoinFit k used b w (e .rank .0)
+    pub after : HoldsIn k S others (joinedBits k b e (roomWith k used b w (e .rank .0))) (joinedWords k w e (roomWith k used b w (e .rank .0))) (insert e l)
+    pub else : (c : ℕ) → S .Head c → (c ≡ headAt k (e .rank .0) → ⊥) → after .q c ≡ h .q c
 
-  hc : (k .heads ≤ headAt k (e .rank .0)) × (headAt k (e .rank .0) < k .heads + k .ranks)
-  hc = head k laid r r<
+  hc : S .Head (headAt k (e .rank .0))
+  hc = S .head r r<
 
   C : Chain (k .stem) w (k .nodes) (h .own) (headAt k (e .rank .0)) (h .q (headAt k (e .rank .0)))
-  C = chainOf k laid b w l h r r<
+  C = chainOf k S others b w l h r r<
 
   tail-is : word w (tailAt k (e .rank .0)) ≡ lastLink (h .q (headAt k (e .rank .0)))
   tail-is = h .linked .tails c hc
 
-  module _ (x : Node) (xs : List Node) (z : h .q (k .free) ≡ x ∷ xs) where
+  module _ (u : used ≡ others + length l) (x : Node) (xs : List Node) (z : h .q (k .free) ≡ x ∷ xs) where
     F : Chain (k .stem) w (k .nodes) (h .own) (k .free) (x ∷ xs)
     F = subst (Chain (k .stem) w (k .nodes) (h .own) (k .free)) z (h .linked .chains (k .free) (inr refl))
 
@@ -116,41 +121,41 @@ module _ (k : Lay) (laid : Laid k) (b w : List ℕ) (l : List Element) (h : Hold
     next-is = ap (nextOf k w) free-link ∙ next-in k w (x .link) (F .mine .0 .low) (F .mine .0 .high)
 
     off : h .own (x .link) ≡ c → ⊥
-    off q = let a : k .free ≡ c = sym (F .mine .0 .owner) ∙ q in omega (arith, laid .lists, laid .pool)
+    off q = let a : k .free ≡ c = sym (F .mine .0 .owner) ∙ q in omega (arith, S .low c hc, laid .pool)
 
     -- a sound bucket passes the push's tests
-    fits : PushFit k b w r
+    fits : JoinFit k used b w r
     fits =
         let s = seg-zero (k .stem) w (k .nodes) (h .own) (k .free) (nextAt k (x .link)) xs (F .mine .1) (F .seg .2) in
         let n : length (h .q (k .free)) ≡ suc (length xs) = ap length z in
         let fb : ℕ → ℕ = λ j. flag (h .q (headAt k j)) in
         record {
-          both = rw tail-is (both-zero k laid w (h .own) c (h .q c) C);
-          bits = ranks-agree k laid b fb (h .bits) r r< (word w c ≡ 0) (head-flag k laid w (h .own) c (h .q c) C);
+          both = rw tail-is (both-zero k S w (h .own) c (h .q c) C);
+          bits = ranks-agree k laid b fb (h .bits) r r< (word w c ≡ 0) (head-flag k S w (h .own) c (h .q c) C);
           head≤ = seg-le (k .stem) w (k .nodes) (h .own) c c (h .q c) (C .mine) (C .seg);
-          tail≤ = rw tail-is (last-le k laid w (h .own) c (h .q c) C);
+          tail≤ = rw tail-is (last-le k S w (h .own) c (h .q c) C);
           next≤ = rw next-is (seg-le (k .stem) w (k .nodes) (h .own) (k .free) (nextAt k (x .link)) xs (F .mine .1) (F .seg .2));
-          behind0 = ap (nextOf k w) tail-is ∙ behind-zero k laid w (h .own) c (h .q c) C;
-          free≢ = λ p. last-apart k laid w (h .own) c (h .q c) C (x .link) (F .mine .0 .low) off (sym free-link ∙ p ∙ tail-is);
-          ends = rw next-is (record { to = λ p. omega (arith, s .to p, h .room, h .held); from = λ p. s .from (omega (arith, h .room, h .held)) });
+          behind0 = ap (nextOf k w) tail-is ∙ behind-zero k S w (h .own) c (h .q c) C;
+          free≢ = λ p. last-apart k S w (h .own) c (h .q c) C (x .link) (F .mine .0 .low) off (sym free-link ∙ p ∙ tail-is);
+          ends = rw next-is (record { to = λ p. omega (arith, s .to p, h .room); from = λ p. s .from (omega (arith, h .room)) });
         }
 
     abbrev to : Room
     to = record { good = true; tail = word w (tailAt k r); next = word w (nextAt k (x .link)) }
 
-    room-is : roomOf k b w r ≡ to
-    room-is = room-by k b w r (word w (nextAt k (x .link))) (push-means k b w r .holds fits) next-is
+    room-is : roomWith k used b w r ≡ to
+    room-is = room-by k used b w r (word w (nextAt k (x .link))) (join-means k b w r used .holds fits) next-is
 
     -- ---- the words and the bits
 
     abbrev T : List ℕ
-    T = joining (area k laid) w (h .q) (h .own) (h .linked) c hc x xs z t
+    T = joining (area k S) w (h .q) (h .own) (h .linked) c hc x xs z t
 
     abbrev W : List ℕ
     W = set T (k .held) (word w (k .held) + 1)
 
     link-is : linkAt k r (word w (tailAt k r)) ≡ endSlot (k .stem) c (h .q c)
-    link-is = ap (linkAt k r) tail-is ∙ slot-end (area k laid) k refl (h .own) r (h .q c) c (C .mine)
+    link-is = ap (linkAt k r) tail-is ∙ slot-end (area k S) k refl (h .own) r (h .q c) c (C .mine)
 
     words-are : joinedWords k w e to ≡ W
     unfolding joinedWords
@@ -171,7 +176,7 @@ module _ (k : Lay) (laid : Laid k) (b w : List ℕ) (l : List Element) (h : Hold
         let g : word w (tailAt k r) ≡ 0 = tail-is ∙ ap lastLink (sym q) in
         rw (eq-eqb (word w (tailAt k r)) 0 g) (marks k laid b fb (h .bits) r r< true (upd fb r 1) (ap flag (sym q)) (is-upd fb r 1))
     set-bits (u ∷ us) q =
-        let i = last-in k laid w (h .own) c u us (subst (Chain (k .stem) w (k .nodes) (h .own) c) (sym q) C) in
+        let i = last-in k S w (h .own) c u us (subst (Chain (k .stem) w (k .nodes) (h .own) c) (sym q) C) in
         let g : word w (tailAt k r) ≡ lastFrom (u .link) us = tail-is ∙ ap lastLink (sym q) in
         rw (ne-eqb (word w (tailAt k r)) 0 (λ j. omega (arith, i .0))) (ranks-ext k laid b fb (upd fb r 1) (λ j j<. same-upd fb (upd fb r 1) r 1 (is-upd fb r 1) (ap flag (sym q)) j) (h .bits))
 
@@ -182,35 +187,38 @@ module _ (k : Lay) (laid : Laid k) (b w : List ℕ) (l : List Element) (h : Hold
         ap (insert e) (h .is) ∙ order-push (λ j. loads (h .q (headAt k j))) r t 0 (k .ranks) (omega arith) (omega arith)
         ∙ ap (λ (v : List Load). inOrder (upd (λ j. loads (h .q (headAt k j))) r v) 0 (k .ranks)) (sym (loads-snoc (h .q c) (node (x .link) t)))
 
-    change : Change k laid b w l h r (joinedBits k b e to) W (insert e l) ys
+    change : Change k S others b w l h r (joinedBits k b e to) W (insert e l) ys
     change =
         let y = h .linked in
         record {
-          q′ = joinedQ (area k laid) w (h .q) (h .own) y c hc x xs z t;
-          own′ = joinedOwn (area k laid) w (h .q) (h .own) y c hc x xs z t;
+          q′ = joinedQ (area k S) w (h .q) (h .own) y c hc x xs z t;
+          own′ = joinedOwn (area k S) w (h .q) (h .own) y c hc x xs z t;
           shaped = shaped-after k b w (joinedBits k b e to) W (joined-bits-length k b e to) long-is (h .shaped);
-          linked = linked-off (area k laid) T (k .held) (word w (k .held) + 1) _ _ (laid .held) (join-linked (area k laid) w (h .q) (h .own) y c hc x xs z t);
-          here = joined-here (area k laid) w (h .q) (h .own) y c hc x xs z t;
-          else = λ j j< i. joined-other (area k laid) w (h .q) (h .own) y c hc x xs z t (headAt k j) (head k laid j j<) (λ p. i (omega arith));
+          linked = linked-off (area k S) T (k .held) (word w (k .held) + 1) _ _ (laid .held) (join-linked (area k S) w (h .q) (h .own) y c hc x xs z t);
+          here = joined-here (area k S) w (h .q) (h .own) y c hc x xs z t;
+          else = λ d i n. joined-other (area k S) w (h .q) (h .own) y c hc x xs z t d i n;
           bits = subst (λ (v : ℕ). Ranks k (joinedBits k b e to) (upd fb r v)) (sym (flag-snoc (h .q c) (node (x .link) t))) (set-bits (h .q c) refl);
           list = list-is;
           count = same T (k .held) (word w (k .held) + 1) (omega (arith, h .shaped .words, long-is, length-set T (k .held) (word w (k .held) + 1))) ∙ omega (arith, h .held, insert-length e l);
-          free = omega (arith, insert-length e l, ap length (joined-free (area k laid) w (h .q) (h .own) y c hc x xs z t), ap length z);
-          blank = rw (joined-free (area k laid) w (h .q) (h .own) y c hc x xs z t) ((subst NoLoads z (h .blank)) .1);
+          free = omega (arith, insert-length e l, ap length (joined-free (area k S) w (h .q) (h .own) y c hc x xs z t), ap length z);
+          blank = rw (joined-free (area k S) w (h .q) (h .own) y c hc x xs z t) ((subst NoLoads z (h .blank)) .1);
         }
+
+    abbrev Left : Room → List ℕ → Type 0
+    Left room v = (y : HoldsIn k S others (joinedBits k b e room) v (insert e l)) × ((d : ℕ) → S .Head d → (d ≡ headAt k (e .rank .0) → ⊥) → y .q d ≡ h .q d)
+
+    leaves : Left (roomWith k used b w r) (joinedWords k w e (roomWith k used b w r))
+    leaves =
+        subst (λ (room : Room). Left room (joinedWords k w e room)) (sym room-is)
+        (subst (Left to) (sym words-are) (changed k S others b w l h r (joinedBits k b e to) W (insert e l) ys change, changed-else k S others b w l h r (joinedBits k b e to) W (insert e l) ys change))
 
     does : Pushed
-    does =
-        record {
-          fit = fits;
-          after = subst (λ (v : Room). Holds k laid (joinedBits k b e v) (joinedWords k w e v) (insert e l)) (sym room-is)
-              (subst (λ (v : List ℕ). Holds k laid (joinedBits k b e to) v (insert e l)) (sym words-are) (changed k laid b w l h r (joinedBits k b e to) W (insert e l) ys change));
-        }
+    does = record { fit = fits; after = leaves .0; else = leaves .1 }
 
-  -- while there is room a push puts the newcomer in
-  pub pushes : (word w (k .held) ≡ k .nodes → ⊥) → Pushed
-  pushes some = go (h .q (k .free)) refl
+  -- while a node is free a push puts the newcomer in
+  pub pushes : used ≡ others + length l → (used ≡ k .nodes → ⊥) → Pushed
+  pushes u some = go (h .q (k .free)) refl
     where
       go : (ys : List Node) → h .q (k .free) ≡ ys → Pushed
-      go [] p = let n : length (h .q (k .free)) ≡ 0 = ap length p in absurd (some (omega (arith, h .held, h .room)))
-      go (x ∷ xs) p = does x xs p
+      go [] p = let n : length (h .q (k .free)) ≡ 0 = ap length p in absurd (some (omega (arith, h .room)))
+      go (x ∷ xs) p = does u x xs p

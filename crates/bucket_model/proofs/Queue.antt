@@ -11,7 +11,7 @@ use Rattle.laws.specs.Lists.{All}
 use Rattle.laws.specs.Means.{Iff}
 use Rattle.laws.specs.Updates.{upd, is-upd}
 use Rattle.strip.specs.declared.Element.{Element}
-use Rattle.bucket_model.specs.Layout.{Lay, Laid, queue, word, headAt, Load, noLoad}
+use Rattle.bucket_model.specs.Layout.{Lay, Laid, queue, word, headAt, nodeWords, Load, noLoad}
 use Rattle.bucket_model.specs.Storeys.{lowestRank}
 use Rattle.bucket_model.specs.Causes.{Shaped, Whole}
 use Rattle.bucket_model.specs.Plain.{inOrder}
@@ -55,43 +55,62 @@ module _ (stem : ℕ) (w : List ℕ) (n : ℕ) (own : ℕ → ℕ) (c p : ℕ) w
   seg-le [] m z = omega arith
   seg-le (x ∷ xs) m z = omega (arith, z .0, m .0 .high)
 
--- ---- one queue's lists
+-- ---- a queue's lists
 
-module _ (k : Lay) (laid : Laid k) where
-  abbrev pub area : Area
-  area =
-      record {
-        ranks = k .ranks;
-        stem = k .stem;
-        nodes = k .nodes;
-        free = k .free;
-        Head = λ (c : ℕ). (k .heads ≤ c) × (c < k .heads + k .ranks);
-        low = λ c h. omega (arith, h .1, laid .lists);
-        apart = λ c d h g e. omega (arith, h .1, g .0);
-        end = omega (arith, laid .pool);
-      }
+-- a queue among others over one pool: the heads of all their lists, its own among them
+pub record Seat (k : Lay) : Type 1 where
+  pub laid : Laid k
+  pub Head : ℕ → Type 0
+  pub head : (r : ℕ) → r < k .ranks → Head (headAt k r)
+  pub low : (c : ℕ) → Head c → c + k .ranks < k .stem + nodeWords
+  pub apart : (c d : ℕ) → Head c → Head d → c ≡ d + k .ranks → ⊥
 
-  pub head : (r : ℕ) → r < k .ranks → (k .heads ≤ headAt k r) × (headAt k r < k .heads + k .ranks)
-  head r h = (omega arith, omega arith)
+-- .. and one that has the pool for itself
+abbrev pub alone : (k : Lay) → Laid k → Seat k
+alone k laid =
+    record {
+      laid = laid;
+      Head = λ (c : ℕ). (k .heads ≤ c) × (c < k .heads + k .ranks);
+      head = λ r h. (omega arith, omega arith);
+      low = λ c h. omega (arith, h .1, laid .lists);
+      apart = λ c d h g e. omega (arith, h .1, g .0);
+    }
 
-  -- the store holds the list l
-  pub record Holds (b w : List ℕ) (l : List Element) : Type 0 where
+abbrev pub area : (k : Lay) → Seat k → Area
+area k S =
+    record {
+      ranks = k .ranks;
+      stem = k .stem;
+      nodes = k .nodes;
+      free = k .free;
+      Head = S .Head;
+      low = S .low;
+      apart = S .apart;
+      end = omega (arith, S .laid .pool);
+    }
+
+module _ (k : Lay) (S : Seat k) (others : ℕ) where
+  abbrev laid : Laid k
+  laid = S .laid
+
+  -- the store holds the list l, and so many nodes are the others'
+  pub record HoldsIn (b w : List ℕ) (l : List Element) : Type 0 where
     pub q : ℕ → List Node
     pub own : ℕ → ℕ
     pub shaped : Shaped k b w
-    pub linked : Linked area w q own
+    pub linked : Linked (area k S) w q own
     pub bits : Ranks k b (λ r. flag (q (headAt k r)))
     pub is : l ≡ inOrder (λ r. loads (q (headAt k r))) 0 (k .ranks)
     pub held : word w (k .held) ≡ length l
-    pub room : length l + length (q (k .free)) ≡ k .nodes
+    pub room : others + length l + length (q (k .free)) ≡ k .nodes
     pub blank : NoLoads (q (k .free))
 
-  module _ (b w : List ℕ) (l : List Element) (h : Holds b w l) where
+  module _ (b w : List ℕ) (l : List Element) (h : HoldsIn b w l) where
     pub freeChain : Chain (k .stem) w (k .nodes) (h .own) (k .free) (h .q (k .free))
     freeChain = h .linked .chains (k .free) (inr refl)
 
     pub chainOf : (r : ℕ) → r < k .ranks → Chain (k .stem) w (k .nodes) (h .own) (headAt k r) (h .q (headAt k r))
-    chainOf r r< = h .linked .chains (headAt k r) (inl (head r r<))
+    chainOf r r< = h .linked .chains (headAt k r) (inl (S .head r r<))
 
     -- no bucket is longer than the list
     pub lane-le : (r : ℕ) → r < k .ranks → length (h .q (headAt k r)) ≤ length l
@@ -118,32 +137,30 @@ module _ (k : Lay) (laid : Laid k) where
             let a = lowest (omega arith) in
             omega (arith, flag-one (h .q (headAt k (lowestRank k b))) (a .here), lane-le (lowestRank k b) (a .within), h .held)
 
-    -- the tests of every call
-    pub whole : Whole k b w
-    whole =
+    pub free-le : word w (k .free) ≤ k .nodes
+    free-le = seg-le (k .stem) w (k .nodes) (h .own) (k .free) (k .free) (h .q (k .free)) (freeChain .mine) (freeChain .seg)
+
+    -- no node is free exactly if all are held
+    pub free-none : Iff (word w (k .free) ≡ 0) (others + word w (k .held) ≡ k .nodes)
+    free-none =
         let z = seg-zero (k .stem) w (k .nodes) (h .own) (k .free) (k .free) (h .q (k .free)) (freeChain .mine) (freeChain .seg) in
-        record {
-          free≤ = seg-le (k .stem) w (k .nodes) (h .own) (k .free) (k .free) (h .q (k .free)) (freeChain .mine) (freeChain .seg);
-          held≤ = omega (arith, h .held, h .room);
-          full = record { to = λ e. omega (arith, z .to e, h .held, h .room); from = λ e. z .from (omega (arith, h .held, h .room)) };
-          empty = top-held;
-        }
+        record { to = λ e. omega (arith, z .to e, h .held, h .room); from = λ e. z .from (omega (arith, h .held, h .room)) }
 
     -- the bucket of rank r is now ys, the list l′, and nothing else has changed
     pub record Change (r : ℕ) (b′ w′ : List ℕ) (l′ : List Element) (ys : List Node) : Type 0 where
       pub q′ : ℕ → List Node
       pub own′ : ℕ → ℕ
       pub shaped : Shaped k b′ w′
-      pub linked : Linked area w′ q′ own′
+      pub linked : Linked (area k S) w′ q′ own′
       pub here : q′ (headAt k r) ≡ ys
-      pub else : (j : ℕ) → j < k .ranks → (j ≡ r → ⊥) → q′ (headAt k j) ≡ h .q (headAt k j)
+      pub else : (c : ℕ) → S .Head c → (c ≡ headAt k r → ⊥) → q′ c ≡ h .q c
       pub bits : Ranks k b′ (upd (λ j. flag (h .q (headAt k j))) r (flag ys))
       pub list : l′ ≡ inOrder (upd (λ j. loads (h .q (headAt k j))) r (loads ys)) 0 (k .ranks)
       pub count : word w′ (k .held) ≡ length l′
       pub free : length (q′ (k .free)) + length l′ ≡ length (h .q (k .free)) + length l
       pub blank : NoLoads (q′ (k .free))
 
-    pub changed : (r : ℕ) (b′ w′ : List ℕ) (l′ : List Element) (ys : List Node) → Change r b′ w′ l′ ys → Holds b′ w′ l′
+    pub changed : (r : ℕ) (b′ w′ : List ℕ) (l′ : List Element) (ys : List Node) → Change r b′ w′ l′ ys → HoldsIn b′ w′ l′
     changed r b′ w′ l′ ys c =
         record {
           q = c .q′;
@@ -158,12 +175,32 @@ module _ (k : Lay) (laid : Laid k) where
         }
       where
         owns : {A : Type 0} (f : List Node → A) (j : ℕ) → j < k .ranks → f (c .q′ (headAt k j)) ≡ upd (λ j. f (h .q (headAt k j))) r (f ys) j
-        owns {A} f j j< = elim (ℕ-discrete j r) [ yes e ↦ at e | no e ↦ ap f (c .else j j< e) ∙ sym (is-upd (λ j. f (h .q (headAt k j))) r (f ys) .else j e) ]
+        owns {A} f j j< = elim (ℕ-discrete j r) [ yes e ↦ at e | no e ↦ ap f (c .else (headAt k j) (S .head j j<) (λ p. e (omega arith))) ∙ sym (is-upd (λ j. f (h .q (headAt k j))) r (f ys) .else j e) ]
           where
             at : j ≡ r → f (c .q′ (headAt k j)) ≡ upd (λ j. f (h .q (headAt k j))) r (f ys) j
             at e =
                 ap (λ (i : ℕ). f (c .q′ (headAt k i))) e ∙ ap f (c .here) ∙ sym (is-upd (λ j. f (h .q (headAt k j))) r (f ys) .here)
                 ∙ ap (upd (λ j. f (h .q (headAt k j))) r (f ys)) (sym e)
+
+    pub changed-else : (r : ℕ) (b′ w′ : List ℕ) (l′ : List Element) (ys : List Node) (x : Change r b′ w′ l′ ys) (c : ℕ) → S .Head c → (c ≡ headAt k r → ⊥) → changed r b′ w′ l′ ys x .q c ≡ h .q c
+    unfolding changed
+    changed-else r b′ w′ l′ ys x c i n = x .else c i n
+
+-- ---- a queue that has the pool for itself
+
+abbrev pub Holds : (k : Lay) → Laid k → List ℕ → List ℕ → List Element → Type 0
+Holds k laid b w l = HoldsIn k (alone k laid) 0 b w l
+
+-- the tests of every call
+pub whole : (k : Lay) (laid : Laid k) (b w : List ℕ) (l : List Element) → Holds k laid b w l → Whole k b w
+whole k laid b w l h =
+    let f = free-none k (alone k laid) 0 b w l h in
+    record {
+      free≤ = free-le k (alone k laid) 0 b w l h;
+      held≤ = omega (arith, h .held, h .room);
+      full = record { to = λ e. omega (arith, f .to e); from = λ e. f .from (omega arith) };
+      empty = top-held k (alone k laid) 0 b w l h;
+    }
 
 pub shaped-after : (k : Lay) (b w b′ w′ : List ℕ) → length b′ ≡ length b → length w′ ≡ length w → Shaped k b w → Shaped k b′ w′
 shaped-after k b w b′ w′ p q h = record { two = h .two; three = h .three; low = h .low; high = h .high; bits = omega (arith, h .bits); words = omega (arith, h .words) }

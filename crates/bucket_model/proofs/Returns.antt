@@ -15,7 +15,7 @@ use Rattle.bucket_model.specs.Layout.{Lay, bitWords, storeWords, word}
 use Rattle.bucket_model.specs.Calls.{Outcome, outcome, refused, isShaped, isWhole, fill, blankWord, cleared, heldCount, Lowest, Room, lowestOf, takenBits, takenWords, given, popFound, popped, roomOf, joinedBits, joinedWords, pushFound, pushed, roomAfter, replaceFound, replaceJoined, replaced}
 
 -- two tests in turn, each with its refusal, that are asked as one
-either : (b w : List ℕ) (first second : Bool) (x y z : Refusal) (o : Outcome) → (first && second) ≡ false → x ≡ cond first y z → refused x b w ≡ cond first (cond second o (refused y b w)) (refused z b w)
+pub either : (b w : List ℕ) (first second : Bool) (x y z : Refusal) (o : Outcome) → (first && second) ≡ false → x ≡ cond first y z → refused x b w ≡ cond first (cond second o (refused y b w)) (refused z b w)
 either b w true true x y z o e p = absurd (false≢true (sym e))
 either b w true false x y z o e p = ap (λ (r : Refusal). refused r b w) p
 either b w false second x y z o e p = ap (λ (r : Refusal). refused r b w) p

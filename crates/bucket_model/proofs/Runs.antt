@@ -16,12 +16,12 @@ use Rattle.strip.specs.declared.Answer.the-variants.{Done, Out, Refused}
 use Rattle.strip.specs.declared.Request.the-variants.{Idle, Push, Pop, Replace}
 use Rattle.bucket_model.specs.Layout.{Lay, Laid, word, headAt, nextIn, Load, loadIn}
 use Rattle.bucket_model.specs.Calls.{Outcome, outcome, refused, isShaped, isWhole, lowestOf, Room, roomOf, roomAfter, takenBits, takenWords, joinedBits, joinedWords, pushed, popped, replaced}
-use Rattle.bucket_model.specs.Plain.{Call, ask, held, Said, answered, counted, Step, step, Store, store, asked, called, says, after, insert, tagged, roomy, plain, plainPop, plainReplace, plainSays, plainAfter, walk, lane, stored}
+use Rattle.bucket_model.specs.Plain.{Call, ask, held, Said, answered, counted, Step, step, Store, store, asked, called, says, after, insert, tagged, roomy, plain, plainWith, plainPop, plainReplace, plainSays, plainAfter, walk, lane, stored}
 use Rattle.bucket_model.proofs.Returns as told
 use Rattle.bucket_model.proofs.Facts.{shape-means, whole-means, pop-means, push-means, room-means}
 use Rattle.bucket_model.proofs.Chain.{Node, Seg, Mine}
 use Rattle.bucket_model.proofs.Order.{order-else}
-use Rattle.bucket_model.proofs.Queue.{loads, Holds, whole, chainOf, lane-le}
+use Rattle.bucket_model.proofs.Queue.{loads, Seat, alone, HoldsIn, Holds, whole, chainOf, lane-le}
 use Rattle.bucket_model.proofs.Pop.{Popped, pops}
 use Rattle.bucket_model.proofs.Push.{Pushed, pushes}
 
@@ -46,19 +46,20 @@ walks stem w n own c p (suc i) (x ∷ xs) z a h =
     ∙ ap (λ (t : Load). t ∷ walk stem w i (word w (nextIn stem (x .link)))) (z .1)
     ∙ ap (λ (ts : List Load). x .load ∷ ts) (walks stem w n own c (nextIn stem (x .link)) i xs (z .2) (a .1) (omega arith))
 
-module _ (k : Lay) (laid : Laid k) where
+module _ (k : Lay) (S : Seat k) (others : ℕ) where
   -- rank by rank
-  pub lane-is : (b w : List ℕ) (l : List Element) (h : Holds k laid b w l) (r : ℕ) → r < k .ranks → lane k w r ≡ loads (h .q (headAt k r))
+  pub lane-is : (b w : List ℕ) (l : List Element) (h : HoldsIn k S others b w l) (r : ℕ) → r < k .ranks → lane k w r ≡ loads (h .q (headAt k r))
   lane-is b w l h r r< =
-      let c = chainOf k laid b w l h r r< in
-      walks (k .stem) w (k .nodes) (h .own) (headAt k r) (headAt k r) (k .nodes) (h .q (headAt k r)) (c .seg) (c .mine) (omega (arith, lane-le k laid b w l h r r<, h .room))
+      let c = chainOf k S others b w l h r r< in
+      walks (k .stem) w (k .nodes) (h .own) (headAt k r) (headAt k r) (k .nodes) (h .q (headAt k r)) (c .seg) (c .mine) (omega (arith, lane-le k S others b w l h r r<, h .room))
 
-  pub stored-is : (b w : List ℕ) (l : List Element) → Holds k laid b w l → stored k w ≡ l
+  pub stored-is : (b w : List ℕ) (l : List Element) → HoldsIn k S others b w l → stored k w ≡ l
   unfolding stored
   stored-is b w l h = order-else (λ r. loads (h .q (headAt k r))) (lane k w) 0 (k .ranks) (λ j a c. lane-is b w l h j (omega arith)) ∙ sym (h .is)
 
-  -- ---- one call
+-- ---- one call
 
+module _ (k : Lay) (laid : Laid k) where
   -- the words and the list say alike, and the words hold the list again
   pub record Agree (x : Step Store) (y : Step (List Element)) : Type 0 where
     pub alike : x .said ≡ y .said
@@ -95,30 +96,30 @@ module _ (k : Lay) (laid : Laid k) where
     stays a = record { alike = refl; holds = h }
 
     call-held : Agree (called k held s) (plain k held l)
-    unfolding called plain
+    unfolding called plainWith
     call-held = record { alike = ap counted (sym (told.held-told k b w (length l) shape-ok whole-ok (sym (h .held)))); holds = h }
 
     -- ---- push
 
     module _ (e : Element) (r< : e .rank .0 < k .ranks) (t : untagged e ≡ false) where
-      pub push-is : (word w (k .held) ≡ k .nodes → ⊥) → Pushed k laid b w l h e r< → pushed k b w e ≡ outcome Done (joinedBits k b e (roomOf k b w (e .rank .0))) (joinedWords k w e (roomOf k b w (e .rank .0)))
+      pub push-is : (word w (k .held) ≡ k .nodes → ⊥) → Pushed k (alone k laid) 0 b w l h e r< (word w (k .held)) → pushed k b w e ≡ outcome Done (joinedBits k b e (roomOf k b w (e .rank .0))) (joinedWords k w e (roomOf k b w (e .rank .0)))
       push-is f p = sym (told.push-done k b w e shape-ok r< t whole-ok f (roomOf k b w (e .rank .0)) refl _ _ (push-means k b w (e .rank .0) .holds (p .fit)) refl refl)
 
       push-agrees : Agree (ran (pushed k b w e)) (roomy (ltb (length l) (k .nodes)) l (step (answered Done) (insert e l)))
-      push-agrees = elim (ℕ-discrete (word w (k .held)) (k .nodes)) [ yes f ↦ full f | no f ↦ taken f (pushes k laid b w l h e r< f) ]
+      push-agrees = elim (ℕ-discrete (word w (k .held)) (k .nodes)) [ yes f ↦ full f | no f ↦ taken f (pushes k (alone k laid) 0 b w l h e r< (word w (k .held)) (omega (arith, h .held)) f) ]
         where
           full : word w (k .held) ≡ k .nodes → Agree (ran (pushed k b w e)) (roomy (ltb (length l) (k .nodes)) l (step (answered Done) (insert e l)))
           full f =
               rw (le-ltb (length l) (k .nodes) (omega (arith, h .held)))
               (by (pushed k b w e) (refused Full b w) (step (answered (Refused Full)) l) (sym (told.push-full k b w e shape-ok r< t whole-ok f)) (stays (answered (Refused Full))))
 
-          taken : (word w (k .held) ≡ k .nodes → ⊥) → Pushed k laid b w l h e r< → Agree (ran (pushed k b w e)) (roomy (ltb (length l) (k .nodes)) l (step (answered Done) (insert e l)))
+          taken : (word w (k .held) ≡ k .nodes → ⊥) → Pushed k (alone k laid) 0 b w l h e r< (word w (k .held)) → Agree (ran (pushed k b w e)) (roomy (ltb (length l) (k .nodes)) l (step (answered Done) (insert e l)))
           taken f p =
               rw (lt-ltb (length l) (k .nodes) (omega (arith, h .held, h .room)))
               (by (pushed k b w e) _ (step (answered Done) (insert e l)) (push-is f p) (record { alike = refl; holds = p .after }))
 
     call-push : (e : Element) → Agree (ran (pushed k b w e)) (plain k (ask (Push e)) l)
-    unfolding plain
+    unfolding plainWith
     call-push e = elim (decLt (e .rank .0) (k .ranks)) [
       | yes r< ↦ rw (lt-ltb (e .rank .0) (k .ranks) r<) (go r< (untagged e) refl)
       | no r< ↦ rw (le-ltb (e .rank .0) (k .ranks) (omega arith)) (by (pushed k b w e) (refused BadRank b w) (step (answered (Refused BadRank)) l) (sym (told.push-high k b w e shape-ok (omega arith))) (stays (answered (Refused BadRank))))
@@ -133,7 +134,7 @@ module _ (k : Lay) (laid : Laid k) where
 
     -- ---- pop, and replace with something held
 
-    module _ (some : word w (k .held) ≡ 0 → ⊥) (x : Element) (l′ : List Element) (p : Popped k laid b w l h x l′) where
+    module _ (some : word w (k .held) ≡ 0 → ⊥) (x : Element) (l′ : List Element) (p : Popped k (alone k laid) 0 b w l h x l′) where
       abbrev B : List ℕ
       B = takenBits k b (lowestOf k b w)
 
@@ -152,7 +153,7 @@ module _ (k : Lay) (laid : Laid k) where
         unfolding roomAfter
         room-same = let t = whole-means k B W .holds (whole k laid B W l′ (p .after)) in simp t
 
-        swap-is : untagged e ≡ false → Pushed k laid B W l′ (p .after) e r< → replaced k b w e ≡ outcome (Out x) (joinedBits k B e (roomOf k B W (e .rank .0))) (joinedWords k W e (roomOf k B W (e .rank .0)))
+        swap-is : untagged e ≡ false → Pushed k (alone k laid) 0 B W l′ (p .after) e r< (word W (k .held)) → replaced k b w e ≡ outcome (Out x) (joinedBits k B e (roomOf k B W (e .rank .0))) (joinedWords k W e (roomOf k B W (e .rank .0)))
         swap-is t u =
             let to = roomAfter k B W (e .rank .0) in
             sym (told.replace-out k b w e shape-ok r< t whole-ok some (lowestOf k b w) refl good to refl _ _ _ _ _ (room-means k B W (e .rank .0) .holds (whole k laid B W l′ (p .after), u .fit)) refl refl refl refl refl)
@@ -165,30 +166,30 @@ module _ (k : Lay) (laid : Laid k) where
 
         swap-agrees : untagged e ≡ false → Agree (ran (replaced k b w e)) (plainReplace e (x ∷ l′))
         swap-agrees t =
-            let u = pushes k laid B W l′ (p .after) e r< room-again in
+            let u = pushes k (alone k laid) 0 B W l′ (p .after) e r< (word W (k .held)) (omega (arith, p .after .held)) room-again in
             by (replaced k b w e) _ (step (answered (Out x)) (insert e l′)) (swap-is t u) (record { alike = refl; holds = u .after })
 
     call-pop : Agree (ran (popped k b w)) (plainPop l)
     call-pop = elim (ℕ-discrete (word w (k .held)) 0) [
       | yes z ↦ rw (empty-list z) (by (popped k b w) (refused Empty b w) (step (answered (Refused Empty)) []) (sym (told.pop-none k b w shape-ok whole-ok z)) (record { alike = refl; holds = subst (Holds k laid b w) (empty-list z) h }))
-      | no z ↦ some z (pops k laid b w l h z)
+      | no z ↦ some z (pops k (alone k laid) 0 b w l h z)
     ]
       where
-        some : (word w (k .held) ≡ 0 → ⊥) → (x : Element) × (l′ : List Element) × Popped k laid b w l h x l′ → Agree (ran (popped k b w)) (plainPop l)
+        some : (word w (k .held) ≡ 0 → ⊥) → (x : Element) × (l′ : List Element) × Popped k (alone k laid) 0 b w l h x l′ → Agree (ran (popped k b w)) (plainPop l)
         some z y =
             rw (y .2 .list) (by (popped k b w) _ (step (answered (Out (y .0))) (y .1)) (pop-is z (y .0) (y .1) (y .2)) (record { alike = refl; holds = y .2 .after }))
 
     replace-agrees : (e : Element) → e .rank .0 < k .ranks → untagged e ≡ false → Agree (ran (replaced k b w e)) (plainReplace e l)
     replace-agrees e r< t = elim (ℕ-discrete (word w (k .held)) 0) [
       | yes z ↦ rw (empty-list z) (by (replaced k b w e) (refused Empty b w) (step (answered (Refused Empty)) []) (sym (told.replace-none k b w e shape-ok r< t whole-ok z)) (record { alike = refl; holds = subst (Holds k laid b w) (empty-list z) h }))
-      | no z ↦ some z (pops k laid b w l h z)
+      | no z ↦ some z (pops k (alone k laid) 0 b w l h z)
     ]
       where
-        some : (word w (k .held) ≡ 0 → ⊥) → (x : Element) × (l′ : List Element) × Popped k laid b w l h x l′ → Agree (ran (replaced k b w e)) (plainReplace e l)
+        some : (word w (k .held) ≡ 0 → ⊥) → (x : Element) × (l′ : List Element) × Popped k (alone k laid) 0 b w l h x l′ → Agree (ran (replaced k b w e)) (plainReplace e l)
         some z y = rw (y .2 .list) (swap-agrees z (y .0) (y .1) (y .2) e r< t)
 
     call-replace : (e : Element) → Agree (ran (replaced k b w e)) (plain k (ask (Replace e)) l)
-    unfolding plain
+    unfolding plainWith
     call-replace e = elim (decLt (e .rank .0) (k .ranks)) [
       | yes r< ↦ rw (lt-ltb (e .rank .0) (k .ranks) r<) (go r< (untagged e) refl)
       | no r< ↦ rw (le-ltb (e .rank .0) (k .ranks) (omega arith)) (by (replaced k b w e) (refused BadRank b w) (step (answered (Refused BadRank)) l) (sym (told.replace-high k b w e shape-ok (omega arith))) (stays (answered (Refused BadRank))))
@@ -200,7 +201,7 @@ module _ (k : Lay) (laid : Laid k) where
 
     -- every call
     pub calls : (c : Call) → Agree (called k c s) (plain k c l)
-    unfolding called asked plain
+    unfolding called asked plainWith
     calls (ask Idle) = stays (answered Done)
     calls (ask (Push e)) = call-push e
     calls (ask Pop) = call-pop

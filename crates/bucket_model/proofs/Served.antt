@@ -28,16 +28,16 @@ use Rattle.bucket_model.specs.Layout.{Lay, Laid}
 use Rattle.bucket_model.specs.Calls.{heldCount}
 use Rattle.bucket_model.specs.Causes.{Shaped}
 use Rattle.bucket_model.specs.Plain as listed
-use Rattle.bucket_model.specs.Plain.{Call, ask, held, says, brings, came, Said, answered, counted, Step, step, Store, store, asked, called, start, Reached, insert, tagged, roomy, plainPop, plainReplace, plain, stored, times}
+use Rattle.bucket_model.specs.Plain.{Call, ask, held, says, brings, came, Said, answered, counted, Step, step, Store, store, asked, called, start, Reached, insert, tagged, roomy, plainPop, plainReplace, plain, plainWith, stored, times}
 use Rattle.bucket_model.specs.Promise.{bucketQueue, storedBy}
 use Rattle.bucket_model.proofs.Kind.{kind, barred}
 use Rattle.bucket_model.proofs.Sorted.{times-append, times-insert}
-use Rattle.bucket_model.proofs.Queue.{Holds}
+use Rattle.bucket_model.proofs.Queue.{alone, Holds}
 use Rattle.bucket_model.proofs.Runs.{stored-is, calls, Agree}
 use Rattle.bucket_model.proofs.Promises.{start-holds, reached-holds, least, holds}
 use Rattle.bucket_model.proofs.Replace.{replace-answers}
 
-abbrev answerOf : Said → Answer
+abbrev pub answerOf : Said → Answer
 answerOf (answered a) = a
 answerOf (counted c) = Done
 
@@ -48,16 +48,16 @@ hit-is false = refl
 -- ---- on the plain list, call by call
 
 module _ (l : List Element) (f : Element → Bool) where
-  abbrev Sums : Request → Step (List Element) → Type 0
+  abbrev pub Sums : Request → Step (List Element) → Type 0
   Sums q x = times f (x .next) + given q (answerOf (x .said)) f ≡ times f l + brought q (answerOf (x .said)) f
 
-  sum-push : (k : Lay) (e : Element) → Sums (Push e) (plain k (ask (Push e)) l)
-  unfolding plain
-  sum-push k e =
-      let put = roomy (ltb (length l) (k .nodes)) l (step (answered Done) (insert e l)) in
-      cond-both (Sums (Push e)) (ltb (e .rank .0) (k .ranks)) (tagged e l put) (step (answered (Refused BadRank)) l)
+  sum-push : (ranks : ℕ) (room : Bool) (e : Element) → Sums (Push e) (plainWith ranks room (ask (Push e)) l)
+  unfolding plainWith
+  sum-push ranks room e =
+      let put = roomy room l (step (answered Done) (insert e l)) in
+      cond-both (Sums (Push e)) (ltb (e .rank .0) ranks) (tagged e l put) (step (answered (Refused BadRank)) l)
       (λ _. cond-both (Sums (Push e)) (not (untagged e)) put (step (answered (Refused NoTag)) l)
-      (λ _. cond-both (Sums (Push e)) (ltb (length l) (k .nodes)) (step (answered Done) (insert e l)) (step (answered (Refused Full)) l) (λ _. omega (arith, times-insert f e l, hit-is (f e))) (λ _. refl)) (λ _. refl)) (λ _. refl)
+      (λ _. cond-both (Sums (Push e)) room (step (answered Done) (insert e l)) (step (answered (Refused Full)) l) (λ _. omega (arith, times-insert f e l, hit-is (f e))) (λ _. refl)) (λ _. refl)) (λ _. refl)
 
 sum-pop : (l : List Element) (f : Element → Bool) → Sums l f Pop (plainPop l)
 unfolding times
@@ -69,13 +69,13 @@ unfolding times
 sum-replace e [] f = refl
 sum-replace e (x ∷ l) f = omega (arith, times-insert f e l, hit-is (f e), hit-is (f x))
 
-sums : (k : Lay) (q : Request) (l : List Element) (f : Element → Bool) → Sums l f q (plain k (ask q) l)
-unfolding plain
-sums k Idle l f = refl
-sums k (Push e) l f = sum-push l f k e
-sums k Pop l f = sum-pop l f
-sums k (Replace e) l f =
-    cond-both (Sums l f (Replace e)) (ltb (e .rank .0) (k .ranks)) (tagged e l (plainReplace e l)) (step (answered (Refused BadRank)) l)
+pub sums : (ranks : ℕ) (room : Bool) (q : Request) (l : List Element) (f : Element → Bool) → Sums l f q (plainWith ranks room (ask q) l)
+unfolding plainWith
+sums ranks room Idle l f = refl
+sums ranks room (Push e) l f = sum-push l f ranks room e
+sums ranks room Pop l f = sum-pop l f
+sums ranks room (Replace e) l f =
+    cond-both (Sums l f (Replace e)) (ltb (e .rank .0) ranks) (tagged e l (plainReplace e l)) (step (answered (Refused BadRank)) l)
     (λ _. cond-both (Sums l f (Replace e)) (not (untagged e)) (plainReplace e l) (step (answered (Refused NoTag)) l) (λ _. sum-replace e l f) (λ _. refl)) (λ _. refl)
 
 -- ---- an element without a tag
@@ -84,7 +84,7 @@ none-in : (e : Element) → (e .tag .0 ≡ 0 → ⊥) → times untagged (e ∷ 
 unfolding times
 none-in e n = rw (means-off (untagged-means e) n) refl
 
-none-brings : (q : Request) (a : Answer) → Barred q a → times untagged (brings q a) ≡ 0
+pub none-brings : (q : Request) (a : Answer) → Barred q a → times untagged (brings q a) ≡ 0
 unfolding times
 none-brings Idle a b = refl
 none-brings (Push e) Done b = none-in e (λ u. b u refl)
@@ -94,6 +94,11 @@ none-brings Pop a b = refl
 none-brings (Replace e) Done b = refl
 none-brings (Replace e) (Out x) b = none-in e (λ u. b u refl)
 none-brings (Replace e) (Refused r) b = refl
+
+pub none-lower : (r : ℕ) (l : List Element) → All (λ y. r ≤ y .rank .0) l → times (lower r) l ≡ 0
+unfolding times
+none-lower r [] a = refl
+none-lower r (y ∷ l) a = rw (le-ltb (y .rank .0) r (a .0)) (omega (arith, none-lower r l (a .1)))
 
 -- ---- on the words
 
@@ -113,14 +118,14 @@ module _ (k : Lay) (laid : Laid k) where
       let l = x .0 in
       let a = runs q s l (x .1) in
       let e : asked k q s .answer ≡ answerOf (plain k (ask q) l .said) = ap answerOf (a .alike) in
-      rw (stored-is k laid _ _ _ (a .holds), stored-is k laid (s .bits) (s .words) l (x .1), e) (sums k q l f)
+      rw (stored-is k (alone k laid) 0 _ _ _ (a .holds), stored-is k (alone k laid) 0 (s .bits) (s .words) l (x .1), e) (sums (k .ranks) (ltb (length l) (k .nodes)) q l f)
 
   -- HOLDS: from clear on slices long enough, whatever was in them, for any list of requests
   pub served-holds : (b w : List ℕ) → Shaped k b w → (qs : List Request) → said.Holds (storedBy k (served.leaves (bucketQueue k) qs (start k b w))) qs (served.answers (bucketQueue k) qs (start k b w))
   unfolding times
   served-holds b w h qs f =
       let z = start-holds k laid b w h in
-      let none : times f (stored k (start k b w .words)) ≡ 0 = ap (times f) (stored-is k laid (start k b w .bits) (start k b w .words) [] z) in
+      let none : times f (stored k (start k b w .words)) ≡ 0 = ap (times f) (stored-is k (alone k laid) 0 (start k b w .bits) (start k b w .words) [] z) in
       omega (arith, all-sum (bucketQueue k) Kept keep (storedBy k) sum qs (start k b w) ([], z) f)
 
   -- TAGGED: no element of tag 0 is stored, and none has come out
@@ -146,11 +151,6 @@ module _ (k : Lay) (laid : Laid k) where
 
   -- ---- LEAST, on a store that the queue's own calls lead to
 
-  none-lower : (r : ℕ) (l : List Element) → All (λ y. r ≤ y .rank .0) l → times (lower r) l ≡ 0
-  unfolding times
-  none-lower r [] a = refl
-  none-lower r (y ∷ l) a = rw (le-ltb (y .rank .0) r (a .0)) (omega (arith, none-lower r l (a .1)))
-
   pub served-least : (s : Store) → Reached k s → (q : Request) → Least (storedBy k s) q (asked k q s .answer)
   served-least s h Idle = tt
   served-least s h (Push e) = tt
@@ -172,8 +172,8 @@ module _ (k : Lay) (laid : Laid k) where
   counted-same c d e = cc
 
   pub held-says : (s : Store) → Reached k s → (countNumber (heldCount k (s .bits) (s .words)) ≡ 0) × (countOf (heldCount k (s .bits) (s .words)) ≡ length (stored k (s .words)))
-  unfolding called plain
+  unfolding called plainWith
   held-says s r =
       let y = reached-holds k laid s r in
       let e : heldCount k (s .bits) (s .words) ≡ Held (length (y .0)) = counted-same _ _ (calls k laid s (y .0) (y .2) held .alike) in
-      (ap countNumber e, ap countOf e ∙ ap length (sym (stored-is k laid (s .bits) (s .words) (y .0) (y .2))))
+      (ap countNumber e, ap countOf e ∙ ap length (sym (stored-is k (alone k laid) 0 (s .bits) (s .words) (y .0) (y .2))))

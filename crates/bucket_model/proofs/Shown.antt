@@ -17,7 +17,7 @@ use Rattle.bucket_model.specs.Promise.{Occupied, Shows, Grouped, BitsTel
 use Rattle.bucket_model.proofs.Tells.{Tells, nz, nz-one, up, storey-down, storey-none}
 use Rattle.bucket_model.proofs.Tower.{Tower, Bits, Shape, shape-from}
 use Rattle.bucket_model.proofs.Chain.{Node}
-use Rattle.bucket_model.proofs.Queue.{Holds, flag, loads, laid-of}
+use Rattle.bucket_model.proofs.Queue.{Seat, alone, HoldsIn, flag, loads, laid-of}
 use Rattle.bucket_model.proofs.Runs.{lane-is}
 use Rattle.bucket_model.proofs.Promises.{reached-holds}
 
@@ -61,20 +61,21 @@ flag-loads : (xs : List Node) → Iff (flag xs ≡ 1) (loads xs ≡ [] → ⊥)
 flag-loads [] = record { to = λ e. absurd (omega arith); from = λ n. absurd (n refl) }
 flag-loads (x ∷ xs) = record { to = λ e n. let c : suc (length (loads xs)) ≡ 0 = ap length n in absurd (omega arith); from = λ n. refl }
 
-module _ (k : Lay) (laid : Laid k) where
-  held-by : (s : Store) (l : List Element) (h : Holds k laid (s .bits) (s .words) l) (r : ℕ) → r < k .ranks → Iff (flag (h .q (headAt k r)) ≡ 1) (Occupied k (s .words) r)
-  held-by s l h r r< = subst (λ (ts : List Load). Iff (flag (h .q (headAt k r)) ≡ 1) (ts ≡ [] → ⊥)) (sym (lane-is k laid (s .bits) (s .words) l h r r<)) (flag-loads (h .q (headAt k r)))
+module _ (k : Lay) (S : Seat k) (others : ℕ) (b w : List ℕ) (l : List Element) (h : HoldsIn k S others b w l) where
+  held-by : (r : ℕ) → r < k .ranks → Iff (flag (h .q (headAt k r)) ≡ 1) (Occupied k w r)
+  held-by r r< = subst (λ (ts : List Load). Iff (flag (h .q (headAt k r)) ≡ 1) (ts ≡ [] → ⊥)) (sym (lane-is k S others b w l h r r<)) (flag-loads (h .q (headAt k r)))
 
-  -- SHOWN, whatever the number of storeys
-  pub shown : (s : Store) → Reached k s → Shows (s .bits) (storeysAt k) (Occupied k (s .words))
-  shown s r = go (reached-holds k laid s r .0) (reached-holds k laid s r .2)
+  -- whatever the number of storeys
+  pub shown-in : Shows b (storeysAt k) (Occupied k w)
+  shown-in = shows b (storeysAt k) (λ r. flag (h .q (headAt k r))) (Occupied k w) (shape-from (k .bits) (k .storeys)) (h .bits .tower) (λ j i. held-by j (within (k .storeys) (S .laid .deep) (S .laid .ranks) j i))
     where
-      go : (l : List Element) → Holds k laid (s .bits) (s .words) l → Shows (s .bits) (storeysAt k) (Occupied k (s .words))
-      go l h = shows (s .bits) (storeysAt k) (λ r. flag (h .q (headAt k r))) (Occupied k (s .words)) (shape-from (k .bits) (k .storeys)) (h .bits .tower) (λ j i. held-by s l h j (within (k .storeys) (laid .deep) (laid .ranks) j i))
-        where
-          within : (d : ℕ) → 1 ≤ d → k .ranks ≡ 64 ^ d → (j : ℕ) → Bits (storeysFrom (k .bits) d) j → j < k .ranks
-          within zero a e j i = absurd (omega arith)
-          within (suc d) a e j i = omega (arith, pow-suc 64 d)
+      within : (d : ℕ) → 1 ≤ d → k .ranks ≡ 64 ^ d → (j : ℕ) → Bits (storeysFrom (k .bits) d) j → j < k .ranks
+      within zero a e j i = absurd (omega arith)
+      within (suc d) a e j i = omega (arith, pow-suc 64 d)
+
+-- SHOWN
+pub shown : (k : Lay) (laid : Laid k) (s : Store) → Reached k s → Shows (s .bits) (storeysAt k) (Occupied k (s .words))
+shown k laid s r = let y = reached-holds k laid s r in shown-in k (alone k laid) 0 (s .bits) (s .words) (y .0) (y .2)
 
 -- ---- .. in 01's and 02's own numbers
 

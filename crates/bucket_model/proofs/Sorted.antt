@@ -15,7 +15,7 @@ use Rattle.strip.specs.declared.Refusal.the-variants.{BadRank, Full, NoTag}
 use Rattle.strip.specs.declared.Answer.the-variants.{Done, Refused}
 use Rattle.strip.specs.declared.Request.the-variants.{Idle, Push, Pop, Replace}
 use Rattle.bucket_model.specs.Layout.{Lay}
-use Rattle.bucket_model.specs.Plain.{Call, ask, held, Said, answered, Step, step, insert, tagged, roomy, plainPop, plainReplace, plain, plainSays, plainAfter, came, went, brought, gone, ofRank, times, Sorted}
+use Rattle.bucket_model.specs.Plain.{Call, ask, held, Said, answered, Step, step, insert, tagged, roomy, plainPop, plainReplace, plain, plainWith, plainSays, plainAfter, came, went, brought, gone, ofRank, times, Sorted}
 
 -- ---- the elements of a rank
 
@@ -157,22 +157,22 @@ kept-replace e (x ∷ l) s =
       holds = λ g. omega (arith, times-insert g e l);
     }
 
-pub plain-kept : (k : Lay) (c : Call) (l : List Element) → Sorted l → Kept c l (plain k c l)
-unfolding plain
-plain-kept k (ask Idle) l s = kept-no (ask Idle) l (plain k (ask Idle) l) s refl refl refl
-plain-kept k (ask (Push e)) l s =
-    let put = roomy (ltb (length l) (k .nodes)) l (step (answered Done) (insert e l)) in
-    kept-if (ask (Push e)) l (ltb (e .rank .0) (k .ranks)) (tagged e l put) (step (answered (Refused BadRank)) l)
+pub plain-kept : (ranks : ℕ) (room : Bool) (c : Call) (l : List Element) → Sorted l → Kept c l (plainWith ranks room c l)
+unfolding plainWith
+plain-kept ranks room (ask Idle) l s = kept-no (ask Idle) l (plainWith ranks room (ask Idle) l) s refl refl refl
+plain-kept ranks room (ask (Push e)) l s =
+    let put = roomy room l (step (answered Done) (insert e l)) in
+    kept-if (ask (Push e)) l (ltb (e .rank .0) ranks) (tagged e l put) (step (answered (Refused BadRank)) l)
     (kept-if (ask (Push e)) l (not (untagged e)) put (step (answered (Refused NoTag)) l)
-    (kept-if (ask (Push e)) l (ltb (length l) (k .nodes)) (step (answered Done) (insert e l)) (step (answered (Refused Full)) l) (kept-push e l s) (kept-no (ask (Push e)) l (step (answered (Refused Full)) l) s refl refl refl))
+    (kept-if (ask (Push e)) l room (step (answered Done) (insert e l)) (step (answered (Refused Full)) l) (kept-push e l s) (kept-no (ask (Push e)) l (step (answered (Refused Full)) l) s refl refl refl))
     (kept-no (ask (Push e)) l (step (answered (Refused NoTag)) l) s refl refl refl))
     (kept-no (ask (Push e)) l (step (answered (Refused BadRank)) l) s refl refl refl)
-plain-kept k (ask Pop) l s = kept-pop l s
-plain-kept k (ask (Replace e)) l s =
-    kept-if (ask (Replace e)) l (ltb (e .rank .0) (k .ranks)) (tagged e l (plainReplace e l)) (step (answered (Refused BadRank)) l)
+plain-kept ranks room (ask Pop) l s = kept-pop l s
+plain-kept ranks room (ask (Replace e)) l s =
+    kept-if (ask (Replace e)) l (ltb (e .rank .0) ranks) (tagged e l (plainReplace e l)) (step (answered (Refused BadRank)) l)
     (kept-if (ask (Replace e)) l (not (untagged e)) (plainReplace e l) (step (answered (Refused NoTag)) l) (kept-replace e l s) (kept-no (ask (Replace e)) l (step (answered (Refused NoTag)) l) s refl refl refl))
     (kept-no (ask (Replace e)) l (step (answered (Refused BadRank)) l) s refl refl refl)
-plain-kept k held l s = kept-no held l (plain k held l) s refl refl refl
+plain-kept ranks room held l s = kept-no held l (plainWith ranks room held l) s refl refl refl
 
 -- ---- any list of calls
 
@@ -186,27 +186,31 @@ pub record Through (cs : List Call) (ss : List Said) (l m : List Element) : Type
   pub fifo : (r : ℕ) → ofRank r l ++ ofRank r (brought cs ss) ≡ ofRank r (gone ss) ++ ofRank r m
   pub holds : (g : Element → Bool) → times g l + times g (brought cs ss) ≡ times g (gone ss) + times g m
 
-pub through : (k : Lay) (cs : List Call) (l : List Element) → Sorted l → Through cs (plainSays k cs l) l (plainAfter k cs l)
-unfolding plainSays plainAfter brought gone times
-through k [] l s = record { sorted = s; fifo = λ r. rank-still r l; holds = λ g. omega arith }
-through k (c ∷ cs) l s = go (plain-kept k c l s) (through k cs (plain k c l .next) (plain-kept k c l s .sorted))
-  where
-    x : Step (List Element)
-    x = plain k c l
+-- one call, and then the others
+pub through-step : (c : Call) (cs : List Call) (ss : List Said) (l m : List Element) (x : Step (List Element)) → Kept c l x → Through cs ss (x .next) m → Through (c ∷ cs) (x .said ∷ ss) l m
+unfolding brought gone
+through-step c cs ss l m x y t =
+    record {
+      sorted = t .sorted;
+      fifo = λ r.
+          let A = ofRank r (brought cs ss) in
+          rw (rank-append r (came c (x .said)) (brought cs ss), rank-append r (went (x .said)) (gone ss))
+          (sym (append-assoc (ofRank r l) (ofRank r (came c (x .said))) A) ∙ ap (λ (z : List Element). z ++ A) (y .fifo r)
+          ∙ append-assoc (ofRank r (went (x .said))) (ofRank r (x .next)) A ∙ ap (λ (z : List Element). ofRank r (went (x .said)) ++ z) (t .fifo r)
+          ∙ sym (append-assoc (ofRank r (went (x .said))) (ofRank r (gone ss)) (ofRank r m)));
+      holds = λ g.
+          rw (times-append g (came c (x .said)) (brought cs ss), times-append g (went (x .said)) (gone ss))
+          (omega (arith, y .holds g, t .holds g));
+    }
 
-    go : Kept c l (plain k c l) → Through cs (plainSays k cs (plain k c l .next)) (plain k c l .next) (plainAfter k cs (plain k c l .next))
-        → Through (c ∷ cs) (plain k c l .said ∷ plainSays k cs (plain k c l .next)) l (plainAfter k cs (plain k c l .next))
-    go y t =
-        let ss = plainSays k cs (x .next) in
-        record {
-          sorted = t .sorted;
-          fifo = λ r.
-              let A = ofRank r (brought cs ss) in
-              rw (rank-append r (came c (x .said)) (brought cs ss), rank-append r (went (x .said)) (gone ss))
-              (sym (append-assoc (ofRank r l) (ofRank r (came c (x .said))) A) ∙ ap (λ (z : List Element). z ++ A) (y .fifo r)
-              ∙ append-assoc (ofRank r (went (x .said))) (ofRank r (x .next)) A ∙ ap (λ (z : List Element). ofRank r (went (x .said)) ++ z) (t .fifo r)
-              ∙ sym (append-assoc (ofRank r (went (x .said))) (ofRank r (gone ss)) (ofRank r (plainAfter k cs (x .next)))));
-          holds = λ g.
-              rw (times-append g (came c (x .said)) (brought cs ss), times-append g (went (x .said)) (gone ss))
-              (omega (arith, y .holds g, t .holds g));
-        }
+-- no call
+pub through-none : (l : List Element) → Sorted l → Through [] [] l l
+unfolding brought gone times
+through-none l s = record { sorted = s; fifo = λ r. rank-still r l; holds = λ g. omega arith }
+
+pub through : (k : Lay) (cs : List Call) (l : List Element) → Sorted l → Through cs (plainSays k cs l) l (plainAfter k cs l)
+unfolding plainSays plainAfter
+through k [] l s = through-none l s
+through k (c ∷ cs) l s =
+    let y = plain-kept (k .ranks) (ltb (length l) (k .nodes)) c l s in
+    through-step c cs (plainSays k cs (plain k c l .next)) l (plainAfter k cs (plain k c l .next)) (plain k c l) y (through k cs (plain k c l .next) (y .sorted))

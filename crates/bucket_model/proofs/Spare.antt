@@ -1,7 +1,7 @@
 -- The free chain of a store that the queue's own calls lead to: all that is not held, with tag 0 and length 0.
 use mathlib.Core.Path.{_≡_, refl, sym, ap, subst, _∙_}
 use mathlib.Core.List.{List, [], _∷_}
-use Prim.Native.Nat.{ℕ}
+use Prim.Native.Nat.{ℕ, _+_}
 use native.Mathlib.Omega.{arith}
 use lib.ListN.{length}
 use Rattle.laws.specs.Lists.{All}
@@ -10,7 +10,7 @@ use Rattle.bucket_model.specs.Layout.{Lay, Laid, word, Load, noLoad}
 use Rattle.bucket_model.specs.Plain.{Store, Reached, walk}
 use Rattle.bucket_model.specs.Promise.{Spare}
 use Rattle.bucket_model.proofs.Chain.{Node}
-use Rattle.bucket_model.proofs.Queue.{Holds, NoLoads, loads, loads-length, freeChain}
+use Rattle.bucket_model.proofs.Queue.{Seat, alone, HoldsIn, NoLoads, loads, loads-length, freeChain}
 use Rattle.bucket_model.proofs.Runs.{walks}
 use Rattle.bucket_model.proofs.Promises.{reached-holds}
 
@@ -19,18 +19,29 @@ all-none : (of : Load → ℕ) → of noLoad ≡ 0 → (xs : List Node) → NoLo
 all-none of e [] a = tt
 all-none of e (x ∷ xs) a = (ap of (a .0) ∙ e, all-none of e xs (a .1))
 
-module _ (k : Lay) (laid : Laid k) where
-  spares : (s : Store) (l : List Element) → Holds k laid (s .bits) (s .words) l → Spare k s
-  spares s l h =
-      let c = freeChain k laid (s .bits) (s .words) l h in
-      let xs = h .q (k .free) in
-      let e : walk (k .stem) (s .words) (k .nodes) (word (s .words) (k .free)) ≡ loads (h .q (k .free)) = walks (k .stem) (s .words) (k .nodes) (h .own) (k .free) (k .free) (k .nodes) (h .q (k .free)) (c .seg) (c .mine) (omega (arith, h .room)) in
-      record {
-        many = omega (arith, ap length e, loads-length (h .q (k .free)), h .held, h .room);
-        tags = subst (All (λ (t : Load). t .tag ≡ 0)) (sym e) (all-none (λ (t : Load). t .tag) refl (h .q (k .free)) (h .blank));
-        lengths = subst (All (λ (t : Load). t .length ≡ 0)) (sym e) (all-none (λ (t : Load). t .length) refl (h .q (k .free)) (h .blank));
-      }
+-- the free chain of a queue among others, read off the words: as many nodes as nobody holds, each with tag 0 and length 0
+module _ (k : Lay) (S : Seat k) (others : ℕ) (b w : List ℕ) (l : List Element) (h : HoldsIn k S others b w l) where
+  free-is : walk (k .stem) w (k .nodes) (word w (k .free)) ≡ loads (h .q (k .free))
+  free-is =
+      let c = freeChain k S others b w l h in
+      walks (k .stem) w (k .nodes) (h .own) (k .free) (k .free) (k .nodes) (h .q (k .free)) (c .seg) (c .mine) (omega (arith, h .room))
 
-  -- SPARE
-  pub spare : (s : Store) → Reached k s → Spare k s
-  spare s r = let y = reached-holds k laid s r in spares s (y .0) (y .2)
+  pub free-many : length (walk (k .stem) w (k .nodes) (word w (k .free))) + (others + length l) ≡ k .nodes
+  free-many = omega (arith, ap length free-is, loads-length (h .q (k .free)), h .room)
+
+  pub free-tags : All (λ (t : Load). t .tag ≡ 0) (walk (k .stem) w (k .nodes) (word w (k .free)))
+  free-tags = subst (All (λ (t : Load). t .tag ≡ 0)) (sym free-is) (all-none (λ (t : Load). t .tag) refl (h .q (k .free)) (h .blank))
+
+  pub free-lengths : All (λ (t : Load). t .length ≡ 0) (walk (k .stem) w (k .nodes) (word w (k .free)))
+  free-lengths = subst (All (λ (t : Load). t .length ≡ 0)) (sym free-is) (all-none (λ (t : Load). t .length) refl (h .q (k .free)) (h .blank))
+
+-- SPARE
+pub spare : (k : Lay) (laid : Laid k) (s : Store) → Reached k s → Spare k s
+spare k laid s r =
+    let y = reached-holds k laid s r in
+    let S = alone k laid in
+    record {
+      many = omega (arith, free-many k S 0 (s .bits) (s .words) (y .0) (y .2), y .2 .held);
+      tags = free-tags k S 0 (s .bits) (s .words) (y .0) (y .2);
+      lengths = free-lengths k S 0 (s .bits) (s .words) (y .0) (y .2);
+    }

@@ -1,6 +1,7 @@
 -- The words that a pop leaves, one by one.
 use mathlib.Core.Path.{_≡_, refl, _∙_}
 use mathlib.Core.List.{List, [], _∷_}
+use mathlib.Core.Logic.{_⊎_, inl, inr}
 use Prim.Native.Nat.{ℕ, _+_, _-_, _≤_, _<_}
 use native.Mathlib.Decide.{ℕ-discrete, decLt}
 use native.Mathlib.Omega.{arith}
@@ -12,6 +13,10 @@ use Rattle.bucket_model.specs.Calls.{Lowest, tailLeft, takenWords}
 use Rattle.bucket_model.proofs.Load.{load-misses}
 use Rattle.bucket_model.proofs.Writes.{same, other, write-other, write-length, write-here}
 use Rattle.bucket_model.proofs.Pop.{next-in}
+
+-- a word that is none of a queue's own: no head or tail of it, no node, not the free link and not its held
+abbrev pub Foreign : Lay → ℕ → Type 0
+Foreign k i = ((i < k .heads) ⊎ ((k .heads + k .ranks + k .ranks ≤ i) × (i < k .stem + nodeWords))) ⊎ ((k .free < i) × (i ≡ k .held → ⊥))
 
 module _ (k : Lay) (laid : Laid k) (w : List ℕ) (low : Lowest) (long : storeWords k ≤ length w) where
   -- the first two writes
@@ -83,8 +88,14 @@ module _ (k : Lay) (laid : Laid k) (w : List ℕ) (low : Lowest) (long : storeWo
     unfolding nextOf
     next-else l e = elim (ℕ-discrete l 0) [ yes p ↦ rw (eq-eqb l 0 p) refl | no p ↦ rw (ne-eqb l 0 p) (elim (decLt (k .nodes) l) [ yes q ↦ rw (lt-ltb (k .nodes) l q) refl | no q ↦ rw (le-ltb (k .nodes) l (omega arith)) (next-word l e (omega arith) (omega arith)) ]) ]
 
-    -- past the store nothing is written
+    -- a word that is none of the queue's stands, before its lists, between them and the nodes, or behind the free link
+    pub taken-foreign : (i : ℕ) → Foreign k i → word (takenWords k w low) i ≡ word w i
+    taken-foreign i (inl (inl l)) = low-words i (omega (arith, laid .lists)) ∙ write-other w ends i ((λ e. omega arith), ((λ e. omega arith), tt))
+    taken-foreign i (inl (inr l)) = low-words i (l .1) ∙ write-other w ends i ((λ e. omega (arith, l .0)), ((λ e. omega (arith, l .0)), tt))
+    taken-foreign i (inr l) =
+        before-node i (λ j j< e. omega (arith, laid .pool, l .0)) (λ e. omega (arith, l .0)) (l .1)
+        ∙ write-other w ends i ((λ e. omega (arith, laid .lists, laid .pool, l .0)), ((λ e. omega (arith, laid .lists, laid .pool, l .0)), tt))
+
+    -- .. so one past the store
     pub taken-past : (i : ℕ) → storeWords k ≤ i → word (takenWords k w low) i ≡ word w i
-    taken-past i l =
-        before-node i (λ j j< e. omega (arith, laid .pool, laid .held)) (λ e. omega (arith, laid .held)) (λ e. omega arith)
-        ∙ write-other w ends i ((λ e. omega (arith, laid .lists, laid .pool, laid .held)), ((λ e. omega (arith, laid .lists, laid .pool, laid .held)), tt))
+    taken-past i l = taken-foreign i (inr (omega (arith, laid .held), λ e. omega arith))

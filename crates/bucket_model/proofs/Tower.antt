@@ -2,8 +2,9 @@
 use mathlib.Core.Path.{_≡_, refl, sym, ap, subst, _∙_}
 use mathlib.Core.List.{List, [], _∷_}
 use mathlib.Core.Bool.{Bool, true, false, cond, not}
+use mathlib.Core.Logic.{_⊎_, inl, inr}
 use Prim.Native.Nat.{ℕ, zero, suc, _+_, _-_, _*_, _/_, _%_, _^_, _≤_, _<_}
-use native.Mathlib.Decide.{ℕ-discrete}
+use native.Mathlib.Decide.{ℕ-discrete, decLt}
 use native.Mathlib.Nat.{pow-suc}
 use native.Mathlib.Omega.{arith}
 use borrow.Author.Tests.{eqb-true, eqb-false}
@@ -12,9 +13,9 @@ use lib.Count.{trailingZeros}
 use lib.ListN.{length, set, length-set}
 use Rattle.laws.specs.Tests.{cond-path}
 use Rattle.laws.specs.Updates.{Upd, same-upd}
-use Rattle.bitmap.specs.Bits.{bitAt, set-le}
+use Rattle.bitmap.specs.Bits.{bitAt, bit-zero, bit-suc, set-le}
 use Rattle.laws.specs.Means.{Iff}
-use Rattle.bucket_model.specs.Layout.{Lay, Laid, word, wordsOf}
+use Rattle.bucket_model.specs.Layout.{Lay, Laid, word, wordsOf, bitWords}
 use Rattle.bucket_model.specs.Storeys.{Storey, storey, storeysFrom, storeysAt, wordOf, turned, bitFor, tellsAbove, edit, find, marked, lowestRank}
 use Rattle.bucket_model.specs.Causes.{Opens, Agrees}
 use Rattle.bucket_model.proofs.Writes.{other}
@@ -234,6 +235,10 @@ pub past-all : (o d a : ℕ) → o + wordsOf d ≤ a → Outside a (storeysFrom 
 past-all o zero a h = tt
 past-all o (suc d) a h = ((λ i l e. omega arith), past-all o d a (omega arith))
 
+before-all : (o d a : ℕ) → a < o → Outside a (storeysFrom o d)
+before-all o zero a h = tt
+before-all o (suc d) a h = ((λ i l e. omega arith), before-all o d a h)
+
 above : (o d : ℕ) → Above (storey o d) (storeysFrom o d)
 above o zero = tt
 above o (suc d) = omega (arith, pow-suc 64 d)
@@ -324,3 +329,61 @@ marked-length on k b r = edit-length on b (storeysAt k) r
 pub marked-off : (on : Bool) (k : Lay) (laid : Laid k) (b : List ℕ) (r a : ℕ) → r < k .ranks → Outside a (storeysAt k) → word (marked on k b r) a ≡ word b a
 unfolding marked
 marked-off on k laid b r a h o = edit-off on b (storeysAt k) r a (bits-from (k .bits) (k .storeys) r (omega (arith, laid .ranks))) (shape-from (k .bits) (k .storeys)) o
+
+-- .. so one before them or behind them
+pub marked-away : (on : Bool) (k : Lay) (laid : Laid k) (b : List ℕ) (r a : ℕ) → r < k .ranks → (a < k .bits) ⊎ (bitWords k ≤ a) → word (marked on k b r) a ≡ word b a
+marked-away on k laid b r a h (inl l) = marked-off on k laid b r a h (before-all (k .bits) (k .storeys) a l)
+marked-away on k laid b r a h (inr l) = marked-off on k laid b r a h (past-all (k .bits) (k .storeys) a (omega (arith, laid .tower)))
+
+-- ---- storeys whose words stand
+
+tower-keep : (b b′ : List ℕ) (o d : ℕ) (f : ℕ → ℕ) → length b′ ≡ length b → ((a : ℕ) → o ≤ a → a < o + wordsOf d → word b′ a ≡ word b a) → Tower b (storeysFrom o d) f → Tower b′ (storeysFrom o d) f
+tower-keep b b′ o zero f e h z = tt
+tower-keep b b′ o (suc d) f e h z =
+    let k : (i : ℕ) → i < 64 ^ d → word b′ (o + wordsOf d + i) ≡ word b (o + wordsOf d + i) = λ i l. h (o + wordsOf d + i) (omega arith) (omega arith) in (
+      storey-same b b′ (o + wordsOf d) (64 ^ d) f e k (z .0),
+      lift (storey o d) (storeysFrom o d) b b′ (above o d) k (tower-keep b b′ o d (up b (o + wordsOf d)) e (λ a l m. h a l (omega arith)) (z .1)),
+    )
+
+pub ranks-keep : (k : Lay) (laid : Laid k) (b b′ : List ℕ) (f : ℕ → ℕ) → length b′ ≡ length b → ((a : ℕ) → k .bits ≤ a → a < bitWords k → word b′ a ≡ word b a) → Ranks k b f → Ranks k b′ f
+ranks-keep k laid b b′ f e h z = record { tower = tower-keep b b′ (k .bits) (k .storeys) f e (λ a l m. h a l (omega (arith, laid .tower))) (z .tower) }
+
+-- ---- the bits tell the words: storeys of the same bits are the same words
+
+same-bits : (m w v : ℕ) → w < 2 ^ m → v < 2 ^ m → ((j : ℕ) → j < m → bitAt w j ≡ bitAt v j) → w ≡ v
+same-bits zero w v a c h = omega arith
+same-bits (suc m) w v a c h =
+    let ih : w / 2 ≡ v / 2 = same-bits m (w / 2) (v / 2) (omega (arith, pow-suc 2 m)) (omega (arith, pow-suc 2 m)) (λ j l. sym (bit-suc w j) ∙ h (suc j) (omega arith) ∙ bit-suc v j) in
+    let e : w % 2 ≡ v % 2 = sym (bit-zero w) ∙ h 0 (omega arith) ∙ bit-zero v in
+    omega arith
+
+tells-same : (b c : List ℕ) (base m : ℕ) (f : ℕ → ℕ) → Tells b base m f → Tells c base m f → (i : ℕ) → i < m → word b (base + i) ≡ word c (base + i)
+tells-same b c base m f z y i h = same-bits 64 (word b (base + i)) (word c (base + i)) (z .fits i h) (y .fits i h) at
+  where
+    at : (j : ℕ) → j < 64 → bitAt (word b (base + i)) j ≡ bitAt (word c (base + i)) j
+    at j l =
+        let d : (64 * i + j) / 64 ≡ i = omega arith in
+        let r : (64 * i + j) % 64 ≡ j = omega arith in
+        (rw (d, r) at (z .bit (64 * i + j) (omega arith))) ∙ sym (rw (d, r) at (y .bit (64 * i + j) (omega arith)))
+
+tower-same : (b c : List ℕ) (o d : ℕ) (f : ℕ → ℕ) → Tower b (storeysFrom o d) f → Tower c (storeysFrom o d) f → (a : ℕ) → o ≤ a → a < o + wordsOf d → word b a ≡ word c a
+tower-same b c o zero f z y a l m = absurd (omega arith)
+tower-same b c o (suc d) f z y a l m =
+    let k = tells-same b c (o + wordsOf d) (64 ^ d) f (z .0) (y .0) in
+    elim (decLt a (o + wordsOf d)) [
+      | yes h ↦ tower-same b c o d (up b (o + wordsOf d)) (z .1) (told k) a l h
+      | no h ↦ at h (k (a - (o + wordsOf d)) (omega arith))
+    ]
+  where
+    told : ((i : ℕ) → i < 64 ^ d → word b (o + wordsOf d + i) ≡ word c (o + wordsOf d + i)) → Tower c (storeysFrom o d) (up b (o + wordsOf d))
+    told k = below d (above o d) (y .1)
+      where
+        below : (e : ℕ) → Above (storey o d) (storeysFrom o e) → Tower c (storeysFrom o e) (up c (o + wordsOf d)) → Tower c (storeysFrom o e) (up b (o + wordsOf d))
+        below zero u t = tt
+        below (suc e) u t = (storey-ext c (o + wordsOf e) (64 ^ e) (up c (o + wordsOf d)) (up b (o + wordsOf d)) (λ j q. ap nz (k j (omega arith))) (t .0), t .1)
+
+    at : (a < o + wordsOf d → ⊥) → word b (o + wordsOf d + (a - (o + wordsOf d))) ≡ word c (o + wordsOf d + (a - (o + wordsOf d))) → word b a ≡ word c a
+    at h e = let q : o + wordsOf d + (a - (o + wordsOf d)) ≡ a = omega arith in rw q at e
+
+pub ranks-same : (k : Lay) (laid : Laid k) (b c : List ℕ) (f : ℕ → ℕ) → Ranks k b f → Ranks k c f → (a : ℕ) → k .bits ≤ a → a < bitWords k → word b a ≡ word c a
+ranks-same k laid b c f z y a l m = tower-same b c (k .bits) (k .storeys) f (z .tower) (y .tower) a l (omega (arith, laid .tower))

@@ -2,6 +2,7 @@
 use mathlib.Core.Path.{_≡_, refl, ap, _∙_}
 use mathlib.Core.Bool.{Bool, true, false, cond, not}
 use mathlib.Core.List.{List, [], _∷_}
+use mathlib.Core.Logic.{_⊎_, inr}
 use Prim.Native.Nat.{ℕ, zero, suc, _+_, _^_, _≤_, _<_}
 use native.Mathlib.Nat.{pow-suc, not-suc-le-zero, le-of-suc-le-suc}
 use native.Mathlib.Omega.{arith}
@@ -15,7 +16,7 @@ use Rattle.strip.specs.declared.Element.{Element}
 use Rattle.strip.specs.declared.Answer.{Answer}
 use Rattle.bucket_model.specs.Layout.{Lay, Laid, bitWords, storeWords, wordsOf, word}
 use Rattle.bucket_model.specs.Storeys.{storeysFrom, find, marked, lowestRank}
-use Rattle.bucket_model.specs.Calls.{Outcome, outcome, fillFrom, fill, blankWord, cleared, Lowest, Room, lowestOf, takenWords, takenBits, roomOf, roomAfter, joinedBits, popFound, popped, pushFound, pushed, replaceFound, replaceJoined, replaced, isShaped, isWhole}
+use Rattle.bucket_model.specs.Calls.{Outcome, outcome, fillFrom, fill, blankWord, cleared, Lowest, Room, lowestOf, takenWords, takenBits, roomOf, roomWith, roomAfter, joinedBits, popFound, popped, pushFound, pushed, replaceFound, replaceJoined, replaced, isShaped, isWhole}
 use Rattle.bucket_model.specs.Causes.{Whole, Opens, Untouched}
 use Rattle.bucket_model.proofs.Facts.{shape-means, whole-means, pop-means, pop-way, low-is, low-rank, push-means, room-means}
 use Rattle.bucket_model.proofs.Fill.{fill-length}
@@ -23,7 +24,7 @@ use Rattle.bucket_model.proofs.Taken.{taken-past, free-after}
 use Rattle.bucket_model.proofs.Joined.{joined-past}
 use Rattle.bucket_model.proofs.Pop.{taken-length, taken-bits-length}
 use Rattle.bucket_model.proofs.Push.{joined-length, joined-bits-length}
-use Rattle.bucket_model.proofs.Tower.{marked-off, past-all}
+use Rattle.bucket_model.proofs.Tower.{marked-away}
 
 -- ---- a list filled from the front, past its end
 
@@ -33,7 +34,7 @@ from-past f i (suc n) [] j h = refl
 from-past f i (suc n) (x ∷ xs) zero h = absurd (not-suc-le-zero h)
 from-past f i (suc n) (x ∷ xs) (suc j) h = from-past f (suc i) n xs j (le-of-suc-le-suc h)
 
-fill-past : (f : ℕ → ℕ) (n : ℕ) (w : List ℕ) (j : ℕ) → n ≤ j → word (fill f n w) j ≡ word w j
+pub fill-past : (f : ℕ → ℕ) (n : ℕ) (w : List ℕ) (j : ℕ) → n ≤ j → word (fill f n w) j ≡ word w j
 unfolding fill
 fill-past f n w j h = from-past f 0 n w j h
 
@@ -61,16 +62,14 @@ rest-clear k b w = guard k b w (isShaped k b w) _ _ (λ s. record {
 })
 
 module _ (k : Lay) (laid : Laid k) where
-  marked-past : (on : Bool) (b : List ℕ) (r i : ℕ) → r < k .ranks → bitWords k ≤ i → word (marked on k b r) i ≡ word b i
-  marked-past on b r i h l = marked-off on k laid b r i h (past-all (k .bits) (k .storeys) i (omega (arith, laid .tower)))
-
-  taken-bits-past : (b : List ℕ) (low : Lowest) (i : ℕ) → low .rank < k .ranks → bitWords k ≤ i → word (takenBits k b low) i ≡ word b i
+  -- words of bits that are none of the queue's
+  pub taken-bits-away : (b : List ℕ) (low : Lowest) (i : ℕ) → low .rank < k .ranks → (i < k .bits) ⊎ (bitWords k ≤ i) → word (takenBits k b low) i ≡ word b i
   unfolding takenBits
-  taken-bits-past b low i h l = cond-path (λ x. word x i) (eqb (low .next) 0) (marked false k b (low .rank)) b (word b i) (marked-past false b (low .rank) i h l) refl
+  taken-bits-away b low i h l = cond-path (λ x. word x i) (eqb (low .next) 0) (marked false k b (low .rank)) b (word b i) (marked-away false k laid b (low .rank) i h l) refl
 
-  joined-bits-past : (b : List ℕ) (e : Element) (to : Room) (i : ℕ) → e .rank .0 < k .ranks → bitWords k ≤ i → word (joinedBits k b e to) i ≡ word b i
+  pub joined-bits-away : (b : List ℕ) (e : Element) (to : Room) (i : ℕ) → e .rank .0 < k .ranks → (i < k .bits) ⊎ (bitWords k ≤ i) → word (joinedBits k b e to) i ≡ word b i
   unfolding joinedBits
-  joined-bits-past b e to i h l = cond-path (λ x. word x i) (eqb (to .tail) 0) (marked true k b (e .rank .0)) b (word b i) (marked-past true b (e .rank .0) i h l) refl
+  joined-bits-away b e to i h l = cond-path (λ x. word x i) (eqb (to .tail) 0) (marked true k b (e .rank .0)) b (word b i) (marked-away true k laid b (e .rank .0) i h l) refl
 
   pub rank-lt : (b : List ℕ) → ((i : ℕ) → word b i < 2 ^ 64) → Opens b (storeysFrom (k .bits) (k .storeys)) → lowestRank k b < k .ranks
   unfolding lowestRank
@@ -84,11 +83,11 @@ module _ (k : Lay) (laid : Laid k) where
       to = roomOf k b w (e .rank .0)
 
       push-found-rest : Untouched k b w (pushFound k b w e to)
-      unfolding pushFound roomOf
+      unfolding pushFound roomWith
       push-found-rest = guard k b w (to .good) _ _ (λ g. record {
         bits-long = joined-bits-length k b e to;
         words-long = joined-length k w e to;
-        bits-rest = λ i m. joined-bits-past b e to i l m;
+        bits-rest = λ i m. joined-bits-away b e to i l (inr m);
         words-rest = λ i m. joined-past k laid w e to l (h .free≤) (push-means k b w (e .rank .0) .says g .tail≤) i m;
       })
 
@@ -107,10 +106,10 @@ module _ (k : Lay) (laid : Laid k) where
       low = lowestOf k b w
 
       -- the lowest bucket that has passed its tests
-      low-lt : lowestOf k b w .good ≡ true → lowestOf k b w .rank < k .ranks
+      pub low-lt : lowestOf k b w .good ≡ true → lowestOf k b w .rank < k .ranks
       low-lt g = rw (low-rank k b w g) (rank-lt b fits (pop-means k b w .says g .way))
 
-      low-head : lowestOf k b w .good ≡ true → (1 ≤ lowestOf k b w .head) × (lowestOf k b w .head ≤ k .nodes)
+      pub low-head : lowestOf k b w .good ≡ true → (1 ≤ lowestOf k b w .head) × (lowestOf k b w .head ≤ k .nodes)
       low-head g = let f = pop-means k b w .says g in rw (ap (λ (x : Lowest). x .head) (low-is k b w (pop-way k b w g))) (omega (arith, f .head≢), f .head≤)
 
       low-past : storeWords k ≤ length w → lowestOf k b w .good ≡ true → (i : ℕ) → storeWords k ≤ i → word (takenWords k w (lowestOf k b w)) i ≡ word w i
@@ -121,7 +120,7 @@ module _ (k : Lay) (laid : Laid k) where
       pop-found-rest s = guard k b w (low .good) _ _ (λ g. record {
         bits-long = taken-bits-length k b low;
         words-long = taken-length k w low;
-        bits-rest = λ i h. taken-bits-past b low i (low-lt g) h;
+        bits-rest = λ i h. taken-bits-away b low i (low-lt g) (inr h);
         words-rest = low-past s g;
       })
 
@@ -143,7 +142,7 @@ module _ (k : Lay) (laid : Laid k) where
         room = roomAfter k B W (e .rank .0)
 
         room-tail : room .good ≡ true → room .tail ≤ k .nodes
-        unfolding roomAfter roomOf
+        unfolding roomAfter roomWith
         room-tail g = room-means k B W (e .rank .0) .says g .1 .tail≤
 
         replace-joined-rest : low .good ≡ true → Untouched k b w (replaceJoined k b w e low room)
@@ -151,7 +150,7 @@ module _ (k : Lay) (laid : Laid k) where
         replace-joined-rest g = guard k b w (room .good) _ _ (λ h. record {
           bits-long = joined-bits-length k B e room ∙ taken-bits-length k b low;
           words-long = joined-length k W e room ∙ taken-length k w low;
-          bits-rest = λ i j. joined-bits-past B e room i l j ∙ taken-bits-past b low i (low-lt g) j;
+          bits-rest = λ i j. joined-bits-away B e room i l (inr j) ∙ taken-bits-away b low i (low-lt g) (inr j);
           words-rest = λ i j. joined-past k laid W e room l (rw (free-after k laid w low words) (low-head g .1)) (room-tail h) i j ∙ low-past words g i j;
         })
 

@@ -127,11 +127,11 @@ popped k b w = cond (isShaped k b w) (giving k b w (popFound k b w (lowestOf k b
 
 -- ---- push
 
--- what a push reads
-abbrev pub readsOf : Lay → List ℕ → List ℕ → ℕ → Reads
-readsOf k b w r =
+-- what a push reads, where so many nodes of the pool are in use
+abbrev pub readsOf : Lay → ℕ → List ℕ → List ℕ → ℕ → Reads
+readsOf k used b w r =
     record {
-      held = word w (k .held);
+      held = used;
       agrees = rankAgrees k b r (eqb (word w (headAt k r)) 0);
       head = word w (headAt k r);
       tail = word w (tailAt k r);
@@ -141,13 +141,17 @@ readsOf k b w r =
     }
 
 -- the bucket that it joins
-unfoldable pub roomOf : Lay → List ℕ → List ℕ → ℕ → Room
-roomOf k b w r =
+unfoldable pub roomWith : Lay → ℕ → List ℕ → List ℕ → ℕ → Room
+roomWith k used b w r =
     record {
-      good = pushOk (k .nodes) (readsOf k b w r);
+      good = pushOk (k .nodes) (readsOf k used b w r);
       tail = word w (tailAt k r);
       next = nextOf k w (word w (k .free));
     }
+
+-- .. of a queue that has the pool for itself: what it holds is in use
+abbrev pub roomOf : Lay → List ℕ → List ℕ → ℕ → Room
+roomOf k b w r = roomWith k (word w (k .held)) b w r
 
 -- where the link to a newcomer stands: the head of an empty bucket, or the next of its tail
 unfoldable pub linkAt : Lay → ℕ → ℕ → ℕ

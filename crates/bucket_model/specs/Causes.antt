@@ -65,8 +65,8 @@ pub record PopFit (k : Lay) (b w : List ℕ) (r : ℕ) : Type 0 where
   pub behind0 : nextOf k w (word w (tailAt k r)) ≡ 0
   pub ends : Iff (nextOf k w (word w (headAt k r)) ≡ 0) (word w (headAt k r) ≡ word w (tailAt k r))
 
--- a push's bucket, of rank r: "head, tail and the rank's bit must agree on emptiness; the group's bit must agree with whether its word is 0; no link read may exceed N; a tail's next must be 0; .. on a push, the taken node is not the tail and its next is 0 exactly at held = N−1"
-pub record PushFit (k : Lay) (b w : List ℕ) (r : ℕ) : Type 0 where
+-- a push's bucket, of rank r: "head, tail and the rank's bit must agree on emptiness; the group's bit must agree with whether its word is 0; no link read may exceed N; a tail's next must be 0; .. on a push, the taken node is not the tail and its next is 0 exactly at held = N−1". So many nodes of the pool are in use
+pub record JoinFit (k : Lay) (used : ℕ) (b w : List ℕ) (r : ℕ) : Type 0 where
   pub both : Iff (word w (headAt k r) ≡ 0) (word w (tailAt k r) ≡ 0)
   pub bits : Agrees b (storeysAt k) r (word w (headAt k r) ≡ 0)
   pub head≤ : word w (headAt k r) ≤ k .nodes
@@ -74,7 +74,11 @@ pub record PushFit (k : Lay) (b w : List ℕ) (r : ℕ) : Type 0 where
   pub next≤ : nextOf k w (word w (k .free)) ≤ k .nodes
   pub behind0 : nextOf k w (word w (tailAt k r)) ≡ 0
   pub free≢ : word w (k .free) ≡ word w (tailAt k r) → ⊥
-  pub ends : Iff (nextOf k w (word w (k .free)) ≡ 0) (word w (k .held) + 1 ≡ k .nodes)
+  pub ends : Iff (nextOf k w (word w (k .free)) ≡ 0) (used + 1 ≡ k .nodes)
+
+-- .. in a queue that has the pool for itself: what it holds is in use
+abbrev pub PushFit : Lay → List ℕ → List ℕ → ℕ → Type 0
+PushFit k b w r = JoinFit k (word w (k .held)) b w r
 
 -- ---- the table, call by call: "For the bucket queue: 1, 4, 2, then 5 or 6"
 

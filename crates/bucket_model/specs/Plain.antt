@@ -106,12 +106,17 @@ tagged e l x = cond (not (untagged e)) x (step (answered (Refused NoTag)) l)
 abbrev pub roomy : Bool → List Element → Step (List Element) → Step (List Element)
 roomy room l x = cond room x (step (answered (Refused Full)) l)
 
-unfoldable pub plain : Lay → Call → List Element → Step (List Element)
-plain k (ask Idle) l = step (answered Done) l
-plain k (ask (Push e)) l = ranked (k .ranks) e l (tagged e l (roomy (ltb (length l) (k .nodes)) l (step (answered Done) (insert e l))))
-plain k (ask Pop) l = plainPop l
-plain k (ask (Replace e)) l = ranked (k .ranks) e l (tagged e l (plainReplace e l))
-plain k held l = step (counted (Held (length l))) l
+-- so many ranks, and whether there is room for one more
+unfoldable pub plainWith : ℕ → Bool → Call → List Element → Step (List Element)
+plainWith ranks room (ask Idle) l = step (answered Done) l
+plainWith ranks room (ask (Push e)) l = ranked ranks e l (tagged e l (roomy room l (step (answered Done) (insert e l))))
+plainWith ranks room (ask Pop) l = plainPop l
+plainWith ranks room (ask (Replace e)) l = ranked ranks e l (tagged e l (plainReplace e l))
+plainWith ranks room held l = step (counted (Held (length l))) l
+
+-- .. while fewer are held than there are nodes
+abbrev pub plain : Lay → Call → List Element → Step (List Element)
+plain k c l = plainWith (k .ranks) (ltb (length l) (k .nodes)) c l
 
 unfoldable pub plainSays : Lay → List Call → List Element → List Said
 plainSays k [] l = []

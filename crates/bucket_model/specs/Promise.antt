@@ -96,14 +96,22 @@ pub record Blank (d : Depth) (n : ℕ) (b w : List ℕ) (o : Outcome) : Type 0 w
 
 -- ---- what stands behind the shape
 
-abbrev pub Agree : ℕ → List ℕ → List ℕ → Type 0
-Agree n w v = (i : ℕ) → i < n → word w i ≡ word v i
+-- the same words at these places
+abbrev pub AgreeOn : (ℕ → Type 0) → List ℕ → List ℕ → Type 0
+AgreeOn P w v = (i : ℕ) → P i → word w i ≡ word v i
 
--- the same answer, and the same words within the shape
-pub record Alike (k : Lay) (o p : Outcome) : Type 0 where
+abbrev pub Agree : ℕ → List ℕ → List ℕ → Type 0
+Agree n w v = AgreeOn (λ i. i < n) w v
+
+-- the same answer, and the same words of 64 bits and of 32 at these places
+pub record AlikeOn (B W : ℕ → Type 0) (o p : Outcome) : Type 0 where
   pub answer : o .answer ≡ p .answer
-  pub bits : Agree (bitWords k) (o .bits) (p .bits)
-  pub words : Agree (storeWords k) (o .words) (p .words)
+  pub bits : AgreeOn B (o .bits) (p .bits)
+  pub words : AgreeOn W (o .words) (p .words)
+
+-- .. within the shape
+abbrev pub Alike : Lay → Outcome → Outcome → Type 0
+Alike k o p = AlikeOn (λ i. i < bitWords k) (λ i. i < storeWords k) o p
 
 -- ---- bits
 

@@ -25,7 +25,7 @@ pub struct Lowest {
     pub next: u32,
 }
 
-// What a push reads: how many are held; whether its rank's bits agree with what is below them; its bucket's head and tail,
+// What a push reads: how many nodes of the pool are in use; whether its rank's bits agree with what is below them; its bucket's head and tail,
 // and what stands behind the tail; the free link, and the next of the node that it names.
 pub struct Reads {
     pub held: u32,

@@ -231,7 +231,7 @@ pub fn swap_words(words: &mut [u32], k: Lay, low: Lowest, e: Element, to: Room)
 // ---- clear
 
 // Word j of a cleared store.
-fn blank(k: Lay, j: usize) -> u32
+pub fn blank(k: Lay, j: usize) -> u32
     requires { ⌜ layout.Laid k ⌝ ∗ ⌜ j < storeWords k ⌝ ∗ ⌜ k .nodes ≤ layout.pool ⌝ }
     ensures { λ r. ⌜ r ≡ blankWord k j ⌝ }
 {

@@ -17,14 +17,14 @@ use Rattle.bucket_model.specs.declared.Room.{Room}
 use Rattle.bucket_model.specs.Layout.{Laid, storeWords, word, headAt, tailAt}
 use Rattle.bucket_model.specs.Storeys.{storeysAt, agree, marked, lowestOpen, lowestRank, rankAgrees}
 use Rattle.bucket_model.specs.Checks.{wholeOk, nextOf, popOk, pushOk}
-use Rattle.bucket_model.specs.Calls.{lowestOf, lowestIn, noLowest, tailLeft, takenWords, takenBits, roomOf, roomAfter, isWhole, readsOf}
-use Rattle.bucket_model.specs.Causes.{Whole}
-use Rattle.bucket_model.proofs.Facts.{pop-means, pop-way, low-is}
+use Rattle.bucket_model.specs.Calls.{lowestOf, lowestIn, noLowest, tailLeft, takenWords, takenBits, roomWith, roomAfter, isWhole, readsOf}
+use Rattle.bucket_model.specs.Causes.{Whole, Agrees}
+use Rattle.bucket_model.proofs.Facts.{pop-means, pop-way, low-is, agree-means}
 use Rattle.bucket_model.proofs.Taken.{held-after, free-after, head-own, head-else, tail-own, tail-else, next-own, next-else}
 use Rattle.bucket_bits.specs.Climbs.{Tall, Leads, bitsLeft, Agreed}
 use Rattle.bucket_bits.proofs.Numbers.{words-le}
 use Rattle.bucket_nodes.specs.Places.{Fits, Takable}
-use Rattle.bucket_tests.specs.Stores.{Stands, FoundLow, FoundRoom, Freeing, endsOk, nodeOk, linksOk}
+use Rattle.bucket_tests.specs.Stores.{Stands, FoundLow, FoundLinks, FoundRoom, Freeing, endsOk, nodeOk, linksOk, linksIn, joinOk, roomFreed}
 
 pub tall : (k : Lay) (b w : List ℕ) → Stands k b w → k .ranks ≤ 4294967296 → Tall b (k .bits) (k .storeys) (k .tower)
 tall k b w s h = let l = s .laid in record { words = l .tower; long = omega (arith, s .shaped .bits, l .tower); some = l .deep; few = omega (arith, l .ranks) }
@@ -223,18 +223,15 @@ push-parts n x =
     (λ z. (((z .0 .0 .0 .1, z .1), ((((z .0 .0 .0 .0 .0 .0 .0, z .0 .0 .0 .0 .0 .1), z .0 .0 .0 .0 .1), z .0 .0 .1), z .0 .1)), z .0 .0 .0 .0 .0 .0 .1)))
 
 -- .. of a store: its node that is taken, a rank's links, and its bits
-abbrev ofNode : Lay → List ℕ → Bool
-ofNode k w = nodeOk (k .nodes) (word w (k .held)) (nextOf k w (word w (k .free)))
-
-abbrev ofLinks : Lay → List ℕ → ℕ → Bool
-ofLinks k w r = linksOk (k .nodes) (word w (headAt k r)) (word w (tailAt k r)) (nextOf k w (word w (tailAt k r))) (word w (k .free))
+abbrev ofNode : Lay → ℕ → List ℕ → Bool
+ofNode k used w = nodeOk (k .nodes) used (nextOf k w (word w (k .free)))
 
 abbrev ofBits : Lay → List ℕ → List ℕ → ℕ → Bool
 ofBits k b w r = rankAgrees k b r (eqb (word w (headAt k r)) 0)
 
-room-parts : (k : Lay) (b w : List ℕ) (r : ℕ) → roomOf k b w r .good ≡ ((ofNode k w && ofLinks k w r) && ofBits k b w r)
-unfolding roomOf
-room-parts k b w r = push-parts (k .nodes) (readsOf k b w r)
+room-parts : (k : Lay) (used : ℕ) (b w : List ℕ) (r : ℕ) → roomWith k used b w r .good ≡ ((ofNode k used w && linksIn k w r) && ofBits k b w r)
+unfolding roomWith
+room-parts k used b w r = push-parts (k .nodes) (readsOf k used b w r)
 
 -- one part that does not hold
 last-no : (s t : Bool) → t ≡ false → (s && t) ≡ false
@@ -244,56 +241,88 @@ last-no false t e = refl
 part-no : (s t u : Bool) → t ≡ false → ((s && t) && u) ≡ false
 part-no s t u e = ap (λ (x : Bool). x && u) (last-no s t e)
 
--- no room
-shut : (to room : Room) → to .good ≡ false → room .good ≡ false → FoundRoom to room
-shut to room e f = record { good = e ∙ sym f; is = λ x. absurd (false≢true (sym e ∙ x)) }
-
 -- what the bits say, read without a pop
-agreed-now : (k : Lay) (b : List ℕ) (gone : ℕ) (empty : Bool) (r : ℕ) (agrees : Bool) (top : ℕ) → Agreed b (k .bits) (k .storeys) false gone empty r agrees top → agrees ≡ rankAgrees k b r empty
+pub agreed-now : (k : Lay) (b : List ℕ) (gone : ℕ) (empty : Bool) (r : ℕ) (agrees : Bool) (top : ℕ) → Agreed b (k .bits) (k .storeys) false gone empty r agrees top → agrees ≡ rankAgrees k b r empty
 unfolding rankAgrees
 agreed-now k b gone empty r agrees top a = a .agreed
 
-module _ (k : Lay) (b w : List ℕ) (r held free next : ℕ) (eh : held ≡ word w (k .held)) (ef : free ≡ word w (k .free)) (en : next ≡ nextOf k w free) where
+module _ (k : Lay) (used : ℕ) (w : List ℕ) (r free next : ℕ) (ef : free ≡ word w (k .free)) (en : next ≡ nextOf k w free) where
+  next-is : next ≡ nextOf k w (word w (k .free))
+  next-is = en ∙ ap (nextOf k w) ef
+
   -- of the node that is taken
-  node-is : nodeOk (k .nodes) held next ≡ ofNode k w
-  node-is = let n : next ≡ nextOf k w (word w (k .free)) = en ∙ ap (nextOf k w) ef in λ i. nodeOk (k .nodes) (eh i) (n i)
+  node-is : nodeOk (k .nodes) used next ≡ ofNode k used w
+  node-is = λ i. nodeOk (k .nodes) used (next-is i)
 
-  pub room-nodeless : (to : Room) (s : Bool) → to .good ≡ false → s ≡ nodeOk (k .nodes) held next → s ≡ false → FoundRoom to (roomOf k b w r)
-  room-nodeless to s e p z = shut to (roomOf k b w r) e (room-parts k b w r ∙ simp (sym node-is ∙ sym p ∙ z))
+  pub room-nodeless : (to : Room) (s : Bool) → to .good ≡ false → s ≡ nodeOk (k .nodes) used next → s ≡ false → FoundLinks k w r (joinOk k used w r) to
+  room-nodeless to s e p z =
+      record {
+        good = e ∙ sym (ap (λ (t : Bool). t && linksIn k w r) (sym node-is ∙ sym p ∙ z));
+        tail = λ x. absurd (false≢true (sym e ∙ x));
+        next = λ x. absurd (false≢true (sym e ∙ x));
+      }
 
-  module _ (s : Bool) (p : s ≡ nodeOk (k .nodes) held next) (z : s ≡ true) (head tail : ℕ) (ed : head ≡ word w (headAt k r)) (et : tail ≡ word w (tailAt k r)) where
-    links-are : linksOk (k .nodes) head tail (nextOf k w tail) free ≡ ofLinks k w r
-    links-are = λ i. linksOk (k .nodes) (ed i) (et i) (nextOf k w (et i)) (ef i)
+  pub room-linked : (s : Bool) → s ≡ nodeOk (k .nodes) used next → s ≡ true → (head tail : ℕ) → head ≡ word w (headAt k r) → tail ≡ word w (tailAt k r)
+      → (u : Bool) → u ≡ linksOk (k .nodes) head tail (nextOf k w tail) free → FoundLinks k w r (joinOk k used w r) (record { good = u; tail = tail; next = next })
+  room-linked s p z head tail ed et u q =
+      let links : u ≡ linksIn k w r = q ∙ (λ i. linksOk (k .nodes) (ed i) (et i) (nextOf k w (et i)) (ef i)) in
+      record { good = links ∙ sym (ap (λ (t : Bool). t && linksIn k w r) (sym node-is ∙ sym p ∙ z)); tail = λ x. et; next = λ x. next-is }
 
-    pub room-linkless : (to : Room) (u : Bool) → to .good ≡ false → u ≡ linksOk (k .nodes) head tail (nextOf k w tail) free → u ≡ false → FoundRoom to (roomOf k b w r)
-    room-linkless to u e q y = shut to (roomOf k b w r) e (room-parts k b w r ∙ part-no (ofNode k w) (ofLinks k w r) (ofBits k b w r) (sym links-are ∙ sym q ∙ y))
+-- a bucket is empty where its tail is none
+empty-is : (k : Lay) (w : List ℕ) (r : ℕ) → linksIn k w r ≡ true → eqb (word w (tailAt k r)) 0 ≡ eqb (word w (headAt k r)) 0
+empty-is k w r e =
+    let f = links-mean (k .nodes) (word w (headAt k r)) (word w (tailAt k r)) (nextOf k w (word w (tailAt k r))) (word w (k .free)) .says e .0 .0 .0 .0 in
+    alike _ _ (means-eqb (word w (tailAt k r)) 0) (means-by (means-eqb (word w (headAt k r)) 0) (f .to) (f .from))
 
-    pub room-is : (u agrees : Bool) (top : ℕ) → u ≡ linksOk (k .nodes) head tail (nextOf k w tail) free → u ≡ true → Agreed b (k .bits) (k .storeys) false r (eqb head 0) r agrees top
-        → FoundRoom (record { good = agrees; tail = tail; next = next }) (roomOf k b w r)
-    unfolding roomOf
-    room-is u agrees top q y ea =
-        let n : next ≡ nextOf k w (word w (k .free)) = en ∙ ap (nextOf k w) ef in
-        let a : agrees ≡ rankAgrees k b r (eqb (word w (headAt k r)) 0) = agreed-now k b r (eqb head 0) r agrees top ea ∙ ap (λ (x : ℕ). rankAgrees k b r (eqb x 0)) ed in
-        let g : agrees ≡ roomOf k b w r .good = a ∙ sym (room-parts k b w r ∙ (λ i. ((sym node-is ∙ sym p ∙ z) i && (sym links-are ∙ sym q ∙ y) i) && ofBits k b w r)) in
-        record { good = g; is = λ x. (λ i. record { good = g i; tail = et i; next = n i }) }
+-- links and bits together
+module _ (k : Lay) (b w : List ℕ) (r : ℕ) (to : Room) where
+  -- where the links are good, the bits are looked at for the same emptiness
+  bits-too : to .tail ≡ word w (tailAt k r) → linksIn k w r ≡ true → rankAgrees k b r (eqb (to .tail) 0) ≡ rankAgrees k b r (eqb (word w (headAt k r)) 0)
+  bits-too e l = ap (λ (t : Bool). rankAgrees k b r t) (ap (λ (x : ℕ). eqb x 0) e ∙ empty-is k w r l)
+
+  pub room-found : (used : ℕ) → FoundLinks k w r (joinOk k used w r) to → (a : Bool) → a ≡ rankAgrees k b r (eqb (to .tail) 0) → FoundRoom (to .good && a) to (roomWith k used b w r)
+  unfolding roomWith
+  room-found used f a e =
+      record {
+        good = go (to .good) refl;
+        is = λ x. let t = and-left (to .good) a x in (λ i. record { good = (t ∙ sym x ∙ go (to .good) refl) i; tail = f .tail t i; next = f .next t i });
+      }
+    where
+      go : (t : Bool) → to .good ≡ t → (to .good && a) ≡ roomWith k used b w r .good
+      go false g = ap (λ (t : Bool). t && a) g ∙ sym (room-parts k used b w r ∙ ap (λ (t : Bool). t && ofBits k b w r) (sym (f .good) ∙ g))
+      go true g = (λ i. f .good i && (e ∙ bits-too (f .tail g) (and-right (ofNode k used w) (linksIn k w r) (sym (f .good) ∙ g))) i) ∙ sym (room-parts k used b w r)
 
 -- one is held, and after a pop none
 one-left : (h : ℕ) → 1 ≤ h → eqb (h - 1) 0 ≡ eqb h 1
 one-left h l = elim (ℕ-discrete h 1) [ yes e ↦ rw (eq-eqb h 1 e, eq-eqb (h - 1) 0 (omega arith)) refl | no e ↦ rw (ne-eqb h 1 e, ne-eqb (h - 1) 0 (λ p. omega arith)) refl ]
 
+-- what the tests of a bucket to join stand for, as after a pop
+pub freed-means : (k : Lay) (b w : List ℕ) (r : ℕ) → Means (roomFreed k b w r .good)
+    ((Iff (word b (k .bits) ≡ 0) (word w (k .held) ≡ 0)
+    × ((((Iff (word w (headAt k r) ≡ 0) (word w (tailAt k r) ≡ 0) × (word w (headAt k r) ≤ k .nodes)) × (word w (tailAt k r) ≤ k .nodes)) × (nextOf k w (word w (tailAt k r)) ≡ 0)) × (word w (k .free) ≡ word w (tailAt k r) → ⊥)))
+    × Agrees b (storeysAt k) r (word w (headAt k r) ≡ 0))
+unfolding roomFreed rankAgrees
+freed-means k b w r =
+    means-and
+    (means-and (means-beq (means-eqb (word b (k .bits)) 0) (means-eqb (word w (k .held)) 0)) (links-mean (k .nodes) (word w (headAt k r)) (word w (tailAt k r)) (nextOf k w (word w (tailAt k r))) (word w (k .free))))
+    (agree-means b (storeysAt k) r (eqb (word w (headAt k r)) 0) (word w (headAt k r) ≡ 0) (means-eqb (word w (headAt k r)) 0))
+
+-- a bucket to join on a store whose whole tests come down to the top word's, and where the node to be taken passes its own
+pub freed-is : (k : Lay) (used : ℕ) (b w : List ℕ) (r : ℕ) (whole : Bool) → whole ≡ Bool·beq (eqb (word b (k .bits)) 0) (eqb (word w (k .held)) 0) → nodeOk (k .nodes) used (nextOf k w (word w (k .free))) ≡ true
+    → _≡_ {A = Room} (roomFreed k b w r) (record { good = whole && roomWith k used b w r .good; tail = roomWith k used b w r .tail; next = roomWith k used b w r .next })
+unfolding roomFreed roomWith
+freed-is k used b w r whole t n =
+    let all : (whole && roomWith k used b w r .good) ≡ (whole && (linksIn k w r && ofBits k b w r)) = ap (λ (x : Bool). whole && x) (room-parts k used b w r ∙ (λ i. (n i && linksIn k w r) && ofBits k b w r)) in
+    let g : roomFreed k b w r .good ≡ (whole && roomWith k used b w r .good) = and-assoc (Bool·beq (eqb (word b (k .bits)) 0) (eqb (word w (k .held)) 0)) (linksIn k w r) (ofBits k b w r) ∙ (λ i. sym t i && (linksIn k w r && ofBits k b w r)) ∙ sym all in
+    λ i. record { good = g i; tail = word w (tailAt k r); next = nextOf k w (word w (k .free)) }
+
 -- .. on the store as after a pop
-module _ (k : Lay) (b w : List ℕ) (low : Lowest) (f : Freeing k b w low) (h : Whole k b w) (r : ℕ) where
-  abbrev B : List ℕ
-  B = takenBits k b low
-
-  abbrev W : List ℕ
-  W = takenWords k w low
-
+module _ (k : Lay) (w : List ℕ) (low : Lowest) (t : Takable k w low) where
   lay : Laid k
-  lay = f .stands .laid
+  lay = t .node .fits .laid
 
   abbrev long : storeWords k ≤ length w
-  long = f .stands .shaped .words
+  long = t .node .fits .words
 
   free-is : word (takenWords k w low) (k .free) ≡ low .head
   free-is = free-after k lay w low long
@@ -302,48 +331,18 @@ module _ (k : Lay) (b w : List ℕ) (low : Lowest) (f : Freeing k b w low) (h : 
   held-is = held-after k lay w low long
 
   freed-next : nextOf k (takenWords k w low) (low .head) ≡ word w (k .free)
-  freed-next = let t = f .takable in next-own k lay w low long (t .rank<) (t .node .some) (t .node .high)
+  freed-next = next-own k lay w low long (t .rank<) (t .node .some) (t .node .high)
 
-  -- of the tests of the whole queue only the top word's can fail
-  abbrev ofTop : Bool
-  ofTop = Bool·beq (eqb (word (takenBits k b low) (k .bits)) 0) (eqb (word w (k .held)) 1)
+  -- the freed node passes its tests, where as many nodes are in use as the free link says
+  pub node-after : (used : ℕ) → 1 ≤ used → word w (k .free) ≤ k .nodes → Iff (word w (k .free) ≡ 0) (used ≡ k .nodes) → nodeOk (k .nodes) (used - 1) (nextOf k (takenWords k w low) (word (takenWords k w low) (k .free))) ≡ true
+  node-after used some free≤ full =
+      let e : used - 1 + 1 ≡ used = omega arith in
+      rw (free-is, freed-next, e) (means-and (means-leb (word w (k .free)) (k .nodes)) (means-beq (means-eqb (word w (k .free)) 0) (means-eqb used (k .nodes))) .holds (free≤, full))
 
-  whole-after : isWhole k (takenBits k b low) (takenWords k w low) ≡ Bool·beq (eqb (word (takenBits k b low) (k .bits)) 0) (eqb (word w (k .held)) 1)
-  unfolding wholeOk
-  whole-after =
-      let t = f .takable in
-      let n = k .nodes in
-      let held = word w (k .held) in
-      rw (free-is, held-is)
-      (simp (le-leb (low .head) n (t .node .high), le-leb (held - 1) n (omega (arith, h .held≤)), ne-eqb (low .head) 0 (λ p. omega (arith, t .node .some)), ne-eqb (held - 1) n (λ p. omega (arith, h .held≤, t .held>)), one-left held (t .held>)))
-
-  -- the freed node passes its tests
-  node-after : ofNode k (takenWords k w low) ≡ true
-  node-after =
-      let t = f .takable in
-      let held = word w (k .held) in
-      let e : held - 1 + 1 ≡ held = omega (arith, t .held>) in
-      rw (free-is, held-is, freed-next, e) (means-and (means-leb (word w (k .free)) (k .nodes)) (means-beq (means-eqb (word w (k .free)) 0) (means-eqb held (k .nodes))) .holds (h .free≤, h .full))
-
-  -- the bits that are left
-  left-is : bitsLeft b (k .bits) (k .storeys) (eqb (low .next) 0) (low .rank) ≡ takenBits k b low
-  unfolding takenBits marked
-  left-is = refl
-
-  agreed-then : (empty : Bool) (agrees : Bool) (top : ℕ) → Agreed b (k .bits) (k .storeys) (eqb (low .next) 0) (low .rank) empty r agrees top → (agrees ≡ rankAgrees k (takenBits k b low) r empty) × (agrees ≡ true → top ≡ word (takenBits k b low) (k .bits))
-  unfolding rankAgrees
-  agreed-then empty agrees top a = (a .agreed ∙ ap (λ (x : List ℕ). agree x (storeysAt k) r empty) left-is, λ t. a .topmost t ∙ ap (λ (x : List ℕ). word x (k .bits)) left-is)
-
-  module _ (head tail : ℕ) (ed : head ≡ word (takenWords k w low) (headAt k r)) (et : tail ≡ word (takenWords k w low) (tailAt k r)) where
-    abbrev ofOwn : Bool
-    ofOwn = linksOk (k .nodes) head tail (nextOf k w tail) (low .head)
-
-    abbrev ofLeft : Bool
-    ofLeft = rankAgrees k (takenBits k b low) r (eqb head 0)
-
+  module _ (r head tail : ℕ) (ed : head ≡ word (takenWords k w low) (headAt k r)) (et : tail ≡ word (takenWords k w low) (tailAt k r)) where
     -- the tail's next is today's, where the tail is not the freed node
     links-after : linksOk (k .nodes) head tail (nextOf k w tail) (low .head) ≡ linksOk (k .nodes) head tail (nextOf k (takenWords k w low) tail) (low .head)
-    links-after = elim (ℕ-discrete tail (low .head)) [ yes e ↦ freed e | no e ↦ (let t = f .takable in ap (λ (x : ℕ). linksOk (k .nodes) head tail x (low .head)) (sym (next-else k lay w low long (t .rank<) (t .node .some) (t .node .high) tail e))) ]
+    links-after = elim (ℕ-discrete tail (low .head)) [ yes e ↦ freed e | no e ↦ ap (λ (x : ℕ). linksOk (k .nodes) head tail x (low .head)) (sym (next-else k lay w low long (t .rank<) (t .node .some) (t .node .high) tail e)) ]
       where
         taken : tail ≡ low .head → not (eqb (low .head) tail) ≡ false
         taken e = ap not (eq-eqb (low .head) tail (sym e))
@@ -353,30 +352,66 @@ module _ (k : Lay) (b w : List ℕ) (low : Lowest) (f : Freeing k b w low) (h : 
             let rest : ℕ → Bool = λ x. Bool·beq (eqb head 0) (eqb tail 0) && leb head (k .nodes) && leb tail (k .nodes) && eqb x 0 in
             last-no (rest (nextOf k w tail)) (not (eqb (low .head) tail)) (taken e) ∙ sym (last-no (rest (nextOf k (takenWords k w low) tail)) (not (eqb (low .head) tail)) (taken e))
 
-    after-parts : roomAfter k (takenBits k b low) (takenWords k w low) r .good ≡ (Bool·beq (eqb (word (takenBits k b low) (k .bits)) 0) (eqb (word w (k .held)) 1) && linksOk (k .nodes) head tail (nextOf k w tail) (low .head) && rankAgrees k (takenBits k b low) r (eqb head 0))
-    unfolding roomAfter
-    after-parts =
-        let links : ofLinks k W r ≡ ofOwn = (λ i. linksOk (k .nodes) (sym ed i) (sym et i) (nextOf k W (sym et i)) (free-is i)) ∙ sym links-after in
-        let bits : ofBits k B W r ≡ ofLeft = ap (λ (x : ℕ). rankAgrees k B r (eqb x 0)) (sym ed) in
-        ap (λ (x : Bool). isWhole k B W && x) (room-parts k B W r) ∙ (λ i. whole-after i && ((node-after i && links i) && bits i)) ∙ sym (and-assoc ofTop ofOwn ofLeft)
+    pub room-after-is : (u : Bool) (next : ℕ) → u ≡ linksOk (k .nodes) head tail (nextOf k w tail) (low .head) → next ≡ word w (k .free)
+        → FoundLinks k (takenWords k w low) r (linksIn k (takenWords k w low) r) (record { good = u; tail = tail; next = next })
+    room-after-is u next q en =
+        record {
+          good = q ∙ links-after ∙ (λ i. linksOk (k .nodes) (ed i) (et i) (nextOf k (takenWords k w low) (et i)) (sym free-is i));
+          tail = λ x. et;
+          next = λ x. en ∙ sym freed-next ∙ ap (nextOf k (takenWords k w low)) (sym free-is);
+        }
 
-    pub after-linkless : (to : Room) (u : Bool) → to .good ≡ false → u ≡ linksOk (k .nodes) head tail (nextOf k w tail) (low .head) → u ≡ false → FoundRoom to (roomAfter k (takenBits k b low) (takenWords k w low) r)
-    after-linkless to u e q y = shut to (roomAfter k (takenBits k b low) (takenWords k w low) r) e (after-parts ∙ part-no ofTop ofOwn ofLeft (sym q ∙ y))
+-- what the bits say, once a pop has cleared its own
+pub agreed-then : (k : Lay) (b : List ℕ) (low : Lowest) (r : ℕ) (empty agrees : Bool) (top held : ℕ) → Agreed b (k .bits) (k .storeys) (eqb (low .next) 0) (low .rank) empty r agrees top
+    → (agrees && Bool·beq (eqb top 0) (eqb held 1)) ≡ (rankAgrees k (takenBits k b low) r empty && Bool·beq (eqb (word (takenBits k b low) (k .bits)) 0) (eqb held 1))
+unfolding rankAgrees takenBits marked
+agreed-then k b low r empty agrees top held a = go agrees refl
+  where
+    go : (t : Bool) → agrees ≡ t → (agrees && Bool·beq (eqb top 0) (eqb held 1)) ≡ (agree (bitsLeft b (k .bits) (k .storeys) (eqb (low .next) 0) (low .rank)) (storeysAt k) r empty && Bool·beq (eqb (word (bitsLeft b (k .bits) (k .storeys) (eqb (low .next) 0) (low .rank)) (k .bits)) 0) (eqb held 1))
+    go false e = ap (λ (t : Bool). t && Bool·beq (eqb top 0) (eqb held 1)) e ∙ sym (ap (λ (t : Bool). t && Bool·beq (eqb (word (bitsLeft b (k .bits) (k .storeys) (eqb (low .next) 0) (low .rank)) (k .bits)) 0) (eqb held 1)) (sym (a .agreed) ∙ e))
+    go true e = λ i. a .agreed i && Bool·beq (eqb (a .topmost e i) 0) (eqb held 1)
 
-    pub room-after-is : (u agrees : Bool) (top held next : ℕ) → u ≡ linksOk (k .nodes) head tail (nextOf k w tail) (low .head) → u ≡ true
-        → Agreed b (k .bits) (k .storeys) (eqb (low .next) 0) (low .rank) (eqb head 0) r agrees top → held ≡ word w (k .held) → next ≡ word w (k .free)
-        → FoundRoom (record { good = agrees && Bool·beq (eqb top 0) (eqb held 1); tail = tail; next = next }) (roomAfter k (takenBits k b low) (takenWords k w low) r)
-    unfolding roomAfter roomOf
-    room-after-is u agrees top held next q y ea eh en =
-        let n : next ≡ nextOf k W (word W (k .free)) = en ∙ sym freed-next ∙ ap (nextOf k W) (sym free-is) in
-        let g = go agrees refl in
-        record { good = g; is = λ x. (λ i. record { good = g i; tail = et i; next = n i }) }
-      where
-        a : (agrees ≡ rankAgrees k (takenBits k b low) r (eqb head 0)) × (agrees ≡ true → top ≡ word (takenBits k b low) (k .bits))
-        a = agreed-then (eqb head 0) agrees top ea
+-- links and bits together, and the top word
+pub freed-found : (k : Lay) (b w : List ℕ) (low : Lowest) (t : Takable k w low) (r : ℕ) (to : Room) → FoundLinks k (takenWords k w low) r (linksIn k (takenWords k w low) r) to → (a : Bool) (held : ℕ) → held ≡ word w (k .held)
+    → a ≡ (rankAgrees k (takenBits k b low) r (eqb (to .tail) 0) && Bool·beq (eqb (word (takenBits k b low) (k .bits)) 0) (eqb held 1)) → FoundRoom (to .good && a) to (roomFreed k (takenBits k b low) (takenWords k w low) r)
+unfolding roomFreed
+freed-found k b w low t r to f a held eh e =
+    record {
+      good = go (to .good) refl;
+      is = λ x. let g = and-left (to .good) a x in (λ i. record { good = (g ∙ sym x ∙ go (to .good) refl) i; tail = f .tail g i; next = f .next g i });
+    }
+  where
+    top-after : Bool·beq (eqb (word (takenBits k b low) (k .bits)) 0) (eqb held 1) ≡ Bool·beq (eqb (word (takenBits k b low) (k .bits)) 0) (eqb (word (takenWords k w low) (k .held)) 0)
+    top-after = ap (λ (x : Bool). Bool·beq (eqb (word (takenBits k b low) (k .bits)) 0) x) (ap (λ (x : ℕ). eqb x 1) eh ∙ sym (ap (λ (x : ℕ). eqb x 0) (held-is k w low t) ∙ one-left (word w (k .held)) (t .held>)))
 
-        go : (t : Bool) → agrees ≡ t → (agrees && Bool·beq (eqb top 0) (eqb held 1)) ≡ roomAfter k (takenBits k b low) (takenWords k w low) r .good
-        go false e = ap (λ (x : Bool). x && Bool·beq (eqb top 0) (eqb held 1)) e ∙ sym (after-parts ∙ last-no (ofTop && ofOwn) ofLeft (sym (a .0) ∙ e))
-        go true e =
-            (λ i. e i && Bool·beq (eqb (a .1 e i) 0) (eqb (eh i) 1))
-            ∙ sym (after-parts ∙ (λ i. (ofTop && (sym q ∙ y) i) && (sym (a .0) ∙ e) i) ∙ and-unit (ofTop && true) ∙ and-unit ofTop)
+    turn : (x y : Bool) → (y && x) ≡ ((x && true) && y)
+    turn true true = refl
+    turn true false = refl
+    turn false true = refl
+    turn false false = refl
+
+    go : (g : Bool) → to .good ≡ g → (to .good && a) ≡ ((Bool·beq (eqb (word (takenBits k b low) (k .bits)) 0) (eqb (word (takenWords k w low) (k .held)) 0) && linksIn k (takenWords k w low) r) && rankAgrees k (takenBits k b low) r (eqb (word (takenWords k w low) (headAt k r)) 0))
+    go false g = ap (λ (x : Bool). x && a) g ∙ sym (part-no (Bool·beq (eqb (word (takenBits k b low) (k .bits)) 0) (eqb (word (takenWords k w low) (k .held)) 0)) (linksIn k (takenWords k w low) r) (rankAgrees k (takenBits k b low) r (eqb (word (takenWords k w low) (headAt k r)) 0)) (sym (f .good) ∙ g))
+    go true g =
+        ap (λ (x : Bool). x && a) g
+        ∙ e
+        ∙ (λ i. bits-too k (takenBits k b low) (takenWords k w low) r to (f .tail g) (sym (f .good) ∙ g) i && top-after i)
+        ∙ turn (Bool·beq (eqb (word (takenBits k b low) (k .bits)) 0) (eqb (word (takenWords k w low) (k .held)) 0)) (rankAgrees k (takenBits k b low) r (eqb (word (takenWords k w low) (headAt k r)) 0))
+        ∙ ap (λ (x : Bool). (Bool·beq (eqb (word (takenBits k b low) (k .bits)) 0) (eqb (word (takenWords k w low) (k .held)) 0) && x) && rankAgrees k (takenBits k b low) r (eqb (word (takenWords k w low) (headAt k r)) 0)) (sym g ∙ f .good)
+
+-- a queue that has the pool to itself: of its tests only the top word's can fail
+module _ (k : Lay) (b w : List ℕ) (low : Lowest) (f : Freeing k b w low) (r : ℕ) (h : Whole k b w) where
+  whole-after : isWhole k (takenBits k b low) (takenWords k w low) ≡ Bool·beq (eqb (word (takenBits k b low) (k .bits)) 0) (eqb (word (takenWords k w low) (k .held)) 0)
+  unfolding wholeOk
+  whole-after =
+      let t = f .takable in
+      let n = k .nodes in
+      let held = word w (k .held) in
+      rw (free-is k w low t, held-is k w low t)
+      (simp (le-leb (low .head) n (t .node .high), le-leb (held - 1) n (omega (arith, h .held≤)), ne-eqb (low .head) 0 (λ p. omega (arith, t .node .some)), ne-eqb (held - 1) n (λ p. omega (arith, h .held≤, t .held>))))
+
+  pub after-is : roomFreed k (takenBits k b low) (takenWords k w low) r ≡ roomAfter k (takenBits k b low) (takenWords k w low) r
+  unfolding roomAfter
+  after-is =
+      freed-is k (word (takenWords k w low) (k .held)) (takenBits k b low) (takenWords k w low) r (isWhole k (takenBits k b low) (takenWords k w low)) whole-after
+      (ap (λ (x : ℕ). ofNode k x (takenWords k w low)) (held-is k w low (f .takable)) ∙ node-after k w low (f .takable) (word w (k .held)) (f .takable .held>) (h .free≤) (h .full))

@@ -16,17 +16,18 @@ use strip::Element;
 use strip::Refusal;
 use strip::is_untagged;
 ghost use mathlib.Core.Path.{_≡_};
-ghost use mathlib.Core.Bool.{false, cond, not, _&&_};
-ghost use Prim.Native.Nat.{_≤_, _<_};
+ghost use mathlib.Core.Bool.{false, cond, not, _&&_, Bool·beq};
+ghost use Prim.Native.Nat.{_≤_, _<_, _^_};
 ghost use lib.Dec.{leb, ltb, eqb};
 ghost use Rattle.strip.specs.Answers.{untagged};
 ghost use Rattle.strip.specs.declared.Refusal.the-variants.{Damaged, BadRank, NoTag};
 ghost use Rattle.bucket_model.specs.Layout.{bitWords, word, headAt, tailAt};
 ghost use Rattle.bucket_model.specs.Checks.{depthOk, wholeOk, nextOf};
-ghost use Rattle.bucket_model.specs.Calls.{isShaped, isWhole, noLowest, takenWords, takenBits, roomOf, roomAfter};
-ghost use Rattle.bucket_model.specs.Causes.{Whole};
+ghost use Rattle.bucket_model.specs.Calls.{isShaped, isWhole, noLowest, takenWords, takenBits};
+ghost use Rattle.bucket_model.specs.Storeys.{storeysAt, rankAgrees};
+ghost use Rattle.bucket_bits.specs.Climbs.{Tall, Turnable};
 ghost use Rattle.bucket_nodes.specs.Places.{Fits, Takable};
-ghost use Rattle.bucket_tests.specs.Stores.{Stands, Roomy, Freeing, FoundLow, FoundRoom, endsOk, nodeOk, linksOk};
+ghost use Rattle.bucket_tests.specs.Stores.{Stands, Roomy, FoundLow, FoundLinks, endsOk, nodeOk, linksOk, linksIn, joinOk};
 
 // The most nodes that a pool may have.
 pub const POOL: u32 = 65536;
@@ -200,11 +201,11 @@ pub fn find_lowest(bits: &[u64], words: &[u32], k: Lay) -> Lowest
 // ---- the bucket that a push joins
 
 // What a push tests of the node that it takes; next is that node's.
-fn node_fits(n: u32, held: u32, next: u32) -> bool
-    requires { ⌜ held < n ⌝ }
-    ensures { λ r. ⌜ r ≡ nodeOk n held next ⌝ }
+fn node_fits(n: u32, used: u32, next: u32) -> bool
+    requires { ⌜ used < n ⌝ }
+    ensures { λ r. ⌜ r ≡ nodeOk n used next ⌝ }
 {
-    (next <= n) & ((next == 0) == (held + 1 == n))
+    (next <= n) & ((next == 0) == (used + 1 == n))
 }
 
 // What a push tests of its bucket's links, where the node at link free is to join it.
@@ -237,36 +238,32 @@ fn no_room() -> Room
     }
 }
 
-pub fn find_room(bits: &[u64], words: &[u32], k: Lay, rank: u32) -> Room
-    requires { ⌜ Stands k (now bits) (now words) ⌝ ∗ ⌜ rank < k .ranks ⌝ ∗ ⌜ Roomy k (now words) ⌝ }
-    ensures { λ r. ⌜ FoundRoom r (roomOf k (now (bits .entry)) (now (words .entry)) rank) ⌝ }
+// Its links, where so many nodes of the pool are in use.
+pub fn find_room(words: &[u32], k: Lay, used: u32, rank: u32) -> Room
+    requires { ⌜ Fits k (now words) ⌝ ∗ ⌜ rank < k .ranks ⌝ ∗ ⌜ Roomy k used (now words) ⌝ }
+    ensures { λ r. ⌜ FoundLinks k (now (words .entry)) rank (joinOk k used (now (words .entry)) rank) r ⌝ }
 {
-    let held = held_count(words, k);
     let free = free_link(words, k);
     let next = next_of(words, k, free);
-    if !node_fits(k.nodes, held, next) {
+    if !node_fits(k.nodes, used, next) {
         return no_room();
     }
     let head = head_of(words, k, rank);
     let tail = tail_of(words, k, rank);
-    if !links_fit(words, k, head, tail, free) {
-        return no_room();
-    }
-    let up = agreement(
-        bits,
-        k.bits,
-        k.storeys,
-        k.tower,
-        false,
-        rank,
-        head == 0,
-        rank,
-    );
     Room {
-        good: up.agrees,
+        good: links_fit(words, k, head, tail, free),
         tail,
         next,
     }
+}
+
+// Its bits: whether they agree with what is below them, a bucket that is empty or not and then the words.
+pub fn agrees(bits: &[u64], k: Lay, rank: u32, empty: bool) -> bool
+    requires { ⌜ Tall (now bits) (k .bits) (k .storeys) (k .tower) ⌝ ∗ ⌜ rank < 64 ^ k .storeys ⌝ }
+    ensures { λ r. ⌜ r ≡ rankAgrees k (now (bits .entry)) rank empty ⌝ }
+{
+    let up = agreement(bits, k.bits, k.storeys, k.tower, false, rank, empty, rank);
+    up.agrees
 }
 
 // ---- a replace: what will stand after the pop of low, which is not done yet
@@ -291,17 +288,26 @@ fn tail_after(words: &[u32], k: Lay, low: Lowest, rank: u32) -> u32
     tail_of(words, k, rank)
 }
 
-// The bucket of rank with all the tests of a push, on the store as after the pop. The node to be taken is then the freed one,
-// and its next the free link of today; so of the tests of the whole queue only the top word's is new, and none of the node's.
-pub fn room_after(bits: &[u64], words: &[u32], k: Lay, low: Lowest, rank: u32) -> Room
-    requires { ⌜ Freeing k (now bits) (now words) low ⌝ ∗ ⌜ rank < k .ranks ⌝ ∗ ⌜ Whole k (now bits) (now words) ⌝ }
-    ensures { λ r. ⌜ FoundRoom r (roomAfter k (takenBits k (now (bits .entry)) low) (takenWords k (now (words .entry)) low) rank) ⌝ }
+// The links of rank's bucket. The node to be taken is then the freed one, and its next the free link of today; so none of the
+// node's tests is new.
+pub fn room_after(words: &[u32], k: Lay, low: Lowest, rank: u32) -> Room
+    requires { ⌜ Takable k (now words) low ⌝ ∗ ⌜ rank < k .ranks ⌝ }
+    ensures { λ r. ⌜ FoundLinks k (takenWords k (now (words .entry)) low) rank (linksIn k (takenWords k (now (words .entry)) low) rank) r ⌝ }
 {
     let head = head_after(words, k, low, rank);
     let tail = tail_after(words, k, low, rank);
-    if !links_fit(words, k, head, tail, low.head) {
-        return no_room();
+    Room {
+        good: links_fit(words, k, head, tail, low.head),
+        tail,
+        next: free_link(words, k),
     }
+}
+
+// Its bits, and of the tests of the whole queue the only one that is new, the top word's; so many are held before the pop.
+pub fn agrees_after(bits: &[u64], k: Lay, low: Lowest, rank: u32, empty: bool, held: u32) -> bool
+    requires { ⌜ Tall (now bits) (k .bits) (k .storeys) (k .tower) ⌝ ∗ ⌜ low .rank < 64 ^ k .storeys ⌝ ∗ ⌜ rank < 64 ^ k .storeys ⌝ ∗ ⌜ Turnable false (now bits) (storeysAt k) (low .rank) ⌝ }
+    ensures { λ r. ⌜ r ≡ (rankAgrees k (takenBits k (now (bits .entry)) low) rank empty && Bool·beq (eqb (word (takenBits k (now (bits .entry)) low) (k .bits)) 0) (eqb held 1)) ⌝ }
+{
     let up = agreement(
         bits,
         k.bits,
@@ -309,12 +315,8 @@ pub fn room_after(bits: &[u64], words: &[u32], k: Lay, low: Lowest, rank: u32) -
         k.tower,
         low.next == 0,
         low.rank,
-        head == 0,
+        empty,
         rank,
     );
-    Room {
-        good: up.agrees & ((up.top == 0) == (held_count(words, k) == 1)),
-        tail,
-        next: free_link(words, k),
-    }
+    up.agrees & ((up.top == 0) == (held == 1))
 }

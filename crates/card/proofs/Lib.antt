@@ -8,3 +8,4 @@ pub mod History
 pub mod Pinned
 pub mod Mend
 pub mod Fair
+pub mod Ports

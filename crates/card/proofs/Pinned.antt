@@ -9,7 +9,7 @@ use Rattle.card.specs.Out.{countAfter, CountAfter}
 use Rattle.lent_steps.specs.declared.Record.{Record}
 use Rattle.card.specs.Tree.{treeAfter, TreeAfter, treeAfterOut, TreeAfterOut, treeClear, treeHeld, treePop, treePush, treeReplace}
 
-count : (o : CountAfter) (n k : ℕ) (x y : List ℕ) → countAfter n x ≡ o → countAfter k y ≡ o → (n ≡ k) × (x ≡ y)
+pub count : (o : CountAfter) (n k : ℕ) (x y : List ℕ) → countAfter n x ≡ o → countAfter k y ≡ o → (n ≡ k) × (x ≡ y)
 count o n k x y p q = (ap (λ (o : CountAfter). o .number) (p ∙ sym q), ap (λ (o : CountAfter). o .out) (p ∙ sym q))
 
 tree : (o : TreeAfter) (n k : ℕ) (v w : List ℕ) → treeAfter n v ≡ o → treeAfter k w ≡ o → (n ≡ k) × (v ≡ w)
@@ -19,11 +19,11 @@ tree-out : (o : TreeAfterOut) (n k : ℕ) (v w x y : List ℕ) → treeAfterOut 
 tree-out o n k v w x y p q =
     (ap (λ (o : TreeAfterOut). o .number) (p ∙ sym q), ap (λ (o : TreeAfterOut). o .store) (p ∙ sym q), ap (λ (o : TreeAfterOut). o .out) (p ∙ sym q))
 
-bucket : (o : BucketAfter) (n k : ℕ) (a b v w : List ℕ) → bucketAfter n a v ≡ o → bucketAfter k b w ≡ o → (n ≡ k) × (a ≡ b) × (v ≡ w)
+pub bucket : (o : BucketAfter) (n k : ℕ) (a b v w : List ℕ) → bucketAfter n a v ≡ o → bucketAfter k b w ≡ o → (n ≡ k) × (a ≡ b) × (v ≡ w)
 bucket o n k a b v w p q =
     (ap (λ (o : BucketAfter). o .number) (p ∙ sym q), ap (λ (o : BucketAfter). o .bits) (p ∙ sym q), ap (λ (o : BucketAfter). o .words) (p ∙ sym q))
 
-bucket-out : (o : BucketAfterOut) (n k : ℕ) (a b v w x y : List ℕ) → bucketAfterOut n a v x ≡ o → bucketAfterOut k b w y ≡ o → (n ≡ k) × (a ≡ b) × (v ≡ w) × (x ≡ y)
+pub bucket-out : (o : BucketAfterOut) (n k : ℕ) (a b v w x y : List ℕ) → bucketAfterOut n a v x ≡ o → bucketAfterOut k b w y ≡ o → (n ≡ k) × (a ≡ b) × (v ≡ w) × (x ≡ y)
 bucket-out o n k a b v w x y p q = (
   ap (λ (o : BucketAfterOut). o .number) (p ∙ sym q),
   ap (λ (o : BucketAfterOut). o .bits) (p ∙ sym q),

@@ -42,7 +42,7 @@ tree-zeros o ws out h = go (leb answerWords (length out)) refl h
     go true e h = told-zeros (o .answer) out true e h
     go false e h = told-zeros (o .answer) out false e h
 
-bucket-zeros : (o : bucket.Outcome) (b w out : List ℕ) → (bucketAnswered o b w out .number ≡ 0 → ⊥) → bucketAnswered o b w out .out ≡ refusedOut answerWords out
+pub bucket-zeros : (o : bucket.Outcome) (b w out : List ℕ) → (bucketAnswered o b w out .number ≡ 0 → ⊥) → bucketAnswered o b w out .out ≡ refusedOut answerWords out
 unfolding bucketAnswered
 bucket-zeros o b w out h = go (leb answerWords (length out)) refl h
   where

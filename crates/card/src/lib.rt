@@ -1,4 +1,4 @@
-// The static library for C and Rust: the four queues over numbers and slices. Each function returns 01's number, 0 where nothing is
+// The static library for C and Rust: the queues over numbers and slices. Each function returns 01's number, 0 where nothing is
 // refused, and writes what it answers to `out`, zeros on a refusal. An `out` that is too short is refusal 1, and nothing changes.
 ghost use mathlib.Core.Path.{_≡_};
 ghost use lib.ListN.{set};
@@ -10,6 +10,7 @@ ghost use Rattle.card.specs.Bucket.{bucketAfter, bucketAfterOut, bucketC
 ghost use Rattle.card.specs.Sizes.{treeWords, bucketBits, bucketWords};
 
 mod clock;
+pub mod pool;
 pub mod repair;
 pub mod weights;
 

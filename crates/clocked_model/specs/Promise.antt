@@ -20,7 +20,7 @@ use Rattle.strip.specs.declared.Answer.{Answer}
 use Rattle.strip.specs.declared.Answer.the-variants.{Done, Out, Refused}
 use Rattle.strip.specs.declared.Element.{Element}
 use Rattle.strip.specs.declared.Refusal.{Refusal}
-use Rattle.strip.specs.declared.Refusal.the-variants.{BadRank, BadShape, Damaged, Empty, Full, NoTag, TooSoon}
+use Rattle.strip.specs.declared.Refusal.the-variants.{BadPort, BadRank, BadShape, Damaged, Empty, Full, NoTag, TooSoon}
 use Rattle.strip.specs.declared.Request.{Request}
 use Rattle.strip.specs.declared.Request.the-variants.{Idle, Pop, Push, Replace}
 use Rattle.tree_model.specs.Calls.{called, heldCount, outcome, Outcome, rootOf}
@@ -131,6 +131,7 @@ runsIdle BadRank = true
 runsIdle Full = true
 runsIdle Empty = true
 runsIdle NoTag = true
+runsIdle BadPort = true
 
 abbrev pub cycleLeft : ℕ → ℕ → State → List ℕ → Refusal → CycleOutcome
 cycleLeft m levels s ws n =
@@ -155,6 +156,7 @@ isBadShape BadRank = false
 isBadShape Full = false
 isBadShape Empty = false
 isBadShape NoTag = false
+isBadShape BadPort = false
 
 abbrev pub drainLeft : ℕ → ℕ → ℕ → State → List ℕ → Refusal → DrainOutcome
 drainLeft m levels cycles s ws n =

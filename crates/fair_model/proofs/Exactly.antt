@@ -17,7 +17,7 @@ use Rattle.strip.specs.Answers.{countOf, numberOf, refusalNumber}
 use Rattle.strip.specs.declared.Answer.{Answer}
 use Rattle.strip.specs.declared.Answer.the-variants.{Done, Out, Refused}
 use Rattle.strip.specs.declared.Refusal.{Refusal}
-use Rattle.strip.specs.declared.Refusal.the-variants.{BadRank, BadShape, Damaged, Empty, Full, NoTag, TooSoon}
+use Rattle.strip.specs.declared.Refusal.the-variants.{BadPort, BadRank, BadShape, Damaged, Empty, Full, NoTag, TooSoon}
 use Rattle.strip.specs.declared.Request.{Request}
 use Rattle.strip.specs.declared.Request.the-variants.{Pop, Push}
 use Rattle.tree_model.proofs.Exactly as tree
@@ -32,7 +32,7 @@ use Rattle.fair_model.specs.declared.FairRefusal.the-variants.{BadStrip,
 use Rattle.fair_model.proofs.Outcomes.{pop-either, push-either, reset-either, strip-means}
 
 -- ---- the numbers tell the refusals apart
-number-most : (r : Refusal) → refusalNumber r ≤ 7
+number-most : (r : Refusal) → refusalNumber r ≤ 8
 number-most BadShape = omega arith
 number-most Damaged = omega arith
 number-most TooSoon = omega arith
@@ -40,8 +40,9 @@ number-most BadRank = omega arith
 number-most Full = omega arith
 number-most Empty = omega arith
 number-most NoTag = omega arith
+number-most BadPort = omega arith
 
-answer-most : (a : Answer) → numberOf a ≤ 7
+answer-most : (a : Answer) → numberOf a ≤ 8
 answer-most Done = omega arith
 answer-most (Out e) = omega arith
 answer-most (Refused r) = number-most r

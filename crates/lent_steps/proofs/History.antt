@@ -31,7 +31,7 @@ use Rattle.strip.specs.Answers.{numberOf}
 use Rattle.strip.specs.declared.Answer.{Answer}
 use Rattle.strip.specs.declared.Answer.the-variants.{Done, Out, Refused}
 use Rattle.strip.specs.declared.Refusal.{Refusal}
-use Rattle.strip.specs.declared.Refusal.the-variants.{BadRank, BadShape, Damaged, Empty, Full, NoTag, TooSoon}
+use Rattle.strip.specs.declared.Refusal.the-variants.{BadPort, BadRank, BadShape, Damaged, Empty, Full, NoTag, TooSoon}
 use Rattle.strip.specs.declared.Request.{Request}
 use Rattle.strip.specs.declared.Request.the-variants.{Idle}
 use Rattle.tree_model.proofs.Exactly.{is-shape, shape-is}
@@ -51,6 +51,7 @@ not-run (Refused BadRank) e = absurd (true≢false e)
 not-run (Refused Full) e = absurd (true≢false e)
 not-run (Refused Empty) e = absurd (true≢false e)
 not-run (Refused NoTag) e = absurd (true≢false e)
+not-run (Refused BadPort) e = absurd (true≢false e)
 
 pub left-all : (m levels : ℕ) (r : Request) (s : State) (ws : List ℕ) → hasRun (cycled m levels r s ws .answer) ≡ false → cycled m levels r s ws .state ≡ s
 left-all m levels r s ws e =

@@ -31,7 +31,7 @@ use Rattle.strip.specs.Answers.{numberOf}
 use Rattle.strip.specs.declared.Answer.{Answer}
 use Rattle.strip.specs.declared.Answer.the-variants.{Done, Out, Refused}
 use Rattle.strip.specs.declared.Element.{Element}
-use Rattle.strip.specs.declared.Refusal.the-variants.{BadRank, BadShape, Damaged, Empty, Full, NoTag, TooSoon}
+use Rattle.strip.specs.declared.Refusal.the-variants.{BadPort, BadRank, BadShape, Damaged, Empty, Full, NoTag, TooSoon}
 use Rattle.strip.specs.declared.Request.{Request}
 use Rattle.strip.specs.declared.Request.the-variants.{Idle}
 use Rattle.tree_model.proofs.Exactly.{order-pos, shape-is}
@@ -119,6 +119,7 @@ zero-ran (Refused BadRank) e = absurd (omega arith)
 zero-ran (Refused Full) e = absurd (omega arith)
 zero-ran (Refused Empty) e = absurd (omega arith)
 zero-ran (Refused NoTag) e = absurd (omega arith)
+zero-ran (Refused BadPort) e = absurd (omega arith)
 
 -- ---- a state whose records' nodes fit, for so many levels
 record Fits (levels : ℕ) (s : State) : Type 0 where

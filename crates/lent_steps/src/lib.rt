@@ -166,6 +166,7 @@ fn is_later(n: Refusal) -> bool
         Refusal::Full => true,
         Refusal::Empty => true,
         Refusal::NoTag => true,
+        Refusal::BadPort => true,
     }
 }
 

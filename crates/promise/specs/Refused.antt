@@ -10,13 +10,13 @@ use Rattle.laws.specs.Means.{Means, means-eqb}
 use Rattle.strip.specs.Answers.{refusalNumber, untagged}
 use Rattle.strip.specs.declared.Element.{Element}
 use Rattle.strip.specs.declared.Refusal.{Refusal}
-use Rattle.strip.specs.declared.Refusal.the-variants.{BadRank, BadShape, Damaged, Empty, Full, NoTag, TooSoon}
+use Rattle.strip.specs.declared.Refusal.the-variants.{BadPort, BadRank, BadShape, Damaged, Empty, Full, NoTag, TooSoon}
 use Rattle.strip.specs.declared.Request.{Request}
 use Rattle.strip.specs.declared.Request.the-variants.{Idle, Pop, Push, Replace}
 
 -- the refusal of a number
 abbrev refusalOf : ℕ → Refusal
-refusalOf n = getD (BadShape ∷ Damaged ∷ TooSoon ∷ BadRank ∷ Full ∷ Empty ∷ NoTag ∷ []) (pred n) BadShape
+refusalOf n = getD (BadShape ∷ Damaged ∷ TooSoon ∷ BadRank ∷ Full ∷ Empty ∷ NoTag ∷ BadPort ∷ []) (pred n) BadShape
 
 numbered : (r : Refusal) → refusalOf (refusalNumber r) ≡ r
 numbered BadShape = refl
@@ -26,6 +26,7 @@ numbered BadRank = refl
 numbered Full = refl
 numbered Empty = refl
 numbered NoTag = refl
+numbered BadPort = refl
 
 -- no two refusals have one number, and none has 0
 pub refusal-told : (x y : Refusal) → refusalNumber x ≡ refusalNumber y → x ≡ y
@@ -39,6 +40,7 @@ zero-told BadRank e = omega arith
 zero-told Full e = omega arith
 zero-told Empty e = omega arith
 zero-told NoTag e = omega arith
+zero-told BadPort e = omega arith
 
 -- 7: "Push and replace with tag 0 are to be refused with a new number 7, "no tag", in every queue" (02 [1]), whatever the rank and whatever is held
 abbrev pub Untagged : Request → Type 0

@@ -1,10 +1,10 @@
--- The paper's number, rank and tag of each answer.
+-- The paper's number, rank, tag and length of each answer.
 use Prim.Native.Nat.{ℕ, _*_, _+_}
 use mathlib.Core.Bool.{Bool, true, false, _&&_, _||_}
 use lib.Dec.{eqb, ltb}
 use Rattle.strip.specs.declared.Element.{Element}
 use Rattle.strip.specs.declared.Refusal.{Refusal}
-use Rattle.strip.specs.declared.Refusal.the-variants.{BadShape, Damaged, TooSoon, BadRank, Full, Empty, NoTag}
+use Rattle.strip.specs.declared.Refusal.the-variants.{BadShape, Damaged, TooSoon, BadRank, Full, Empty, NoTag, BadPort}
 use Rattle.strip.specs.declared.Answer.{Answer}
 use Rattle.strip.specs.declared.Answer.the-variants.{Done, Out, Refused}
 use Rattle.strip.specs.declared.Count.{Count}
@@ -43,6 +43,7 @@ refusalNumber BadRank = 4
 refusalNumber Full = 5
 refusalNumber Empty = 6
 refusalNumber NoTag = 7
+refusalNumber BadPort = 8
 
 -- .. and 0 where nothing is refused
 abbrev pub numberOf : Answer → ℕ

@@ -27,6 +27,7 @@ pub enum Refusal {
     Full,
     Empty,
     NoTag,
+    BadPort,
 }
 
 // What a call answers: that it is done, an element, or a refusal.
@@ -71,6 +72,7 @@ pub fn refusal_number(r: Refusal) -> u32
         Refusal::Full => 5,
         Refusal::Empty => 6,
         Refusal::NoTag => 7,
+        Refusal::BadPort => 8,
     }
 }
 

@@ -12,7 +12,7 @@ use Rattle.strip.specs.Answers.{element}
 use Rattle.strip.specs.declared.Answer.{Answer}
 use Rattle.strip.specs.declared.Answer.the-variants.{Done, Out, Refused}
 use Rattle.strip.specs.declared.Element.{Element}
-use Rattle.strip.specs.declared.Refusal.the-variants.{BadRank, BadShape, Damaged, Empty, Full, NoTag, TooSoon}
+use Rattle.strip.specs.declared.Refusal.the-variants.{BadPort, BadRank, BadShape, Damaged, Empty, Full, NoTag, TooSoon}
 use Rattle.strip.specs.declared.Request.{Request}
 use Rattle.strip.specs.declared.Request.the-variants.{Idle, Pop, Push, Replace}
 use Rattle.text.proofs.Laws.{decimal-short}
@@ -52,6 +52,7 @@ word-short v r (Refused BadRank) = omega arith
 word-short v r (Refused Full) = omega arith
 word-short v r (Refused Empty) = omega arith
 word-short v r (Refused NoTag) = omega arith
+word-short v r (Refused BadPort) = omega arith
 
 pub line-short : (v : Version) (n : ℕ) (r : Request) (a : Answer) → length (lineOf v n r a) ≤ longestLine
 unfolding lineOf decimal

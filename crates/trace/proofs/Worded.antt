@@ -1,4 +1,4 @@
--- Every line of a played trace has a word: from a cleared machine no cycle is refused 1, 2 or 4. The last line says how many are stored.
+-- Every line of a played trace has a word: from a cleared machine no cycle is refused 1, 2, 4 or 8. The last line says how many are stored.
 -- Assumes nothing.
 use Prim.Native.Nat.{_*_, _≤_, pred, suc, zero, ℕ}
 use native.Mathlib.Omega.{arith}
@@ -21,7 +21,7 @@ use Rattle.promise.specs.Served.{always}
 use Rattle.strip.specs.Answers.{countOf, numberOf, refusalNumber}
 use Rattle.strip.specs.declared.Answer.the-variants.{Refused}
 use Rattle.strip.specs.declared.Refusal.{Refusal}
-use Rattle.strip.specs.declared.Refusal.the-variants.{BadRank, BadShape, Damaged, Empty, Full, NoTag, TooSoon}
+use Rattle.strip.specs.declared.Refusal.the-variants.{BadPort, BadRank, BadShape, Damaged, Empty, Full, NoTag, TooSoon}
 use Rattle.strip.specs.declared.Request.{Request}
 use Rattle.trace.specs.Format.{byteAt, doneWord, endLine, headed, headerBytes, headerOf, markOk, outWord, recordsOf, refusalWord, traceLimit, traceShape, versionAt, wordOf}
 use Rattle.trace.specs.Program.{emptyStore, endOf, storeWords}
@@ -81,7 +81,7 @@ module _ (m levels : ℕ) (ws : List ℕ) (sh : Shape m levels (length ws)) wher
   abbrev wordsAt : List Request → List ℕ
   wordsAt rs = ran m levels rs ws .words
 
-  -- NONE SILENT: after any list of cycles no cycle is refused 1, 2 or 4
+  -- NONE SILENT: after any list of cycles no cycle is refused 1, 2, 4 or 8
   pub none-silent : (rs : List Request) (r : Request) (n : Refusal) → Silent n → cycled m levels r (stateAt rs) (wordsAt rs) .answer ≡ Refused n → ⊥
   none-silent rs r n q e = go n q (sym (ap numberOf e)) (numbers m ws rs levels sh r)
     where
@@ -96,6 +96,7 @@ module _ (m levels : ℕ) (ws : List ℕ) (sh : Shape m levels (length ws)) wher
       go Full q h = absurd q
       go Empty q h = absurd q
       go NoTag q h = absurd q
+      go BadPort q h = other _ 8 h (λ d. omega arith) (λ d. omega arith) (λ d. omega arith) (λ d. omega arith) (λ d. omega arith)
 
   word-some : (v : Version) (rs : List Request) (r : Request) → wordOf v r (cycled m levels r (stateAt rs) (wordsAt rs) .answer) ≡ [] → ⊥
   unfolding cycleRun

@@ -9,7 +9,7 @@ use Rattle.strip.specs.declared.Answer.{Answer}
 use Rattle.strip.specs.declared.Answer.the-variants.{Done, Out, Refused}
 use Rattle.strip.specs.declared.Element.{Element}
 use Rattle.strip.specs.declared.Refusal.{Refusal}
-use Rattle.strip.specs.declared.Refusal.the-variants.{BadRank, BadShape, Damaged, Empty, Full, NoTag, TooSoon}
+use Rattle.strip.specs.declared.Refusal.the-variants.{BadPort, BadRank, BadShape, Damaged, Empty, Full, NoTag, TooSoon}
 use Rattle.strip.specs.declared.Request.{Request}
 use Rattle.strip.specs.declared.Request.the-variants.{Idle, Pop, Push, Replace}
 use Rattle.text.specs.Text.{bytesOf, decimal}
@@ -39,6 +39,7 @@ refusalWord BadRank = []
 refusalWord Full = bytesOf "full"
 refusalWord Empty = bytesOf "empty"
 refusalWord NoTag = bytesOf "no tag"
+refusalWord BadPort = []
 
 -- out R T; "an `out` line with a third number" in version 2, "the old lines" in version 1 (02 [9])
 unfoldable pub lengthWord : Version → ℕ → List ℕ

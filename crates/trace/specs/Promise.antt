@@ -6,7 +6,7 @@ use lib.ListN.{drop}
 use Rattle.clocked_model.specs.Calls.{clearedMachine, cycled}
 use Rattle.clocked_model.specs.declared.State.{State}
 use Rattle.strip.specs.declared.Refusal.{Refusal}
-use Rattle.strip.specs.declared.Refusal.the-variants.{BadRank, BadShape, Damaged, Empty, Full, NoTag, TooSoon}
+use Rattle.strip.specs.declared.Refusal.the-variants.{BadPort, BadRank, BadShape, Damaged, Empty, Full, NoTag, TooSoon}
 use Rattle.trace.specs.Format.{headerBytes, headerOf, recordsOf, wordOf}
 use Rattle.trace.specs.Program.{emptyStore}
 use Rattle.trace.specs.declared.Header.{Header}
@@ -15,7 +15,7 @@ use Rattle.trace.specs.declared.Record.{Record}
 use Rattle.trace.specs.declared.Record.the-variants.{Bad, Good}
 use Rattle.trace.specs.declared.Version.{Version}
 
--- refusals 1, 2 and 4, which have no word
+-- refusals 1, 2, 4 and 8, which have no word
 abbrev pub Silent : Refusal → Type 0
 Silent BadShape = Unit {0}
 Silent Damaged = Unit {0}
@@ -24,6 +24,7 @@ Silent BadRank = Unit {0}
 Silent Full = ⊥
 Silent Empty = ⊥
 Silent NoTag = ⊥
+Silent BadPort = Unit {0}
 
 -- every line that these records write has a word
 abbrev pub Worded : Version → ℕ → ℕ → State → List ℕ → List Record → Type 0

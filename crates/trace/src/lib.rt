@@ -69,6 +69,7 @@ fn put_refusal(out: &mut [u8], at: usize, refusal: Refusal) -> usize
         Refusal::BadShape => at,
         Refusal::Damaged => at,
         Refusal::BadRank => at,
+        Refusal::BadPort => at,
     }
 }
 

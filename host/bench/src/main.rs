@@ -9,6 +9,7 @@ mod clock;
 mod count;
 mod cycles;
 mod fairs;
+mod halls;
 mod measure;
 mod mends;
 mod plain;
@@ -84,6 +85,7 @@ fn main() {
     };
     show("bucket queue (N = 4096) beside BTreeMap<u32, VecDeque<(u32, u32)>>, 4,000 held", traces::buckets(&plan));
     show("bucket queue, three storeys (N = 65,536), beside the same map", traces::deep_buckets(&plan));
+    show("five ports on one pool (N = 4096) beside five bucket queues and five maps, 4,000 held", halls::rows(&plan));
     show("tree beside std's BinaryHeap, 4,000 held", traces::trees(&plan));
     show("fair ranks of 64 flows beside the bare tree at the same ranks", fairs::rows(&plan));
     show("check and mend of a full store, for one slot, beside a plain check and a heap", mends::rows(&plan));

@@ -195,7 +195,7 @@ impl Queue for RankHeap {
 }
 
 /// What the answers are folded into: strips in their order, or ranks alone where ties may leave in another order.
-fn fold(answers: u64, (rank, tag, length): Strip, whole: bool) -> u64 {
+pub fn fold(answers: u64, (rank, tag, length): Strip, whole: bool) -> u64 {
     let x = if whole { ((rank as u64) << 32 | tag as u64) ^ (length as u64) << 16 } else { rank as u64 };
     answers.rotate_left(5) ^ x
 }

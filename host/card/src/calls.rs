@@ -244,6 +244,102 @@ pub fn bucket_held(bits: &[u64], words: &[u32], storeys: u32, nodes: u32, out: &
     unsafe { raw::card_bucket_held(b.as_ptr(), b.len(), w.as_ptr(), w.len(), storeys, nodes, o.as_mut_ptr(), o.len()) }
 }
 
+/// Empties all ports of a pool and fixes their limits: a floor and a ceiling for each.
+#[inline]
+pub fn ports_clear(bits: &mut [u64], words: &mut [u32], storeys: u32, nodes: u32, ports: u32, limits: &[u32]) -> u32 {
+    let (b, w, l) = (bits, words, limits);
+    let (bits, words, limits) = (b.as_mut_ptr(), w.as_mut_ptr(), l.as_ptr());
+    // SAFETY: borrowed slices, as said above.
+    unsafe { raw::card_ports_clear(bits, b.len(), words, w.len(), storeys, nodes, ports, limits, l.len()) }
+}
+
+/// Takes an element in at a port.
+#[inline]
+pub fn ports_push(
+    bits: &mut [u64],
+    words: &mut [u32],
+    storeys: u32,
+    nodes: u32,
+    ports: u32,
+    port: u32,
+    rank: u32,
+    tag: u32,
+    length: u32,
+) -> u32 {
+    let (b, w) = (bits, words);
+    let (bits, words) = (b.as_mut_ptr(), w.as_mut_ptr());
+    // SAFETY: borrowed slices, as said above.
+    unsafe { raw::card_ports_push(bits, b.len(), words, w.len(), storeys, nodes, ports, port, rank, tag, length) }
+}
+
+/// Gives a port's first element of its lowest rank.
+#[inline]
+pub fn ports_pop(
+    bits: &mut [u64],
+    words: &mut [u32],
+    storeys: u32,
+    nodes: u32,
+    ports: u32,
+    port: u32,
+    out: &mut [u32],
+) -> u32 {
+    let (b, w, o) = (bits, words, out);
+    let (bits, words, out) = (b.as_mut_ptr(), w.as_mut_ptr(), o.as_mut_ptr());
+    // SAFETY: borrowed slices, as said above.
+    unsafe { raw::card_ports_pop(bits, b.len(), words, w.len(), storeys, nodes, ports, port, out, o.len()) }
+}
+
+/// Gives a port's first element of its lowest rank, and then takes a new element in there.
+#[inline]
+pub fn ports_replace(
+    bits: &mut [u64],
+    words: &mut [u32],
+    storeys: u32,
+    nodes: u32,
+    ports: u32,
+    port: u32,
+    rank: u32,
+    tag: u32,
+    length: u32,
+    out: &mut [u32],
+) -> u32 {
+    // SAFETY: borrowed slices, as said above.
+    unsafe {
+        raw::card_ports_replace(
+            bits.as_mut_ptr(),
+            bits.len(),
+            words.as_mut_ptr(),
+            words.len(),
+            storeys,
+            nodes,
+            ports,
+            port,
+            rank,
+            tag,
+            length,
+            out.as_mut_ptr(),
+            out.len(),
+        )
+    }
+}
+
+/// Gives the number of elements that a port holds.
+#[inline]
+pub fn ports_held(
+    bits: &[u64],
+    words: &[u32],
+    storeys: u32,
+    nodes: u32,
+    ports: u32,
+    port: u32,
+    out: &mut [u32],
+) -> u32 {
+    let (b, w, o) = (bits, words, out);
+    let (bits, words, out) = (b.as_ptr(), w.as_ptr(), o.as_mut_ptr());
+    // SAFETY: borrowed slices, as said above.
+    unsafe { raw::card_ports_held(bits, b.len(), words, w.len(), storeys, nodes, ports, port, out, o.len()) }
+}
+
 /// Empties a clocked tree, its records and its mark.
 #[inline]
 pub fn clocked_clear(store: &mut [u32], order: u32, levels: u32, records: &mut [Record], mark: &mut [u32]) -> u32 {
@@ -357,4 +453,18 @@ pub fn bucket_bits(storeys: u32) -> u32 {
 pub fn bucket_words(storeys: u32, nodes: u32) -> u32 {
     // SAFETY: two numbers, and they may be any.
     unsafe { raw::card_bucket_words(storeys, nodes) }
+}
+
+/// How many words of 64 bits so many ports on one pool need; 0 for a bad shape.
+#[inline]
+pub fn ports_bits(storeys: u32, ports: u32) -> u32 {
+    // SAFETY: two numbers, and they may be any.
+    unsafe { raw::card_ports_bits(storeys, ports) }
+}
+
+/// How many words of 32 bits so many ports on one pool need; 0 for a bad shape.
+#[inline]
+pub fn ports_words(storeys: u32, nodes: u32, ports: u32) -> u32 {
+    // SAFETY: three numbers, and they may be any.
+    unsafe { raw::card_ports_words(storeys, nodes, ports) }
 }

@@ -9,6 +9,7 @@
 //! | cluster heap | any | in a node the lower tag, else its own order | [`Cluster`] | `ClusterQueue` |
 //! | multi-way tree by clock cycles | any | in a node the lower tag, else its own order | [`Clocked`] | `ClockedTree` |
 //!
+//! Several bucket queues can share one pool of nodes: [`Ports`] (`PortsQueue`), up to 16, each with a floor and a ceiling.
 //! Above the tree stands [`Fair`] (`FairQueue`): ranks from weights, for up to 64 flows.
 //!
 //! A call that is refused says so by a [`Refusal`] and leaves behind what the paper's table says. No store's content makes a call
@@ -43,6 +44,7 @@ mod fair;
 mod mend;
 #[cfg(feature = "std")]
 mod owned;
+mod ports;
 mod raw;
 mod sizes;
 mod tree;
@@ -53,10 +55,11 @@ pub use cluster::Cluster;
 pub use fair::{Fair, Flow, Weight};
 pub use mend::{Broken, Mended};
 #[cfg(feature = "std")]
-pub use owned::{BucketQueue, ClockedTree, ClusterQueue, FairQueue, TreeQueue};
+pub use owned::{BucketQueue, ClockedTree, ClusterQueue, FairQueue, PortsQueue, TreeQueue};
+pub use ports::{Limits, Port, Ports};
 pub use sizes::{
-    bucket_bits, bucket_ranks, bucket_words, cluster_places, cluster_words, fair_words, record_count, tree_slots,
-    tree_words,
+    bucket_bits, bucket_ranks, bucket_words, cluster_places, cluster_words, fair_words, ports_bits, ports_words,
+    record_count, tree_slots, tree_words,
 };
 pub use tree::Tree;
 
@@ -113,7 +116,7 @@ impl From<[u32; 3]> for Element {
 #[repr(u32)]
 #[non_exhaustive]
 pub enum Refusal {
-    /// Order, levels, number of nodes or a slice's length. Everything stands.
+    /// Order, places, levels, storeys, number of nodes or ports, limits or a slice's length. Everything stands.
     BadShape = 1,
     /// The store or a pending record does not hold together. Everything stands.
     Damaged = 2,
@@ -127,6 +130,8 @@ pub enum Refusal {
     Empty = 6,
     /// A push or replace with tag 0, which stands for no strip. The store stands; a cycle runs as an idle one.
     NoTag = 7,
+    /// A port above the last. Everything stands.
+    NoPort = 8,
     /// Fair ranks: a flow, weight or length outside the limits. Everything stands.
     BadStrip = 9,
     /// Fair ranks: a finish above the highest rank. Everything stands; once nothing is held a reset sets the clock to 0.
@@ -154,6 +159,7 @@ impl Refusal {
             5 => Refusal::Full,
             6 => Refusal::Empty,
             7 => Refusal::NoTag,
+            8 => Refusal::NoPort,
             9 => Refusal::BadStrip,
             10 => Refusal::ClockSpent,
             11 => Refusal::NotEmpty,
@@ -177,6 +183,7 @@ impl Refusal {
             Refusal::Full => "full",
             Refusal::Empty => "empty",
             Refusal::NoTag => "no tag",
+            Refusal::NoPort => "no such port",
             Refusal::BadStrip => "bad strip",
             Refusal::ClockSpent => "clock spent",
             Refusal::NotEmpty => "not empty",

@@ -1,8 +1,8 @@
 //! Queues that own their stores.
 
 use crate::{
-    bucket_bits, bucket_words, cluster_words, fair_words, record_count, tree_words, Bucket, Clocked, Cluster, Fair,
-    Record, Refusal, Tree,
+    bucket_bits, bucket_words, cluster_words, fair_words, ports_bits, ports_words, record_count, tree_words, Bucket,
+    Clocked, Cluster, Fair, Limits, Ports, Record, Refusal, Tree,
 };
 use std::vec;
 use std::vec::Vec;
@@ -94,6 +94,29 @@ impl BucketQueue {
     /// An empty queue with two or three storeys and a pool of 1 to 65,536 nodes, its store allocated.
     pub fn new(storeys: u32, nodes: u32) -> Result<BucketQueue, Refusal> {
         Bucket::cleared(storeys, nodes, vec![0; bucket_bits(storeys)], vec![0; bucket_words(storeys, nodes)])
+    }
+}
+
+/// Several ports with a pool of their own. Everything else is [`Ports`]'s.
+///
+/// ```
+/// use card_host::{Element, Length, Limits, PortsQueue, Rank, Refusal, Tag};
+///
+/// # fn main() -> Result<(), Refusal> {
+/// let mut halls = PortsQueue::new(2, 100, &[Limits { floor: 10, ceiling: 100 }; 5])?;
+/// halls.port(4).push(Element::new(Rank(7), Tag(1), Length(64)))?;
+/// assert_eq!((halls.held(4)?, halls.held(0)?), (1, 0));
+/// # Ok(())
+/// # }
+/// ```
+pub type PortsQueue = Ports<Vec<u64>, Vec<u32>>;
+
+impl PortsQueue {
+    /// Empty ports, one for each of the limits, with two or three storeys and a pool of 1 to 65,536 nodes, their store allocated.
+    pub fn new(storeys: u32, nodes: u32, limits: &[Limits]) -> Result<PortsQueue, Refusal> {
+        let ports = limits.len().min(u32::MAX as usize) as u32;
+        let (bits, words) = (ports_bits(storeys, ports), ports_words(storeys, nodes, ports));
+        Ports::cleared(storeys, nodes, limits, vec![0; bits], vec![0; words])
     }
 }
 

@@ -192,6 +192,70 @@ extern "C" {
         out_len: usize,
     ) -> u32;
 
+    pub fn card_ports_clear(
+        bits: *mut u64,
+        bits_len: usize,
+        words: *mut u32,
+        words_len: usize,
+        storeys: u32,
+        nodes: u32,
+        ports: u32,
+        limits: *const u32,
+        limits_len: usize,
+    ) -> u32;
+    pub fn card_ports_push(
+        bits: *mut u64,
+        bits_len: usize,
+        words: *mut u32,
+        words_len: usize,
+        storeys: u32,
+        nodes: u32,
+        ports: u32,
+        port: u32,
+        rank: u32,
+        tag: u32,
+        length: u32,
+    ) -> u32;
+    pub fn card_ports_pop(
+        bits: *mut u64,
+        bits_len: usize,
+        words: *mut u32,
+        words_len: usize,
+        storeys: u32,
+        nodes: u32,
+        ports: u32,
+        port: u32,
+        out: *mut u32,
+        out_len: usize,
+    ) -> u32;
+    pub fn card_ports_replace(
+        bits: *mut u64,
+        bits_len: usize,
+        words: *mut u32,
+        words_len: usize,
+        storeys: u32,
+        nodes: u32,
+        ports: u32,
+        port: u32,
+        rank: u32,
+        tag: u32,
+        length: u32,
+        out: *mut u32,
+        out_len: usize,
+    ) -> u32;
+    pub fn card_ports_held(
+        bits: *const u64,
+        bits_len: usize,
+        words: *const u32,
+        words_len: usize,
+        storeys: u32,
+        nodes: u32,
+        ports: u32,
+        port: u32,
+        out: *mut u32,
+        out_len: usize,
+    ) -> u32;
+
     pub fn card_clocked_clear(
         store: *mut u32,
         store_len: usize,
@@ -245,4 +309,6 @@ extern "C" {
     pub fn card_fair_words() -> usize;
     pub fn card_bucket_bits(storeys: u32) -> u32;
     pub fn card_bucket_words(storeys: u32, nodes: u32) -> u32;
+    pub fn card_ports_bits(storeys: u32, ports: u32) -> u32;
+    pub fn card_ports_words(storeys: u32, nodes: u32, ports: u32) -> u32;
 }

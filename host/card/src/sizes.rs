@@ -133,3 +133,34 @@ pub const fn bucket_words(storeys: u32, nodes: u32) -> usize {
     }
     2 * ranks + 3 * nodes as usize + 2
 }
+
+/// The most ports on one pool.
+pub(crate) const PORTS: usize = 16;
+
+/// How many words of 64 bits so many ports on one pool need, each as many as a bucket queue; 0 for a bad shape.
+///
+/// ```
+/// assert_eq!(card_host::ports_bits(2, 5), 325);
+/// assert_eq!(card_host::ports_bits(2, 17), 0);
+/// ```
+pub const fn ports_bits(storeys: u32, ports: u32) -> usize {
+    if ports as usize > PORTS {
+        return 0;
+    }
+    ports as usize * bucket_bits(storeys)
+}
+
+/// How many words of 32 bits so many ports on one pool need: heads and tails of each, the nodes, the free link, and three of each port;
+/// 0 for a bad shape.
+///
+/// ```
+/// assert_eq!(card_host::ports_words(2, 3, 2), 2 * 8192 + 9 + 1 + 6);
+/// assert_eq!(card_host::ports_words(2, 3, 0), 0);
+/// ```
+pub const fn ports_words(storeys: u32, nodes: u32, ports: u32) -> usize {
+    let (ranks, ports) = (bucket_ranks(storeys), ports as usize);
+    if ranks == 0 || nodes < 1 || nodes > NODES || ports < 1 || ports > PORTS {
+        return 0;
+    }
+    2 * ranks * ports + 3 * nodes as usize + 1 + 3 * ports
+}

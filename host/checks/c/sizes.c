@@ -18,8 +18,8 @@ static uint64_t bits[CARD_BUCKET_BITS(2)], deep_bits[CARD_BUCKET_BITS(3)];
 static uint32_t words[CARD_BUCKET_WORDS(2, 4096)], deep_words[CARD_BUCKET_WORDS(3, 65536)];
 
 int main(void) {
-    static const char *const names[12] = {"ok",    "bad shape", "damaged",        "too soon",  "bad rank",    "full",
-                                          "empty", "no tag",    "no such number", "bad strip", "clock spent", "not empty"};
+    static const char *const names[12] = {"ok",    "bad shape", "damaged",      "too soon",  "bad rank",    "full",
+                                          "empty", "no tag",    "no such port", "bad strip", "clock spent", "not empty"};
     uint32_t mark[CARD_MARK_WORDS], out[CARD_OUT_WORDS], order, levels, storeys, nodes;
     for (order = 2; order <= 8; order *= 2)
         for (levels = 1; card_tree_words(order, levels) != 0; levels++)

@@ -55,6 +55,13 @@ fn fair_ranks() {
     }
 }
 
+#[test]
+fn several_ports() {
+    for (standard, written) in in_each("host/checks/c/ports.c") {
+        assert_eq!(written, "", "{standard}");
+    }
+}
+
 /// Included twice and in two files of one program: nothing is defined twice, nothing is unused.
 #[test]
 fn in_two_files_of_one_program() {

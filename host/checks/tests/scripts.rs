@@ -85,6 +85,8 @@ fn the_bench_runs() {
     for part in [
         "bucket, spread ranks refilled",
         "bucket, three storeys, spread ranks refilled, 65536 held",
+        "five ports, spread ranks, beside five queues",
+        "five ports, spread ranks, beside five maps",
         "tree, order 4 x 6, push and pop",
         "fair, order 4 x 6, push and pop, 4000 held",
         "check, order 4 x 8, full",

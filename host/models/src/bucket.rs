@@ -120,10 +120,33 @@ pub fn words(storeys: u32, n: u64) -> u64 {
     2 * ranks(storeys) as u64 + 3 * n + 2
 }
 
+/// Where the words of a queue stand: of one that has the slices to itself, or of one of several ports.
+#[derive(Clone, Copy)]
+pub struct Places {
+    pub storeys: u32,
+    pub n: u32,
+    /// The first of its words of 64 bits.
+    pub bits: usize,
+    /// The first of its heads; its tails stand behind them.
+    pub heads: usize,
+    pub nodes: usize,
+    pub free: usize,
+    pub held: usize,
+}
+
+impl Places {
+    fn alone(storeys: u32, n: u32) -> Places {
+        let nodes = 2 * ranks(storeys);
+        let free = nodes + 3 * n as usize;
+        Places { storeys, n, bits: 0, heads: 0, nodes, free, held: free + 1 }
+    }
+}
+
 /// The lent store. Each change is noted, so that it can be taken back.
-struct Pool<'a> {
+pub struct Pool<'a> {
     bits: &'a mut [u64],
     words: &'a mut [u32],
+    at: Places,
     storeys: u32,
     n: u32,
     changed_bits: Vec<(usize, u64)>,
@@ -131,8 +154,12 @@ struct Pool<'a> {
 }
 
 impl<'a> Pool<'a> {
-    fn new(bits: &'a mut [u64], words: &'a mut [u32], storeys: u32, n: u32) -> Pool<'a> {
-        Pool { bits, words, storeys, n, changed_bits: Vec::new(), changed_words: Vec::new() }
+    pub fn new(bits: &'a mut [u64], words: &'a mut [u32], at: Places) -> Pool<'a> {
+        Pool { bits, words, at, storeys: at.storeys, n: at.n, changed_bits: Vec::new(), changed_words: Vec::new() }
+    }
+
+    pub fn slices(&self) -> (&[u64], &[u32]) {
+        (self.bits, self.words)
     }
 
     fn set_bits(&mut self, at: usize, to: u64) {
@@ -144,7 +171,7 @@ impl<'a> Pool<'a> {
         self.words[at] = to;
     }
     /// Everything as it was.
-    fn take_back(&mut self) {
+    pub fn take_back(&mut self) {
         while let Some((at, was)) = self.changed_bits.pop() {
             self.bits[at] = was;
         }
@@ -155,13 +182,13 @@ impl<'a> Pool<'a> {
 
     // Where each word stands. A link is a node number plus one.
     fn head_at(&self, rank: u32) -> usize {
-        rank as usize
+        self.at.heads + rank as usize
     }
     fn tail_at(&self, rank: u32) -> usize {
-        ranks(self.storeys) + rank as usize
+        self.at.heads + ranks(self.storeys) + rank as usize
     }
     fn tag_at(&self, link: u32) -> usize {
-        2 * ranks(self.storeys) + 3 * (link as usize - 1)
+        self.at.nodes + 3 * (link as usize - 1)
     }
     fn length_at(&self, link: u32) -> usize {
         self.tag_at(link) + 1
@@ -170,10 +197,10 @@ impl<'a> Pool<'a> {
         self.tag_at(link) + 2
     }
     fn free_at(&self) -> usize {
-        2 * ranks(self.storeys) + 3 * self.n as usize
+        self.at.free
     }
     fn held_at(&self) -> usize {
-        self.free_at() + 1
+        self.at.held
     }
 
     fn head(&self, rank: u32) -> u32 {
@@ -198,7 +225,7 @@ impl<'a> Pool<'a> {
         self.words[self.held_at()]
     }
     fn top(&self) -> u64 {
-        self.bits[0]
+        self.bits[self.at.bits]
     }
 
     // Storeys are counted from the top one, 0, to the lowest. A bit of the lowest stands for a rank, one of any other for a word
@@ -210,7 +237,7 @@ impl<'a> Pool<'a> {
     fn bit_at(&self, storey: u32, rank: u32) -> (usize, u32) {
         let below = 64u32.pow(self.lowest_storey() - storey);
         let bit = rank / below;
-        (BEGINS[storey as usize] + bit as usize / 64, bit % 64)
+        (self.at.bits + BEGINS[storey as usize] + bit as usize / 64, bit % 64)
     }
     fn bit(&self, storey: u32, rank: u32) -> bool {
         let (at, k) = self.bit_at(storey, rank);
@@ -226,17 +253,24 @@ impl<'a> Pool<'a> {
 
 /// The tests that every call but clear makes.
 fn whole(top: u64, free: u32, held: u32, n: u32) -> Causes {
-    let mut c = 0;
+    let mut c = pairs(top, free, held, held as u64, n);
     if held > n {
         c |= cause::HELD;
     }
+    c
+}
+
+/// The free link, and the pairs of which one holds exactly if the other does: free link 0 and all nodes of the pool in use, top word 0
+/// and nothing held.
+pub fn pairs(top: u64, free: u32, held: u32, used: u64, n: u32) -> Causes {
+    let mut c = 0;
     if free > n {
         c |= cause::FREE;
     }
-    if free == 0 && held != n {
+    if free == 0 && used != n as u64 {
         c |= cause::FREE_NONE;
     }
-    if free != 0 && held == n {
+    if free != 0 && used == n as u64 {
         c |= cause::FREE_SOME;
     }
     if top == 0 && held != 0 {
@@ -296,7 +330,7 @@ fn bucket(p: &Pool, rank: u32) -> Causes {
 fn lowest(p: &Pool) -> Result<u32, Causes> {
     let mut at = 0;
     for storey in 0..p.storeys {
-        let word = p.bits[BEGINS[storey as usize] + at as usize];
+        let word = p.bits[p.at.bits + BEGINS[storey as usize] + at as usize];
         if word == 0 {
             return Err(if storey == p.lowest_storey() { cause::GROUP_SET } else { cause::MIDDLE_SET });
         }
@@ -306,7 +340,7 @@ fn lowest(p: &Pool) -> Result<u32, Causes> {
 }
 
 /// A pop's tests, with something held.
-fn pop_tests(p: &Pool) -> Result<u32, Causes> {
+pub fn pop_tests(p: &Pool) -> Result<u32, Causes> {
     let rank = lowest(p)?;
     let mut c = bucket(p, rank);
     let (head, tail) = (p.head(rank), p.tail(rank));
@@ -328,8 +362,8 @@ fn pop_tests(p: &Pool) -> Result<u32, Causes> {
     Ok(rank)
 }
 
-/// A push's tests on its bucket, with held below N.
-fn push_tests(p: &Pool, rank: u32) -> Result<(), Causes> {
+/// A push's tests on its bucket, with so many nodes of the pool in use, fewer than N.
+pub fn push_tests(p: &Pool, rank: u32, used: u64) -> Result<(), Causes> {
     let mut c = bucket(p, rank);
     let taken = p.free();
     if taken == p.tail(rank) {
@@ -339,10 +373,10 @@ fn push_tests(p: &Pool, rank: u32) -> Result<(), Causes> {
     if next > p.n {
         c |= cause::TAKEN_NEXT_LINK;
     }
-    if next == 0 && p.held() != p.n - 1 {
+    if next == 0 && used + 1 != p.n as u64 {
         c |= cause::TAKEN_LAST;
     }
-    if next != 0 && p.held() == p.n - 1 {
+    if next != 0 && used + 1 == p.n as u64 {
         c |= cause::TAKEN_NOT_LAST;
     }
     if c != 0 {
@@ -352,7 +386,7 @@ fn push_tests(p: &Pool, rank: u32) -> Result<(), Causes> {
 }
 
 /// Takes the head of this rank: the lowest, tested.
-fn pop_writes(p: &mut Pool, rank: u32) -> Element {
+pub fn pop_writes(p: &mut Pool, rank: u32) -> Element {
     let link = p.head(rank);
     let answer = Element { rank, tag: p.tag(link), length: p.length(link) };
     let next = p.next(link);
@@ -383,7 +417,7 @@ fn pop_writes(p: &mut Pool, rank: u32) -> Element {
 }
 
 /// Takes the node at the free link and joins it behind the tail.
-fn push_writes(p: &mut Pool, x: Element) {
+pub fn push_writes(p: &mut Pool, x: Element) {
     let link = p.free();
     let tail = p.tail(x.rank);
     let (free_at, held_at, held) = (p.free_at(), p.held_at(), p.held());
@@ -446,7 +480,7 @@ pub fn push(bits: &mut [u64], words: &mut [u32], storeys: u32, nodes: u32, x: El
     if x.tag == 0 {
         return Err(No::NoTag);
     }
-    let mut p = Pool::new(bits, words, storeys, nodes);
+    let mut p = Pool::new(bits, words, Places::alone(storeys, nodes));
     let c = p.whole();
     if c != 0 {
         return Err(No::Damaged(c));
@@ -454,14 +488,14 @@ pub fn push(bits: &mut [u64], words: &mut [u32], storeys: u32, nodes: u32, x: El
     if p.held() == nodes {
         return Err(No::Full);
     }
-    push_tests(&p, x.rank).map_err(No::Damaged)?;
+    push_tests(&p, x.rank, p.held() as u64).map_err(No::Damaged)?;
     push_writes(&mut p, x);
     Ok(())
 }
 
 pub fn pop(bits: &mut [u64], words: &mut [u32], storeys: u32, nodes: u32) -> Result<Element, No> {
     shape(bits.len(), words.len(), storeys, nodes)?;
-    let mut p = Pool::new(bits, words, storeys, nodes);
+    let mut p = Pool::new(bits, words, Places::alone(storeys, nodes));
     let c = p.whole();
     if c != 0 {
         return Err(No::Damaged(c));
@@ -481,7 +515,7 @@ pub fn replace(bits: &mut [u64], words: &mut [u32], storeys: u32, nodes: u32, x:
     if x.tag == 0 {
         return Err(No::NoTag);
     }
-    let mut p = Pool::new(bits, words, storeys, nodes);
+    let mut p = Pool::new(bits, words, Places::alone(storeys, nodes));
     let c = p.whole();
     if c != 0 {
         return Err(No::Damaged(c));
@@ -494,7 +528,7 @@ pub fn replace(bits: &mut [u64], words: &mut [u32], storeys: u32, nodes: u32, x:
     let answer = pop_writes(&mut p, lowest);
     let mut c = p.whole();
     if c == 0 {
-        c = match push_tests(&p, x.rank) {
+        c = match push_tests(&p, x.rank, p.held() as u64) {
             Ok(()) => 0,
             Err(c) => c,
         };

@@ -5,7 +5,8 @@ use borrow.Author.Tests.{not-true, not-false}
 use Rattle.bucket_model.specs.Calls.{isShaped}
 use Rattle.bucket_tests.specs.Stores.{Stands}
 use Rattle.bucket_model.proofs.Returns.{clear-bad, clear-done}
-use Rattle.bucket.proofs.Steps.{stands, fits}
+use Rattle.bucket_tests.proofs.Read.{fits}
+use Rattle.bucket.proofs.Steps.{stands}
 use borrow.Author.Needs.{needs}
 use Rattle.bucket.proofs.clear_laid.Statement.{statement}
 use Rattle.bucket.proofs.clear_laid.Tie as tie

@@ -5,7 +5,7 @@ use Rattle.bucket_model.specs.declared.Lay.{Lay}
 use Rattle.bucket_model.specs.Calls.{heldCount}
 use Rattle.bucket_model.proofs.Returns.{held-bad}
 use Rattle.bucket.proofs.Steps.{queue-placed}
-use Rattle.bucket.proofs.Depths.{deep-of, undeep}
+use Rattle.bucket_steps.proofs.Depths.{deep-of, undeep}
 use borrow.Author.Needs.{needs}
 use Rattle.bucket.proofs.held.Statement.{statement}
 use Rattle.bucket.proofs.held.Tie as tie

@@ -7,7 +7,8 @@ use Rattle.bucket_model.specs.Layout.{word}
 use Rattle.bucket_model.specs.Calls.{isShaped, isWhole, lowestOf}
 use Rattle.bucket_tests.specs.Stores.{Stands, Freeing}
 use Rattle.bucket_model.proofs.Returns.{pop-bad, pop-limit, pop-unfit, pop-out}
-use Rattle.bucket.proofs.Steps.{stands, whole-of, some-of, freeing}
+use Rattle.bucket_steps.proofs.Steps.{freeing}
+use Rattle.bucket.proofs.Steps.{stands, whole-of, some-of}
 use borrow.Author.Needs.{needs}
 use Rattle.bucket.proofs.pop_laid.Statement.{statement}
 use Rattle.bucket.proofs.pop_laid.Tie as tie

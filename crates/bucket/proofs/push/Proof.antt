@@ -7,27 +7,30 @@ use native.Mathlib.Omega.{arith}
 use lib.ListN.{length}
 use Rattle.strip.specs.declared.Element.{Element}
 use Rattle.bucket_model.specs.declared.Lay.{Lay}
-use Rattle.bucket_model.specs.Layout.{leastStoreys, mostStoreys}
+use Rattle.bucket_model.specs.Layout.{queue, leastStoreys, mostStoreys}
 use Rattle.bucket_model.specs.Calls.{Outcome, outcome, pushed}
 use Rattle.bucket_model.proofs.Returns.{push-bad}
 use Rattle.bucket.proofs.Steps.{queue-placed}
-use Rattle.bucket.proofs.Depths.{Gone, none-gone, gone-here, gone-on, all-gone}
+use Rattle.bucket_steps.proofs.Depths.{undeep, at-lay, Gone, none-gone, gone-here, gone-on, all-gone}
 use Rattle.bucket.proofs.push.Statement.{statement}
 use Rattle.bucket.proofs.push.Tie as tie
 
--- what is done at the depth asked for
-abbrev call : Element → Lay → List ℕ → List ℕ → Outcome
-call e k b w = pushed k b w e
+-- what is done with a layout, and at the depth asked for
+abbrev laid : Element → Lay → List ℕ → List ℕ → Outcome
+laid e k b w = pushed k b w e
+
+abbrev call : Element → ℕ → ℕ → List ℕ → List ℕ → Outcome
+call e n d b w = pushed (queue d n) b w e
 
 abbrev Inv-loop : tie.InvT-loop
 Inv-loop bits₀ words₀ storeys n e answer₀ d₀ bits words answer d =
-    (leastStoreys ≤ d) × (d ≤ mostStoreys + 1) × (length bits ≡ length bits₀) × (length words ≡ length words₀) × Gone (call e) storeys n bits₀ words₀ d (outcome answer bits words)
+    (leastStoreys ≤ d) × (d ≤ mostStoreys + 1) × (length bits ≡ length bits₀) × (length words ≡ length words₀) × Gone (call e n) storeys bits₀ words₀ d (outcome answer bits words)
 
 abbrev μ-loop : tie.MeasureT-loop
 μ-loop bits₀ words₀ storeys n e answer₀ d₀ bits words answer d = mostStoreys + 1 - d
 
 loop-holds : tie.Need-loop-holds Inv-loop μ-loop
-loop-holds c = (omega arith, omega arith, refl, refl, none-gone (call (c .before .before .args .e)) (c .before .before .args .storeys) (c .before .before .args .n) _ _)
+loop-holds c = (omega arith, omega arith, refl, refl, none-gone (call (c .before .before .args .e) (c .before .before .args .n)) (c .before .before .args .storeys) _ _)
 
 queue-of-requires : tie.Need-queue-of-requires Inv-loop μ-loop
 queue-of-requires c κs = (c .before .before .before .before .loop .inv .0, omega arith)
@@ -47,8 +50,8 @@ loop-again c =
     let inv = at .loop .inv in
     let a = at .before .before .before .args in
     ⊎-elim
-    (λ w. (omega arith, omega arith, ap length (w .9) ∙ w .4 .kept .0 ∙ inv .2, ap length (w .10) ∙ w .4 .kept .1 .0 ∙ inv .3, gone-here (call (a .e)) (a .storeys) (a .n) _ _ _ _ _ _ _ _ _ _ _ _ _ (inv .0) (w .0 .taken) (inv .4) (w .3 .ensures) (w .4 .ensures) (w .9) (w .10) (w .11)))
-    (λ w. (omega arith, omega arith, ap length (w .1) ∙ inv .2, ap length (w .2) ∙ inv .3, gone-on (call (a .e)) (a .storeys) (a .n) _ _ _ _ _ _ _ _ _ (w .0 .left) (inv .4) (w .1) (w .2) (w .3)))
+    (λ w. (omega arith, omega arith, ap length (w .9) ∙ w .4 .kept .0 ∙ inv .2, ap length (w .10) ∙ w .4 .kept .1 .0 ∙ inv .3, gone-here (call (a .e) (a .n)) (a .storeys) _ _ _ _ _ _ _ _ _ _ _ _ (inv .0) (w .0 .taken) (inv .4) (at-lay (laid (a .e)) _ _ _ _ _ (w .3 .ensures) (w .4 .ensures)) (w .9) (w .10) (w .11)))
+    (λ w. (omega arith, omega arith, ap length (w .1) ∙ inv .2, ap length (w .2) ∙ inv .3, gone-on (call (a .e) (a .n)) (a .storeys) _ _ _ _ _ _ _ _ _ (w .0 .left) (inv .4) (w .1) (w .2) (w .3)))
     (c .if1 .came)
 
 same-length : tie.Need-same-length Inv-loop μ-loop
@@ -60,7 +63,7 @@ same-length-2 c = c .before .loop .inv .3
 returns : tie.Need-returns Inv-loop μ-loop
 returns c =
     let a = c .before .before .before .before .args in
-    all-gone (call (a .e)) (a .storeys) (a .n) _ _ (c .before .loop .d) _ (omega arith) (push-bad _ _ _ (a .e)) (c .before .loop .inv .4)
+    all-gone (call (a .e) (a .n)) (a .storeys) _ _ (c .before .loop .d) _ (omega arith) (λ e. push-bad _ _ _ (a .e) (undeep (a .storeys) (a .n) (a .bits .now) (a .words .now) e)) (c .before .loop .inv .4)
 
 pub push-spec : {M : Type 1} → statement M
 push-spec =

@@ -54,6 +54,9 @@ enum-told-6 c = search needs
 enum-told-7 : tie.Need-enum-told-7
 enum-told-7 c = search needs
 
+enum-told-8 : tie.Need-enum-told-8
+enum-told-8 c = search needs
+
 same-length : tie.Need-same-length
 same-length c = search needs
 
@@ -94,6 +97,10 @@ returns-7 : tie.Need-returns-7
 unfolding refusalWord
 returns-7 c = laid-none _ _ _ (ap refusalWord (c .enum-told7 .given .1))
 
+returns-8 : tie.Need-returns-8
+unfolding refusalWord
+returns-8 c = laid-none _ _ _ (ap refusalWord (c .enum-told8 .given .1))
+
 pub put-refusal-spec : {M : Type 1} → statement M
 put-refusal-spec =
     tie.close
@@ -113,6 +120,7 @@ put-refusal-spec =
     enum-told-5
     enum-told-6
     enum-told-7
+    enum-told-8
     same-length
     returns
     same-length-2
@@ -123,4 +131,5 @@ put-refusal-spec =
     returns-4
     returns-5
     returns-6
-    returns-7)
+    returns-7
+    returns-8)

@@ -1,0 +1,17 @@
+-- `bucket_tests::agrees_after` meets its contract.
+use Rattle.bucket_tests.proofs.Read.{agreed-then}
+use Rattle.bucket_tests.proofs.agrees_after.Statement.{statement}
+use Rattle.bucket_tests.proofs.agrees_after.Tie as tie
+
+agreement-requires : tie.Need-agreement-requires
+agreement-requires c κs = (c .before .before .pre .0, (c .before .before .pre .1 .0, (c .before .before .pre .1 .1 .0, λ e. c .before .before .pre .1 .1 .1)))
+
+returns : tie.Need-returns
+returns c = agreed-then (c .before .before .before .before .before .args .k) (c .before .before .before .before .before .args .bits .now) (c .before .before .before .before .before .args .low) (c .before .before .before .before .before .args .rank) (c .before .before .before .before .before .args .empty) _ _ (c .before .before .before .before .before .args .held) (c .before .before .agreement .ensures)
+
+pub agrees-after-spec : {M : Type 1} → statement M
+agrees-after-spec =
+    tie.close
+    (tie.spec
+    agreement-requires
+    returns)

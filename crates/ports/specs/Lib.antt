@@ -1,0 +1,2 @@
+-- What clear's functions ask for and promise.
+pub mod Blank

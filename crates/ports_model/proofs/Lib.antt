@@ -1,0 +1,24 @@
+-- What follows from the rules.
+pub mod Facts
+pub mod Exactly
+pub mod Sums
+pub mod Room
+pub mod Isolation
+pub mod Places
+pub mod Store
+pub mod Returns
+pub mod Steps
+pub mod Clear
+pub mod Promises
+pub mod Alike
+pub mod Apart
+pub mod Rule
+pub mod Frame
+pub mod OnePort
+pub mod Kind
+pub mod Served
+pub mod Unread
+pub mod Cases
+pub mod Lies
+pub mod Bounded
+pub mod Shown

@@ -1,0 +1,142 @@
+-- 02's rule of acceptance on the words, what a replace is, and what a pop gives: on every store that calls lead to.
+use mathlib.Core.Path.{_≡_, refl, sym, ap, subst, _∙_}
+use mathlib.Core.Bool.{Bool, true, false, cond, not}
+use mathlib.Core.List.{List, [], _∷_}
+use mathlib.Core.Logic.{inl}
+use Prim.Native.Nat.{ℕ, _<_}
+use native.Mathlib.Omega.{arith}
+use borrow.Author.Tests.{lt-ltb}
+use lib.Dec.{ltb}
+use lib.ListN.{length}
+use Rattle.laws.specs.Means.{Iff, Means, means-no, means-off}
+use Rattle.laws.specs.Updates.{is-upd}
+use Rattle.promise.specs.Queue.{Step, leaves}
+use Rattle.promise.specs.Refused.{untagged-means}
+use Rattle.strip.specs.Answers.{untagged}
+use Rattle.strip.specs.declared.Element.{Element}
+use Rattle.strip.specs.declared.Answer.{Answer}
+use Rattle.strip.specs.declared.Answer.the-variants.{Done, Out, Refused}
+use Rattle.strip.specs.declared.Refusal.{Refusal}
+use Rattle.strip.specs.declared.Refusal.the-variants.{Full, BadRank, NoTag}
+use Rattle.strip.specs.declared.Request.{Request}
+use Rattle.strip.specs.declared.Request.the-variants.{Push, Pop, Replace}
+use Rattle.bucket_model.specs.Layout.{word}
+use Rattle.bucket_model.specs.Plain.{ask, Said, answered, Store, roomy, plainPop, plainReplace, plainWith, Sorted}
+use Rattle.bucket_model.specs.Plain as plain
+use Rattle.bucket_model.proofs.Served.{answerOf}
+use Rattle.ports_model.specs.Layout.{Shape, ranksOf, floorAt, ceilingAt, floorOf, ceilingOf}
+use Rattle.ports_model.specs.Checks.{usedIn, hasRoom}
+use Rattle.ports_model.specs.Causes.{Shaped, Fair, Room}
+use Rattle.ports_model.specs.Lists.{Ask, at, Lists, none, accepts, served}
+use Rattle.ports_model.specs.Runs.{asked, called, start, manyAt, storedAt}
+use Rattle.ports_model.specs.Promise.{FirstOut, Swaps}
+use Rattle.ports_model.proofs.Clear.{deep}
+use Rattle.ports_model.proofs.Facts.{room-means}
+use Rattle.ports_model.proofs.Promises.{now-holds, in-order, keeps}
+use Rattle.ports_model.proofs.Room.{served-in, accepts-means, spare-node}
+use Rattle.ports_model.proofs.Steps.{calls, swaps-held, pop-first}
+use Rattle.ports_model.proofs.Store.{Holds, room-is, used-is, stored-at}
+
+done-full : Done ≡ Refused Full → ⊥
+done-full e = let n : _≡_ {A = ℕ} 0 1 = cc in omega arith
+
+-- an answer that a test decides
+module _ (t : Bool) (P : Type 0) (m : Means t P) (a : Answer) (e : a ≡ cond t Done (Refused Full)) where
+  by-test : (Iff (a ≡ Done) P) × (Iff (a ≡ Refused Full) (P → ⊥))
+  by-test = go t refl
+    where
+      go : (u : Bool) → t ≡ u → (Iff (a ≡ Done) P) × (Iff (a ≡ Refused Full) (P → ⊥))
+      go true i =
+          let d : a ≡ Done = e ∙ ap (λ (u : Bool). cond u Done (Refused Full)) i in
+          (record { to = λ x. m .says i; from = λ x. d }, record { to = λ f. absurd (done-full (sym d ∙ f)); from = λ n. absurd (n (m .says i)) })
+      go false i =
+          let d : a ≡ Refused Full = e ∙ ap (λ (u : Bool). cond u Done (Refused Full)) i in
+          (record { to = λ x. absurd (done-full (sym x ∙ d)); from = λ x. absurd (means-no m i x) }, record { to = λ f. means-no m i; from = λ n. d })
+
+-- what a replace of a plain list gives is what a pop gives
+plain-gives : (ranks : ℕ) (room : Bool) (e x : Element) (l : List Element) → plainWith ranks room (ask (Replace e)) l .said ≡ answered (Out x) → plainWith ranks room (ask Pop) l .said ≡ answered (Out x)
+unfolding plainWith
+plain-gives ranks room e x l a = go (ltb (e .rank .0) ranks) (not (untagged e)) l a
+  where
+    refused : (r : Refusal) → answered (Refused r) ≡ answered (Out x) → ⊥
+    refused r i = let n : _≡_ {A = ℕ} 0 1 = cc in omega arith
+
+    go : (t u : Bool) (l : List Element) → cond t (cond u (plainReplace e l) (plain.step (answered (Refused NoTag)) l)) (plain.step (answered (Refused BadRank)) l) .said ≡ answered (Out x) → plainPop l .said ≡ answered (Out x)
+    go true true [] i = i
+    go true true (y ∷ l) i = i
+    go true false l i = absurd (refused NoTag i)
+    go false u l i = absurd (refused BadRank i)
+
+-- ---- from clear with fair limits on slices long enough, whatever was in them, for any list of calls at any ports
+
+module _ (s : Shape) (lim b w : List ℕ) (shaped : Shaped s b w) (fair : Fair s lim) (as′ : List Ask) (p : ℕ) (p< : p < s .ports) where
+  abbrev now : Store
+  now = leaves (called s) as′ (start s lim b w)
+
+  abbrev lists : Lists
+  lists = leaves (served s lim) as′ none
+
+  H : Holds s (deep s lim b w shaped fair) (shaped .some) lim (leaves (called s) as′ (start s lim b w) .bits) (leaves (called s) as′ (start s lim b w) .words) (leaves (served s lim) as′ none)
+  H = now-holds s lim b w shaped fair as′
+
+  module _ (e : Element) (r< : e .rank .0 < ranksOf s) (t : e .tag .0 ≡ 0 → ⊥) where
+    tag : untagged e ≡ false
+    tag = means-off (untagged-means e) t
+
+    push-answers : asked s p (Push e) (leaves (called s) as′ (start s lim b w)) .answer ≡ cond (hasRoom s p (leaves (called s) as′ (start s lim b w) .words)) Done (Refused Full)
+    unfolding called plainWith
+    push-answers =
+        ap answerOf (calls s (deep s lim b w shaped fair) (shaped .some) lim now lists H (at p (ask (Push e))) .alike ∙ ap (λ (y : Step Said Lists). y .said) (served-in s lim (at p (ask (Push e))) lists p<))
+        ∙ rw (lt-ltb (e .rank .0) (ranksOf s) r<, tag) (roomy-said (accepts s lim lists p))
+        ∙ ap (λ (t : Bool). cond t Done (Refused Full)) (sym (room-is s (deep s lim b w shaped fair) (shaped .some) lim (now .bits) (now .words) lists H p p<))
+      where
+        roomy-said : (a : Bool) → answerOf (roomy a (lists p) (plain.step (answered Done) (plain.insert e (lists p))) .said) ≡ cond a Done (Refused Full)
+        roomy-said true = refl
+        roomy-said false = refl
+
+    -- ACCEPTED: "A push of port p that no earlier test refuses is accepted exactly if p holds less than its floor, or less than its ceiling while N minus the sum, over all ports, of the larger of held and floor is above zero. Otherwise it is "full""
+    pub accepted : (Iff (asked s p (Push e) (leaves (called s) as′ (start s lim b w)) .answer ≡ Done) (Room s p (leaves (called s) as′ (start s lim b w) .words)))
+        × (Iff (asked s p (Push e) (leaves (called s) as′ (start s lim b w)) .answer ≡ Refused Full) (Room s p (leaves (called s) as′ (start s lim b w) .words) → ⊥))
+    accepted = by-test (hasRoom s p (now .words)) (Room s p (now .words)) (room-means s p (now .words)) (asked s p (Push e) now .answer) push-answers
+
+    -- FLOOR: "No port can keep another from its floor": below its floor a port's push is done, whatever calls came before
+    pub floor : manyAt s p (leaves (called s) as′ (start s lim b w)) < floorOf lim p → asked s p (Push e) (leaves (called s) as′ (start s lim b w)) .answer ≡ Done
+    floor l = accepted .0 .from (inl (omega (arith, H .floor p p<)))
+
+    -- REPLACES: with something held at the port a replace is a pop and then a push there, word for word, in a full pool and at the ceiling too
+    pub replaces : (manyAt s p (leaves (called s) as′ (start s lim b w)) ≡ 0 → ⊥) → Swaps s p (leaves (called s) as′ (start s lim b w)) e
+    replaces z = swaps-held s (deep s lim b w shaped fair) (shaped .some) lim now lists H p p< e r< tag z
+
+  -- a node is there for every push that is accepted
+  pub node : Room s p (leaves (called s) as′ (start s lim b w) .words) → usedIn s (leaves (called s) as′ (start s lim b w) .words) < s .nodes
+  node a =
+      let r = room-is s (deep s lim b w shaped fair) (shaped .some) lim (now .bits) (now .words) lists H p p< in
+      omega (arith, spare-node s lim lists (H .sound) p p< (accepts-means s lim lists p .says (sym r ∙ room-means s p (now .words) .holds a)), used-is s (deep s lim b w shaped fair) (shaped .some) lim (now .bits) (now .words) lists H)
+
+  said-is : (q : Request) → answered (asked s p q (leaves (called s) as′ (start s lim b w)) .answer) ≡ plainWith (ranksOf s) (accepts s lim (leaves (served s lim) as′ none) p) (ask q) (leaves (served s lim) as′ none p) .said
+  unfolding called
+  said-is q = calls s (deep s lim b w shaped fair) (shaped .some) lim now lists H (at p (ask q)) .alike ∙ ap (λ (y : Step Said Lists). y .said) (served-in s lim (at p (ask q)) lists p<)
+
+  -- what a replace gives is what a pop gives
+  pub replace-gives : (e x : Element) → asked s p (Replace e) (leaves (called s) as′ (start s lim b w)) .answer ≡ Out x → asked s p Pop (leaves (called s) as′ (start s lim b w)) .answer ≡ Out x
+  replace-gives e x a =
+      ap answerOf (said-is Pop ∙ plain-gives (ranksOf s) (accepts s lim lists p) e x (lists p) (sym (said-is (Replace e)) ∙ ap answered a))
+
+  -- LEAST: what a pop gives is the first of all that the port holds, and nothing held there has a lower rank
+  pub least : (y : Element) → asked s p Pop (leaves (called s) as′ (start s lim b w)) .answer ≡ Out y → FirstOut s p (leaves (called s) as′ (start s lim b w)) y
+  unfolding asked
+  least y a =
+      let f = pop-first s (deep s lim b w shaped fair) (shaped .some) lim now lists H p p< y a in
+      let q : storedAt s p now ≡ y ∷ f .0 = keeps s lim b w shaped fair as′ p p< ∙ f .1 in
+      record {
+        first = q ∙ ap (λ (l : List Element). y ∷ l) (sym (stored-at s (deep s lim b w shaped fair) (shaped .some) lim _ _ _ (f .2) p p< ∙ is-upd lists p (f .0) .here));
+        lowest = rw q (omega arith, (subst Sorted q (in-order s lim b w shaped fair as′ p p<)) .0);
+      }
+
+  -- "fixed when clearing"
+  pub fixed : (word (leaves (called s) as′ (start s lim b w) .words) (floorAt s p) ≡ floorOf lim p) × (word (leaves (called s) as′ (start s lim b w) .words) (ceilingAt s p) ≡ ceilingOf lim p)
+  fixed = (H .floor p p<, H .ceiling p p<)
+
+  -- held is how many the port holds
+  pub held-says : manyAt s p (leaves (called s) as′ (start s lim b w)) ≡ length (storedAt s p (leaves (called s) as′ (start s lim b w)))
+  held-says = H .held p p< ∙ ap length (sym (keeps s lim b w shaped fair as′ p p<))

@@ -1,0 +1,71 @@
+-- What is least, and that nothing without a tag is held, in 01's numbers, port by port.
+use mathlib.Core.Path.{_≡_, refl, _∙_}
+use mathlib.Core.Bool.{Bool, true, false}
+use mathlib.Core.List.{List, [], _∷_}
+use Prim.Native.Nat.{ℕ, _<_}
+use native.Mathlib.Omega.{arith}
+use lib.Dec.{eqb}
+use Rattle.promise.specs.Queue.{leaves}
+use Rattle.promise.specs.Served.{lower, Least, IsOut}
+use Rattle.strip.specs.Answers.{untagged, rankOf}
+use Rattle.strip.specs.declared.Answer.{Answer}
+use Rattle.strip.specs.declared.Answer.the-variants.{Done, Out, Refused}
+use Rattle.strip.specs.declared.Request.{Request}
+use Rattle.strip.specs.declared.Request.the-variants.{Idle, Push, Pop, Replace}
+use Rattle.bucket_model.specs.Plain.{Call, ask, held, Store, came, brought, times}
+use Rattle.bucket_model.proofs.Served.{none-brings, none-lower}
+use Rattle.bucket_model.proofs.Sorted.{times-append}
+use Rattle.ports_model.specs.Layout.{Shape}
+use Rattle.ports_model.specs.Causes.{Shaped, Fair}
+use Rattle.ports_model.specs.Lists.{Ask, heardIf, heardAt, callsIf, callsAt, answersOf}
+use Rattle.ports_model.specs.Runs.{asked, called, start, manyAt, storedAt, heardOn}
+use Rattle.ports_model.proofs.Kind.{kind, barred}
+use Rattle.ports_model.proofs.Promises.{holds}
+use Rattle.ports_model.proofs.Rule.{least, replace-gives}
+
+-- ---- an element without a tag never comes in
+
+none-came : (s : Shape) (a : Ask) (x : Store) → times untagged (came (a .call) (called s a x .said)) ≡ 0
+unfolding called times
+none-came s a x = go (a .call) refl
+  where
+    go : (c : Call) → a .call ≡ c → times untagged (came (a .call) (called s a x .said)) ≡ 0
+    go (ask q) e = rw e (none-brings q (asked s (a .port) q x .answer) (barred s (a .port) q x))
+    go held e = rw e refl
+
+never-came : (s : Shape) (p : ℕ) (as′ : List Ask) (x : Store) → times untagged (brought (callsAt p as′) (answersOf (heardOn s p as′ x))) ≡ 0
+unfolding heardAt callsAt brought times
+never-came s p [] x = refl
+never-came s p (a ∷ as′) x = go (eqb (a .port) p) (never-came s p as′ (called s a x .next))
+  where
+    go : (t : Bool) → times untagged (brought (callsAt p as′) (answersOf (heardOn s p as′ (called s a x .next)))) ≡ 0
+        → times untagged (brought (callsIf t (a .call) (callsAt p as′)) (answersOf (heardIf t (record { call = a .call; before = manyAt s p x; said = called s a x .said }) (heardOn s p as′ (called s a x .next))))) ≡ 0
+    go true ih =
+        times-append untagged (came (a .call) (called s a x .said)) (brought (callsAt p as′) (answersOf (heardOn s p as′ (called s a x .next))))
+        ∙ omega (arith, none-came s a x, ih)
+    go false ih = ih
+
+module _ (s : Shape) (lim b w : List ℕ) (shaped : Shaped s b w) (fair : Fair s lim) (as′ : List Ask) (p : ℕ) (p< : p < s .ports) where
+  abbrev now : Store
+  now = leaves (called s) as′ (start s lim b w)
+
+  -- TAGGED: no element of tag 0 is held at a port
+  pub tagged : times untagged (storedAt s p (leaves (called s) as′ (start s lim b w))) ≡ 0
+  tagged = omega (arith, holds s lim b w shaped fair as′ p p< untagged, never-came s p as′ (start s lim b w))
+
+  -- LEAST, of a pop and of a replace, by number and rank
+  pub port-least : (q : Request) → Least (λ f. times f (storedAt s p (leaves (called s) as′ (start s lim b w)))) q (asked s p q (leaves (called s) as′ (start s lim b w)) .answer)
+  port-least Idle = tt
+  port-least (Push e) = tt
+  port-least Pop = λ n. go (asked s p Pop now .answer) refl (kind s p Pop now n)
+    where
+      go : (a : Answer) → asked s p Pop now .answer ≡ a → IsOut a → times (lower (rankOf a)) (storedAt s p now) ≡ 0
+      go Done q o = absurd o
+      go (Refused r) q o = absurd o
+      go (Out x) q o = none-lower (x .rank .0) (storedAt s p now) (least s lim b w shaped fair as′ p p< x q .lowest)
+  port-least (Replace e) = λ n. go (asked s p (Replace e) now .answer) refl (kind s p (Replace e) now n)
+    where
+      go : (a : Answer) → asked s p (Replace e) now .answer ≡ a → IsOut a → times (lower (rankOf a)) (storedAt s p now) ≡ 0
+      go Done q o = absurd o
+      go (Refused r) q o = absurd o
+      go (Out x) q o = none-lower (x .rank .0) (storedAt s p now) (least s lim b w shaped fair as′ p p< x (replace-gives s lim b w shaped fair as′ p p< e x q) .lowest)

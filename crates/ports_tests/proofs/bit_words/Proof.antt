@@ -1,0 +1,27 @@
+-- `ports_tests::bit_words` meets its contract.
+use native.Mathlib.Omega.{arith}
+use Rattle.ports_tests.proofs.Sums.{seat-small, tall-is}
+use borrow.Author.Needs.{needs}
+use Rattle.ports_tests.proofs.bit_words.Statement.{statement}
+use Rattle.ports_tests.proofs.bit_words.Tie as tie
+
+seat-of-requires : tie.Need-seat-of-requires
+seat-of-requires c κs = (c .pre, c .pre .some)
+
+mul-result : tie.Need-mul-result
+mul-result c = omega (arith, seat-small (c .before .before .before .args .s) (c .before .before .seat-of .result) (c .before .before .before .pre) (c .before .before .seat-of .ensures))
+
+returns : tie.Need-returns
+returns c = (tall-is (c .before .before .before .args .s) (c .before .before .seat-of .result) (c .before .before .seat-of .ensures), seat-small (c .before .before .before .args .s) (c .before .before .seat-of .result) (c .before .before .before .pre) (c .before .before .seat-of .ensures) .0)
+
+cast-ports : tie.Need-cast-ports
+cast-ports c = search needs
+
+pub bit-words-spec : {M : Type 1} → statement M
+bit-words-spec =
+    tie.close
+    (tie.spec
+    seat-of-requires
+    cast-ports
+    mul-result
+    returns)

@@ -1,0 +1,20 @@
+-- `ports_tests::is_known` meets its contract.
+use mathlib.Core.Path.{ap}
+use mathlib.Core.Bool.{Bool, _&&_}
+use lib.Dec.{ltb}
+use borrow.Author.Needs.{needs}
+use Rattle.ports_tests.proofs.is_known.Statement.{statement}
+use Rattle.ports_tests.proofs.is_known.Tie as tie
+
+returns : tie.Need-returns
+returns c = ap (λ (t : Bool). t && ltb (c .before .before .before .before .args .port) (c .before .before .before .before .args .s .ports)) (c .before .is-shaped .ensures)
+
+is-shaped-requires : tie.Need-is-shaped-requires
+is-shaped-requires c κs = search needs
+
+pub is-known-spec : {M : Type 1} → statement M
+is-known-spec =
+    tie.close
+    (tie.spec
+    is-shaped-requires
+    returns)

@@ -1,0 +1,40 @@
+-- `ports_tests::is_shaped` meets its contract.
+use mathlib.Core.Path.{_≡_, sym, _∙_}
+use mathlib.Core.Bool.{true}
+use borrow.Author.Tests.{not-true, not-false}
+use Rattle.ports_tests.specs.Sums.{Numbers, numbersOk}
+use Rattle.ports_tests.proofs.Sums.{numbers-mean, shape-no, shape-yes}
+use borrow.Author.Needs.{needs}
+use Rattle.ports_tests.proofs.is_shaped.Statement.{statement}
+use Rattle.ports_tests.proofs.is_shaped.Tie as tie
+
+ok : (c : tie.Else1) → numbersOk (c .before .before .before .before .args .s) ≡ true
+ok c = sym (c .before .is-numbered .ensures) ∙ not-false (c .before .is-numbered .result) (c .if1 .left)
+
+numbers : (c : tie.Else1) → Numbers (c .before .before .before .before .args .s)
+numbers c = numbers-mean (c .before .before .before .before .args .s) .says (ok c)
+
+returns : tie.Need-returns
+returns c = shape-no (c .before .before .before .before .args .s) _ _ (sym (c .before .is-numbered .ensures) ∙ not-true (c .before .is-numbered .result) (c .if1 .taken))
+
+bit-words-requires : tie.Need-bit-words-requires
+bit-words-requires c κs = numbers c
+
+store-words-requires : tie.Need-store-words-requires
+store-words-requires c κs = numbers (c .before)
+
+returns-2 : tie.Need-returns-2
+returns-2 c = shape-yes (c .before .before .before .before .before .before .args .s) _ _ _ _ (ok (c .before .before)) (c .before .bit-words .ensures .0) (c .store-words .ensures .0)
+
+is-numbered-requires : tie.Need-is-numbered-requires
+is-numbered-requires c κs = search needs
+
+pub is-shaped-spec : {M : Type 1} → statement M
+is-shaped-spec =
+    tie.close
+    (tie.spec
+    is-numbered-requires
+    returns
+    bit-words-requires
+    store-words-requires
+    returns-2)

@@ -1,0 +1,23 @@
+-- `ports_tests::limit_or_damage` meets its contract.
+use mathlib.Core.Path.{sym, _∙_}
+use Rattle.bucket_tests.proofs.Read.{pick-yes, pick-no}
+use borrow.Author.Needs.{needs}
+use Rattle.ports_tests.proofs.limit_or_damage.Statement.{statement}
+use Rattle.ports_tests.proofs.limit_or_damage.Tie as tie
+
+returns : tie.Need-returns
+returns c = pick-yes _ _ _ (sym (c .before .is-whole .ensures) ∙ c .if1 .taken)
+
+returns-2 : tie.Need-returns-2
+returns-2 c = pick-no _ _ _ (sym (c .before .is-whole .ensures) ∙ c .if1 .left)
+
+is-whole-requires : tie.Need-is-whole-requires
+is-whole-requires c κs = search needs
+
+pub limit-or-damage-spec : {M : Type 1} → statement M
+limit-or-damage-spec =
+    tie.close
+    (tie.spec
+    is-whole-requires
+    returns
+    returns-2)

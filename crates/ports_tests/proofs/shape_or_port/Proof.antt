@@ -1,0 +1,23 @@
+-- `ports_tests::shape_or_port` meets its contract.
+use mathlib.Core.Path.{sym, _∙_}
+use Rattle.bucket_tests.proofs.Read.{pick-yes, pick-no}
+use borrow.Author.Needs.{needs}
+use Rattle.ports_tests.proofs.shape_or_port.Statement.{statement}
+use Rattle.ports_tests.proofs.shape_or_port.Tie as tie
+
+returns : tie.Need-returns
+returns c = pick-yes _ _ _ (sym (c .before .is-shaped .ensures) ∙ c .if1 .taken)
+
+returns-2 : tie.Need-returns-2
+returns-2 c = pick-no _ _ _ (sym (c .before .is-shaped .ensures) ∙ c .if1 .left)
+
+is-shaped-requires : tie.Need-is-shaped-requires
+is-shaped-requires c κs = search needs
+
+pub shape-or-port-spec : {M : Type 1} → statement M
+shape-or-port-spec =
+    tie.close
+    (tie.spec
+    is-shaped-requires
+    returns
+    returns-2)

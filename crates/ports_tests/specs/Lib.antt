@@ -1,0 +1,2 @@
+-- What the functions ask for and what they promise.
+pub mod Sums
