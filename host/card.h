@@ -5,7 +5,7 @@
  *
  *   1 bad shape     order, places, levels, storeys, nodes, ports, limits or a slice's length outside the rules
  *   2 damaged       a store or a pending record does not hold together
- *   3 too soon      a clocked pop or replace just after an answered operation
+ *   3 too soon      a clocked tree's pop or replace just after an answered operation
  *   4 bad rank      a bucket rank above its last: 4095, or 262143 with three storeys
  *   5 full          a push on a full queue
  *   6 empty         a pop or replace on an empty queue
@@ -89,16 +89,17 @@ uint32_t card_ports_bits(uint32_t storeys, uint32_t ports);
 uint32_t card_ports_words(uint32_t storeys, uint32_t nodes, uint32_t ports);
 
 /*
- * The same as constants, for arrays. They test nothing: order, levels, storeys, nodes and ports must be good.
+ * The same as constants, for arrays. They test nothing: order, places, levels, storeys, nodes and ports must be good.
  */
 #define CARD_TREE_WORDS(order, levels) (4u * ((((order) << (CARD_SHIFT(order) * (levels))) - (order)) / ((order)-1u)))
+#define CARD_CLUSTER_WORDS(places, levels) (((1u << (levels)) - 1u) * (4u * (places) + 2u))
 #define CARD_BUCKET_BITS(storeys) ((storeys) == 3u ? 4161u : 65u)
 #define CARD_BUCKET_WORDS(storeys, nodes) ((2u << (6u * (storeys))) + 3u * (nodes) + 2u)
 #define CARD_PORTS_BITS(storeys, ports) ((ports) * CARD_BUCKET_BITS(storeys))
 #define CARD_PORTS_WORDS(storeys, nodes, ports) ((ports) * (2u << (6u * (storeys))) + 3u * (nodes) + 1u + 3u * (ports))
 /* A floor and a ceiling for each port. */
 #define CARD_LIMIT_WORDS(ports) (2u * (ports))
-/* The records of a clocked tree, one for each level from 2: none where there is one level. */
+/* The records of a clocked tree or cluster heap, one for each level from 2: none where there is one level. */
 #define CARD_RECORDS(levels) ((levels)-1u)
 #define CARD_MARK_WORDS 1u
 #define CARD_FAIR_WORDS 65u
@@ -337,6 +338,59 @@ uint32_t card_clocked_drain(uint32_t *store, size_t store_len, uint32_t order, u
 /* Gives the number of held elements in out[0]. Reads the root alone, no record. */
 uint32_t card_clocked_held(const uint32_t *store, size_t store_len, uint32_t order, uint32_t levels,
                            uint32_t *out, size_t out_len);
+
+/*
+ * The cluster heap, worked by clock cycles: nothing is ever too soon, and there is no mark. Beside the
+ * store there is a pending record for each level from 2, which stands between that level and the one
+ * above it, and lives for one cycle. Records are handed on, each time, as the call before left them.
+ *
+ * Records lie in the caller's own memory. Those past levels less one are neither read nor written. A
+ * cycle that runs writes all others, with 0 for the numbers that a kind does not use. After 1 and 2 no
+ * record is written, but a drain refused 2 leaves those of the cycles already run.
+ */
+struct card_cluster_record {
+    uint32_t kind;  /* 0 nothing, 1 put, 2 fill, 3 swap */
+    uint32_t node;  /* of a put the node of this level, of a fill or swap that of the level above */
+    uint32_t place; /* of a fill or swap */
+    uint32_t rank;  /* of a put or swap */
+    uint32_t tag;
+    uint32_t length;
+};
+
+/* The library's layout: six words, in this order. Where a compiler has another, this is an error. */
+typedef char card_cluster_record_layout[sizeof(struct card_cluster_record) == 6 * sizeof(uint32_t) &&
+                                                offsetof(struct card_cluster_record, kind) == 0 * sizeof(uint32_t) &&
+                                                offsetof(struct card_cluster_record, node) == 1 * sizeof(uint32_t) &&
+                                                offsetof(struct card_cluster_record, place) == 2 * sizeof(uint32_t) &&
+                                                offsetof(struct card_cluster_record, rank) == 3 * sizeof(uint32_t) &&
+                                                offsetof(struct card_cluster_record, tag) == 4 * sizeof(uint32_t) &&
+                                                offsetof(struct card_cluster_record, length) == 5 * sizeof(uint32_t)
+                                            ? 1
+                                            : -1];
+
+/* Empties the heap: store and records zero. Reads no record. */
+uint32_t card_clocked_cluster_clear(uint32_t *store, size_t store_len, uint32_t places,
+                                    uint32_t levels, struct card_cluster_record *records,
+                                    size_t records_len);
+
+/* Runs one cycle with a request: 0 idle, 1 push, 2 pop, 3 replace. The operation is answered in its own
+   cycle, whatever the cycle before did. Refused 5, 6 or 7 it runs as an idle cycle. */
+uint32_t card_clocked_cluster_cycle(uint32_t *store, size_t store_len, uint32_t places,
+                                    uint32_t levels, struct card_cluster_record *records,
+                                    size_t records_len, uint32_t request, uint32_t rank,
+                                    uint32_t tag, uint32_t length, uint32_t *out, size_t out_len);
+
+/* Runs idle cycles until nothing is pending or the budget is spent: out[0] the cycles run, out[1] 1
+   where work is left. Levels less one are always enough. */
+uint32_t card_clocked_cluster_drain(uint32_t *store, size_t store_len, uint32_t places,
+                                    uint32_t levels, struct card_cluster_record *records,
+                                    size_t records_len, uint32_t budget, uint32_t *out,
+                                    size_t out_len);
+
+/* Gives the number of held elements in out[0], in the middle of any work too. Reads the root alone, no
+   record. */
+uint32_t card_clocked_cluster_held(const uint32_t *store, size_t store_len, uint32_t places,
+                                   uint32_t levels, uint32_t *out, size_t out_len);
 
 #ifdef __cplusplus
 }

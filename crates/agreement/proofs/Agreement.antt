@@ -41,7 +41,7 @@ tree-pop : (m k : ℕ) (x : Element) (ws : List ℕ) → tree.Kept m k ws → nu
     → called m (suc k) (Replace x) ws .answer ≡ called m (suc k) Pop ws .answer
 tree-pop m k x ws kept e = tree-replace.kept-replaces m k x (λ u. tree-exactly.barred m (suc k) (Replace x) ws u e) ws kept .answer
 
-heap-pop : (K k : ℕ) (x : Element) (ws : List ℕ) → heap.Kept K k ws → numberOf (heap-calls.called K (suc k) (Replace x) ws .answer) ≡ 0
+pub heap-pop : (K k : ℕ) (x : Element) (ws : List ℕ) → heap.Kept K k ws → numberOf (heap-calls.called K (suc k) (Replace x) ws .answer) ≡ 0
     → heap-calls.called K (suc k) (Replace x) ws .answer ≡ heap-calls.called K (suc k) Pop ws .answer
 heap-pop K k x ws kept e = heap-replace.kept-replaces K k x (λ u. heap-exactly.barred K (suc k) (Replace x) ws u e) ws kept .answer
 

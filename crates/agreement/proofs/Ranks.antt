@@ -7,13 +7,14 @@ use mathlib.Core.Bool.{Bool, cond, false, true}
 use mathlib.Core.List.{[], _∷_, List, map}
 use mathlib.Core.Path.{_∙_, _≡_, ap, ap₂, refl, subst, sym}
 use lib.Dec.{ltb}
+use lib.ListN.{length}
 use borrow.Author.Tests.{le-ltb, lt-ltb, ltb-false, ltb-true}
-use Rattle.agreement.specs.Plain.{insert, plain, Taken}
+use Rattle.agreement.specs.Plain.{insert, numbered, numberFor, plain, plainly, Taken}
 use Rattle.promise.specs.Queue.{answers, Step}
-use Rattle.promise.specs.Served.{brought, given, hit, Kind, Least, lower, unrefused}
+use Rattle.promise.specs.Served.{always, brought, given, hit, Kind, Least, lower, unrefused}
 use Rattle.strip.specs.Answers.{blank, elementOf, numberOf, rankOf}
 use Rattle.strip.specs.declared.Answer.{Answer}
-use Rattle.strip.specs.declared.Answer.the-variants.{Done}
+use Rattle.strip.specs.declared.Answer.the-variants.{Done, Out, Refused}
 use Rattle.strip.specs.declared.Element.{Element}
 use Rattle.strip.specs.declared.Request.{Request}
 use Rattle.strip.specs.declared.Request.the-variants.{Idle, Pop, Push, Replace}
@@ -62,6 +63,28 @@ insert-sorted r (p ∷ l) s = go (ltb r p) refl (insert-sorted r l (s .1))
     go : (b : Bool) → ltb r p ≡ b → Sorted (insert r l) → Sorted (cond b (r ∷ p ∷ l) (p ∷ insert r l))
     go true e ih = (omega (arith, hit-ge p r (omega (arith, ltb-true r p e)), below-mono r p l (omega (arith, ltb-true r p e)), s .0), s)
     go false e ih = (omega (arith, insert-below p r l, hit-ge r p (ltb-false r p e), s .0), ih)
+
+insert-length : (r : ℕ) (l : List ℕ) → length (insert r l) ≡ suc (length l)
+unfolding insert
+insert-length r [] = refl
+insert-length r (p ∷ l) = go (ltb r p) (insert-length r l)
+  where
+    go : (b : Bool) → length (insert r l) ≡ suc (length l) → length (cond b (r ∷ p ∷ l) (p ∷ insert r l)) ≡ suc (suc (length l))
+    go true ih = refl
+    go false ih = ap suc ih
+
+-- a refused request has rank 0, brings nothing in and gives nothing out
+refused-rank : (a : Answer) (n : ℕ) → numberOf a ≡ suc n → rankOf a ≡ 0
+unfolding blank
+refused-rank Done n e = refl
+refused-rank (Out x) n e = absurd (omega arith)
+refused-rank (Refused x) n e = refl
+
+refused-still : (r : Request) (a : Answer) (n : ℕ) → numberOf a ≡ suc n → (f : Element → Bool) → (given r a f ≡ 0) × (brought r a f ≡ 0)
+refused-still Idle a n e f = (refl, refl)
+refused-still (Push x) a n e f = (refl, ap (λ (i : ℕ). unrefused i (hit (f x))) e)
+refused-still Pop a n e f = (ap (λ (i : ℕ). unrefused i (hit (f (elementOf a)))) e, refl)
+refused-still (Replace x) a n e f = (ap (λ (i : ℕ). unrefused i (hit (f (elementOf a)))) e, ap (λ (i : ℕ). unrefused i (hit (f x))) e)
 
 -- ---- any queue
 module _ {S : Type 0} (queue : Request → S → Step Answer S) (Kept : S → Type 0) (keep : (r : Request) (s : S) → Kept s → Kept (queue r s .next))
@@ -158,3 +181,40 @@ module _ {S : Type 0} (queue : Request → S → Step Answer S) (Kept : S → Ty
   ranks-plain (r ∷ rs) s l kept m t =
       let f = follow s kept r l m (t .0) in
       ap₂ (λ (a : ℕ) (l : List ℕ). a ∷ l) (f .rank) (ranks-plain rs (queue r s .next) (plain r l .next) (keep r s kept) (f .same) (t .1))
+
+  -- ---- with its refusals: a queue that has room for c, and refuses as the list does
+  module _ (c : ℕ) (number : (r : Request) (s : S) → Kept s → numberOf (queue r s .said) ≡ numberFor c r (held s always)) where
+    -- the list has as many ranks as are held
+    pub record Whole (s : S) (l : List ℕ) : Type 0 where
+      same : Same s l
+      count : held s always ≡ length l
+
+    pub whole-empty : (s : S) → ((f : Element → Bool) → held s f ≡ 0) → Whole s []
+    whole-empty s h = record { same = same-empty s h; count = h always }
+
+    -- how many are held after a request that is not refused
+    count-next : (r : Request) (s : S) (l : List ℕ) → Kept s → Whole s l → numberOf (queue r s .said) ≡ 0 → held (queue r s .next) always ≡ length (plain r l .next)
+    unfolding plain
+    count-next Idle s l kept w e = omega (arith, sum Idle s kept always, w .count)
+    count-next (Push x) s l kept w e = omega (arith, sum (Push x) s kept always, ap (λ (n : ℕ). unrefused n 1) e, w .count, insert-length (x .rank .0) l)
+    count-next Pop s [] kept w e = absurd (none-empty s kept (rankOf (queue Pop s .said)) (w .same) (pop-held s kept (queue Pop s .said) e refl))
+    count-next Pop s (r ∷ l) kept w e = omega (arith, sum Pop s kept always, ap (λ (n : ℕ). unrefused n 1) e, w .count)
+    count-next (Replace x) s [] kept w e = absurd (none-empty s kept (rankOf (queue (Replace x) s .said)) (w .same) (pop-held s kept (queue (Replace x) s .said) e (sym (as-pop x s kept e))))
+    count-next (Replace x) s (r ∷ l) kept w e = omega (arith, sum (Replace x) s kept always, ap (λ (n : ℕ). unrefused n 1) e, w .count, insert-length (x .rank .0) l)
+
+    goes-by : (n : ℕ) (r : Request) (s : S) (l : List ℕ) → Kept s → Whole s l → numberOf (queue r s .said) ≡ n
+        → (_≡_ {A = ℕ × ℕ} (numberOf (queue r s .said), rankOf (queue r s .said)) (numbered n r l .said)) × Whole (queue r s .next) (numbered n r l .next)
+    goes-by zero r s l kept w e =
+        let f = follow s kept r l (w .same) e in
+        ((λ i. (e i, f .rank i)), record { same = f .same; count = count-next r s l kept w e })
+    goes-by (suc n) r s l kept w e =
+        let rank : rankOf (queue r s .said) ≡ 0 = refused-rank (queue r s .said) n e in
+        let stays : (f : Element → Bool) → held (queue r s .next) f ≡ held s f = λ f. omega (arith, sum r s kept f, refused-still r (queue r s .said) n e f .0, refused-still r (queue r s .said) n e f .1) in
+        ((λ i. (e i, rank i)), record { same = record { ranks = λ q. stays (lower q) ∙ w .same .ranks q; sorted = w .same .sorted }; count = stays always ∙ w .count })
+
+    pub ranks-plainly : (rs : List Request) (s : S) (l : List ℕ) → Kept s → Whole s l → map (λ a. (numberOf a, rankOf a)) (answers queue rs s) ≡ answers (plainly c) rs l
+    unfolding answers plainly
+    ranks-plainly [] s l kept w = refl
+    ranks-plainly (r ∷ rs) s l kept w =
+        let g = goes-by (numberFor c r (length l)) r s l kept w (number r s kept ∙ ap (numberFor c r) (w .count)) in
+        ap₂ (λ (a : ℕ × ℕ) (l : List (ℕ × ℕ)). a ∷ l) (g .0) (ranks-plainly rs (queue r s .next) (plainly c r l .next) (keep r s kept) (g .1))

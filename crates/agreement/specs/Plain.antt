@@ -1,12 +1,13 @@
--- A plain list of ranks, the lowest first: what "lower rank leaves first" comes to where nothing is refused.
-use Prim.Native.Nat.{ℕ}
+-- A plain list of ranks, the lowest first: what "lower rank leaves first" comes to where nothing is refused; and with its refusals, where it has room for so many.
+use Prim.Native.Nat.{suc, zero, ℕ}
 use mathlib.Core.Bool.{cond}
 use mathlib.Core.List.{[], _∷_, List}
 use mathlib.Core.Path.{_≡_}
-use lib.Dec.{ltb}
+use lib.Dec.{eqb, ltb}
+use lib.ListN.{length}
 use Rattle.laws.specs.Lists.{All}
 use Rattle.promise.specs.Queue.{step, Step}
-use Rattle.strip.specs.Answers.{numberOf}
+use Rattle.strip.specs.Answers.{numberOf, untagged}
 use Rattle.strip.specs.declared.Answer.{Answer}
 use Rattle.strip.specs.declared.Request.{Request}
 use Rattle.strip.specs.declared.Request.the-variants.{Idle, Pop, Push, Replace}
@@ -27,3 +28,20 @@ plain (Replace x) (r ∷ l) = step r (insert (x .rank .0) l)
 -- none of these answers is a refusal
 abbrev pub Taken : List Answer → Type 0
 Taken said = All (λ a. numberOf a ≡ 0) said
+
+-- ---- "refusals and ranks .. of the plain list in rank order" (02 [5])
+-- the number that a request is answered where h are held and there is room for c: 7, then 5 or 6
+abbrev pub numberFor : ℕ → Request → ℕ → ℕ
+numberFor c Idle h = 0
+numberFor c (Push x) h = cond (untagged x) 7 (cond (ltb h c) 0 5)
+numberFor c Pop h = cond (eqb h 0) 6 0
+numberFor c (Replace x) h = cond (untagged x) 7 (cond (eqb h 0) 6 0)
+
+-- a refused request is answered rank 0 and leaves the list
+abbrev pub numbered : ℕ → Request → List ℕ → Step (ℕ × ℕ) (List ℕ)
+numbered zero r l = step (0, plain r l .said) (plain r l .next)
+numbered (suc n) r l = step (suc n, 0) l
+
+-- number and rank, of a list with room for c
+unfoldable pub plainly : ℕ → Request → List ℕ → Step (ℕ × ℕ) (List ℕ)
+plainly c r l = numbered (numberFor c r (length l)) r l

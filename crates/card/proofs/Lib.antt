@@ -1,11 +1,13 @@
 -- What the proofs of the calls share.
 pub mod Calls
 pub mod Clocked
+pub mod ClockedCluster
 pub mod Sizes
 pub mod Zeros
 pub mod Cluster
 pub mod History
 pub mod Pinned
+pub mod Staged
 pub mod Mend
 pub mod Fair
 pub mod Ports

@@ -28,7 +28,7 @@ answer-zeros (Out e) out h = absurd (h refl)
 answer-zeros (Refused r) out h = refl
 
 -- what a call leaves in `out`, where it answers a and where it does not touch it
-told-zeros : (a : Answer) (out : List ℕ) (b : Bool) → leb answerWords (length out) ≡ b → (cond b (numberOf a) badShape ≡ 0 → ⊥) → cond b (answerOut a out) out ≡ refusedOut answerWords out
+pub told-zeros : (a : Answer) (out : List ℕ) (b : Bool) → leb answerWords (length out) ≡ b → (cond b (numberOf a) badShape ≡ 0 → ⊥) → cond b (answerOut a out) out ≡ refusedOut answerWords out
 unfolding refusedOut
 told-zeros a out true e h = answer-zeros a out h ∙ ap (λ (b : Bool). cond b (zeros answerWords out) out) (sym e)
 told-zeros a out false e h = ap (λ (b : Bool). cond b (zeros answerWords out) out) (sym e)

@@ -3,6 +3,7 @@ pub mod Tree
 pub mod Cluster
 pub mod Bucket
 pub mod Clocked
+pub mod ClockedCluster
 pub mod Sizes
 pub mod History
 pub mod Mend

@@ -1,13 +1,17 @@
 // The clocked tree's calls: the host lends its pending records as structs and the mark as one word. Each call over records is proved by a walk of its
 // code by hand, so it is thin: it reads the records, has the call made on what was read, and writes the records back.
 ghost use mathlib.Core.Path.{_≡_};
-ghost use mathlib.Core.Bool.{cond};
 ghost use Rattle.strip.specs.Answers.{numberOf};
-ghost use Rattle.card.specs.Out.{Long, countAfter, drainWords};
-ghost use Rattle.card.specs.Clocked.{clockedAfter, clockedAfterOut, requestOf, marked, asked, drainOut, noneTurned, told, toldOut, clearTold, cycleTold, drainTold, clockedClear, clockedCycle, clockedDrain, clockedHeld};
+ghost use Rattle.card.specs.Out.{countAfter};
+ghost use Rattle.card.specs.Clocked.{clockedAfter, clockedAfterOut, marked, asked, noneTurned, told, toldOut, clearTold, cycleTold, drainTold, clockedClear, clockedCycle, clockedDrain, clockedHeld};
+use crate::DRAIN_OUT;
 use crate::OUT;
+use crate::bit;
+use crate::request_of;
 use crate::tell;
 use crate::tell_count;
+use crate::tell_drain;
+use crate::wide;
 use clocked::fresh_state;
 use clocked::held;
 use clocked_model::State;
@@ -21,50 +25,10 @@ use lent_steps::cycle_read;
 use lent_steps::drain_read;
 use lent_steps::refused;
 use strip::Answer;
-use strip::Element;
-use strip::Length;
-use strip::Rank;
 use strip::Refusal;
-use strip::Request;
-use strip::Tag;
 use strip::number;
 
-// The words of a drain's report: cycles run and whether work is left.
-const DRAIN_OUT: usize = 2;
-
-// ---- numbers
-
-fn wide(n: u32) -> usize
-    ensures { λ r. ⌜ r ≡ n ⌝ }
-{
-    n as usize
-}
-
-fn bit(on: bool) -> u32
-    ensures { λ r. ⌜ r ≡ cond on 1 0 ⌝ }
-{
-    if on { 1 } else { 0 }
-}
-
-fn request_of(request: u32, rank: u32, tag: u32, length: u32) -> Request
-    ensures { λ r. ⌜ r ≡ requestOf request rank tag length ⌝ }
-{
-    let x = Element {
-        rank: Rank(rank),
-        tag: Tag(tag),
-        length: Length(length),
-    };
-    if request == 1 {
-        return Request::Push(x);
-    }
-    if request == 2 {
-        return Request::Pop;
-    }
-    if request == 3 {
-        return Request::Replace(x);
-    }
-    Request::Idle
-}
+// ---- the mark and the request
 
 fn is_marked(mark: &[u32]) -> bool
     ensures { λ r. ⌜ r ≡ marked (now (mark .entry)) ⌝ }
@@ -81,15 +45,6 @@ fn is_asked(mark: &[u32], request: u32) -> bool
 {
     let there = is_marked(mark);
     (request <= 3) & there
-}
-
-// Writes the cycles run and whether work is left.
-fn tell_drain(out: &mut [u32], cycles: u32, left: bool)
-    requires { ⌜ Long drainWords (now out) ⌝ }
-    ensures { λ _. ⌜ now (out .exit) ≡ drainOut cycles left (now (out .entry)) ⌝ }
-{
-    out[0] = cycles;
-    out[1] = bit(left);
 }
 
 // ---- the calls on what was read of the records: store, mark and `out` are written, and what is left says what to write of the records

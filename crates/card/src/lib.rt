@@ -1,9 +1,11 @@
 // The static library for C and Rust: the queues over numbers and slices. Each function returns 01's number, 0 where nothing is
 // refused, and writes what it answers to `out`, zeros on a refusal. An `out` that is too short is refusal 1, and nothing changes.
 ghost use mathlib.Core.Path.{_≡_};
+ghost use mathlib.Core.Bool.{cond};
 ghost use lib.ListN.{set};
 ghost use Rattle.strip.specs.Answers.{numberOf, countNumber, countOf};
-ghost use Rattle.card.specs.Out.{Long, answerOut, answerWords, countAfter};
+ghost use Rattle.card.specs.Out.{Long, answerOut, answerWords, countAfter, drainWords};
+ghost use Rattle.card.specs.Clocked.{drainOut, requestOf};
 ghost use Rattle.card.specs.Tree.{treeAfter, treeAfterOut, treeClear, treePush, treePop, treeReplace, treeHeld};
 ghost use Rattle.card.specs.Cluster.{clusterClear, clusterPush, clusterPop, clusterReplace, clusterHeld, clusterWords};
 ghost use Rattle.card.specs.Bucket.{bucketAfter, bucketAfterOut, bucketClear, bucketPush, bucketPop, bucketReplace, bucketHeld};
@@ -12,6 +14,7 @@ ghost use Rattle.card.specs.Sizes.{treeWords, bucketBits, bucketWords};
 mod clock;
 pub mod pool;
 pub mod repair;
+mod stages;
 pub mod weights;
 
 use bucket_nodes::queue_of;
@@ -26,6 +29,7 @@ use strip::Count;
 use strip::Element;
 use strip::Length;
 use strip::Rank;
+use strip::Request;
 use strip::Tag;
 use strip::count_number;
 use strip::count_of;
@@ -59,6 +63,52 @@ fn tell_count(out: &mut [u32], count: Count) -> u32
 {
     out[0] = count_of(count);
     count_number(count)
+}
+
+// The words of a drain's report: cycles run and whether work is left.
+const DRAIN_OUT: usize = 2;
+
+// Writes the cycles run and whether work is left.
+fn tell_drain(out: &mut [u32], cycles: u32, left: bool)
+    requires { ⌜ Long drainWords (now out) ⌝ }
+    ensures { λ _. ⌜ now (out .exit) ≡ drainOut cycles left (now (out .entry)) ⌝ }
+{
+    out[0] = cycles;
+    out[1] = bit(left);
+}
+
+// ---- the numbers handed in
+
+fn wide(n: u32) -> usize
+    ensures { λ r. ⌜ r ≡ n ⌝ }
+{
+    n as usize
+}
+
+fn bit(on: bool) -> u32
+    ensures { λ r. ⌜ r ≡ cond on 1 0 ⌝ }
+{
+    if on { 1 } else { 0 }
+}
+
+fn request_of(request: u32, rank: u32, tag: u32, length: u32) -> Request
+    ensures { λ r. ⌜ r ≡ requestOf request rank tag length ⌝ }
+{
+    let x = Element {
+        rank: Rank(rank),
+        tag: Tag(tag),
+        length: Length(length),
+    };
+    if request == 1 {
+        return Request::Push(x);
+    }
+    if request == 2 {
+        return Request::Pop;
+    }
+    if request == 3 {
+        return Request::Replace(x);
+    }
+    Request::Idle
 }
 
 // ---- the multi-way tree, one operation at a time

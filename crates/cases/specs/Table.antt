@@ -10,6 +10,7 @@ use Rattle.bucket_model.specs.Layout.{queue}
 use Rattle.bucket_model.specs.Plain.{answersFrom, bucketAnswers, Store}
 use Rattle.clocked_model.specs.Cases.{caseEmpty, caseEmptySays, caseLost, caseLostSays, caseSix, caseSixSays, caseUntagged, caseUntaggedSays}
 use Rattle.clocked_model.specs.Cases as clock
+use Rattle.cluster_clock_model.specs.Cases.{caseClock, caseClockSays, caseFlight, caseFlightAnswers, caseFlightAnswersSay, caseFlightSays, caseTie, caseTieAnswers, caseTieAnswersSay, caseTieSays}
 use Rattle.cluster_model.specs.Cases.{caseCluster, caseClusterAnswers, caseClusterAnswersSay, caseClusterSays}
 use Rattle.fair_model.specs.Cases.{caseFair, caseFairSays, caseServed, caseServedSays, caseSpent, caseSpentSays, caseWords, caseWordsSays}
 use Rattle.promise.specs.Queue.{answers}
@@ -134,6 +135,15 @@ table =
     ∷ answersAre caseFair caseFairSays
     ∷ wordsAre caseWords caseWordsSays
     ∷ answersAre caseSpent caseSpentSays
+    -- [5] the cluster heap by cycles, K = 2, levels 2: the record of level 2 as six numbers, and the words: four pushes, then a pop; a pop and a push; a replace;
+    -- and one cycle later
+    ∷ wordsAre caseClock caseClockSays
+    -- .. at levels 3 with two operations in flight, both records and the words; one answer a cycle
+    ∷ wordsAre caseFlight caseFlightSays
+    ∷ answersAre (map told caseFlightAnswers) (map told caseFlightAnswersSay)
+    -- .. equal ranks: the place that gives is chosen before the gap is filled
+    ∷ wordsAre caseTie caseTieSays
+    ∷ answersAre (map told caseTieAnswers) (map told caseTieAnswersSay)
     -- held refused: 1, an order of 3; 2, a slot with count 0 and a rank, or a length
     ∷ held 3 1 (replicate 12 0) (1, 0)
     ∷ held 2 1 (9 ∷ 0 ∷ 0 ∷ 0 ∷ 0 ∷ 0 ∷ 0 ∷ 0 ∷ []) (2, 0)

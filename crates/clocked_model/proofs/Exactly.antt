@@ -9,7 +9,7 @@ use lib.ListN.{length}
 use Rattle.clocked_model.proofs.Step.{idle-ruling}
 use Rattle.clocked_model.specs.Calls.{askedOk, asks, CycleOutcome, cycleOutcome, cycleWork, ruleMarked, ruleNow, isRefused, marks, popsOrReplaces, stepsOk, cycled, cycleRun}
 use Rattle.clocked_model.specs.Cycle.{cycleOk, Works}
-use Rattle.clocked_model.specs.Promise.{Asks, CycleDamage, cycleLeft, cycleRefusals, PopsOrReplaces, runsIdle, WorksDamaged}
+use Rattle.clocked_model.specs.Promise.{Asks, CycleDamage, cycleLeft, cycleRefusals, hasRun, PopsOrReplaces, runsIdle, WorksDamaged}
 use Rattle.clocked_model.specs.declared.State.{State}
 use Rattle.laws.specs.Fails.{Fails, fails-and, fails-or, fails-true}
 use Rattle.laws.specs.Ladder.{climb-by, climb-stop, Exactly, Ladder, left-behind, stop}
@@ -43,12 +43,18 @@ unfolding cycleOk
 works-fails m zero p ls = fails-true
 works-fails m (suc k) p ls = fails-and (workOk m k (p .0) (ls .0) (top k (ls .1))) _ (work-fails m k (p .0) (ls .0) (top k (ls .1))) (works-fails m k (p .1) (ls .1))
 
-asks-fails : (r : Request) → Fails (not (asks r)) (Asks r)
+pub asks-fails : (r : Request) → Fails (not (asks r)) (Asks r)
 unfolding asks
 asks-fails Idle = fails-true
 asks-fails (Push x) = record { found = λ e. tt; shown = λ d. refl }
 asks-fails Pop = record { found = λ e. tt; shown = λ d. refl }
 asks-fails (Replace x) = record { found = λ e. tt; shown = λ d. refl }
+
+-- a cycle that is not refused has run
+pub zero-ran : (a : Answer) → numberOf a ≡ 0 → hasRun a ≡ true
+zero-ran Done e = refl
+zero-ran (Out x) e = refl
+zero-ran (Refused n) e = absurd (zero-told n (sym e))
 
 pops-so : (r : Request) → popsOrReplaces r ≡ true → PopsOrReplaces r
 unfolding popsOrReplaces

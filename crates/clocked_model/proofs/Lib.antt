@@ -4,6 +4,7 @@ pub mod Turn
 pub mod Step
 pub mod Demand
 pub mod Exactly
+pub mod Draining
 pub mod Drain
 pub mod Promises
 pub mod Cases

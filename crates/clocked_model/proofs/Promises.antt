@@ -9,7 +9,8 @@ use mathlib.Core.Logic.{_⊎_, inl, inr, ⊎-elim}
 use mathlib.Core.Path.{_∙_, _≡_, ap, refl, subst, sym}
 use lib.ListN.{length}
 use Rattle.clocked_model.proofs.Demand.{demand-answers, demand-idles, demand-store, fresh-mark, fresh-quiet, idles-in-step, ran-in-step}
-use Rattle.clocked_model.proofs.Drain.{done, drain-ends, drain-left, drain-needed, drain-spent, drain-state, End, jammed, not-less}
+use Rattle.clocked_model.proofs.Drain.{done, drain-ends, drain-left, drain-needed, drain-spent, drain-state, End, jammed}
+use Rattle.clocked_model.proofs.Draining.{less-not}
 use Rattle.clocked_model.proofs.Exactly.{barred, refused-mark, sound-no-damage}
 use Rattle.clocked_model.proofs.Step.{one-by-one-is, one-by-one-kept, root-fine, same-root, step-answer, steps-fine}
 use Rattle.clocked_model.specs.Calls.{askedOk, clockedCleared, cycleOutcome, DrainOutcome, drains, fresh, ruleMarked, marks, pending, popsOrReplaces, recordCount, clearedMachine, cycled}
@@ -240,7 +241,7 @@ module _ (m : ℕ) (ws : List ℕ) (rs : List Request) (levels : ℕ) (sh : Shap
       go (jammed a l j) = absurd (idle-undamaged (d .cycles) (j .damage))
 
   pub drained-few : d .cycles ≤ pred levels
-  drained-few = not-less (λ h. true≢false (sym (drain-needed m levels budget s vs (pred levels) h) ∙ demand-idles m ws rs levels sh))
+  drained-few = less-not (λ h. true≢false (sym (drain-needed m levels budget s vs (pred levels) h) ∙ demand-idles m ws rs levels sh))
 
   pub drained-left : d .left ≡ false
   drained-left = go (d .left) refl

@@ -133,6 +133,12 @@ runsIdle Empty = true
 runsIdle NoTag = true
 runsIdle BadPort = true
 
+-- .. so that a cycle with this answer has run
+abbrev pub hasRun : Answer → Bool
+hasRun Done = true
+hasRun (Out e) = true
+hasRun (Refused n) = runsIdle n
+
 abbrev pub cycleLeft : ℕ → ℕ → State → List ℕ → Refusal → CycleOutcome
 cycleLeft m levels s ws n =
     let x = cond {A = Machine} (runsIdle n) (idles m levels 1 s ws) (machine s ws) in

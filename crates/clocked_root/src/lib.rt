@@ -28,7 +28,7 @@ pub struct RootStep {
     pub plan: Plan,
 }
 
-fn asks_something(request: Request) -> bool
+pub fn asks_something(request: Request) -> bool
     ensures { λ r. ⌜ r ≡ asks request ⌝ }
 {
     match request {

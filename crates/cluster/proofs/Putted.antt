@@ -40,14 +40,14 @@ or-not : (a b : Bool) → (not a || not b) ≡ not (a && b)
 or-not true b = refl
 or-not false b = refl
 
-free-less : (ps : List Place) → free ps < length ps → inside always ps < length ps
+pub free-less : (ps : List Place) → free ps < length ps → inside always ps < length ps
 unfolding free seek freeHere inside
 free-less [] h = absurd (not-suc-le-zero h)
 free-less (gap ∷ ps) h = omega (arith, inside-length ps)
 free-less (has e ∷ ps) h = omega (arith, free-less ps (le-of-suc-le-suc h))
 
 -- one place of a neat node written, and the count of one side one more
-raised-place : (K : ℕ) (ws : List ℕ) (m j : ℕ) (p : Place) (right : Bool) → j < K → Neat K ws (m * width K)
+pub raised-place : (K : ℕ) (ws : List ℕ) (m j : ℕ) (p : Place) (right : Bool) → j < K → Neat K ws (m * width K)
     → writeNode ws (m * width K) (raise (sideIf right) (store j p (nodeIn K ws m))) ≡ writePlace (raiseWords right ws (m * width K) (word ws (m * width K)) (word ws (m * width K + 1))) (placeIn K m j) p
 unfolding nodeOf raiseWords
 raised-place K ws m j p true h n =
@@ -65,13 +65,13 @@ raised-place K ws m j p false h n =
     stands o = set-word (set ws o (suc (word ws o))) (o + 1) (word ws (o + 1)) (sym (getD-set-other ws o (o + 1) (suc (word ws o)) 0 (λ e. omega arith)))
 
 -- ---- the highest that the scan finds
-high-place : (K : ℕ) (ws : List ℕ) (m : ℕ) → 0 < inside always (nodeIn K ws m .places) → lookNode K ws m .high ≡ high (nodeIn K ws m .places)
+pub high-place : (K : ℕ) (ws : List ℕ) (m : ℕ) → 0 < inside always (nodeIn K ws m .places) → lookNode K ws m .high ≡ high (nodeIn K ws m .places)
 unfolding lookNode nodeOf
 high-place K ws m h =
     let ps : List Place = nodeIn K ws m .places in
     look-high ws (m * width K + 2) K K (omega arith) ∙ ap (scan highAs ps) (sym (node-count K ws (m * width K))) ∙ scan-is-high ps (high ps) (highElem ps) (high-is ps h .here)
 
-high-elem : (K : ℕ) (ws : List ℕ) (m : ℕ) → 0 < inside always (nodeIn K ws m .places)
+pub high-elem : (K : ℕ) (ws : List ℕ) (m : ℕ) → 0 < inside always (nodeIn K ws m .places)
     → (high (nodeIn K ws m .places) < K) × (elemAt ws (placeIn K m (high (nodeIn K ws m .places))) ≡ highElem (nodeIn K ws m .places))
 unfolding nodeOf
 high-elem K ws m h =
@@ -184,7 +184,7 @@ way-bad : (K k : ℕ) (y : Element) (d : ℕ) (ws : List ℕ) → nodeOk K (room
 unfolding wayOk ownOk
 way-bad K k y d ws e = rw e refl
 
-fewer-side : (K : ℕ) (ws : List ℕ) (m : ℕ) → sideIf (fewerRight ws (m * width K)) ≡ fewer (nodeIn K ws m)
+pub fewer-side : (K : ℕ) (ws : List ℕ) (m : ℕ) → sideIf (fewerRight ws (m * width K)) ≡ fewer (nodeIn K ws m)
 unfolding fewerRight fewer nodeOf
 fewer-side K ws m = refl
 

@@ -20,10 +20,10 @@ use Rattle.cluster_model.specs.Words.{neatPlace, width, word}
 use Rattle.cluster_model.proofs.Pass.{node-count}
 
 -- the same damage in other words
-fails-by : {t : Bool} {A B : Type 0} → Fails t A → (A → B) → (B → A) → Fails t B
+pub fails-by : {t : Bool} {A B : Type 0} → Fails t A → (A → B) → (B → A) → Fails t B
 fails-by p f g = record { found = λ e. f (p .found e); shown = λ b. p .shown (g b) }
 
-fails-ltb : (a b : ℕ) → Fails (ltb a b) (b ≤ a)
+pub fails-ltb : (a b : ℕ) → Fails (ltb a b) (b ≤ a)
 fails-ltb a b = record { found = λ e. ltb-false a b e; shown = λ h. le-ltb a b h }
 
 -- ---- a place
@@ -66,13 +66,13 @@ place-fails ws o =
         let n1 : m ≡ 1 → ⊥ = eqb-false m 1 pu in
         record { found = λ e. inl (omega arith); shown = λ d. refl }
 
-to-fails : (K : ℕ) (ws : List ℕ) (o n : ℕ) → Fails (neatTo K ws o n) (AnyTo n (λ j. PlaceDamaged ws (o + j * 4)))
+pub to-fails : (K : ℕ) (ws : List ℕ) (o n : ℕ) → Fails (neatTo K ws o n) (AnyTo n (λ j. PlaceDamaged ws (o + j * 4)))
 unfolding neatTo
 to-fails K ws o zero = fails-true
 to-fails K ws o (suc n) = fails-and (neatTo K ws o n) (neatPlace ws (o + n * 4)) (to-fails K ws o n) (place-fails ws (o + n * 4))
 
 -- ---- a node
-below-fails : (n : Node) → Fails (nothingBelow n) (0 < n .left + n .right)
+pub below-fails : (n : Node) → Fails (nothingBelow n) (0 < n .left + n .right)
 unfolding nothingBelow
 below-fails n = record { found = λ e. let ne : n .left + n .right ≡ 0 → ⊥ = eqb-false (n .left + n .right) 0 e in omega arith; shown = λ h. ne-eqb (n .left + n .right) 0 (λ e. omega arith) }
 
@@ -88,7 +88,7 @@ node-fails K limit ws m =
     (fails-by (fails-leb (length (n .places)) (inside always (n .places))) (λ h. omega arith) (λ h. omega arith)))))
 
 -- ---- a step
-room-fails : (K limit : ℕ) (ws : List ℕ) (m : ℕ) → Fails (roomy limit (nodeIn K ws m)) (Stuck K limit (nodeIn K ws m))
+pub room-fails : (K limit : ℕ) (ws : List ℕ) (m : ℕ) → Fails (roomy limit (nodeIn K ws m)) (Stuck K limit (nodeIn K ws m))
 unfolding roomy
 room-fails K limit ws m =
     let n : Node = nodeIn K ws m in
@@ -97,7 +97,7 @@ room-fails K limit ws m =
     (fails-by (fails-ltb (inside always (n .places)) (length (n .places))) (λ h. omega arith) (λ h. omega arith))
     (fails-or (ltb (n .left) limit) (ltb (n .right) limit) (fails-ltb (n .left) limit) (fails-ltb (n .right) limit))
 
-some-fails : (n : Node) → Fails (some n) (marked n ≡ 0)
+pub some-fails : (n : Node) → Fails (some n) (marked n ≡ 0)
 unfolding some
 some-fails n = fails-by (fails-ltb 0 (marked n)) (λ h. omega arith) (λ h. omega arith)
 

@@ -70,18 +70,18 @@ unfolding nodeAt
 node-other l j n x e = getD-set-other l j n x voidNode (λ r. eqb-false j n e (sym r))
 
 -- ---- the work handed to a child
-op-none : (b : Bool) → opIf b none ≡ none
+pub op-none : (b : Bool) → opIf b none ≡ none
 op-none true = refl
 op-none false = refl
 
-twice : (p n : ℕ) → eqb (p + p) (n + n) ≡ eqb p n
+pub twice : (p n : ℕ) → eqb (p + p) (n + n) ≡ eqb p n
 twice p n = go (eqb p n) refl
   where
     go : (b : Bool) → eqb p n ≡ b → eqb (p + p) (n + n) ≡ b
     go true e = eq-eqb (p + p) (n + n) (omega (arith, eqb-true p n e))
     go false e = ne-eqb (p + p) (n + n) (λ q. eqb-false p n e (omega arith))
 
-twice-suc : (p n : ℕ) → eqb (suc (p + p)) (suc (n + n)) ≡ eqb p n
+pub twice-suc : (p n : ℕ) → eqb (suc (p + p)) (suc (n + n)) ≡ eqb p n
 twice-suc p n = go (eqb p n) refl
   where
     go : (b : Bool) → eqb p n ≡ b → eqb (suc (p + p)) (suc (n + n)) ≡ b

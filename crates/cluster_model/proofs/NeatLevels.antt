@@ -115,7 +115,7 @@ apply-neat K (suc k) o n b c ws h fits g =
     )
 
 -- a cleared slice is neat
-zero-row : (K : ℕ) (ws : List ℕ) (o : ℕ) → ((i : ℕ) → o ≤ i → i < o + K * 4 → word ws i ≡ 0) → NeatRow K ws o
+pub zero-row : (K : ℕ) (ws : List ℕ) (o : ℕ) → ((i : ℕ) → o ≤ i → i < o + K * 4 → word ws i ≡ 0) → NeatRow K ws o
 unfolding placeOf placeBy rankIn tagIn lengthIn markOf
 zero-row zero ws o h = tt
 zero-row (suc K) ws o h =

@@ -16,7 +16,7 @@ use Rattle.strip.specs.declared.Request.{Request}
 use Rattle.strip.specs.declared.Request.the-variants.{Idle, Pop, Push, Replace}
 use Rattle.cluster_model.specs.Calls.{rootHeld, rule, Ruling, ruling}
 use Rattle.cluster_model.specs.Heap.{act, Can, Fit, gain, Heap, loss, lowest, many, Rest, room, Sound}
-use Rattle.cluster_model.specs.Node.{gap, inside, lowElem, none, under}
+use Rattle.cluster_model.specs.Node.{Bag, gap, inside, lowElem, none, under}
 use Rattle.cluster_model.specs.Rules.{Comes, empty, full, idles, lacks, no-tag, puts, swaps, takes}
 use Rattle.cluster_model.proofs.Heap.{acts, heap-least}
 use Rattle.cluster_model.proofs.Levels.{clearHeap, clearNode}
@@ -30,6 +30,35 @@ none-refused x n = go (refusalNumber x) refl
     go zero e = absurd (zero-told x (sym e))
     go (suc i) e = refl
 
+-- what a request comes to where h are held, all that the bag β has, there is room for c, and top is held and least: it can be done, gives and brings in what
+-- its answer says, and gives the least
+module _ (c : ℕ) (β : Bag) (h : ℕ) (top : Element) (all : h ≡ β always) (first : 0 < h → β (lower (top .rank .0)) ≡ 0) where
+  pub record Ruled (r : Request) (g : Ruling) : Type 0 where
+    pub can : Can c (g .op) β
+    pub sum : (f : Element → Bool) → loss (g .op) top f + brought r (g .answer) f ≡ gain (g .op) f + given r (g .answer) f
+    pub least : Least β r (g .answer)
+
+  -- a refused one does nothing
+  no-work : (r : Request) (x : Refusal) → Ruled r (ruling (Refused x) none)
+  no-work Idle x = record { can = tt; sum = λ f. refl; least = tt }
+  no-work (Push y) x = record { can = tt; sum = λ f. omega (arith, none-refused x (hit (f y))); least = tt }
+  no-work Pop x = record { can = tt; sum = λ f. omega (arith, none-refused x (hit (f blank))); least = λ z. absurd (zero-told x (sym z)) }
+  no-work (Replace y) x =
+      record { can = tt; sum = λ f. omega (arith, none-refused x (hit (f y)), none-refused x (hit (f blank))); least = λ z. absurd (zero-told x (sym z)) }
+
+  pub ruled-by : (r : Request) → Ruled r (rule c r h top)
+  ruled-by r = go r _ (comes c r h top)
+    where
+      go : (r : Request) (g : Ruling) → Comes c h top r g → Ruled r g
+      go r g idles = record { can = tt; sum = λ f. refl; least = tt }
+      go r g (no-tag r′ u) = no-work r NoTag
+      go r g (puts x u p) = record { can = omega (arith, all); sum = λ f. omega arith; least = tt }
+      go r g (full x u p) = no-work r Full
+      go r g (takes p) = record { can = omega (arith, all); sum = λ f. omega arith; least = λ z. first p }
+      go r g (empty p) = no-work r Empty
+      go r g (swaps x u p) = record { can = omega (arith, all); sum = λ f. omega arith; least = λ z. first p }
+      go r g (lacks x u p) = no-work r Empty
+
 module _ (K k : ℕ) (two : 1 < K) (h : Heap (suc k)) (s : Sound K (suc k) h) where
   -- held, from the root alone
   pub root-held : rootHeld (h .0) ≡ many always (suc k) h
@@ -42,39 +71,12 @@ module _ (K k : ℕ) (two : 1 < K) (h : Heap (suc k)) (s : Sound K (suc k) h) wh
   abbrev ruled : Request → Ruling
   ruled r = rule (room K (suc k)) r (rootHeld (h .0)) top
 
-  some-held : 0 < rootHeld (h .0) → 0 < many always (suc k) h
-  some-held p = omega (arith, root-held)
-
   root-least : 0 < rootHeld (h .0) → many (lower (top .rank .0)) (suc k) h ≡ 0
   unfolding key lowest
-  root-least p = heap-least K (suc k) h two s (some-held p) .least
+  root-least p = heap-least K (suc k) h two s (omega (arith, root-held)) .least
 
-  -- what a request comes to can be done, gives and brings in what its answer says, and gives the least
-  record Ruled (r : Request) (g : Ruling) : Type 0 where
-    can : Can (room K (suc k)) (g .op) (λ f. many f (suc k) h)
-    sum : (f : Element → Bool) → loss (g .op) top f + brought r (g .answer) f ≡ gain (g .op) f + given r (g .answer) f
-    least : Least (λ f. many f (suc k) h) r (g .answer)
-
-  -- a refused one does nothing
-  no-work : (r : Request) (x : Refusal) → Ruled r (ruling (Refused x) none)
-  no-work Idle x = record { can = tt; sum = λ f. refl; least = tt }
-  no-work (Push y) x = record { can = tt; sum = λ f. omega (arith, none-refused x (hit (f y))); least = tt }
-  no-work Pop x = record { can = tt; sum = λ f. omega (arith, none-refused x (hit (f blank))); least = λ z. absurd (zero-told x (sym z)) }
-  no-work (Replace y) x =
-      record { can = tt; sum = λ f. omega (arith, none-refused x (hit (f y)), none-refused x (hit (f blank))); least = λ z. absurd (zero-told x (sym z)) }
-
-  rules : (r : Request) → Ruled r (ruled r)
-  rules r = go r _ (comes (room K (suc k)) r (rootHeld (h .0)) top)
-    where
-      go : (r : Request) (g : Ruling) → Comes (room K (suc k)) (rootHeld (h .0)) top r g → Ruled r g
-      go r g idles = record { can = tt; sum = λ f. refl; least = tt }
-      go r g (no-tag r′ u) = no-work r NoTag
-      go r g (puts x u p) = record { can = omega (arith, root-held); sum = λ f. omega arith; least = tt }
-      go r g (full x u p) = no-work r Full
-      go r g (takes p) = record { can = some-held p; sum = λ f. omega arith; least = λ z. root-least p }
-      go r g (empty p) = no-work r Empty
-      go r g (swaps x u p) = record { can = some-held p; sum = λ f. omega arith; least = λ z. root-least p }
-      go r g (lacks x u p) = no-work r Empty
+  rules : (r : Request) → Ruled (room K (suc k)) (λ f. many f (suc k) h) (rootHeld (h .0)) top root-held root-least r (ruled r)
+  rules r = ruled-by (room K (suc k)) (λ f. many f (suc k) h) (rootHeld (h .0)) top root-held root-least r
 
   -- what a request does
   pub record Answered (r : Request) : Type 0 where

@@ -36,10 +36,10 @@ module _ (N : ℕ) where
   ]
 
   -- two slices that are long enough, and agree
-  record Alike (ws vs : List ℕ) : Type 0 where
-    one : N ≤ length ws
-    other : N ≤ length vs
-    same : Agree N ws vs
+  pub record Alike (ws vs : List ℕ) : Type 0 where
+    pub one : N ≤ length ws
+    pub other : N ≤ length vs
+    pub same : Agree N ws vs
 
   like-set : (ws vs : List ℕ) (i x : ℕ) → Alike ws vs → Alike (set ws i x) (set vs i x)
   like-set ws vs i x a =
@@ -54,17 +54,17 @@ module _ (N : ℕ) where
   like-row [] ws vs o a = a
   like-row (p ∷ ps) ws vs o a = like-row ps (writePlace ws o p) (writePlace vs o p) (o + 4) (like-place ws vs o p a)
 
-  like-touch : (t : Bool) (ws vs : List ℕ) (o : ℕ) (n : Node) → Alike ws vs → Alike (touch t ws o n) (touch t vs o n)
+  pub like-touch : (t : Bool) (ws vs : List ℕ) (o : ℕ) (n : Node) → Alike ws vs → Alike (touch t ws o n) (touch t vs o n)
   unfolding touch writeNode
   like-touch true ws vs o n a = like-row (n .places) _ _ (o + 2) (like-set _ _ (o + 1) (n .right) (like-set ws vs o (n .left) a))
   like-touch false ws vs o n a = a
 
 -- ---- the same words read in both
 module _ (K N : ℕ) (ws vs : List ℕ) (a : Alike N ws vs) where
-  same-node : (m : ℕ) → m * width K + width K ≤ N → nodeIn K ws m ≡ nodeIn K vs m
+  pub same-node : (m : ℕ) → m * width K + width K ≤ N → nodeIn K ws m ≡ nodeIn K vs m
   same-node m h = node-local K vs ws (m * width K) (λ i l g. a .same i (omega arith))
 
-  same-neat : (o n : ℕ) → o + n * 4 ≤ N → neatTo K ws o n ≡ neatTo K vs o n
+  pub same-neat : (o n : ℕ) → o + n * 4 ≤ N → neatTo K ws o n ≡ neatTo K vs o n
   unfolding neatTo neatPlace
   same-neat o zero h = refl
   same-neat o (suc n) h =
@@ -160,7 +160,7 @@ module _ (K levels : ℕ) (ws vs : List ℕ) (sh : Shape K levels (length ws)) (
   both : Alike N ws vs
   both = record { one = sh .slice; other = zh .slice; same = agree }
 
-  root-fits : (l : ℕ) → 1 ≤ l → 0 * width K + width K ≤ extent K l 1
+  pub root-fits : (l : ℕ) → 1 ≤ l → 0 * width K + width K ≤ extent K l 1
   unfolding extent
   root-fits zero h = absurd (not-suc-le-zero h)
   root-fits (suc k) h = omega arith

@@ -21,7 +21,7 @@ use Rattle.cluster_model.proofs.Step.{begins, children-can, Least, low-
 use Rattle.cluster_model.proofs.Heap.{ask, heap-bag, heap-least}
 use Rattle.cluster_model.proofs.Index.{NeatIn}
 
-or-not : (a b : Bool) → (a ≡ false → b ≡ true) → (a || b) ≡ true
+pub or-not : (a b : Bool) → (a ≡ false → b ≡ true) → (a || b) ≡ true
 or-not true b h = refl
 or-not false b h = h refl
 
@@ -44,7 +44,7 @@ neat-at zero ws o j h n = absurd (not-suc-le-zero h)
 neat-at (suc K) ws o zero h n = let at : o ≡ o + 0 * 4 = omega arith in subst (λ (i : ℕ). NeatPlace ws i) at (n .0)
 neat-at (suc K) ws o (suc j) h n = let at : o + 4 + j * 4 ≡ o + suc j * 4 = omega arith in subst (λ (i : ℕ). NeatPlace ws i) at (neat-at K ws (o + 4) j (omega arith) (n .1))
 
-neat-to : (K : ℕ) (ws : List ℕ) (o n : ℕ) → n ≤ K → NeatRow K ws o → neatTo K ws o n ≡ true
+pub neat-to : (K : ℕ) (ws : List ℕ) (o n : ℕ) → n ≤ K → NeatRow K ws o → neatTo K ws o n ≡ true
 unfolding neatTo
 neat-to K ws o zero h g = refl
 neat-to K ws o (suc n) h g = and-true _ _ (neat-to K ws o n (omega arith) g) (neat-place ws (o + n * 4) (neat-at K ws o n h g))

@@ -41,3 +41,10 @@ abbrev pub caseClusterAnswersSay : List (List Answer)
 caseClusterAnswersSay =
     (Done ∷ Done ∷ Done ∷ Done ∷ Done ∷ Done ∷ Refused Full ∷ Refused NoTag ∷ Out (element 1 10 100) ∷ Out (element 2 20 200) ∷ [])
     ∷ (Done ∷ Done ∷ Out (element 5 4 2) ∷ Out (element 5 9 1) ∷ Refused Empty ∷ Refused Empty ∷ []) ∷ []
+
+-- replace 5/7 after the pushes: 5/50, the lowest below, is not strictly lower, and 5/7 stays in the root
+unfoldable pub caseEqual : List ℕ
+caseEqual = after 2 2 (clusterCalls ++ (Replace (element 5 7 70) ∷ [])) (replicate 30 0)
+
+abbrev pub caseEqualSays : List ℕ
+caseEqualSays = 2 ∷ 1 ∷ 5 ∷ 7 ∷ 70 ∷ 1 ∷ 3 ∷ 30 ∷ 300 ∷ 1 ∷ 0 ∷ 0 ∷ 8 ∷ 80 ∷ 800 ∷ 1 ∷ 9 ∷ 90 ∷ 900 ∷ 1 ∷ 0 ∷ 0 ∷ 5 ∷ 50 ∷ 500 ∷ 1 ∷ 0 ∷ 0 ∷ 0 ∷ 0 ∷ []

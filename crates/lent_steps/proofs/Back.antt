@@ -15,8 +15,9 @@ use Rattle.clocked_model.proofs.Drain.{drain-bad}
 use Rattle.clocked_model.proofs.Exactly.{cycled-bad}
 use Rattle.clocked_model.specs.Calls.{clockedCleared, cycled, cycleOutcome, CycleOutcome, drainOutcome, DrainOutcome, drains, recordCount}
 use Rattle.clocked_model.specs.declared.State.{State}
+use Rattle.clocked_model.specs.Promise.{hasRun}
 use Rattle.lent_steps.proofs.Records.{lends-few, lends-levels, lends-within}
-use Rattle.lent_steps.specs.Lent.{drainOf, handed, hasRun, kindsOk, lentCleared, lentCycled, lentDrain, LentDrain, lentDrains, lentOf, lentOutcome, LentOutcome, noRecord, readable, recordsBack, stateRead, workOf, worksBack, worksRead}
+use Rattle.lent_steps.specs.Lent.{drainOf, handed, kindsOk, lentCleared, lentCycled, lentDrain, LentDrain, lentDrains, lentOf, lentOutcome, LentOutcome, noRecord, readable, recordsBack, stateRead, workOf, worksBack, worksRead}
 use Rattle.lent_steps.specs.Steps.{clearFrom, cycleFrom, drainFrom, lends, reach, readOf, stateOf, turnedCycle, turnedDrain, unread}
 use Rattle.lent_steps.specs.declared.Read.{Read}
 use Rattle.lent_steps.specs.declared.Record.{Record}

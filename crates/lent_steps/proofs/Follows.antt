@@ -11,21 +11,20 @@ use lib.Seq.{ext-getD}
 use borrow.Author.Tests.{lt-ltb, ltb-false, ltb-true}
 use Rattle.clocked_model.proofs.Demand.{few-levels}
 use Rattle.clocked_model.proofs.Drain.{drain-bad, drain-ran, drain-state}
-use Rattle.clocked_model.proofs.Exactly.{cycled-either, sound-no-damage}
+use Rattle.clocked_model.proofs.Exactly.{cycled-either, sound-no-damage, zero-ran}
 use Rattle.clocked_model.proofs.OneStep.{one-step}
 use Rattle.clocked_model.specs.Calls.{cycled, cycleRun, CycleOutcome, DrainOutcome, drains, fresh, recordCount, ruleMarked, ruleNow}
 use Rattle.clocked_model.specs.Cycle.{Works}
-use Rattle.clocked_model.specs.Promise.{clearedMachine, clockedQueue, CycleDamage, idles, leaveBelow, levelWork, machine, Machine, ran}
+use Rattle.clocked_model.specs.Promise.{clearedMachine, clockedQueue, CycleDamage, hasRun, idles, leaveBelow, levelWork, machine, Machine, ran}
 use Rattle.clocked_model.specs.Records.{landed, worksOf}
 use Rattle.clocked_model.specs.declared.State.{State}
 use Rattle.laws.specs.Tests.{sub-one}
 use Rattle.lent_steps.proofs.Alike.{cycled-same, SameCycle}
 use Rattle.lent_steps.proofs.Back.{back-at, back-length, back-past}
 use Rattle.lent_steps.proofs.History.{alike, clear-holds, clear-is, cycle-holds, held-few, held-kinds, held-long, holds-read, left-all, lent-cycle, stood-cycled}
-use Rattle.lent_steps.proofs.Nodes.{zero-ran}
 use Rattle.lent_steps.proofs.Stood.{handed-new, handed-stood, handed-twice, handed-zeros, idle-new, kind-at, loads, q, read-at, read-nothing, run-at, some-kind, some-new, standing-stands, Stood, stood-fresh, stood-on}
 use Rattle.lent_steps.specs.History.{clearedMemory, Holds, lentIdles, lentQueue, Memory, memory, RecordStep}
-use Rattle.lent_steps.specs.Lent.{drainOf, handed, hasRun, lentCycled, lentDrain, LentDrain, lentDrains, LentOutcome, noRecord, readable, recordOf, recordsBack, standing, stands, stateRead, workOf, worksBack}
+use Rattle.lent_steps.specs.Lent.{drainOf, handed, lentCycled, lentDrain, LentDrain, lentDrains, LentOutcome, noRecord, readable, recordOf, recordsBack, standing, stands, stateRead, workOf, worksBack}
 use Rattle.lent_steps.specs.declared.Record.{Record}
 use Rattle.promise.specs.Queue.{leaves}
 use Rattle.strip.specs.Answers.{numberOf}

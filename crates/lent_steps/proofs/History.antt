@@ -15,7 +15,7 @@ use Rattle.clocked_model.proofs.Drain.{cycled-length, drain-ran, drain-state}
 use Rattle.clocked_model.proofs.Exactly.{stands as left-behind}
 use Rattle.clocked_model.proofs.Promises.{clear-fresh, clear-taken, shape-kept}
 use Rattle.clocked_model.specs.Calls.{clockedCleared, cycled, cycleOutcome, CycleOutcome, DrainOutcome, drains, fresh, recordCount}
-use Rattle.clocked_model.specs.Promise.{clearedMachine, clockedQueue, cycleAnswers, cycleLeft, idles, machine, Machine, ran}
+use Rattle.clocked_model.specs.Promise.{clearedMachine, clockedQueue, cycleAnswers, cycleLeft, hasRun, idles, machine, Machine, ran}
 use Rattle.clocked_model.specs.Records.{worksOf}
 use Rattle.clocked_model.specs.declared.State.{State}
 use Rattle.laws.specs.Tests.{and-left, and-right, and-true, sub-one}
@@ -23,7 +23,7 @@ use Rattle.lent_steps.proofs.Alike.{Alike, cycled-records, cycled-same,
 use Rattle.lent_steps.proofs.Back.{back-at, back-length, back-none, back-past, works-few}
 use Rattle.lent_steps.proofs.Stood.{kinds-back, Stood, stood-fresh, stood-on, stood-read, works-back}
 use Rattle.lent_steps.specs.History.{clearedMemory, Holds, lentIdles, lentQueue, Memory, memory}
-use Rattle.lent_steps.specs.Lent.{drainOf, hasRun, kindsOk, lentCleared, lentCycled, lentDrain, LentDrain, lentDrains, lentOf, lentOutcome, LentOutcome, noRecord, readable, recordsBack, stateRead, worksBack, worksRead}
+use Rattle.lent_steps.specs.Lent.{drainOf, kindsOk, lentCleared, lentCycled, lentDrain, LentDrain, lentDrains, lentOf, lentOutcome, LentOutcome, noRecord, readable, recordsBack, stateRead, worksBack, worksRead}
 use Rattle.lent_steps.specs.Steps.{unread}
 use Rattle.lent_steps.specs.declared.Record.{Record}
 use Rattle.promise.specs.Queue.{answers, answers-same, leaves, leaves-in-step, leaves-keep}

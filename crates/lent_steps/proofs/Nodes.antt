@@ -11,17 +11,17 @@ use lib.ListN.{getD, getD-replicate, length, replicate}
 use borrow.Author.Tests.{ltb-true}
 use Rattle.clocked_model.proofs.Demand.{few-levels}
 use Rattle.clocked_model.proofs.Drain.{cycled-length, drain-bad, drain-ran, drain-state}
-use Rattle.clocked_model.proofs.Exactly.{cycled-either, sound}
+use Rattle.clocked_model.proofs.Exactly.{cycled-either, sound, zero-ran}
 use Rattle.clocked_model.proofs.Turn.{after-length, plain-rest, works-after}
 use Rattle.clocked_model.specs.Calls.{askedOk, clockedCleared, cycleOutcome, CycleOutcome, cycleWork, drainOutcome, drains, DrainOutcome, fresh, ruleNow, recordCount, stepsOk, cycled, cycleRun}
 use Rattle.clocked_model.specs.Cycle.{cycleOk, cycleWorks, Works}
-use Rattle.clocked_model.specs.Promise.{clockedQueue, idles, machine, Machine}
+use Rattle.clocked_model.specs.Promise.{clockedQueue, hasRun, idles, machine, Machine}
 use Rattle.clocked_model.specs.Records.{recordAt, worksOf}
 use Rattle.clocked_model.specs.declared.State.{State}
 use Rattle.laws.specs.Lists.{All, all-at, all-replicate, all-set}
 use Rattle.laws.specs.Tests.{and-left, and-right, sub-one}
 use Rattle.lent_steps.proofs.Records.{lends-few, lends-within}
-use Rattle.lent_steps.specs.Lent.{hasRun, recordBy, recordOf, workOf, worksRead}
+use Rattle.lent_steps.specs.Lent.{recordBy, recordOf, workOf, worksRead}
 use Rattle.lent_steps.specs.Steps.{clearFrom, cycleFrom, drainFrom, lends, reach, Ready, readOf, stateOf, turnedCycle, turnedDrain, unread, wordLimit}
 use Rattle.lent_steps.specs.declared.Read.{Read}
 use Rattle.lent_steps.specs.declared.Record.{Record}
@@ -29,9 +29,9 @@ use Rattle.lent_steps.specs.declared.Turned.{Turned}
 use Rattle.promise.specs.Queue.{leaves, leaves-keep}
 use Rattle.strip.specs.Answers.{numberOf}
 use Rattle.strip.specs.declared.Answer.{Answer}
-use Rattle.strip.specs.declared.Answer.the-variants.{Done, Out, Refused}
+use Rattle.strip.specs.declared.Answer.the-variants.{Done, Refused}
 use Rattle.strip.specs.declared.Element.{Element}
-use Rattle.strip.specs.declared.Refusal.the-variants.{BadPort, BadRank, BadShape, Damaged, Empty, Full, NoTag, TooSoon}
+use Rattle.strip.specs.declared.Refusal.the-variants.{BadShape}
 use Rattle.strip.specs.declared.Request.{Request}
 use Rattle.strip.specs.declared.Request.the-variants.{Idle}
 use Rattle.tree_model.proofs.Exactly.{order-pos, shape-is}
@@ -107,19 +107,6 @@ module _ (m : ℕ) (pos : 0 < m) where
       let q₁ : Work = stepWork m (p .0) (levelOf m ws b c) (top k below) in
       let less : q₁ .node ≤ c * m = rest-low m pos k (p .0) ws b c (top k below) (and-left f r e) in
       (h, cycle-fit k q₁ (p .1) ws (b + c * m) (c * m) (omega arith) (omega arith) (and-right f r e))
-
--- a cycle that is not refused has run
-pub zero-ran : (a : Answer) → numberOf a ≡ 0 → hasRun a ≡ true
-zero-ran Done e = refl
-zero-ran (Out x) e = refl
-zero-ran (Refused BadShape) e = absurd (omega arith)
-zero-ran (Refused Damaged) e = absurd (omega arith)
-zero-ran (Refused TooSoon) e = absurd (omega arith)
-zero-ran (Refused BadRank) e = absurd (omega arith)
-zero-ran (Refused Full) e = absurd (omega arith)
-zero-ran (Refused Empty) e = absurd (omega arith)
-zero-ran (Refused NoTag) e = absurd (omega arith)
-zero-ran (Refused BadPort) e = absurd (omega arith)
 
 -- ---- a state whose records' nodes fit, for so many levels
 record Fits (levels : ℕ) (s : State) : Type 0 where

@@ -7,7 +7,7 @@ use lib.Dec.{ltb}
 use borrow.Author.Tests.{not-false, not-true}
 use Rattle.clocked_model.specs.Calls.{clockedCleared, cycled, cycleOutcome, CycleOutcome, drainOutcome, DrainOutcome, drains, fresh}
 use Rattle.clocked_model.specs.declared.State.{State}
-use Rattle.lent_steps.specs.Lent.{hasRun}
+use Rattle.clocked_model.specs.Promise.{hasRun}
 use Rattle.lent_steps.specs.Steps.{clearFrom, cycleFrom, drainFrom, lends, stateOf, turned, turnedCycle, turnedDrain, unread}
 use Rattle.lent_steps.specs.declared.Read.{Read}
 use Rattle.lent_steps.specs.declared.Turned.{Turned}

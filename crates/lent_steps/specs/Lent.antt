@@ -7,12 +7,12 @@ use mathlib.Core.List.{List}
 use lib.Dec.{eqb, leb, ltb}
 use lib.ListN.{getD, length, replicate, set}
 use Rattle.clocked_model.specs.Calls.{clockedCleared, cycled, cycleOutcome, CycleOutcome, drainOutcome, DrainOutcome, drains, fresh, recordCount}
-use Rattle.clocked_model.specs.Promise.{runsIdle}
+use Rattle.clocked_model.specs.Promise.{hasRun}
 use Rattle.clocked_model.specs.declared.State.{State}
 use Rattle.lent_steps.specs.declared.Record.{Record}
 use Rattle.strip.specs.Answers.{element}
 use Rattle.strip.specs.declared.Answer.{Answer}
-use Rattle.strip.specs.declared.Answer.the-variants.{Done, Out, Refused}
+use Rattle.strip.specs.declared.Answer.the-variants.{Refused}
 use Rattle.strip.specs.declared.Element.{Element}
 use Rattle.strip.specs.declared.Refusal.the-variants.{BadShape}
 use Rattle.strip.specs.declared.Request.{Request}
@@ -85,12 +85,6 @@ handed r w = cond (stands w) r (recordOf w)
 unfoldable pub worksBack : ℕ → List Work → List Record → List Record
 worksBack zero ws rs = rs
 worksBack (suc k) ws rs = set (worksBack k ws rs) k (handed (getD rs k noRecord) (getD ws k idle))
-
--- column "Left behind": after 1 and 2 "everything, mark and records too", after any other answer a cycle has run
-abbrev pub hasRun : Answer → Bool
-hasRun Done = true
-hasRun (Out e) = true
-hasRun (Refused n) = runsIdle n
 
 -- ---- what the calls answer and leave
 pub record LentOutcome : Type 0 where

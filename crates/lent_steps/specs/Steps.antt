@@ -6,7 +6,8 @@ use lib.Dec.{leb, ltb}
 use lib.ListN.{getD, replicate, set}
 use Rattle.clocked_model.specs.Calls.{clockedCleared, cycled, cycleOutcome, CycleOutcome, drainOutcome, DrainOutcome, drains, fresh, recordCount}
 use Rattle.clocked_model.specs.declared.State.{State}
-use Rattle.lent_steps.specs.Lent.{hasRun, kindsOk, noRecord, recordOf, workOf, worksRead}
+use Rattle.clocked_model.specs.Promise.{hasRun}
+use Rattle.lent_steps.specs.Lent.{kindsOk, noRecord, recordOf, workOf, worksRead}
 use Rattle.lent_steps.specs.declared.Read.{Read}
 use Rattle.lent_steps.specs.declared.Record.{Record}
 use Rattle.lent_steps.specs.declared.Turned.{Turned}

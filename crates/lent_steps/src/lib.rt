@@ -5,8 +5,8 @@ ghost use mathlib.Core.Bool.{cond, false};
 ghost use Prim.Native.Nat.{_-_, _<_};
 ghost use lib.Dec.{leb};
 ghost use Rattle.tree_model.specs.Levels.{idle};
-ghost use Rattle.clocked_model.specs.Promise.{runsIdle};
-ghost use Rattle.lent_steps.specs.Lent.{workOf, bareRecord, ladenRecord, recordOf, stands, handed, hasRun};
+ghost use Rattle.clocked_model.specs.Promise.{hasRun, runsIdle};
+ghost use Rattle.lent_steps.specs.Lent.{workOf, bareRecord, ladenRecord, recordOf, stands, handed};
 ghost use Rattle.lent_steps.specs.Steps.{wordLimit, lends, reach, read, cycleFrom, drainFrom, clearFrom, turned, turnedCycle, turnedDrain};
 use clocked::clear;
 use clocked::cycle;
@@ -145,7 +145,7 @@ pub fn read_of(works: [Work; RECORDS], ok: bool) -> Read
 // ---- the by-value calls
 
 // Whether a cycle with this answer ran: refusals 1 and 2 leave everything.
-fn has_run(a: Answer) -> bool
+pub fn has_run(a: Answer) -> bool
     ensures { λ r. ⌜ r ≡ hasRun a ⌝ }
 {
     match a {
@@ -171,7 +171,7 @@ fn is_later(n: Refusal) -> bool
 }
 
 // The records to be written: one for each level from 2 where a cycle ran, and else none.
-fn due(ran: bool, levels: usize) -> usize
+pub fn due(ran: bool, levels: usize) -> usize
     ensures { λ r. ⌜ r ≡ cond ran (levels - 1) 0 ⌝ }
 {
     if !ran {

@@ -15,6 +15,7 @@ mod mends;
 mod plain;
 mod playing;
 mod queues;
+mod stages;
 mod table;
 mod traces;
 
@@ -91,6 +92,12 @@ fn main() {
     show("check and mend of a full store, for one slot, beside a plain check and a heap", mends::rows(&plan));
     show("cluster heap beside std's BinaryHeap, then beside the tree of order 2, 4,000 held", traces::clusters(&plan));
     show("clocked tree beside a plain machine without damage tests, 4,000 held or three quarters", cycles::rows(&plan));
+    let (staged, by_cycle) = stages::rows(&plan);
+    show(
+        "clocked cluster heap (4 x 10) beside the clocked tree of order 2 x 11, for one operation, 1,900 a round",
+        staged,
+    );
+    stages::print(&by_cycle);
     let played = playing::rows(&plan, program.as_deref(), records);
     for row in show("trace program beside the plain machine that writes its lines to memory", played) {
         println!("play: {:.0} records a second, its start included", 1e9 / row.pair.card);

@@ -19,7 +19,7 @@
 //! ```
 #![allow(clippy::too_many_arguments)]
 
-use crate::{raw, Record};
+use crate::{raw, ClusterRecord, Record};
 
 // In every block below: each pointer and length is that of a slice which is borrowed for the length of the call, so its words are
 // there, aligned and initialised, a `&mut` slice overlaps no other, and the library keeps no pointer. Numbers and words may be any.
@@ -31,6 +31,15 @@ const _: () = {
     let laid: [u32; 5] = unsafe { core::mem::transmute(record) };
     assert!(laid[0] == 1 && laid[1] == 2 && laid[2] == 3 && laid[3] == 4 && laid[4] == 5);
     assert!(core::mem::align_of::<Record>() == core::mem::align_of::<u32>());
+};
+
+// So does a record of the clocked cluster heap: six words.
+const _: () = {
+    let record = ClusterRecord { kind: 1, node: 2, place: 3, rank: 4, tag: 5, length: 6 };
+    // SAFETY: the two are of one size, or this is refused, and any six words are an array of words.
+    let laid: [u32; 6] = unsafe { core::mem::transmute(record) };
+    assert!(laid[0] == 1 && laid[1] == 2 && laid[2] == 3 && laid[3] == 4 && laid[4] == 5 && laid[5] == 6);
+    assert!(core::mem::align_of::<ClusterRecord>() == core::mem::align_of::<u32>());
 };
 
 /// Empties a tree.
@@ -418,6 +427,70 @@ pub fn clocked_drain(
 pub fn clocked_held(store: &[u32], order: u32, levels: u32, out: &mut [u32]) -> u32 {
     // SAFETY: borrowed slices, as said above.
     unsafe { raw::card_clocked_held(store.as_ptr(), store.len(), order, levels, out.as_mut_ptr(), out.len()) }
+}
+
+/// Empties a clocked cluster heap and its records.
+#[inline]
+pub fn clocked_cluster_clear(store: &mut [u32], places: u32, levels: u32, records: &mut [ClusterRecord]) -> u32 {
+    let (s, r) = (store, records);
+    // SAFETY: borrowed slices, as said above.
+    unsafe { raw::card_clocked_cluster_clear(s.as_mut_ptr(), s.len(), places, levels, r.as_mut_ptr(), r.len()) }
+}
+
+/// Runs one cycle of a clocked cluster heap with a request: 0 idle, 1 push, 2 pop, 3 replace.
+#[inline]
+pub fn clocked_cluster_cycle(
+    store: &mut [u32],
+    places: u32,
+    levels: u32,
+    records: &mut [ClusterRecord],
+    request: u32,
+    rank: u32,
+    tag: u32,
+    length: u32,
+    out: &mut [u32],
+) -> u32 {
+    // SAFETY: borrowed slices, as said above.
+    unsafe {
+        raw::card_clocked_cluster_cycle(
+            store.as_mut_ptr(),
+            store.len(),
+            places,
+            levels,
+            records.as_mut_ptr(),
+            records.len(),
+            request,
+            rank,
+            tag,
+            length,
+            out.as_mut_ptr(),
+            out.len(),
+        )
+    }
+}
+
+/// Runs idle cycles of a clocked cluster heap until nothing is pending or the budget is spent.
+#[inline]
+pub fn clocked_cluster_drain(
+    store: &mut [u32],
+    places: u32,
+    levels: u32,
+    records: &mut [ClusterRecord],
+    budget: u32,
+    out: &mut [u32],
+) -> u32 {
+    let (s, r, o) = (store, records, out);
+    let (store, records, out) = (s.as_mut_ptr(), r.as_mut_ptr(), o.as_mut_ptr());
+    // SAFETY: borrowed slices, as said above.
+    unsafe { raw::card_clocked_cluster_drain(store, s.len(), places, levels, records, r.len(), budget, out, o.len()) }
+}
+
+/// Gives the number of a clocked cluster heap's held elements.
+#[inline]
+pub fn clocked_cluster_held(store: &[u32], places: u32, levels: u32, out: &mut [u32]) -> u32 {
+    let (s, o) = (store, out);
+    // SAFETY: borrowed slices, as said above.
+    unsafe { raw::card_clocked_cluster_held(s.as_ptr(), s.len(), places, levels, o.as_mut_ptr(), o.len()) }
 }
 
 /// How many words a tree's store needs; 0 for a bad shape.

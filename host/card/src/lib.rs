@@ -1,6 +1,6 @@
 //! Safe Rust over the card's library of proved priority queues.
 //!
-//! An [`Element`] is a [`Rank`], a [`Tag`] and a [`Length`]; the lowest rank leaves first. There are four queues:
+//! An [`Element`] is a [`Rank`], a [`Tag`] and a [`Length`]; the lowest rank leaves first. There are five queues:
 //!
 //! | queue | ranks | ties | over lent words or arrays | with a store of its own (feature `std`) |
 //! |---|---|---|---|---|
@@ -8,6 +8,7 @@
 //! | bucket queue | 0 to 4,095, or 262,143 | first in, first out | [`Bucket`] | `BucketQueue` |
 //! | cluster heap | any | in a node the lower tag, else its own order | [`Cluster`] | `ClusterQueue` |
 //! | multi-way tree by clock cycles | any | in a node the lower tag, else its own order | [`Clocked`] | `ClockedTree` |
+//! | cluster heap by clock cycles | any | its own order | [`ClockedCluster`] | `ClockedHeap` |
 //!
 //! Several bucket queues can share one pool of nodes: [`Ports`] (`PortsQueue`), up to 16, each with a floor and a ceiling.
 //! Above the tree stands [`Fair`] (`FairQueue`): ranks from weights, for up to 64 flows.
@@ -39,6 +40,7 @@ extern crate std;
 mod bucket;
 pub mod calls;
 mod clocked;
+mod clocked_cluster;
 mod cluster;
 mod fair;
 mod mend;
@@ -51,11 +53,12 @@ mod tree;
 
 pub use bucket::Bucket;
 pub use clocked::{Clocked, Drained, Record, Request, Stopped};
+pub use clocked_cluster::{ClockedCluster, ClusterRecord};
 pub use cluster::Cluster;
 pub use fair::{Fair, Flow, Weight};
 pub use mend::{Broken, Mended};
 #[cfg(feature = "std")]
-pub use owned::{BucketQueue, ClockedTree, ClusterQueue, FairQueue, PortsQueue, TreeQueue};
+pub use owned::{BucketQueue, ClockedHeap, ClockedTree, ClusterQueue, FairQueue, PortsQueue, TreeQueue};
 pub use ports::{Limits, Port, Ports};
 pub use sizes::{
     bucket_bits, bucket_ranks, bucket_words, cluster_places, cluster_words, fair_words, ports_bits, ports_words,
@@ -120,7 +123,7 @@ pub enum Refusal {
     BadShape = 1,
     /// The store or a pending record does not hold together. Everything stands.
     Damaged = 2,
-    /// A clocked pop or replace just after an answered operation. The cycle runs as an idle one.
+    /// A pop or replace of a clocked tree just after an answered operation. The cycle runs as an idle one.
     TooSoon = 3,
     /// A bucket rank above the last, 4,095 or (with three storeys) 262,143. Everything stands.
     BadRank = 4,

@@ -2,7 +2,7 @@
 
 use crate::{
     bucket_bits, bucket_words, cluster_words, fair_words, ports_bits, ports_words, record_count, tree_words, Bucket,
-    Clocked, Cluster, Fair, Limits, Ports, Record, Refusal, Tree,
+    Clocked, ClockedCluster, Cluster, ClusterRecord, Fair, Limits, Ports, Record, Refusal, Tree,
 };
 use std::vec;
 use std::vec::Vec;
@@ -143,5 +143,29 @@ impl ClockedTree {
         let words = tree_words(order, levels);
         let records = if words == 0 { 0 } else { record_count(levels) };
         Clocked::cleared(order, levels, vec![0; words], vec![Record::default(); records])
+    }
+}
+
+/// A clocked cluster heap with store and records of its own. Everything else is [`ClockedCluster`]'s.
+///
+/// ```
+/// use card_host::{ClockedHeap, Element, Length, Rank, Refusal, Tag};
+///
+/// # fn main() -> Result<(), Refusal> {
+/// let mut heap = ClockedHeap::new(2, 3)?;
+/// heap.push(Element::new(Rank(5), Tag(50), Length(1500)))?;
+/// // nothing is ever too soon
+/// assert_eq!(heap.pop()?, Element::new(Rank(5), Tag(50), Length(1500)));
+/// # Ok(())
+/// # }
+/// ```
+pub type ClockedHeap = ClockedCluster<Vec<u32>, Vec<ClusterRecord>>;
+
+impl ClockedHeap {
+    /// An empty heap with nothing pending, its store and records allocated.
+    pub fn new(places: u32, levels: u32) -> Result<ClockedHeap, Refusal> {
+        let words = cluster_words(places, levels);
+        let records = if words == 0 { 0 } else { record_count(levels) };
+        ClockedCluster::cleared(places, levels, vec![0; words], vec![ClusterRecord::default(); records])
     }
 }

@@ -3,7 +3,7 @@
 //! `host/card.h` has the same declarations with a comment for each; a test holds the two and the library's own source to each other.
 //! Each function is safe for any numbers and for any slices that are really there; nothing here tests them.
 
-use crate::Record;
+use crate::{ClusterRecord, Record};
 
 extern "C" {
     pub fn card_tree_clear(store: *mut u32, store_len: usize, order: u32, levels: u32) -> u32;
@@ -299,6 +299,48 @@ extern "C" {
         store: *const u32,
         store_len: usize,
         order: u32,
+        levels: u32,
+        out: *mut u32,
+        out_len: usize,
+    ) -> u32;
+
+    pub fn card_clocked_cluster_clear(
+        store: *mut u32,
+        store_len: usize,
+        places: u32,
+        levels: u32,
+        records: *mut ClusterRecord,
+        records_len: usize,
+    ) -> u32;
+    pub fn card_clocked_cluster_cycle(
+        store: *mut u32,
+        store_len: usize,
+        places: u32,
+        levels: u32,
+        records: *mut ClusterRecord,
+        records_len: usize,
+        request: u32,
+        rank: u32,
+        tag: u32,
+        length: u32,
+        out: *mut u32,
+        out_len: usize,
+    ) -> u32;
+    pub fn card_clocked_cluster_drain(
+        store: *mut u32,
+        store_len: usize,
+        places: u32,
+        levels: u32,
+        records: *mut ClusterRecord,
+        records_len: usize,
+        budget: u32,
+        out: *mut u32,
+        out_len: usize,
+    ) -> u32;
+    pub fn card_clocked_cluster_held(
+        store: *const u32,
+        store_len: usize,
+        places: u32,
         levels: u32,
         out: *mut u32,
         out_len: usize,

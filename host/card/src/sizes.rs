@@ -82,7 +82,7 @@ pub const fn cluster_words(places: u32, levels: u32) -> usize {
     4 * all + 2 * (all / places as usize)
 }
 
-/// How many pending records a clocked tree needs, one for each level from 2.
+/// How many pending records a clocked tree or cluster heap needs, one for each level from 2.
 pub const fn record_count(levels: u32) -> usize {
     (levels as usize).saturating_sub(1)
 }

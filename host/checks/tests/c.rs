@@ -62,6 +62,13 @@ fn several_ports() {
     }
 }
 
+#[test]
+fn the_clocked_cluster_heap() {
+    for (standard, written) in in_each("host/checks/c/clocked_cluster.c") {
+        assert_eq!(written, "", "{standard}");
+    }
+}
+
 /// Included twice and in two files of one program: nothing is defined twice, nothing is unused.
 #[test]
 fn in_two_files_of_one_program() {

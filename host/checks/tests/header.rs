@@ -77,6 +77,7 @@ fn joined(flat: Vec<(String, String)>) -> Result<Vec<String>, String> {
             "*mut u32" => "&mut [u32]",
             "*mut u64" => "&mut [u64]",
             "*mut Record" => "&mut [Record]",
+            "*mut ClusterRecord" => "&mut [ClusterRecord]",
             "*const u32" => "&[u32]",
             "*const u64" => "&[u64]",
             "u32" => {
@@ -210,6 +211,7 @@ fn of_header(text: &str) -> Result<Functions, String> {
                 "uint32_t *" => "*mut u32",
                 "uint64_t *" => "*mut u64",
                 "struct card_record *" => "*mut Record",
+                "struct card_cluster_record *" => "*mut ClusterRecord",
                 "const uint32_t *" => "*const u32",
                 "const uint64_t *" => "*const u64",
                 other => return Err(format!("{name}: {n} has the type {other}")),

@@ -92,6 +92,7 @@ fn the_bench_runs() {
         "check, order 4 x 8, full",
         "mend, order 4 x 8, full",
         "cycle, order 4 x 6, idle",
+        "cluster clock, pop every cycle",
         "records a second",
     ] {
         assert!(table.contains(part), "{part} is not in\n{table}");

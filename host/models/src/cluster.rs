@@ -16,7 +16,7 @@ pub struct Shape {
 }
 
 /// A place that is marked and its element, or nothing.
-type Place = Option<Element>;
+pub type Place = Option<Element>;
 
 /// What is done at a node.
 #[derive(Clone, Copy, PartialEq, Eq, Debug)]
@@ -27,9 +27,10 @@ enum Work {
 }
 
 /// A node as it stands in the store, read whole and tested.
-struct Node {
-    counts: [u32; 2],
-    places: Vec<Place>,
+#[derive(Clone)]
+pub struct Node {
+    pub counts: [u32; 2],
+    pub places: Vec<Place>,
 }
 
 impl Shape {
@@ -53,12 +54,12 @@ impl Shape {
     }
 
     /// The nodes of so many levels.
-    fn nodes(levels: u32) -> usize {
+    pub fn nodes(levels: u32) -> usize {
         (1 << levels) - 1
     }
 
     /// How many elements so many levels hold.
-    fn room(&self, levels: u32) -> u64 {
+    pub fn room(&self, levels: u32) -> u64 {
         (self.places * Shape::nodes(levels)) as u64
     }
 
@@ -72,8 +73,8 @@ impl Shape {
     }
 
     /// Reads a node that has so many levels below it. A mark is 0 or 1, an unmarked place is all 0, no count is above the room of a
-    /// child, and with something below every place is marked.
-    fn read(&self, store: &[u32], number: usize, below: u32) -> Result<Node, No> {
+    /// child, and with something below no more than so many places are not marked: none, or one that may wait to be filled.
+    pub fn read(&self, store: &[u32], number: usize, below: u32, gaps: usize) -> Result<Node, No> {
         let at = number * self.node_words();
         let counts = [store[at], store[at + 1]];
         let mut places = Vec::new();
@@ -88,27 +89,37 @@ impl Shape {
         if counts.iter().any(|&c| c as u64 > self.room(below)) {
             return Err(No::Damaged(1));
         }
-        if counts != [0, 0] && places.contains(&None) {
+        if counts != [0, 0] && places.iter().filter(|p| p.is_none()).count() > gaps {
             return Err(No::Damaged(1));
         }
         Ok(Node { counts, places })
     }
+
+    /// Writes a node.
+    pub fn write(&self, store: &mut [u32], number: usize, node: &Node) {
+        let at = number * self.node_words();
+        store[at..at + 2].copy_from_slice(&node.counts);
+        for (j, place) in node.places.iter().enumerate() {
+            let (w, e) = (at + 2 + PLACE * j, place.unwrap_or_default());
+            store[w..w + PLACE].copy_from_slice(&[e.rank, e.tag, e.length, place.is_some() as u32]);
+        }
+    }
 }
 
 impl Node {
-    fn held(&self) -> u64 {
+    pub fn held(&self) -> u64 {
         let marked = self.places.iter().filter(|p| p.is_some()).count() as u64;
         marked + self.counts[0] as u64 + self.counts[1] as u64
     }
 
     /// The place of lowest rank, then of lowest tag, then the first.
-    fn low(&self) -> Option<usize> {
+    pub fn low(&self) -> Option<usize> {
         let marked = (0..self.places.len()).filter(|&j| self.places[j].is_some());
         marked.min_by_key(|&j| self.places[j].map(|e| (e.rank, e.tag, j)))
     }
 
     /// The place of highest rank, the last on a tie.
-    fn high(&self) -> usize {
+    pub fn high(&self) -> usize {
         let marked = (0..self.places.len()).filter(|&j| self.places[j].is_some());
         marked.max_by_key(|&j| self.places[j].map(|e| (e.rank, j))).expect("a full node")
     }
@@ -141,7 +152,7 @@ impl Way<'_> {
             if node.counts[side] == 0 {
                 continue;
             }
-            let child = self.shape.read(self.store, 2 * number + 1 + side, below - 1)?;
+            let child = self.shape.read(self.store, 2 * number + 1 + side, below - 1, 0)?;
             let j = child.low().ok_or(No::Damaged(1))?;
             let e = child.places[j].expect("a marked place");
             if best.map_or(true, |(_, b)| e.rank < b.rank) {
@@ -153,7 +164,7 @@ impl Way<'_> {
 
     /// The work at a node, and below it.
     fn work(&mut self, work: Work, number: usize, below: u32) -> Result<(), No> {
-        let node = self.shape.read(self.store, number, below)?;
+        let node = self.shape.read(self.store, number, below, 0)?;
         let (side, rest) = match work {
             Work::Put(x) => {
                 if let Some(j) = node.places.iter().position(|p| p.is_none()) {
@@ -213,7 +224,7 @@ fn done(shape: Shape, store: &mut [u32], work: Work) -> Result<(), No> {
 
 fn root(store: &[u32], places: u32, levels: u32) -> Result<(Shape, Node), No> {
     let shape = Shape::new(places, levels, store.len()).ok_or(No::BadShape(1))?;
-    let node = shape.read(store, 0, levels - 1)?;
+    let node = shape.read(store, 0, levels - 1, 0)?;
     Ok((shape, node))
 }
 

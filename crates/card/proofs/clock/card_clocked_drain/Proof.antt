@@ -54,10 +54,10 @@ use Rattle.lent_steps.proofs.Turned as U
 use Rattle.lent_steps.proofs.Turned.Laws as U′
 use Rattle.lent_memory.proofs.Recs.{R, told as hears}
 use Rattle.lent_memory.proofs.Shared.{LentShared, lends-shared, shared-back}
-use Rattle.card.proofs.clock.wide as wide
-use Rattle.card.proofs.clock.wide.Symbol as wide-def
-use Rattle.card.proofs.clock.wide.Symbol.{name as #wide}
-use Rattle.card.proofs.clock.wide.Met as wide-thm
+use Rattle.card.proofs.wide as wide
+use Rattle.card.proofs.wide.Symbol as wide-def
+use Rattle.card.proofs.wide.Symbol.{name as #wide}
+use Rattle.card.proofs.wide.Met as wide-thm
 use Rattle.lent_memory.proofs.load as load′
 use Rattle.lent_memory.proofs.load.Symbol as load-def
 use Rattle.lent_memory.proofs.load.Symbol.{name as #load}
@@ -303,7 +303,7 @@ card-clocked-drain-spec 𝓤 H 𝓜 𝓖 𝓡 =
     entered 𝓤 H (tripleOf 𝓤 H (𝓖 .A) self.signature (self.spec 𝓤 H (𝓖 .A) (𝓜 .mem) (𝓡 .run)))
     (tables 𝓤 H 𝓜 𝓡 code.env .C) (tables 𝓤 H 𝓜 𝓡 code.env .Λ) #card-clocked-drain code.function (code.unfolded 𝓤 H 𝓜 𝓡)
     (meets 𝓤 H (𝓖 .A) (givenOf 𝓤 H 𝓜 𝓖) (𝓜 .mem) (𝓡 .run) (tablesOf 𝓤 H 𝓜 (tables 𝓤 H 𝓜 𝓡 code.env))
-    (cited 𝓤 H (Wide 𝓤 H (𝓖 .A) (𝓜 .mem) (𝓡 .run)) 𝓜 𝓡 code.env #wide wide-def.routine code.calls-card·clock·wide (wide-thm.met 𝓤 H 𝓜 𝓖 𝓡))
+    (cited 𝓤 H (Wide 𝓤 H (𝓖 .A) (𝓜 .mem) (𝓡 .run)) 𝓜 𝓡 code.env #wide wide-def.routine code.calls-card·wide (wide-thm.met 𝓤 H 𝓜 𝓖 𝓡))
     (cited 𝓤 H (Load 𝓤 H (𝓖 .A) (𝓜 .mem) (𝓡 .run)) 𝓜 𝓡 code.env #load load-def.routine code.calls-lent-memory·load (load-thm.met 𝓤 H 𝓜 𝓖 𝓡))
     (cited 𝓤 H (Step 𝓤 H (𝓖 .A) (𝓜 .mem) (𝓡 .run)) 𝓜 𝓡 code.env #step step-def.routine code.calls-card·clock·drain-told (step-thm.met 𝓤 H 𝓜 𝓖 𝓡))
     (cited 𝓤 H (Back 𝓤 H (𝓖 .A) (𝓜 .mem) (𝓡 .run)) 𝓜 𝓡 code.env #hand-back hand-back-def.routine code.calls-lent-memory·hand-back (hand-back-thm.met 𝓤 H 𝓜 𝓖 𝓡))

@@ -5,10 +5,10 @@ use Rattle.card.proofs.clock.cycle_told.Statement.{statement}
 use Rattle.card.proofs.clock.cycle_told.Tie as tie
 use Rattle.card.proofs.clock.cycle_told.Reads as reads
 use Rattle.card.proofs.clock.cycle_told.Lts as lts
-use Rattle.card.proofs.clock.bit.Reads as bit-reads
+use Rattle.card.proofs.bit.Reads as bit-reads
 use Rattle.card.proofs.clock.is_asked.Reads as is-asked-reads
 use Rattle.card.proofs.clock.none_turned.Reads as none-turned-reads
-use Rattle.card.proofs.clock.request_of.Reads as request-of-reads
+use Rattle.card.proofs.request_of.Reads as request-of-reads
 use Rattle.card.proofs.tell.Reads as tell-reads
 use Rattle.lent_steps.proofs.cycle_read.Reads as cycle-read-reads
 

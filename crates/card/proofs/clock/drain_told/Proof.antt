@@ -7,10 +7,10 @@ use Rattle.card.proofs.clock.drain_told.Statement.{statement}
 use Rattle.card.proofs.clock.drain_told.Tie as tie
 use Rattle.card.proofs.clock.drain_told.Reads as reads
 use Rattle.card.proofs.clock.drain_told.Lts as lts
-use Rattle.card.proofs.clock.bit.Reads as bit-reads
+use Rattle.card.proofs.bit.Reads as bit-reads
 use Rattle.card.proofs.clock.is_marked.Reads as is-marked-reads
 use Rattle.card.proofs.clock.none_turned.Reads as none-turned-reads
-use Rattle.card.proofs.clock.tell_drain.Reads as tell-drain-reads
+use Rattle.card.proofs.tell_drain.Reads as tell-drain-reads
 use Rattle.lent_steps.proofs.drain_read.Reads as drain-read-reads
 
 none-turned-requires : tie.Need-none-turned-requires

@@ -1,10 +1,10 @@
--- `card::clock::tell_drain` meets its contract. Assumes nothing.
+-- `card::tell_drain` meets its contract. Assumes nothing.
 use borrow.Author.Needs.{needs}
-use Rattle.card.proofs.clock.tell_drain.Statement.{statement}
-use Rattle.card.proofs.clock.tell_drain.Tie as tie
-use Rattle.card.proofs.clock.tell_drain.Reads as reads
-use Rattle.card.proofs.clock.tell_drain.Lts as lts
-use Rattle.card.proofs.clock.bit.Reads as bit-reads
+use Rattle.card.proofs.tell_drain.Statement.{statement}
+use Rattle.card.proofs.tell_drain.Tie as tie
+use Rattle.card.proofs.tell_drain.Reads as reads
+use Rattle.card.proofs.tell_drain.Lts as lts
+use Rattle.card.proofs.bit.Reads as bit-reads
 
 slice-write-out : tie.Need-slice-write-out
 slice-write-out c = search needs

@@ -1,9 +1,9 @@
--- `card::clock::request_of` meets its contract. Assumes nothing.
+-- `card::request_of` meets its contract. Assumes nothing.
 use Rattle.card.proofs.Clocked.{request-idle, request-pop, request-push, request-replace}
-use Rattle.card.proofs.clock.request_of.Statement.{statement}
-use Rattle.card.proofs.clock.request_of.Tie as tie
-use Rattle.card.proofs.clock.request_of.Reads as reads
-use Rattle.card.proofs.clock.request_of.Lts as lts
+use Rattle.card.proofs.request_of.Statement.{statement}
+use Rattle.card.proofs.request_of.Tie as tie
+use Rattle.card.proofs.request_of.Reads as reads
+use Rattle.card.proofs.request_of.Lts as lts
 
 returns : tie.Need-returns
 returns c = request-push _ _ _ _ (c .if1 .taken)

@@ -1,0 +1,211 @@
+-- What every cycle keeps: the shape, records that name what is there, neat words, and a sound tree. A cycle on such a machine is what its ruling says: it meets no
+-- damage, holds what was brought in less what was given out, and gives the least.
+use Prim.Native.Nat.{_*_, _+_, _^_, _<_, _≤_, suc, zero, ℕ}
+use native.Mathlib.Nat.{mul-le-mul-right, not-suc-le-zero}
+use native.Mathlib.Omega.{arith}
+use mathlib.Core.Bool.{Bool, false, not, true}
+use mathlib.Core.List.{List}
+use mathlib.Core.Logic.{inl}
+use mathlib.Core.Path.{_∙_, _≡_, ap, refl, subst, sym}
+use lib.Dec.{eqb}
+use lib.ListN.{length, length-set, set}
+use lib.Seq.{getD-set-same}
+use borrow.Author.Tests.{eqb-false, eqb-true, ltb-true}
+use Rattle.clocked_model.specs.Calls.{asks}
+use Rattle.cluster_clock_model.proofs.Fine.{fit-count, node-fine, reach-all, some-fine, stages-fine}
+use Rattle.cluster_clock_model.proofs.Flight.{cycle, cycles, Inv, lowOf, noteBelow, Tree, tree-least, within}
+use Rattle.cluster_clock_model.proofs.Seen.{begins-length, commutes, handed-in, InRange, level-length, node-apart, noteSeen, pass-length, pass-others, pass-records, Ranged, ranged-set, settled-length, Spans, treeIn, filled-length}
+use Rattle.cluster_clock_model.specs.declared.Stage.{Stage}
+use Rattle.cluster_clock_model.specs.Calls.{askedOk, turned, TurnOutcome, turnRun}
+use Rattle.cluster_clock_model.specs.Promise.{Machine, machine}
+use Rattle.cluster_clock_model.specs.Stage.{begins, below, childOf, filled, handed, levelStage, levelWords, loaded, noStage, noteOf, pass, settled, stageAt, waits, work, Work, worked}
+use Rattle.cluster_clock_model.specs.Test.{saneAt, stagesOk}
+use Rattle.cluster_model.specs.Calls.{heldIn, rootHeld, ruleAt}
+use Rattle.cluster_model.specs.Heap.{room}
+use Rattle.cluster_model.specs.Node.{fill, inside, lhs, lowElem, Node, Note, nothing, onto, Op, rhs, trial}
+use Rattle.cluster_model.specs.Promise.{nodes, Shape}
+use Rattle.cluster_model.specs.Way.{extent, nodeIn, some, spotOf, touch, works}
+use Rattle.cluster_model.specs.Words.{Neat, width}
+use Rattle.cluster_model.proofs.Damages.{is-shape}
+use Rattle.cluster_model.proofs.Neat.{neat-row}
+use Rattle.cluster_model.proofs.NeatLevels.{touch-written}
+use Rattle.cluster_model.proofs.Pass.{touch-only}
+use Rattle.cluster_model.proofs.Serve.{Ruled, ruled-by}
+use Rattle.cluster_model.proofs.Slice.{node-total, slice}
+use Rattle.laws.specs.Tests.{or-right}
+use Rattle.promise.specs.Served.{always, brought, given, Least, lower}
+use Rattle.strip.specs.Answers.{key}
+use Rattle.strip.specs.declared.Element.{Element}
+use Rattle.strip.specs.declared.Request.{Request}
+
+-- ---- neat words stay neat
+module _ (K : ℕ) where
+  abbrev pub AllNeat : ℕ → List ℕ → Type 0
+  AllNeat N ws = (m : ℕ) → m < N → Neat K ws (spotOf K m)
+
+  module _ (N : ℕ) where
+    lies : (m len : ℕ) → m < N → N * width K ≤ len → spotOf K m + width K ≤ len
+    lies m len h g = omega (arith, mul-le-mul-right (width K) h)
+
+    touch-neat : (t : Bool) (ws : List ℕ) (p : ℕ) (x : Node) → length (x .places) ≡ K → N * width K ≤ length ws → AllNeat N ws → AllNeat N (touch t ws (spotOf K p) x)
+    touch-neat t ws p x e g n m h = go (eqb m p) refl
+      where
+        go : (b : Bool) → eqb m p ≡ b → Neat K (touch t ws (spotOf K p) x) (spotOf K m)
+        go true q =
+            let same : m ≡ p = eqb-true m p q in
+            subst (λ (p : ℕ). Neat K (touch t ws (spotOf K p) x) (spotOf K m)) same (touch-written K t ws (spotOf K m) x e (lies m (length ws) h g) (n m h))
+        go false q =
+            neat-row K ws (touch t ws (spotOf K p) x) (spotOf K m + 2) (λ i l r. touch-only K t ws (spotOf K p) x e i (node-apart (width K) m p i (eqb-false m p q) (omega arith) (omega arith))) (n m h)
+
+    level-neat : (a : ℕ) (w : Work) (q : Stage) (ws : List ℕ) → N * width K ≤ length ws → AllNeat N ws → AllNeat N (levelWords K a w q ws)
+    unfolding levelWords worked filled
+    level-neat a w q ws g n =
+        touch-neat (works (w .op)) (filled K a q ws) (a + w .node) (begins K a w ws (filled K a q ws) .node) (begins-length K a w ws (filled K a q ws)) (subst (λ (l : ℕ). N * width K ≤ l) (sym (filled-length K a q ws)) g)
+        (touch-neat (waits (q .due)) ws (a + q .node) (settled K (noteOf (q .due)) (a + q .node) ws .node) (settled-length K (noteOf (q .due)) (a + q .node) ws) g n)
+
+    pub pass-neat : (k a : ℕ) (w : Work) (i : ℕ) (rs : List Stage) (ws : List ℕ) → N * width K ≤ length ws → AllNeat N ws → AllNeat N (pass K k a w i rs ws .words)
+    unfolding pass worked
+    pass-neat zero a w i rs ws g n = touch-neat (works (w .op)) ws (a + w .node) (begins K a w ws ws .node) (begins-length K a w ws ws) g n
+    pass-neat (suc k) a w i rs ws g n =
+        let q : Stage = stageAt rs i in
+        pass-neat k (below a) (handed K (q .due) (q .node) a ws) (suc i) (set rs i (levelStage K a w q ws)) (levelWords K a w q ws) (subst (λ (l : ℕ). N * width K ≤ l) (sym (level-length K a w q ws)) g)
+        (level-neat a w q ws g n)
+
+  -- ---- records stay within their levels
+  loaded-in : (c : Note) (n a : ℕ) → n < a + 1 → InRange (loaded c n .due) (loaded c n .node) a
+  unfolding loaded
+  loaded-in nothing n a h = tt
+  loaded-in (fill j) n a h = h
+  loaded-in (trial j x) n a h = h
+  loaded-in (onto lhs y) n a h = omega arith
+  loaded-in (onto rhs y) n a h = omega arith
+
+  pub pass-ranged : (k a : ℕ) (w : Work) (i : ℕ) (rs : List Stage) (ws : List ℕ) → w .node < a + 1 → i + k ≤ length rs → Ranged k a i rs → Ranged k a i (pass K k a w i rs ws .records)
+  unfolding pass levelStage
+  pass-ranged zero a w i rs ws h l r = tt
+  pass-ranged (suc k) a w i rs ws h l r =
+      let q : Stage = stageAt rs i in
+      let c : Note = begins K a w ws (filled K a q ws) .note in
+      let v : Stage = levelStage K a w q ws in
+      let g : Work = handed K (q .due) (q .node) a ws in
+      let rs₁ : List Stage = set rs i v in
+      let ws₁ : List ℕ = levelWords K a w q ws in
+      let at : stageAt (pass K k (below a) g (suc i) rs₁ ws₁ .records) i ≡ v = pass-others K k (below a) g (suc i) rs₁ ws₁ i (inl (omega arith)) ∙ getD-set-same rs i v noStage (omega arith) in (
+        subst (λ (x : Stage). InRange (x .due) (x .node) a) (sym at) (loaded-in c (w .node) a h),
+        pass-ranged k (below a) g (suc i) rs₁ ws₁ (handed-in K (q .due) (q .node) a ws (r .0)) (omega (arith, length-set rs i v)) (ranged-set K k (below a) i rs v (r .1)),
+      )
+
+-- ---- what is kept
+pub record Kept (K k : ℕ) (x : Machine) : Type 0 where
+  pub shape : Shape K (suc k) (length (x .words))
+  pub count : k ≤ length (x .records)
+  pub ranged : Ranged k 0 0 (x .records)
+  pub neat : AllNeat K (nodes (suc k)) (x .words)
+  pub sound : Inv K (suc k) (treeIn K (suc k) 0 0 (x .records) (x .words) 0)
+
+some-node : (k : ℕ) → 0 < nodes (suc k)
+unfolding nodes
+some-node k = omega arith
+
+-- all nodes lie within the words
+pub nodes-fit : (K k len : ℕ) → extent K (suc k) 1 ≤ len → nodes (suc k) * width K ≤ len
+nodes-fit K k len h = go (width K) (nodes (suc k)) (2 ^ suc k) (extent K (suc k) 1) (node-total (suc k)) (slice K (suc k)) h
+  where
+    go : (d n p e : ℕ) → n + 1 ≡ p → e + d ≡ p * d → e ≤ len → n * d ≤ len
+    go d n p e q r h = omega (arith, rw (sym q) at r)
+
+module _ (K k : ℕ) (x : Machine) (kept : Kept K k x) where
+  abbrev rs : List Stage
+  rs = x .records
+
+  abbrev ws : List ℕ
+  ws = x .words
+
+  abbrev pub flightOf : Tree (suc k)
+  flightOf = treeIn K (suc k) 0 0 rs ws 0
+
+  abbrev inFlight : (Element → Bool) → ℕ
+  inFlight f = within f (suc k) flightOf
+
+  two : 1 < K
+  two = kept .shape .two
+
+  fits : Spans K k 0 ≤ length ws
+  fits = omega (arith, kept .shape .slice)
+
+  -- held, from the root alone
+  pub kept-held : heldIn K (suc k) ws ≡ inFlight always
+  unfolding treeIn within rootHeld
+  kept-held =
+      fit-count K (room K k) (noteBelow k (noteSeen (stageAt rs 0 .due) (stageAt rs 0 .node) 0)) (nodeIn K ws (0 + 0)) (λ f. within f k (treeIn K k (below 0) 1 rs ws (childOf 0 lhs))) (λ f. within f k (treeIn K k (below 0) 1 rs ws (childOf 0 rhs))) (kept .sound .0)
+
+  root-least : 0 < heldIn K (suc k) ws → inFlight (lower (lowElem (nodeIn K ws 0 .places) .rank .0)) ≡ 0
+  unfolding key lowOf treeIn
+  root-least p = tree-least K (suc k) flightOf two (kept .sound) (omega (arith, kept-held)) .least
+
+  -- where anything is held the root has an element
+  pub root-some : 0 < heldIn K (suc k) ws → 0 < inside always (nodeIn K ws 0 .places)
+  unfolding some
+  root-some h = ltb-true 0 (inside always (nodeIn K ws 0 .places)) (some-fine K two rs ws (nodes (suc k)) (kept .neat) k 0 0 0 (kept .sound) (omega (arith, kept-held)))
+
+  ruled : (r : Request) → Ruled (room K (suc k)) inFlight (heldIn K (suc k) ws) (lowElem (nodeIn K ws 0 .places)) kept-held root-least r (ruleAt K (suc k) r ws)
+  ruled r = ruled-by (room K (suc k)) inFlight (heldIn K (suc k) ws) (lowElem (nodeIn K ws 0 .places)) kept-held root-least r
+
+  root-sound : (n : ℕ) → n < 0 + 1 → Inv K (suc k) (treeIn K (suc k) 0 0 rs ws n)
+  root-sound zero h = kept .sound
+  root-sound (suc n) h = absurd (not-suc-le-zero {n = 0} (omega arith))
+
+  -- ---- no test fails
+  pub kept-root : saneAt K (room K k) ws 0 ≡ true
+  kept-root = node-fine K two rs ws (nodes (suc k)) (kept .neat) k 0 0 0 (some-node k) (kept .sound)
+
+  pub kept-asked : (r : Request) → askedOk K (suc k) r ws ≡ true
+  kept-asked r = or-right (not (asks r)) _ kept-root
+
+  pub kept-stages : stagesOk K k 0 0 rs ws ≡ true
+  kept-stages = stages-fine K two rs ws (nodes (suc k)) (kept .neat) k 0 0 (omega (arith, reach-all k)) root-sound (kept .ranged)
+
+  -- ---- a cycle on a kept machine is what its ruling says
+  pub kept-turned : (r : Request) → turned K (suc k) r rs ws ≡ turnRun K (suc k) (ruleAt K (suc k) r ws) rs ws
+  unfolding turned
+  kept-turned r = rw (is-shape K (suc k) (length ws) (kept .shape), kept-asked r, kept-stages) refl
+
+  abbrev op : Request → Op
+  op r = ruleAt K (suc k) r ws .op
+
+  abbrev pub turnedTo : Request → Machine
+  turnedTo r = machine (turned K (suc k) r rs ws .records) (turned K (suc k) r rs ws .words)
+
+  -- the tree goes by a cycle
+  pub kept-flight : (r : Request) → treeIn K (suc k) 0 0 (turned K (suc k) r rs ws .records) (turned K (suc k) r rs ws .words) 0 ≡ cycle (suc k) (op r) flightOf
+  unfolding turnRun
+  kept-flight r =
+      ap (λ (o : TurnOutcome). treeIn K (suc k) 0 0 (o .records) (o .words) 0) (kept-turned r)
+      ∙ commutes K k 0 (work (op r) 0) 0 rs ws 0 (omega arith) (omega arith) (kept .ranged) fits (omega (arith, kept .count))
+
+  pub kept-answer : (r : Request) → turned K (suc k) r rs ws .answer ≡ ruleAt K (suc k) r ws .answer
+  unfolding turnRun
+  kept-answer r = ap (λ (o : TurnOutcome). o .answer) (kept-turned r)
+
+  pub kept-next : (r : Request) → Kept K k (turnedTo r)
+  unfolding turnRun
+  kept-next r =
+      let o : Work = work (op r) 0 in
+      let w : turned K (suc k) r rs ws .words ≡ pass K k 0 o 0 rs ws .words = ap (λ (o : TurnOutcome). o .words) (kept-turned r) in
+      let s : turned K (suc k) r rs ws .records ≡ pass K k 0 o 0 rs ws .records = ap (λ (o : TurnOutcome). o .records) (kept-turned r) in
+      record {
+        shape = subst (λ (n : ℕ). Shape K (suc k) n) (sym (ap length w ∙ pass-length K k 0 o 0 rs ws)) (kept .shape);
+        count = subst (λ (n : ℕ). k ≤ n) (sym (ap length s ∙ pass-records K k 0 o 0 rs ws)) (kept .count);
+        ranged = subst (λ (v : List Stage). Ranged k 0 0 v) (sym s) (pass-ranged K k 0 o 0 rs ws (omega arith) (omega (arith, kept .count)) (kept .ranged));
+        neat = subst (λ (v : List ℕ). AllNeat K (nodes (suc k)) v) (sym w) (pass-neat K (nodes (suc k)) k 0 o 0 rs ws (nodes-fit K k (length ws) (kept .shape .slice)) (kept .neat));
+        sound = subst (Inv K (suc k)) (sym (kept-flight r)) (cycles K two (suc k) (op r) flightOf (kept .sound) (ruled r .can) .sound);
+      }
+
+  pub kept-sum : (r : Request) (f : Element → Bool)
+      → within f (suc k) (treeIn K (suc k) 0 0 (turned K (suc k) r rs ws .records) (turned K (suc k) r rs ws .words) 0) + given r (turned K (suc k) r rs ws .answer) f
+      ≡ inFlight f + brought r (turned K (suc k) r rs ws .answer) f
+  unfolding lowOf treeIn
+  kept-sum r f = rw (kept-flight r, kept-answer r) (omega (arith, cycles K two (suc k) (op r) flightOf (kept .sound) (ruled r .can) .sum f, ruled r .sum f))
+
+  pub kept-least : (r : Request) → Least inFlight r (turned K (suc k) r rs ws .answer)
+  kept-least r = rw (kept-answer r) (ruled r .least)

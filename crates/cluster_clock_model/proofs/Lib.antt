@@ -1,0 +1,12 @@
+pub mod Cases
+pub mod Flight
+pub mod Seen
+pub mod Fine
+pub mod Kept
+pub mod Rest
+pub mod Exactly
+pub mod Drain
+pub mod Lost
+pub mod Promises
+pub mod OneStep
+pub mod Unread

@@ -1,0 +1,5 @@
+pub mod Stage
+pub mod Test
+pub mod Calls
+pub mod Promise
+pub mod Cases

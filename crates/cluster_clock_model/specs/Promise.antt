@@ -1,0 +1,220 @@
+-- What is promised of the clocked cluster heap is said in these words: the machine over a list of cycles, the causes of refusal, each level's one step, and what
+-- is held in the middle of any work.
+use Prim.Native.Nat.{_*_, _+_, _<_, _≤_, pred, suc, zero, ℕ}
+use mathlib.Core.Bool.{Bool, cond, false, not, true}
+use mathlib.Core.List.{List}
+use mathlib.Core.Logic.{_⊎_}
+use mathlib.Core.Path.{_≡_}
+use lib.Dec.{ltb}
+use lib.ListN.{length, replicate}
+use Rattle.clocked_model.specs.Lost.{Call, cycle, drain}
+use Rattle.clocked_model.specs.Promise.{Asks, isBadShape, runsIdle}
+use Rattle.cluster_clock_model.specs.declared.Due.{Due}
+use Rattle.cluster_clock_model.specs.declared.Due.the-variants.{Fill, Nothing, Put, Swap}
+use Rattle.cluster_clock_model.specs.declared.Stage.{Stage}
+use Rattle.cluster_clock_model.specs.Calls.{clockCleared, clockHeld, drainOutcome, DrainOutcome, drains, fresh, pending, turned, turnOutcome, TurnOutcome}
+use Rattle.cluster_clock_model.specs.Stage.{below, handed, levelStage, levelWords, noStage, stageAt, work, Work}
+use Rattle.cluster_model.specs.Calls.{heldIn, ruleAt}
+use Rattle.cluster_model.specs.Heap.{room}
+use Rattle.cluster_model.specs.Node.{gap, lhs, placeAt, rhs}
+use Rattle.cluster_model.specs.Promise.{Agree, AnyTo, marked, PlaceDamaged, Shape, start, stored, Stuck}
+use Rattle.cluster_model.specs.Way.{child, extent, nodeIn}
+use Rattle.cluster_model.specs.Words.{word}
+use Rattle.laws.specs.Ladder.{fine, Ladder, rung, stop}
+use Rattle.laws.specs.Sums.{sumTo}
+use Rattle.promise.specs.Queue.{answers, leaves, Pins, step, Step}
+use Rattle.promise.specs.Refused.{limits, Untagged}
+use Rattle.promise.specs.Served.{hit}
+use Rattle.strip.specs.declared.Answer.{Answer}
+use Rattle.strip.specs.declared.Answer.the-variants.{Refused}
+use Rattle.strip.specs.declared.Element.{Element}
+use Rattle.strip.specs.declared.Refusal.{Refusal}
+use Rattle.strip.specs.declared.Refusal.the-variants.{BadShape, Damaged, NoTag}
+use Rattle.strip.specs.declared.Request.{Request}
+use Rattle.strip.specs.declared.Request.the-variants.{Idle, Pop, Push, Replace}
+
+-- ---- the clocked heap as a queue: a list of cycles, each handed the words and the records that the one before left
+pub record Machine : Type 0 where
+  pub records : List Stage
+  pub words : List ℕ
+
+abbrev pub machine : List Stage → List ℕ → Machine
+machine rs ws = record { records = rs; words = ws }
+
+module _ (K levels : ℕ) where
+  abbrev pub turnQueue : Request → Machine → Step Answer Machine
+  turnQueue r x =
+      let o = turned K levels r (x .records) (x .words) in
+      step (o .answer) (machine (o .records) (o .words))
+
+  -- so many idle cycles
+  abbrev pub idles : ℕ → Machine → Machine
+  idles n x = leaves turnQueue (replicate n Idle) x
+
+  -- any list of cycles from the cleared machine: what is left, and what it is answered
+  abbrev pub clearedMachine : List ℕ → Machine
+  clearedMachine ws = machine fresh (start K levels ws)
+
+  abbrev pub ran : List Request → List ℕ → Machine
+  ran rs ws = leaves turnQueue rs (clearedMachine ws)
+
+  abbrev pub turnAnswers : List Request → List ℕ → List Answer
+  turnAnswers rs ws = answers turnQueue rs (clearedMachine ws)
+
+  -- nothing is pending
+  abbrev pub AtRest : Machine → Type 0
+  AtRest x = pending K levels (x .records) ≡ false
+
+-- ---- causes: column "Exactly when" of the table of refusals
+module _ (K : ℕ) where
+  -- C2: a damaged place; a count above what a child has room for; something below, and more than one place not marked
+  abbrev pub NodeTorn : ℕ → List ℕ → ℕ → Type 0
+  NodeTorn limit ws m =
+      AnyTo K (λ j. PlaceDamaged ws (m * (2 + K * 4) + 2 + j * 4))
+      ⊎ ((limit < nodeIn K ws m .left) ⊎ ((limit < nodeIn K ws m .right) ⊎ ((0 < nodeIn K ws m .left + nodeIn K ws m .right) × (marked (nodeIn K ws m) + 1 < K))))
+
+  -- C5: a child of this count that is read for its lowest: only where the count is not 0. It must have an element
+  abbrev pub ChildTorn : ℕ → ℕ → List ℕ → ℕ → Type 0
+  ChildTorn count limit ws m = (0 < count) × (NodeTorn limit ws m ⊎ (marked (nodeIn K ws m) ≡ 0))
+
+  -- a node that waits: the node, nothing below it (C3), its children. These have k levels below them
+  abbrev pub WaitTorn : ℕ → ℕ → List ℕ → Type 0
+  WaitTorn k m ws =
+      NodeTorn (room K (suc k)) ws m
+      ⊎ ((nodeIn K ws m .left + nodeIn K ws m .right ≡ 0)
+      ⊎ (ChildTorn (nodeIn K ws m .left) (room K k) ws (child m lhs) ⊎ ChildTorn (nodeIn K ws m .right) (room K k) ws (child m rhs)))
+
+  -- a record below the level whose first node is number a: C1, a node that its level lacks, or a place that is not below K; C3, a fill's place is marked, a
+  -- swap's is not; C4, a put finds no room; and what it reads
+  abbrev pub StageTorn : ℕ → Due → ℕ → ℕ → List ℕ → Type 0
+  StageTorn k Nothing n a ws = ⊥
+  StageTorn k (Put y) n a ws = (2 * (a + 1) ≤ n) ⊎ (NodeTorn (room K k) ws (below a + n) ⊎ Stuck K (room K k) (nodeIn K ws (below a + n)))
+  StageTorn k (Fill j) n a ws = (a + 1 ≤ n) ⊎ ((K ≤ j) ⊎ ((placeAt (nodeIn K ws (a + n) .places) j ≡ gap → ⊥) ⊎ WaitTorn k (a + n) ws))
+  StageTorn k (Swap j x) n a ws = (a + 1 ≤ n) ⊎ ((K ≤ j) ⊎ ((placeAt (nodeIn K ws (a + n) .places) j ≡ gap) ⊎ WaitTorn k (a + n) ws))
+
+  -- some record is
+  abbrev pub StagesTorn : (k : ℕ) → ℕ → ℕ → List Stage → List ℕ → Type 0
+  StagesTorn zero a i rs ws = ⊥
+  StagesTorn (suc k) a i rs ws = StageTorn k (stageAt rs i .due) (stageAt rs i .node) a ws ⊎ StagesTorn k (below a) (suc i) rs ws
+
+  -- cause 2 of a cycle: the root of an operation asked for, or what a record names and reads
+  abbrev pub TurnDamage : ℕ → Request → List Stage → List ℕ → Type 0
+  TurnDamage levels r rs ws = (Asks r × NodeTorn (room K (pred levels)) ws 0) ⊎ StagesTorn (pred levels) 0 0 rs ws
+
+-- the table, in order: 1, 2, 7, then 5 or 6. There is no 3
+abbrev pub turnRefusals : ℕ → ℕ → Request → List Stage → List ℕ → Ladder Refusal
+turnRefusals K levels r rs ws =
+    rung BadShape (Shape K levels (length ws))
+    (stop Damaged (TurnDamage K levels r rs ws)
+    (stop NoTag (Untagged r)
+    (limits r (heldIn K levels ws) (room K levels) fine)))
+
+-- column "Left behind": after 1 and 2 everything, records too; after the others the "cycle runs as idle"
+abbrev pub turnLeft : ℕ → ℕ → List Stage → List ℕ → Refusal → TurnOutcome
+turnLeft K levels rs ws n =
+    let x = cond {A = Machine} (runsIdle n) (idles K levels 1 (machine rs ws)) (machine rs ws) in
+    turnOutcome (Refused n) (x .words) (x .records)
+
+-- .. of held, which reads the root alone
+abbrev pub heldRefusals : ℕ → ℕ → List ℕ → Ladder Refusal
+heldRefusals K levels ws = rung BadShape (Shape K levels (length ws)) (stop Damaged (NodeTorn K (room K (pred levels)) ws 0) fine)
+
+-- a refused drain: within the budget and with work pending all along, so many idle cycles run and the next meets damage
+pub record Jams (K levels budget cycles : ℕ) (x : Machine) : Type 0 where
+  pub within : cycles < budget
+  pub waits : (j : ℕ) → j ≤ cycles → pending K levels (idles K levels j x .records) ≡ true
+  pub damage : TurnDamage K levels Idle (idles K levels cycles x .records) (idles K levels cycles x .words)
+
+abbrev pub drainRefusals : ℕ → ℕ → ℕ → List Stage → List ℕ → Ladder Refusal
+drainRefusals K levels budget rs ws = rung BadShape (Shape K levels (length ws)) (stop Damaged ((n : ℕ) × Jams K levels budget n (machine rs ws)) fine)
+
+-- "Drain stops at 2 and reports the cycles already run, work left; at 1 it reports 0 and no work left"
+abbrev pub drainLeft : ℕ → ℕ → ℕ → List Stage → List ℕ → Refusal → DrainOutcome
+drainLeft K levels cycles rs ws n =
+    let ran = cond (isBadShape n) 0 cycles in
+    drainOutcome (Refused n) ran (not (isBadShape n)) (idles K levels ran (machine rs ws) .words) (idles K levels ran (machine rs ws) .records)
+
+-- ---- one step: what a cycle with no damage does to each level and its record, by what stood at its start. The topmost level is 0
+-- the number of the first node of level i
+unfoldable pub firstNode : ℕ → ℕ
+firstNode zero = 0
+firstNode (suc i) = below (firstNode i)
+
+module _ (K levels : ℕ) where
+  -- the record below level i; the last level has none
+  abbrev pub stageBelow : List Stage → ℕ → Stage
+  stageBelow rs i = cond (ltb (suc i) levels) (stageAt rs i) noStage
+
+  -- the work of level i: the root's is what the request comes to, another's what the record above it hands down
+  unfoldable pub workOf : Request → List Stage → List ℕ → ℕ → Work
+  workOf r rs ws zero = work (ruleAt K levels r ws .op) 0
+  workOf r rs ws (suc i) = handed K (stageAt rs i .due) (stageAt rs i .node) (firstNode i) ws
+
+  pub record OneStep (r : Request) (rs : List Stage) (ws : List ℕ) : Type 0 where
+    -- "registered reads, writes to the own level only": node n of level i is what the level's own step makes of it, on the words as they stood at the cycle's
+    -- start
+    pub each : (i n : ℕ) → i < levels → n < firstNode i + 1
+        → nodeIn K (turned K levels r rs ws .words) (firstNode i + n)
+        ≡ nodeIn K (levelWords K (firstNode i) (workOf r rs ws i) (stageBelow rs i) ws) (firstNode i + n)
+    -- .. a step that changes no word of another level
+    pub own : (i : ℕ) → i < levels → (p : ℕ) → (p < firstNode i * (2 + K * 4)) ⊎ (firstNode (suc i) * (2 + K * 4) ≤ p)
+        → word (levelWords K (firstNode i) (workOf r rs ws i) (stageBelow rs i) ws) p ≡ word ws p
+    -- no word past the shape's changes
+    pub past : (p : ℕ) → extent K levels 1 ≤ p → word (turned K levels r rs ws .words) p ≡ word ws p
+    -- each record is what the level above leaves for it, else nothing: it lives for one cycle
+    pub loads : (i : ℕ) → suc i < levels → stageAt (turned K levels r rs ws .records) i ≡ levelStage K (firstNode i) (workOf r rs ws i) (stageAt rs i) ws
+    -- records past the last level are left alone
+    pub spare : (j : ℕ) → pred levels ≤ j → stageAt (turned K levels r rs ws .records) j ≡ stageAt rs j
+
+-- ---- "Nothing lost in flight" (02 [14]), for this heap
+-- what pending puts carry. A fill's place is a gap, and a swap's element stands in its place: nothing stands twice, and nothing is struck out
+abbrev pub carries : Due → (Element → Bool) → ℕ
+carries Nothing f = 0
+carries (Put y) f = hit (f y)
+carries (Fill j) f = 0
+carries (Swap j x) f = 0
+
+module _ (K levels : ℕ) where
+  -- "take the elements in all slots": the places
+  abbrev pub inPlaces : Machine → (Element → Bool) → ℕ
+  inPlaces x f = stored K levels (x .words) f
+
+  -- "add those carried by pending puts"
+  unfoldable pub carriedBy : Machine → (Element → Bool) → ℕ
+  carriedBy x f = sumTo (pred levels) (λ i. carries (stageAt (x .records) i .due) f)
+
+  -- "What remains"
+  abbrev pub remaining : Machine → (Element → Bool) → ℕ
+  remaining x f = inPlaces x f + carriedBy x f
+
+  -- the calls between two clearings: a cycle with any request, a drain with any budget
+  abbrev pub machineQueue : Call → Machine → Step Answer Machine
+  machineQueue (cycle r) x = turnQueue K levels r x
+  machineQueue (drain b) x =
+      let d = drains K levels b (x .records) (x .words) in
+      step (d .answer) (machine (d .records) (d .words))
+
+  abbrev pub ranCalls : List Call → List ℕ → Machine
+  ranCalls cs ws = leaves machineQueue cs (clearedMachine K levels ws)
+
+  abbrev pub callAnswers : List Call → List ℕ → List Answer
+  callAnswers cs ws = answers machineQueue cs (clearedMachine K levels ws)
+
+-- ---- what is never read. Two machines are alike where they agree on the words of the shape and on the records of its levels, but for the node of a record of
+-- nothing: words behind and records past the last level may differ
+abbrev pub SameStage : Stage → Stage → Type 0
+SameStage p q = (p .due ≡ q .due) × ((p .due ≡ Nothing → ⊥) → p .node ≡ q .node)
+
+pub record Alike (K levels : ℕ) (x y : Machine) : Type 0 where
+  pub words : Agree (extent K levels 1) (x .words) (y .words)
+  pub stages : (i : ℕ) → i < pred levels → SameStage (stageAt (x .records) i) (stageAt (y .records) i)
+
+-- ---- each public call's outcome is one
+pub record Pinned (K levels : ℕ) (rs : List Stage) (ws : List ℕ) : Type 0 where
+  pub cycle : (r : Request) → Pins (turned K levels r rs ws)
+  pub push : (x : Element) → Pins (turned K levels (Push x) rs ws)
+  pub pop : Pins (turned K levels Pop rs ws)
+  pub replace : (x : Element) → Pins (turned K levels (Replace x) rs ws)
+  pub drain : (budget : ℕ) → Pins (drains K levels budget rs ws)
+  pub clear : Pins (clockCleared K levels rs ws)
+  pub held : Pins (clockHeld K levels ws)

@@ -1,0 +1,4 @@
+-- What the proofs share.
+pub mod Plain
+pub mod History
+pub mod Faces

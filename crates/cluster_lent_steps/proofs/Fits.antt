@@ -1,0 +1,255 @@
+-- A record that is written lies within the slice, and its node and its place fit their words. Assumes nothing.
+use Prim.Native.Nat.{_+_, _-_, _<_, _≤_, pred, suc, zero, ℕ}
+use native.Mathlib.Nat.{eq-or-lt-of-le}
+use native.Mathlib.Omega.{arith}
+use mathlib.Core.Bool.{_&&_, Bool, cond, false, false≢true, true}
+use mathlib.Core.List.{[], _∷_, List}
+use mathlib.Core.Logic.{inl, ⊎-elim}
+use mathlib.Core.Path.{_∙_, _≡_, ap, refl, subst, sym}
+use lib.Dec.{ltb}
+use lib.ListN.{getD-replicate, length, length-set, replicate, set}
+use lib.Seq.{getD-set-same}
+use borrow.Author.Tests.{ltb-true}
+use Rattle.clocked_model.proofs.Exactly.{zero-ran}
+use Rattle.clocked_model.specs.Promise.{hasRun}
+use Rattle.cluster_clock_model.proofs.Drain.{drain-ran, drain-state}
+use Rattle.cluster_clock_model.proofs.Exactly.{sound, turned-either}
+use Rattle.cluster_clock_model.proofs.OneStep.{stages-ranged}
+use Rattle.cluster_clock_model.proofs.Rest.{few-levels}
+use Rattle.cluster_clock_model.proofs.Seen.{handed-in, pass-others, pass-records, Ranged, ranged-set}
+use Rattle.cluster_clock_model.specs.Calls.{askedOk, clockCleared, drainOutcome, DrainOutcome, drains, fresh, stageCount, turned, turnOutcome, TurnOutcome, turnRun}
+use Rattle.cluster_clock_model.specs.Promise.{idles, machine, Machine, turnQueue}
+use Rattle.cluster_clock_model.specs.Stage.{begins, below, filled, handed, levelStage, levelWords, loaded, noStage, pass, stageAt, work, Work}
+use Rattle.cluster_clock_model.specs.Test.{stagesOk}
+use Rattle.cluster_clock_model.specs.declared.Stage.{Stage}
+use Rattle.cluster_lent_steps.proofs.Records.{lends-few, lends-within}
+use Rattle.cluster_lent_steps.specs.Lent.{recordOf}
+use Rattle.cluster_lent_steps.specs.Steps.{clearFrom, cycleFrom, drainsFrom, lends, Ready, turnedCycle, turnedDrain, wordLimit, Written}
+use Rattle.cluster_lent_steps.specs.declared.ClusterRead.{ClusterRead}
+use Rattle.cluster_lent_steps.specs.declared.ClusterTurned.{ClusterTurned}
+use Rattle.cluster_model.proofs.Damages.{shape-is}
+use Rattle.cluster_model.proofs.Pass.{node-count}
+use Rattle.cluster_model.specs.Calls.{ruleAt, Ruling, shapeOk, wipe}
+use Rattle.cluster_model.specs.Node.{begin, fill, lhs, low, lowHere, Node, none, Note, nothing, nothingBelow, onto, Op, Place, put, putBy, rhs, seek, swap, swapBy, take, takeBy, trial}
+use Rattle.cluster_model.specs.Node as node
+use Rattle.cluster_model.specs.Way.{extent, nodeIn, spotOf}
+use Rattle.laws.specs.Tests.{and-right, sub-one}
+use Rattle.promise.specs.Queue.{leaves, leaves-keep}
+use Rattle.strip.specs.Answers.{numberOf}
+use Rattle.strip.specs.declared.Answer.the-variants.{Done, Refused}
+use Rattle.strip.specs.declared.Element.{Element}
+use Rattle.strip.specs.declared.Refusal.the-variants.{BadShape}
+use Rattle.strip.specs.declared.Request.{Request}
+use Rattle.strip.specs.declared.Request.the-variants.{Idle}
+
+-- ---- what an operation leaves at node n: a node that the next level has, and a place of the node
+pub seek-le : (t : Place → List Place → Bool) (ps : List Place) → seek t ps ≤ length ps
+unfolding seek
+seek-le t [] = omega arith
+seek-le t (p ∷ ps) = go (t p ps) (seek-le t ps)
+  where
+    go : (b : Bool) → seek t ps ≤ length ps → cond b 0 (suc (seek t ps)) ≤ suc (length ps)
+    go true h = omega arith
+    go false h = omega arith
+
+low-le : (ps : List Place) → low ps ≤ length ps
+unfolding low
+low-le ps = seek-le lowHere ps
+
+abbrev placeOf : Note → ℕ
+placeOf nothing = 0
+placeOf (fill j) = j
+placeOf (trial j x) = j
+placeOf (onto s y) = 0
+
+loaded-node : (c : Note) (n : ℕ) → recordOf (loaded c n) .node ≤ n + n + 1
+unfolding loaded
+loaded-node nothing n = omega arith
+loaded-node (fill j) n = omega arith
+loaded-node (trial j x) n = omega arith
+loaded-node (onto lhs y) n = omega arith
+loaded-node (onto rhs y) n = omega arith
+
+loaded-place : (c : Note) (n : ℕ) → recordOf (loaded c n) .place ≤ placeOf c
+unfolding loaded
+loaded-place nothing n = omega arith
+loaded-place (fill j) n = omega arith
+loaded-place (trial j x) n = omega arith
+loaded-place (onto lhs y) n = omega arith
+loaded-place (onto rhs y) n = omega arith
+
+put-place : (b : Bool) (y : Element) (x : Node) (i : ℕ) → placeOf (putBy b y x .note) ≤ i
+unfolding putBy
+put-place true y x i = omega arith
+put-place false y x i = omega arith
+
+take-place : (b : Bool) (x : Node) (i : ℕ) → placeOf (takeBy b i x .note) ≤ i
+unfolding takeBy
+take-place true x i = omega arith
+take-place false x i = omega arith
+
+swap-place : (b : Bool) (y : Element) (x : Node) (i : ℕ) → placeOf (swapBy b i y x .note) ≤ i
+unfolding swapBy
+swap-place true y x i = omega arith
+swap-place false y x i = omega arith
+
+begin-place : (o : Op) (i : ℕ) (x : Node) → placeOf (begin o i x .note) ≤ i
+unfolding begin
+begin-place none i x = omega arith
+begin-place (put y) i x = put-place (ltb (node.free (x .places)) (length (x .places))) y x i
+begin-place take i x = take-place (nothingBelow x) x i
+begin-place (swap y) i x = swap-place (nothingBelow x) y x i
+
+-- ---- the first node of the level k further down
+abbrev far : ℕ → ℕ → ℕ
+far zero a = a
+far (suc k) a = far k (below a)
+
+far-le : (k a : ℕ) → a ≤ far k a
+far-le zero a = omega arith
+far-le (suc k) a = omega (arith, far-le k (below a))
+
+far-deep : (k n a : ℕ) → k ≤ n → far k a ≤ far n a
+far-deep zero n a h = far-le n a
+far-deep (suc k) zero a h = absurd (omega arith)
+far-deep (suc k) (suc n) a h = far-deep k n (below a) (omega arith)
+
+-- no heap has more than 11 levels
+far-few : (k : ℕ) → k ≤ stageCount → far k 0 ≤ 1023
+far-few k h = far-deep k stageCount 0 h
+
+-- ---- a pass
+module _ (K : ℕ) (few : K ≤ 16) where
+  stage-written : (a : ℕ) (w : Work) (q : Stage) (ws : List ℕ) → w .node < a + 1 → a ≤ 1023 → Written (levelStage K a w q ws)
+  unfolding levelStage begins
+  stage-written a w q ws h s =
+      let m : ℕ = a + w .node in
+      let i : ℕ = low (nodeIn K ws (a + w .node) .places) in
+      let x : Node = nodeIn K (filled K a q ws) (a + w .node) in
+      let c : Note = begin (w .op) i x .note in
+      record {
+        node = omega (arith, h, s, loaded-node c (w .node));
+        place = omega (arith, few, loaded-place c (w .node), begin-place (w .op) i x, low-le (nodeIn K ws (a + w .node) .places), node-count K ws (spotOf K (a + w .node)));
+      }
+
+  pass-written : (k a : ℕ) (w : Work) (i : ℕ) (rs : List Stage) (ws : List ℕ) → w .node < a + 1 → Ranged k a i rs → far k a ≤ 1023 → i + k ≤ length rs
+      → (j : ℕ) → i ≤ j → j < i + k → Written (stageAt (pass K k a w i rs ws .records) j)
+  unfolding pass
+  pass-written zero a w i rs ws h r s l j b c = absurd (omega arith)
+  pass-written (suc k) a w i rs ws h r s l j b c =
+      let q : Stage = stageAt rs i in
+      let v : Stage = levelStage K a w q ws in
+      let g : Work = handed K (q .due) (q .node) a ws in
+      let rs₁ : List Stage = set rs i v in
+      let ws₁ : List ℕ = levelWords K a w q ws in
+      let at : stageAt (pass K k (below a) g (suc i) rs₁ ws₁ .records) i ≡ v = pass-others K k (below a) g (suc i) rs₁ ws₁ i (inl (omega arith)) ∙ getD-set-same rs i v noStage (omega arith) in
+      ⊎-elim
+      (λ (e : i ≡ j). subst (λ (j : ℕ). Written (stageAt (pass K k (below a) g (suc i) rs₁ ws₁ .records) j)) e
+      (subst Written (sym at) (stage-written a w q ws h (omega (arith, far-le k (below a))))))
+      (λ (m : i < j). pass-written k (below a) g (suc i) rs₁ ws₁ (handed-in K (q .due) (q .node) a ws (r .0)) (ranged-set K k (below a) i rs v (r .1)) s (omega (arith, l, length-set rs i v)) j m (omega arith))
+      (eq-or-lt-of-le b)
+
+-- ---- records that can be written, for so many levels
+record Fitting (levels : ℕ) (qs : List Stage) : Type 0 where
+  few : length qs ≡ stageCount
+  all : (j : ℕ) → j < pred levels → Written (stageAt qs j)
+
+module _ (K levels : ℕ) where
+  -- a cycle that has run leaves records that fit: none of its records named a node that its level lacks
+  run-fits : (g : Ruling) (rs : List Stage) (ws : List ℕ) → shapeOk K levels (length ws) ≡ true → stagesOk K (pred levels) 0 0 rs ws ≡ true → length rs ≡ stageCount
+      → Fitting levels (turnRun K levels g rs ws .records)
+  unfolding turnRun
+  run-fits g rs ws e h f =
+      let sh = shape-is K levels (length ws) e in
+      let less : pred levels ≤ stageCount = omega (arith, few-levels K levels (length ws) sh, sub-one levels) in
+      record {
+        few = pass-records K (pred levels) 0 (work (g .op) 0) 0 rs ws ∙ f;
+        all = λ j l. pass-written K (sh .sixteen) (pred levels) 0 (work (g .op) 0) 0 rs ws (omega arith) (stages-ranged K (pred levels) 0 0 rs ws h) (far-few (pred levels) less) (omega (arith, f, less)) j (omega arith) (omega (arith, l));
+      }
+
+  turned-fits : (r : Request) (rs : List Stage) (ws : List ℕ) → length rs ≡ stageCount → hasRun (turned K levels r rs ws .answer) ≡ true → Fitting levels (turned K levels r rs ws .records)
+  turned-fits r rs ws f =
+      turned-either K levels r rs ws (λ o. hasRun (o .answer) ≡ true → Fitting levels (o .records)) (λ e. absurd (false≢true e)) (λ e. absurd (false≢true e))
+      (λ e h _. run-fits (ruleAt K levels r ws) rs ws e (and-right (askedOk K levels r ws) (stagesOk K (pred levels) 0 0 rs ws) h) f)
+
+  -- .. and so does every cycle after it, run or not
+  fits-on : (r : Request) (rs : List Stage) (ws : List ℕ) → Fitting levels rs → Fitting levels (turned K levels r rs ws .records)
+  fits-on r rs ws f =
+      turned-either K levels r rs ws (λ o. Fitting levels (o .records)) f f
+      (λ e h. run-fits (ruleAt K levels r ws) rs ws e (and-right (askedOk K levels r ws) (stagesOk K (pred levels) 0 0 rs ws) h) (f .few))
+
+  idles-fits : (n : ℕ) (rs : List Stage) (ws : List ℕ) → length rs ≡ stageCount → numberOf (turned K levels Idle rs ws .answer) ≡ 0 → Fitting levels (idles K levels (suc n) (machine rs ws) .records)
+  unfolding leaves
+  idles-fits n rs ws f e =
+      leaves-keep (turnQueue K levels) (λ x. Fitting levels (x .records)) (λ r x. fits-on r (x .records) (x .words)) (replicate n Idle) (machine (turned K levels Idle rs ws .records) (turned K levels Idle rs ws .words))
+      (turned-fits Idle rs ws f (zero-ran (turned K levels Idle rs ws .answer) e))
+
+  drained-fits : (budget : ℕ) (rs : List Stage) (ws : List ℕ) → length rs ≡ stageCount → 0 < drains K levels budget rs ws .cycles → Fitting levels (drains K levels budget rs ws .records)
+  unfolding leaves
+  drained-fits budget rs ws f h = go (drains K levels budget rs ws .cycles) refl h
+    where
+      go : (n : ℕ) → drains K levels budget rs ws .cycles ≡ n → 0 < n → Fitting levels (drains K levels budget rs ws .records)
+      go zero e h = absurd (omega arith)
+      go (suc n) e h =
+          subst (Fitting levels) (sym (drain-state K levels budget rs ws .1 ∙ ap (λ (n : ℕ). idles K levels n (machine rs ws) .records) e))
+          (idles-fits n rs ws f (drain-ran K levels budget rs ws 0 (omega (arith, e))))
+
+-- a cleared machine's are zeros
+fresh-at : (i : ℕ) → i < stageCount → Written (stageAt fresh i)
+unfolding fresh
+fresh-at i h = subst Written (sym (getD-replicate stageCount i noStage noStage h)) (record { node = omega arith; place = omega arith })
+
+-- READY: where records are written, they lie within the slice, and fit their words
+module _ (K levels len : ℕ) (ws : List ℕ) where
+  pub none-ready : (t : ClusterTurned) → t .count ≡ 0 → Ready t len
+  none-ready t e = record { few = omega arith; within = omega arith; fits = λ i h. absurd (omega arith) }
+
+  some-ready : (t : ClusterTurned) → lends levels len ≡ true → t .count ≡ levels - 1 → Fitting levels (t .stages) → Ready t len
+  some-ready t e c f = record {
+    few = omega (arith, lends-few levels len e);
+    within = omega (arith, lends-within levels len e);
+    fits = λ i h. f .all i (omega (arith, h, sub-one levels));
+  }
+
+  module _ (d : ClusterRead) (full : length (d .stages) ≡ stageCount) where
+    pub cycle-ready : (r : Request) → Ready (turnedCycle levels (cycleFrom K levels len ws d r)) len
+    unfolding cycleFrom
+    cycle-ready r = go (lends levels len) refl (d .ok)
+      where
+        o : TurnOutcome
+        o = turned K levels r (d .stages) ws
+
+        ran : lends levels len ≡ true → (b : Bool) → hasRun (o .answer) ≡ b → Ready (turnedCycle levels o) len
+        ran e true f = some-ready (turnedCycle levels o) e (ap (λ (b : Bool). cond b (levels - 1) 0) f) (turned-fits K levels r (d .stages) ws full f)
+        ran e false f = none-ready (turnedCycle levels o) (ap (λ (b : Bool). cond b (levels - 1) 0) f)
+
+        go : (t : Bool) → lends levels len ≡ t → (ok : Bool) → Ready (turnedCycle levels (cond (t && ok) o (turnOutcome (Refused BadShape) ws (d .stages)))) len
+        go true e true = ran e (hasRun (o .answer)) refl
+        go true e false = none-ready _ refl
+        go false e ok = none-ready _ refl
+
+    pub drain-ready : (budget : ℕ) → Ready (turnedDrain levels (drainsFrom K levels len ws d budget)) len
+    unfolding drainsFrom
+    drain-ready budget = go (lends levels len) refl (d .ok)
+      where
+        o : DrainOutcome
+        o = drains K levels budget (d .stages) ws
+
+        ran : lends levels len ≡ true → (b : Bool) → ltb 0 (o .cycles) ≡ b → Ready (turnedDrain levels o) len
+        ran e true f = some-ready (turnedDrain levels o) e (ap (λ (b : Bool). cond b (levels - 1) 0) f) (drained-fits K levels budget (d .stages) ws full (ltb-true 0 (o .cycles) f))
+        ran e false f = none-ready (turnedDrain levels o) (ap (λ (b : Bool). cond b (levels - 1) 0) f)
+
+        go : (t : Bool) → lends levels len ≡ t → (ok : Bool) → Ready (turnedDrain levels (cond (t && ok) o (drainOutcome (Refused BadShape) 0 false ws (d .stages)))) len
+        go true e true = ran e (ltb 0 (o .cycles)) refl
+        go true e false = none-ready _ refl
+        go false e ok = none-ready _ refl
+
+  pub clear-ready : Ready (turnedCycle levels (clearFrom K levels len ws)) len
+  unfolding clearFrom clockCleared
+  clear-ready = go (lends levels len) refl (shapeOk K levels (length ws))
+    where
+      go : (t : Bool) → lends levels len ≡ t → (b : Bool)
+          → Ready (turnedCycle levels (cond t (cond b (turnOutcome Done (wipe (extent K levels 1) ws) fresh) (turnOutcome (Refused BadShape) ws fresh)) (turnOutcome (Refused BadShape) ws fresh))) len
+      go true e true = record { few = lends-few levels len e; within = lends-within levels len e; fits = λ i h. fresh-at i (omega (arith, h, lends-few levels len e)) }
+      go true e false = none-ready _ refl
+      go false e b = none-ready _ refl

@@ -1,0 +1,4 @@
+-- What the proofs share.
+pub mod Records
+pub mod Back
+pub mod Fits
