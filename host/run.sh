@@ -44,7 +44,7 @@ if [ -z "$CARD_TARGET" ]; then
     test_of --workspace
 else
     # what links the library is for x86-64 and run by the emulator, the rest is this machine's own
-    test_of -p card_host -p compare -p mend_store -p bench --target "$CARD_TARGET"
+    test_of -p card_host -p compare -p mend_store -p logic -p bench --target "$CARD_TARGET"
     linked=$?
     test_of -p models -p trace_text -p checks && [ "$linked" -eq 0 ]
 fi

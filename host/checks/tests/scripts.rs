@@ -78,6 +78,24 @@ fn the_plot_is_drawn_from_a_run() {
     refused(run(script("plot.sh").args(["a", "b"])), 2, "plot.sh [FILE]");
 }
 
+/// The scoreboard from another folder: the model's own dump agrees, and one with rank and tag exchanged does not.
+#[test]
+fn logic_is_held_from_any_folder() {
+    let elsewhere = outside("logic");
+    std::fs::copy(root().join("host/examples/worked.txt"), elsewhere.join("worked.txt")).unwrap();
+    done(script("logic.sh").args(["dump", "worked.txt", "own.dump"]).current_dir(&elsewhere));
+    let own = text(&elsewhere.join("own.dump"));
+    let agrees = done(script("logic.sh").args(["hold", "worked.txt", "own.dump"]).current_dir(&elsewhere));
+    assert!(agrees.starts_with("4 cycles agree\n"), "{agrees}");
+    std::fs::write(elsewhere.join("other.dump"), own.replacen("slot 1 0 0 5 50", "slot 1 0 0 50 5", 1)).unwrap();
+    let differs = run(script("logic.sh").args(["hold", "worked.txt", "other.dump"]).current_dir(&elsewhere));
+    assert_eq!(differs.status.code(), Some(1));
+    let said = String::from_utf8_lossy(&differs.stdout).into_owned();
+    assert!(said.starts_with("cycle 1 differs: level 1, node 0, slot 0, rank: expected 5, found 50\n"), "{said}");
+    refused(run(script("logic.sh").args(["hold", "worked.txt"])), 2, "logic hold [--strict] TRACE DUMP");
+    std::fs::remove_dir_all(&elsewhere).unwrap();
+}
+
 /// The bench is no test: it is built, and runs.
 #[test]
 fn the_bench_runs() {

@@ -1,0 +1,22 @@
+#!/bin/sh
+# Waveforms, pictures and a scoreboard for logic that is held against the clocked tree or cluster heap: docs/HARDWARE.md says how.
+#
+#   host/logic.sh wave TRACE [VCD]
+#   host/logic.sh show [--from A] [--to B] TRACE [HTML]
+#   host/logic.sh show --svg CYCLE TRACE [SVG]
+#   host/logic.sh dump TRACE [DUMP]
+#   host/logic.sh hold [--strict] TRACE DUMP
+#   host/logic.sh --heap PLACES LEVELS PART ..     (on the clocked cluster heap)
+#   host/logic.sh to-trace TEXT [TRACE], to-text TRACE [TEXT]
+#
+# The library is proved and built first, if that was not done yet; CARD_LIB names a libcard.a that is there already.
+set -u
+here=$(cd "$(dirname "$0")" && pwd) || exit 2
+. "$here/tools.sh"
+tools || exit 1
+if [ -z "${CARD_LIB:-}" ]; then
+    (cd "$here/.." && made target/staticlib/libcard.a logic staticlib card) || exit 1
+    CARD_LIB=$here/../target/staticlib/libcard.a
+    export CARD_LIB
+fi
+exec $CARGO run --release --offline --quiet --manifest-path "$here/Cargo.toml" ${CARD_TARGET:+--target "$CARD_TARGET"} -p logic -- "$@"
