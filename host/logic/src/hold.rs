@@ -6,10 +6,7 @@ use crate::run::Run;
 use std::collections::{HashMap, VecDeque};
 use std::fmt;
 use std::io::BufRead;
-use trace_text::Fault;
-
-/// The longest line of a dump that is read, in bytes.
-const LINE: u64 = 1024;
+use trace_text::{Fault, Lines};
 
 /// How many cycles before the one that differs are shown.
 const SHOWN: usize = 5;
@@ -122,40 +119,18 @@ impl fmt::Display for Agrees {
     }
 }
 
-/// The lines of a dump, one at a time.
-struct Lines<R> {
-    from: R,
-    seen: u64,
+/// A dump that is read as it is asked for.
+struct Dump<R> {
+    lines: Lines<R>,
 }
 
-impl<R: BufRead> Lines<R> {
+impl<R: BufRead> Dump<R> {
     fn bad<T>(&self, what: impl Into<String>) -> Result<T, Fails> {
-        Err(Fails::Dump(self.seen, what.into()))
+        Err(Fails::Dump(self.lines.seen(), what.into()))
     }
 
-    /// The next line that is not empty, its comment cut off; none at the end.
     fn next_line(&mut self) -> Result<Option<String>, Fails> {
-        loop {
-            let mut bytes = Vec::new();
-            self.seen += 1;
-            match std::io::Read::take(&mut self.from, LINE + 1).read_until(b'\n', &mut bytes) {
-                Ok(0) => return Ok(None),
-                Ok(_) => {}
-                Err(error) => return self.bad(error.to_string()),
-            }
-            if bytes.last() != Some(&b'\n') && bytes.len() as u64 > LINE {
-                return self.bad(format!("this line is longer than {LINE} bytes"));
-            }
-            match std::str::from_utf8(&bytes) {
-                Ok(line) => {
-                    let line = line.split('#').next().unwrap_or("").trim();
-                    if !line.is_empty() {
-                        return Ok(Some(line.to_string()));
-                    }
-                }
-                Err(_) => return self.bad("this is no text"),
-            }
-        }
+        self.lines.next_line().or_else(|what| self.bad(what))
     }
 }
 
@@ -242,7 +217,7 @@ fn compare(
 
 /// Holds a dump against the model that plays this trace. With `strict`, numbers that a record's kind does not use must be 0 too.
 pub fn hold<T: BufRead, D: BufRead>(run: &mut Run<T>, dump: D, strict: bool) -> Result<Agrees, Fails> {
-    let mut lines = Lines { from: dump, seen: 0 };
+    let mut lines = Dump { lines: Lines::new(dump) };
     let has = match lines.next_line()? {
         Some(line) => dump::first(&line.split_whitespace().collect::<Vec<_>>()).or_else(|what| lines.bad(what))?,
         None => return lines.bad("there is no line `dump 1`"),
@@ -299,7 +274,7 @@ pub fn hold<T: BufRead, D: BufRead>(run: &mut Run<T>, dump: D, strict: bool) -> 
     Ok(Agrees { cycles, behind, has })
 }
 
-fn next<R: BufRead>(lines: &mut Lines<R>, has: Has, form: &Form, order: u32) -> Result<Option<Line>, Fails> {
+fn next<R: BufRead>(lines: &mut Dump<R>, has: Has, form: &Form, order: u32) -> Result<Option<Line>, Fails> {
     match lines.next_line()? {
         Some(line) => {
             let words: Vec<&str> = line.split_whitespace().collect();

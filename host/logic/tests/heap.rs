@@ -1,29 +1,13 @@
 //! The tool on the clocked cluster heap.
 
+mod traces;
+
 use logic::dump::Said;
 use logic::hold::{hold, Fails};
 use logic::machine::Machine;
 use logic::run::Run;
 use trace_text::Op;
-
-/// A trace of version 2, mostly of few ranks; its own shape is not looked at.
-fn random(count: u32, mut state: u64) -> String {
-    let mut below = |n: u64| {
-        state = state.wrapping_mul(6364136223846793005).wrapping_add(1442695040888963407);
-        (state >> 33) % n
-    };
-    let mut text = String::from("version 2\norder 2 levels 1\n");
-    for i in 0..count {
-        let fill = if (i / 61) % 2 == 0 { 5 } else { 2 };
-        match below(8) {
-            n if n < fill => text += &format!("push {} {} {}\n", below(20), below(50), below(1500)),
-            7 => text += &format!("replace {} {} {}\n", below(20), below(50), below(1500)),
-            6 => text += "idle\n",
-            _ => text += "pop\n",
-        }
-    }
-    text
-}
+use traces::random;
 
 fn run(text: &str, places: u32, levels: u32) -> Run<&[u8]> {
     Run::on_heap(text.as_bytes(), places, levels).unwrap()
@@ -46,7 +30,7 @@ fn slots(machine: &Machine) -> Vec<([u32; 3], [u32; 4])> {
 #[test]
 fn the_writes_are_all_that_is_written() {
     for (places, levels) in [(2, 1), (2, 4), (3, 3), (16, 2)] {
-        let text = random(800, places as u64);
+        let text = random(2, 1, 800, places as u64);
         let mut run = run(&text, places, levels);
         let mut image = slots(&run.machine);
         let mut popped = Vec::new();
@@ -83,7 +67,7 @@ fn dumped(text: &str, places: u32, levels: u32) -> String {
 /// A heap's dump agrees with the heap, and what is spoilt in it is named: a place, a count, a record.
 #[test]
 fn the_scoreboard_holds_a_heap() {
-    let text = random(400, 5);
+    let text = random(2, 1, 400, 5);
     let dump = dumped(&text, 2, 3);
     let agrees = hold(&mut run(&text, 2, 3), dump.as_bytes(), true).unwrap();
     assert!(agrees.cycles >= 400);
@@ -120,7 +104,7 @@ fn the_scoreboard_holds_a_heap() {
 /// Waveform, page and picture of a heap are made; the wave has four writes of each level, and no mark.
 #[test]
 fn a_heap_is_shown() {
-    let text = random(100, 9);
+    let text = random(2, 1, 100, 9);
     let mut file = Vec::new();
     logic::wave::wave(&mut run(&text, 4, 2), &mut file).unwrap();
     let wave = String::from_utf8(file).unwrap();

@@ -1,37 +1,19 @@
 //! The scoreboard: logic that is right agrees, each planted fault is found where it stands, and bad input is named by its line.
 
 mod dut;
+mod traces;
 
 use dut::{dump, Fault};
 use logic::hold::{hold, Agrees, Fails};
 use logic::run::Run;
 use std::process::{Command, Output, Stdio};
+use traces::random;
 
 /// Four pushes and an idle cycle: the tree of the rules' page.
 const BASE: &str = "version 2\norder 2 levels 2\npush 5 50 64\npush 3 30 72\npush 8 80 96\npush 1 10 40\nidle\n";
 
 fn held(text: &str, dump: &str) -> Result<Agrees, Fails> {
     hold(&mut Run::new(text.as_bytes()).unwrap(), dump.as_bytes(), false)
-}
-
-/// A trace of every request, mostly of few ranks, from a small generator.
-fn random(order: u32, levels: u32, count: u32, seed: u64) -> String {
-    let mut state = seed;
-    let mut below = |n: u64| {
-        state = state.wrapping_mul(6364136223846793005).wrapping_add(1442695040888963407);
-        (state >> 33) % n
-    };
-    let mut text = format!("version 2\norder {order} levels {levels}\n");
-    for i in 0..count {
-        let fill = if (i / 97) % 2 == 0 { 5 } else { 2 };
-        match below(8) {
-            n if n < fill => text += &format!("push {} {} {}\n", below(20), below(50), below(1500)),
-            7 => text += &format!("replace {} {} {}\n", below(20), below(50), below(1500)),
-            6 => text += "idle\n",
-            _ => text += "pop\n",
-        }
-    }
-    text
 }
 
 #[test]

@@ -1,10 +1,13 @@
 //! The waveform, read back by a little reader of its own and held to the library cycle by cycle; and a long trace in constant memory.
 
+mod traces;
+
 use card_host::{ClockedTree, Element, Length, Rank, Request, Tag};
 use std::collections::HashMap;
 use std::io::Write;
 use std::process::{Command, Stdio};
 use trace_text::{Op, Trace};
+use traces::random;
 
 /// What a viewer would show: each signal's value by its full name, and the values at each time.
 struct Wave {
@@ -138,25 +141,6 @@ impl Plain {
         }
         values
     }
-}
-
-/// A trace of version 2, mostly of few ranks.
-fn random(order: u32, levels: u32, count: u32, mut state: u64) -> String {
-    let mut below = |n: u64| {
-        state = state.wrapping_mul(6364136223846793005).wrapping_add(1442695040888963407);
-        (state >> 33) % n
-    };
-    let mut text = format!("version 2\norder {order} levels {levels}\n");
-    for i in 0..count {
-        let fill = if (i / 61) % 2 == 0 { 5 } else { 2 };
-        match below(8) {
-            n if n < fill => text += &format!("push {} {} {}\n", below(20), below(50), below(1500)),
-            7 => text += &format!("replace {} {} {}\n", below(20), below(50), below(1500)),
-            6 => text += "idle\n",
-            _ => text += "pop\n",
-        }
-    }
-    text
 }
 
 #[test]

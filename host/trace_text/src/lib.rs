@@ -35,8 +35,10 @@
 //! [`Trace`] reads either form record by record, in constant memory.
 #![deny(missing_docs)]
 
+mod lines;
 mod reading;
 
+pub use lines::Lines;
 pub use reading::{Op, Trace};
 
 use std::fmt;

@@ -1,10 +1,7 @@
 //! A trace read record by record: bytes of either version, or lines of text.
 
-use crate::{bad_shape, fault, number, shape, Fault, Version, HEADER};
+use crate::{bad_shape, fault, number, shape, Fault, Lines, Version, HEADER};
 use std::io::BufRead;
-
-/// The longest line of a text that is read, in bytes: longer ones are refused, so that nothing is ever held but one line.
-const LINE: u64 = 1024;
 
 /// What a record asks for. The numbers are rank, tag and length; in a trace of version 1 the length is 0.
 #[derive(Clone, Copy, PartialEq, Eq, Debug)]
@@ -70,9 +67,9 @@ enum Form {
 /// assert_eq!(trace.next_op().unwrap(), None);
 /// ```
 pub struct Trace<R> {
-    from: R,
+    lines: Lines<R>,
     form: Form,
-    /// The lines or, of bytes, the records that were read.
+    /// Of bytes, the records that were read.
     seen: u64,
     pub(crate) version: Version,
     pub(crate) order: u32,
@@ -91,7 +88,8 @@ impl<R: BufRead> Trace<R> {
 
     /// A trace as bytes.
     pub fn binary(from: R) -> Result<Trace<R>, Fault> {
-        let mut trace = Trace { from, form: Form::Bytes, seen: 0, version: Version::One, order: 0, levels: 0 };
+        let mut trace =
+            Trace { lines: Lines::new(from), form: Form::Bytes, seen: 0, version: Version::One, order: 0, levels: 0 };
         let mut header = [0; HEADER];
         let at = |byte: usize| format!("byte {byte}");
         let got = trace.fill(&mut header).or_else(|what| fault(at(0), what))?;
@@ -113,7 +111,8 @@ impl<R: BufRead> Trace<R> {
 
     /// A trace as lines of text.
     pub fn text(from: R) -> Result<Trace<R>, Fault> {
-        let mut trace = Trace { from, form: Form::Lines, seen: 0, version: Version::One, order: 0, levels: 0 };
+        let mut trace =
+            Trace { lines: Lines::new(from), form: Form::Lines, seen: 0, version: Version::One, order: 0, levels: 0 };
         let mut versioned = false;
         while let Some(line) = trace.line()? {
             let words: Vec<&str> = line.split_whitespace().collect();
@@ -161,40 +160,19 @@ impl<R: BufRead> Trace<R> {
 
     /// What is wrong with the line that was read last.
     fn wrong<T>(&self, what: impl Into<String>) -> Result<T, Fault> {
-        fault(format!("line {}", self.seen), what)
+        fault(format!("line {}", self.lines.seen()), what)
     }
 
     /// The next line that is not empty, its comment cut off.
     fn line(&mut self) -> Result<Option<String>, Fault> {
-        loop {
-            let mut bytes = Vec::new();
-            self.seen += 1;
-            let mut some = std::io::Read::take(&mut self.from, LINE + 1);
-            match some.read_until(b'\n', &mut bytes) {
-                Ok(0) => return Ok(None),
-                Ok(_) => {}
-                Err(error) => return self.wrong(error.to_string()),
-            }
-            if bytes.last() != Some(&b'\n') && bytes.len() as u64 > LINE {
-                return self.wrong(format!("this line is longer than {LINE} bytes"));
-            }
-            match std::str::from_utf8(&bytes) {
-                Ok(line) => {
-                    let line = line.split('#').next().unwrap_or("").trim();
-                    if !line.is_empty() {
-                        return Ok(Some(line.to_string()));
-                    }
-                }
-                Err(_) => return self.wrong("this is no text"),
-            }
-        }
+        self.lines.next_line().or_else(|what| self.wrong(what))
     }
 
     /// Reads as many bytes as there are, up to these, and says how many.
     fn fill(&mut self, bytes: &mut [u8]) -> Result<usize, String> {
         let mut got = 0;
         while got < bytes.len() {
-            match self.from.read(&mut bytes[got..]) {
+            match self.lines.from.read(&mut bytes[got..]) {
                 Ok(0) => break,
                 Ok(n) => got += n,
                 Err(error) if error.kind() == std::io::ErrorKind::Interrupted => {}
