@@ -7,7 +7,7 @@ use mathlib.Core.Bool.{Bool, true, false, cond, not, _&&_, _||_, false≢true}
 use mathlib.Core.List.{List}
 use lib.Dec.{ltb, leb, eqb}
 use lib.ListN.{length}
-use borrow.Author.Tests.{not-true, not-false, lt-ltb, le-ltb, leb-true}
+use borrow.Author.Tests.{not-true, not-false, lt-ltb, le-ltb, le-leb, lt-leb, ltb-true, ltb-false, leb-true}
 use Rattle.strip.specs.declared.Element.{Element}
 use Rattle.strip.specs.Answers.{key}
 use Rattle.cluster_nodes.specs.declared.Seen.{Seen}
@@ -16,8 +16,8 @@ use Rattle.cluster_nodes.specs.declared.Chosen.{Chosen}
 use Rattle.cluster_model.specs.Node.{gap, has, keep, pass}
 use Rattle.cluster_model.specs.Words.{word, width, writePlace}
 use Rattle.cluster_nodes.specs.Seeing.{lookTo}
-use Rattle.cluster_nodes.specs.Full.{fullTo, highLead, isHigh, ranks}
-use Rattle.cluster_nodes.specs.Leaf.{elemAt, underOf, bareAt, okBy, raiseWords, sinkWords, lookNode, placeIn, peekOf, choiceBy, choiceOf, countsOk, begun, ChoiceFrom, Here, Lies, Under}
+use Rattle.cluster_nodes.specs.Full.{fullTo, lowLead, highLead, isHigh, ranks}
+use Rattle.cluster_nodes.specs.Leaf.{elemAt, underOf, bareAt, okBy, raiseWords, sinkWords, lookNode, placeIn, peekOf, choiceBy, choiceOf, countsOk, begun, ChoiceFrom, Here, Lies, Under, Scanned}
 use Rattle.cluster.specs.Down.{Went, went, fewerRight, takeBack, takeNode, takeDown, swapBack, swapNode, swapDown, putBack, putNode, putDown, putIn, putEnd, Reach, TakeReady, PutReady, TakeMeets, SwapMeets, PutMeets}
 use Rattle.cluster_nodes.proofs.Children.{choice-place, left-begins, right-begins}
 use Rattle.cluster_nodes.proofs.Fulls.{and-l, full-look, full-high, ok-full, counts-in, neat-room, best-lt}
@@ -70,6 +70,29 @@ module _ (K left o j : ℕ) (ws : List ℕ) (r : TakeReady K left o j ws) where
         lies = lies-side K left m (length ws) (choiceOf K limit ws m .right) (choiceOf K limit ws m .child) n (r .lies) refl;
         place = subst (λ (i : ℕ). i < K) (sym (ap (λ (u : Chosen). u .place) e)) (choice-place K limit ws m (choiceOf K limit ws m) (omega (arith, lies-here K left m (length ws) (r .lies))) refl);
       }
+
+-- ---- the choice of a child: at four places a full pair is tried first
+pub scanned : (K : ℕ) (ws : List ℕ) (o : ℕ) (p q : Lead) → Under K o (length ws) → K ≡ 4 → p ≡ lowLead ws (o + o + 20) 4 → q ≡ lowLead ws (o + o + 38) 4 → Scanned ws o p q
+scanned K ws o p q u k ep eq =
+    let a : o + o + 20 ≡ o + o + 18 + 2 = omega arith in
+    let b : o + o + 38 ≡ o + o + 18 + 18 + 2 = omega arith in
+    record { words = omega (arith, u .words, k); left = ep ∙ ap (λ (i : ℕ). lowLead ws i 4) a; right = eq ∙ ap (λ (i : ℕ). lowLead ws i 4) b }
+
+module _ (K below : ℕ) (ws : List ℕ) (o : ℕ) (c r : Chosen) where
+  pub choice-any : ChoiceFrom K below ws o r → c ≡ r → ChoiceFrom K below ws o c
+  choice-any h e = subst (λ (u : Chosen). ChoiceFrom K below ws o u) (sym e) h
+
+  ok-as : c ≡ r → c .ok ≡ true → r .ok ≡ true
+  ok-as e t = sym (ap (λ (u : Chosen). u .ok) e) ∙ t
+
+  pub choice-four : K ≡ 4 → (r .ok ≡ true → ChoiceFrom 4 below ws o r) → c ≡ r → c .ok ≡ true → ChoiceFrom K below ws o c
+  choice-four k h e t = choice-any (subst (λ (K : ℕ). ChoiceFrom K below ws o r) (sym k) (h (ok-as e t))) e
+
+  pub choice-none : r .ok ≡ false → c ≡ r → c .ok ≡ true → ChoiceFrom K below ws o c
+  choice-none f e t = absurd (false≢true (sym f ∙ ok-as e t))
+
+  pub choice-first : (r .ok ≡ true → ChoiceFrom K below ws o r) → not (r .ok) ≡ false → c ≡ r → ChoiceFrom K below ws o c
+  choice-first h t e = choice-any (h (not-false (r .ok) t)) e
 
 -- ---- take
 module _ (K left m limit j : ℕ) (ws : List ℕ) (o : ℕ) (at : o ≡ m * width K) where
@@ -224,6 +247,31 @@ module _ (K limit : ℕ) (x : Element) (ws : List ℕ) (o : ℕ) where
       unfolding putEnd
       end-none h = rw (← known, not-false fine ok, le-ltb (seen .free) K (omega (arith, frees, h))) refl
 
+-- ---- both counts are tested by the greater, and by the lesser
+and-first : (a b : Bool) → (a ≡ true → b ≡ true) → a ≡ (a && b)
+and-first true b h = sym (h refl)
+and-first false b h = refl
+
+and-second : (a b : Bool) → (b ≡ true → a ≡ true) → b ≡ (a && b)
+and-second true b h = refl
+and-second false true h = absurd (false≢true (h refl))
+and-second false false h = refl
+
+module _ (limit l r : ℕ) where
+  counts-more : (more : ℕ) → more ≡ cond (ltb r l) l r → leb more limit ≡ (leb l limit && leb r limit)
+  counts-more more e = rw e (go (ltb r l) refl)
+    where
+      go : (b : Bool) → ltb r l ≡ b → leb (cond b l r) limit ≡ (leb l limit && leb r limit)
+      go true t = and-first (leb l limit) (leb r limit) (λ h. le-leb r limit (omega (arith, ltb-true r l t, leb-true l limit h)))
+      go false t = and-second (leb l limit) (leb r limit) (λ h. le-leb l limit (omega (arith, ltb-false r l t, leb-true r limit h)))
+
+  counts-fewer : (fewer : ℕ) → fewer ≡ cond (ltb r l) r l → leb limit fewer ≡ (leb limit l && leb limit r)
+  counts-fewer fewer e = rw e (go (ltb r l) refl)
+    where
+      go : (b : Bool) → ltb r l ≡ b → leb limit (cond b r l) ≡ (leb limit l && leb limit r)
+      go true t = and-second (leb limit l) (leb limit r) (λ h. le-leb limit l (omega (arith, ltb-true r l t, leb-true limit r h)))
+      go false t = and-first (leb limit l) (leb limit r) (λ h. le-leb limit r (omega (arith, ltb-false r l t, leb-true limit l h)))
+
 -- ---- put
 module _ (K left m limit : ℕ) (x : Element) (ws : List ℕ) (o : ℕ) (at : o ≡ m * width K) where
   abbrev v : Seen
@@ -247,6 +295,11 @@ module _ (K left m limit : ℕ) (x : Element) (ws : List ℕ) (o : ℕ) (at : o 
       go true e = rw (lt-ltb (lookTo ws (m * width K + 2) K .free) K (room e)) (down left (room e))
       go false e = refl
 
+  -- on the last level an element stays or is refused
+  pub put-leaf : left ≡ 0 → (g : Bool) (q : List ℕ) → went g q ≡ putEnd K limit o x ws → went g q ≡ putIn K left m limit x ws
+  unfolding putEnd putIn putDown lookNode
+  put-leaf z g q e = e ∙ ap (λ (o : ℕ). putEnd K limit o x ws) at ∙ rw z refl
+
   module _ (f : Lead) (led : f ≡ highLead ws (o + 2) K) where
     lead : f ≡ highLead ws (m * width K + 2) K
     lead = led ∙ ap (λ (o : ℕ). highLead ws (o + 2) K) at
@@ -257,36 +310,33 @@ module _ (K left m limit : ℕ) (x : Element) (ws : List ℕ) (o : ℕ) (at : o 
     pub put-end : not (f .full) ≡ true → (g : Bool) (q : List ℕ) → went g q ≡ putEnd K limit o x ws → went g q ≡ putIn K left m limit x ws
     put-end t g q e = e ∙ ap (λ (o : ℕ). putEnd K limit o x ws) at ∙ end-in (sym marks ∙ not-true (f .full) t)
 
-    module _ (full : not (f .full) ≡ false) (big : 1 < K) (fine : Bool) (counted : fine ≡ countsOk limit ws o) where
+    module _ (full : not (f .full) ≡ false) (big : 1 < K) (more : ℕ) (most : more ≡ cond (ltb (word ws (o + 1)) (word ws o)) (word ws o) (word ws (o + 1))) where
+      counted : leb more limit ≡ countsOk limit ws o
+      unfolding countsOk
+      counted = counts-more limit (word ws o) (word ws (o + 1)) more most
+
       filled : fullTo ws (m * width K + 2) K ≡ true
       filled = sym marks ∙ not-false (f .full) full
 
-      tests : okBy K limit ws (m * width K) v ≡ fine
+      tests : okBy K limit ws (m * width K) v ≡ leb more limit
       unfolding lookNode
       tests = let u = full-look ws (m * width K + 2) K filled in ok-full K limit ws (m * width K) (lookTo ws (m * width K + 2) K) (u .0) (u .1) ∙ sym (counted ∙ ap (countsOk limit ws) at)
 
-      pub put-bad : not fine ≡ true → went false ws ≡ putIn K left m limit x ws
+      pub put-bad : limit < more → went false ws ≡ putIn K left m limit x ws
       unfolding putIn
-      put-bad t = rw (tests, not-true fine t) refl
+      put-bad t = rw (tests, lt-leb more limit t) refl
 
-      module _ (ok : not fine ≡ false) where
+      module _ (ok : more ≤ limit) where
         free-none : K ≤ v .free
         unfolding lookNode
         free-none = omega (arith, full-look ws (m * width K + 2) K filled .2)
 
         in-down : putIn K left m limit x ws ≡ putDown K left m limit v x ws
         unfolding putIn
-        in-down = rw (tests, not-false fine ok) refl
-
-        full-zero : went false ws ≡ putDown K 0 m limit v x ws
-        unfolding putDown
-        full-zero = rw (le-ltb (v .free) K free-none) refl
-
-        pub put-last : left ≡ 0 → went false ws ≡ putIn K left m limit x ws
-        put-last z = subst (λ (k : ℕ). went false ws ≡ putDown K k m limit v x ws) (sym z) full-zero ∙ sym in-down
+        in-down = rw (tests, le-leb more limit ok) refl
 
         pub put-counts : limit ≤ 5460 → (word ws o ≤ 5460) × (word ws (o + 1) ≤ 5460)
-        put-counts h = let b = counts-in limit ws o (sym counted ∙ not-false fine ok) in (omega (arith, b .0), omega (arith, b .1))
+        put-counts h = let b = counts-in limit ws o (sym counted ∙ le-leb more limit ok) in (omega (arith, b .0), omega (arith, b .1))
 
         put-unroll : (left ≡ 0 → ⊥) → putDown K left m limit v x ws ≡ putNode K (putDown K (left - 1)) m limit v x ws
         unfolding putDown
@@ -296,18 +346,18 @@ module _ (K left m limit : ℕ) (x : Element) (ws : List ℕ) (o : ℕ) (at : o 
             go zero n = absurd (n refl)
             go (suc k) n = ap (λ (i : ℕ). putNode K (putDown K i) m limit v x ws) (sym (less-one k))
 
-        module _ (n : left ≡ 0 → ⊥) (most : Bool) (both : most ≡ (leb limit (word ws o) && leb limit (word ws (o + 1)))) where
-          both-at : most ≡ (leb limit (word ws (m * width K)) && leb limit (word ws (m * width K + 1)))
-          both-at = both ∙ ap (λ (o : ℕ). leb limit (word ws o) && leb limit (word ws (o + 1))) at
+        module _ (n : left ≡ 0 → ⊥) (fewer : ℕ) (least : fewer ≡ cond (ltb (word ws (o + 1)) (word ws o)) (word ws (o + 1)) (word ws o)) where
+          both-at : leb limit fewer ≡ (leb limit (word ws (m * width K)) && leb limit (word ws (m * width K + 1)))
+          both-at = counts-fewer limit (word ws o) (word ws (o + 1)) fewer least ∙ ap (λ (o : ℕ). leb limit (word ws o) && leb limit (word ws (o + 1))) at
 
-          down-full : most ≡ true → went false ws ≡ putDown K left m limit v x ws
+          down-full : limit ≤ fewer → went false ws ≡ putDown K left m limit v x ws
           unfolding putNode
-          down-full t = rw (put-unroll n, le-ltb (v .free) K free-none, ← both-at, t) refl
+          down-full t = rw (put-unroll n, le-ltb (v .free) K free-none, ← both-at, le-leb limit fewer t) refl
 
-          pub put-full : most ≡ true → went false ws ≡ putIn K left m limit x ws
+          pub put-full : limit ≤ fewer → went false ws ≡ putIn K left m limit x ws
           put-full t = down-full t ∙ sym in-down
 
-          module _ (some : most ≡ false) (d : ℕ) (side : d ≡ cond (ltb (word ws (o + 1)) (word ws o)) (o + o + width K + width K) (o + o + width K)) (below : ℕ) (under : below ≡ underOf K limit)
+          module _ (some : fewer < limit) (d : ℕ) (side : d ≡ cond (ltb (word ws (o + 1)) (word ws o)) (o + o + width K + width K) (o + o + width K)) (below : ℕ) (under : below ≡ underOf K limit)
               (small : (i : ℕ) → word ws i < 4294967296) (e : Element) (met : e ≡ elemAt ws (o + 2 + f .place * 4)) (stays goes : Element) (kept : stays ≡ keep x e) (passed : goes ≡ pass x e)
               (g : Bool) (q : List ℕ) (went-on : PutMeets K (left - 1) d below goes ws g q) where
             abbrev R : Bool
@@ -345,7 +395,7 @@ module _ (K left m limit : ℕ) (x : Element) (ws : List ℕ) (o : ℕ) (at : o 
             put-here : putNode K (putDown K (left - 1)) m limit v x ws ≡ putBack K R m (v .high) (word ws (m * width K)) (word ws (m * width K + 1)) (keep x E) (putIn K (left - 1) M below (pass x E) ws)
             unfolding putNode fewerRight putIn
             put-here =
-                rw (le-ltb (v .free) K free-none, ← both-at, some, ← under)
+                rw (le-ltb (v .free) K free-none, ← both-at, lt-leb limit fewer some, ← under)
                 (back (okBy K below ws (M * width K) (lookNode K ws M)) (putDown K (left - 1) M below (lookNode K ws M) (pass x E) ws))
 
             pub put-stop : not g ≡ true → went false q ≡ putIn K left m limit x ws

@@ -8,3 +8,4 @@ pub mod Putted
 pub mod Called
 pub mod Barred
 pub mod Root
+pub mod Pushed

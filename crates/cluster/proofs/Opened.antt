@@ -12,16 +12,16 @@ use Rattle.strip.specs.declared.Answer.{Answer}
 use Rattle.strip.specs.declared.Answer.the-variants.{Done, Out, Refused}
 use Rattle.strip.specs.declared.Count.{Count}
 use Rattle.strip.specs.declared.Count.the-variants.{Held, Unknown}
-use Rattle.strip.specs.declared.Refusal.the-variants.{BadShape, Damaged, Full, Empty}
+use Rattle.strip.specs.declared.Refusal.the-variants.{BadShape, Damaged, Empty}
 use Rattle.cluster_nodes.specs.declared.Seen.{Seen}
 use Rattle.cluster_model.specs.Heap.{room}
 use Rattle.cluster_model.specs.Words.{word, width}
 use Rattle.cluster_model.specs.Way.{extent}
 use Rattle.cluster_model.specs.Calls.{shapeOk, outcome, Outcome, cleared, wipe}
-use Rattle.cluster.specs.Coded.{nodesOf, Nodes, heldBy, wentTo, openedTo, heldDown, pushDown, popDown, replaceDown}
+use Rattle.cluster.specs.Coded.{nodesOf, Nodes, heldBy, wentTo, openedTo, heldDown, popDown, replaceDown}
 use Rattle.cluster_nodes.specs.Seeing.{lowOnly}
 use Rattle.cluster_nodes.specs.Leaf.{elemAt, bareAt, okBy, lookNode, placeIn, Here}
-use Rattle.cluster.specs.Down.{Went, went, putDown, putIn, takeDown, swapDown, Reach, PutReady, TakeReady, PutMeets, TakeMeets, SwapMeets}
+use Rattle.cluster.specs.Down.{Went, went, takeDown, swapDown, Reach, PutReady, TakeReady, TakeMeets, SwapMeets}
 use Rattle.cluster_nodes.proofs.Looks.{within, low-lt}
 use Rattle.cluster.proofs.Downs.{lies-here}
 use Rattle.cluster.proofs.Shapes.{shape-true, shape-here, nodes-here, root-lies, extent-nodes}
@@ -35,7 +35,7 @@ room-pred K zero = let e : 0 - 1 ≡ 0 = omega arith in subst (λ (j : ℕ). roo
 room-pred K (suc k) = let e : suc k - 1 ≡ k = omega arith in subst (λ (j : ℕ). room K j ≤ room K (suc k)) (sym e) (room-suc K k)
 
 -- a node in order has its counts within the limit
-ok-counts : (K limit : ℕ) (ws : List ℕ) (o : ℕ) (v : Seen) → okBy K limit ws o v ≡ true → (word ws o ≤ limit) × (word ws (o + 1) ≤ limit)
+pub ok-counts : (K limit : ℕ) (ws : List ℕ) (o : ℕ) (v : Seen) → okBy K limit ws o v ≡ true → (word ws o ≤ limit) × (word ws (o + 1) ≤ limit)
 unfolding okBy
 ok-counts K limit ws o v e = go (v .neat) (leb (word ws o) limit) refl (leb (word ws (o + 1)) limit) refl e
   where
@@ -65,6 +65,16 @@ module _ (K levels : ℕ) (ws : List ℕ) (t : Bool) (shaped : t ≡ shapeOk K l
   unfolding lookNode
   look-low v e = subst (λ (u : Seen). u .low < K) (sym e) (low-lt ws (0 * width K + 2) K (omega (arith, root-here .some)))
 
+  limit-small : (limit : ℕ) → limit ≡ room K (levels - 1) → limit ≤ 5460
+  limit-small limit most = omega (arith, most, room-pred K levels, shape-here K levels ws t shaped yes .capacity)
+
+  -- the root begins at word 0
+  root-begins : 0 ≡ 0 * width K
+  root-begins = omega arith
+
+  pub put-ready : (limit : ℕ) → limit ≡ room K (levels - 1) → PutReady K (levels - 1) 0 limit ws
+  put-ready limit most = record { node = 0; begins = root-begins; lies = root-lies K levels ws t shaped yes; small = limit-small limit most }
+
   module _ (limit : ℕ) (most : limit ≡ room K (levels - 1)) (v : Seen) (seen : v ≡ lowOnly (lookNode K ws 0)) (u : Bool) (tested : u ≡ okBy K limit ws (0 * width K) v) where
     tested-as : u ≡ okBy K (room K (levels - 1)) ws (0 * width K) (lookNode K ws 0)
     unfolding okBy
@@ -83,25 +93,15 @@ module _ (K levels : ℕ) (ws : List ℕ) (t : Bool) (shaped : t ≡ shapeOk K l
       unfolding openedTo
       good o = rw (shape-true K levels ws t shaped yes, ← tested-as, not-false u fine) refl
 
-      limit-small : limit ≤ 5460
-      limit-small = omega (arith, most, room-pred K levels, shape-here K levels ws t shaped yes .capacity)
-
       pub held-small : (h : ℕ) → h ≡ heldBy K ws v → h < 4294967296
       unfolding heldBy
-      held-small h e = let c = ok-counts K limit ws (0 * width K) v (sym tested ∙ not-false u fine) in omega (arith, e, c .0, c .1, limit-small, look-count v seen)
+      held-small h e = let c = ok-counts K limit ws (0 * width K) v (sym tested ∙ not-false u fine) in omega (arith, e, c .0, c .1, limit-small limit most, look-count v seen)
 
       pub held-done : (h : ℕ) → h ≡ heldBy K ws v → Held h ≡ heldDown K levels ws
       unfolding heldDown heldBy
       held-done h e =
           let w : h ≡ heldBy K ws (lookNode K ws 0) = e ∙ ap (heldBy K ws) seen in
           rw (shape-true K levels ws t shaped yes, ← tested-as, not-false u fine, w) refl
-
-      -- the root begins at word 0
-      root-begins : 0 ≡ 0 * width K
-      root-begins = omega arith
-
-      pub put-ready : PutReady K (levels - 1) 0 limit ws
-      put-ready = record { node = 0; begins = root-begins; lies = root-lies K levels ws t shaped yes; small = limit-small }
 
       pub take-ready : TakeReady K (levels - 1) 0 (v .low) ws
       take-ready = record { node = 0; begins = root-begins; lies = root-lies K levels ws t shaped yes; place = look-low v seen }
@@ -110,24 +110,6 @@ module _ (K levels : ℕ) (ws : List ℕ) (t : Bool) (shaped : t ≡ shapeOk K l
         counted-as : h ≡ heldBy K ws (lookNode K ws 0)
         unfolding heldBy
         counted-as = counted ∙ ap (heldBy K ws) seen
-
-        module _ (x : Element) (cap : ℕ) (capped : cap ≡ room K levels) where
-          pub push-full : h ≡ cap → outcome (Refused Full) ws ≡ pushDown K levels x ws
-          unfolding pushDown
-          push-full e = rw (← counted-as, eq-eqb h (room K levels) (e ∙ capped)) (good (outcome (Refused Full) ws))
-
-          module _ (more : h ≡ cap → ⊥) (g : Bool) (q : List ℕ) (done : PutMeets K (levels - 1) 0 limit x ws g q) where
-            put-as : went g q ≡ putDown K (levels - 1) 0 (room K (levels - 1)) (lookNode K ws 0) x ws
-            unfolding putIn
-            put-as = done 0 root-begins ∙ rw (most, ← tested-as, not-false u fine) refl
-
-            pub push-stop : not g ≡ true → outcome (Refused Damaged) q ≡ pushDown K levels x ws
-            unfolding pushDown
-            push-stop p = rw (← counted-as, ne-eqb h (room K levels) (λ e. more (e ∙ sym capped)), ← put-as, not-true g p) (good (outcome (Refused Damaged) q))
-
-            pub push-done : not g ≡ false → outcome Done q ≡ pushDown K levels x ws
-            unfolding pushDown
-            push-done p = rw (← counted-as, ne-eqb h (room K levels) (λ e. more (e ∙ sym capped)), ← put-as, not-false g p) (good (outcome Done q))
 
         pub pop-empty : h ≡ 0 → outcome (Refused Empty) ws ≡ popDown K levels ws
         unfolding popDown

@@ -13,23 +13,26 @@ ghost use Rattle.cluster.specs.Down.{went, putEnd, TakeReady, PutReady, 
 ghost use Rattle.cluster.specs.Coded.{nodesOf, Nodes, heldBy, pushDown, replaceDown, Bars};
 use cluster_nodes::Seen;
 use cluster_nodes::bare_at;
-use cluster_nodes::both_full;
 use cluster_nodes::choice;
+use cluster_nodes::choice_full;
 use cluster_nodes::choose;
+use cluster_nodes::choose_word;
 use cluster_nodes::clear_place;
-use cluster_nodes::counts_ok;
 use cluster_nodes::elem_at;
 use cluster_nodes::high_lead;
 use cluster_nodes::keep_of;
 use cluster_nodes::look;
 use cluster_nodes::look_each;
+use cluster_nodes::low_four;
 use cluster_nodes::lower;
+use cluster_nodes::no_choice;
 use cluster_nodes::node_ok;
 use cluster_nodes::pass_of;
 use cluster_nodes::raise;
 use cluster_nodes::room_under;
 use cluster_nodes::set_place;
 use cluster_nodes::sink;
+use cluster_nodes::wide;
 use strip::Answer;
 use strip::Count;
 use strip::Element;
@@ -55,7 +58,17 @@ fn take(s: &mut [u32], k: usize, left: usize, at: usize, limit: usize, place: us
         return true;
     }
     let below = room_under(k, limit);
-    let c = choice(s, k, below, at);
+    // at four places the children are scanned here and not behind a call, most are full and nothing else is asked; where that gives no choice,
+    // place by place
+    let mut c = no_choice();
+    if k == 4 {
+        let p = low_four(s, at + at + 20);
+        let q = low_four(s, at + at + 38);
+        c = choice_full(s, below, at, p, q);
+    }
+    if !c.ok {
+        c = choice(s, k, below, at);
+    }
     if !c.ok {
         return false;
     }
@@ -94,7 +107,15 @@ fn swap(
         return true;
     }
     let below = room_under(k, limit);
-    let c = choice(s, k, below, at);
+    let mut c = no_choice();
+    if k == 4 {
+        let p = low_four(s, at + at + 20);
+        let q = low_four(s, at + at + 38);
+        c = choice_full(s, below, at, p, q);
+    }
+    if !c.ok {
+        c = choice(s, k, below, at);
+    }
     if !c.ok {
         return false;
     }
@@ -132,22 +153,26 @@ fn put(s: &mut [u32], k: usize, left: usize, at: usize, limit: usize, x: Element
     requires { ⌜ PutReady k left at limit (now s) ⌝ }
     ensures { λ r. ⌜ PutMeets k left at limit x (now (s .entry)) r (now (s .exit)) ⌝ }
 {
+    // on the last level x stays or is refused, and the highest is not asked for
+    if left == 0 {
+        return put_end(s, k, limit, at, x);
+    }
     let f = high_lead(s, at + 2, k);
     if !f.full {
         return put_end(s, k, limit, at, x);
     }
-    if !counts_ok(s, limit, at) {
-        return false;
-    }
-    if left == 0 {
-        return false;
-    }
     let l = s[at];
     let r = s[at + 1];
-    if both_full(limit, l, r) {
+    let right = r < l;
+    // x goes on to the side that holds fewer; that side tells whether there is room, and the other whether both counts are within it
+    let fewer = choose_word(right, r, l);
+    let more = choose_word(right, l, r);
+    if limit < wide(more) {
         return false;
     }
-    let right = r < l;
+    if limit <= wide(fewer) {
+        return false;
+    }
     let width = 2 + k * 4;
     let lc = at + at + width;
     let d = choose(right, lc + width, lc);
@@ -268,7 +293,7 @@ fn bar(store: &[u32], places: usize, levels: usize) -> Answer
     }
 }
 
-// x has a tag.
+// x has a tag. The put comes first: where it is done there was room, and the root was read once.
 fn push_tagged(store: &mut [u32], k: usize, levels: usize, x: Element) -> Answer
     ensures { λ r. ⌜ outcome r (now (store .exit)) ≡ pushDown k levels x (now (store .entry)) ⌝ }
 {
@@ -276,17 +301,20 @@ fn push_tagged(store: &mut [u32], k: usize, levels: usize, x: Element) -> Answer
         return Answer::Refused(Refusal::BadShape);
     }
     let limit = capacity(k, levels - 1);
-    let v = root_look(store, k);
-    if !root_ok(store, k, limit, v) {
-        return Answer::Refused(Refusal::Damaged);
+    if put(store, k, levels - 1, 0, limit, x) {
+        return Answer::Done;
     }
-    if root_held(store, k, v) == capacity(k, levels) {
-        return Answer::Refused(Refusal::Full);
+    // nothing is written: the root, and how many it holds, say why
+    let all = held(store, k, levels);
+    match all {
+        Count::Unknown(why) => Answer::Refused(why),
+        Count::Held(n) => {
+            if n as usize == capacity(k, levels) {
+                return Answer::Refused(Refusal::Full);
+            }
+            Answer::Refused(Refusal::Damaged)
+        }
     }
-    if !put(store, k, levels - 1, 0, limit, x) {
-        return Answer::Refused(Refusal::Damaged);
-    }
-    Answer::Done
 }
 
 pub fn push(store: &mut [u32], places: usize, levels: usize, x: Element) -> Answer

@@ -4,3 +4,4 @@ pub mod Looks
 pub mod Children
 pub mod Bridge
 pub mod Fulls
+pub mod Fours

@@ -8,11 +8,13 @@ use lib.ListN.{length, set}
 use Rattle.strip.specs.declared.Element.{Element}
 use Rattle.strip.specs.Answers.{key, element}
 use Rattle.cluster_nodes.specs.declared.Seen.{Seen}
+use Rattle.cluster_nodes.specs.declared.Lead.{Lead}
 use Rattle.cluster_nodes.specs.declared.Found.{Found}
 use Rattle.cluster_nodes.specs.declared.Chosen.{Chosen}
 use Rattle.cluster_model.specs.Node.{gap, has, keep, pass}
 use Rattle.cluster_model.specs.Words.{word, width, writePlace}
 use Rattle.cluster_nodes.specs.Seeing.{lookTo}
+use Rattle.cluster_nodes.specs.Full.{lowLead}
 
 unfoldable pub elemAt : List ℕ → ℕ → Element
 elemAt ws o = element (word ws o) (word ws (o + 1)) (word ws (o + 2))
@@ -106,6 +108,12 @@ pub record Under (K o len : ℕ) : Type 0 where
   pub some : 1 < K
   pub few : K ≤ 16
   pub words : o + o + width K * 3 ≤ len
+
+-- the node at word o has four places, and p and q are the scans of its children
+pub record Scanned (ws : List ℕ) (o : ℕ) (p q : Lead) : Type 0 where
+  pub words : o + o + 54 ≤ length ws
+  pub left : p ≡ lowLead ws (o + o + 18 + 2) 4
+  pub right : q ≡ lowLead ws (o + o + 18 + 18 + 2) 4
 
 -- node m lies within the words
 pub record Here (K m len : ℕ) : Type 0 where

@@ -1,7 +1,7 @@
 // One node of the cluster heap on its words: reading a place, one scan of all of them, the tests of a node, the lower of two children, and the writes of a
 // place and of a count. A function that reads or writes a node asks that it lies within the words.
 ghost use mathlib.Core.Path.{_≡_};
-ghost use mathlib.Core.Bool.{cond, _&&_};
+ghost use mathlib.Core.Bool.{true, false, cond, _&&_};
 ghost use lib.Dec.{ltb, leb};
 ghost use Prim.Native.Nat.{pred, _+_, _*_, _<_, _≤_};
 ghost use lib.ListN.{length};
@@ -11,7 +11,7 @@ ghost use Rattle.cluster_model.specs.Words.{placeOf, writePlace};
 ghost use Rattle.cluster_nodes.specs.Scan.{lowerThan, highAs};
 ghost use Rattle.cluster_nodes.specs.Seeing.{seeOne, lookTo, lowOnly};
 ghost use Rattle.cluster_nodes.specs.Full.{turnAt, lowLead, highLead};
-ghost use Rattle.cluster_nodes.specs.Leaf.{elemAt, underOf, bareAt, okBy, raiseWords, sinkWords, countsOk, peekHere, peekAt, rightRank, ChoiceFrom, Lies, Under};
+ghost use Rattle.cluster_nodes.specs.Leaf.{elemAt, underOf, bareAt, okBy, raiseWords, sinkWords, countsOk, peekHere, peekAt, rightRank, ChoiceFrom, Lies, Under, Scanned};
 use strip::Element;
 use strip::Length;
 use strip::Rank;
@@ -232,6 +232,34 @@ pub fn high_each(s: &[u32], at: usize, n: usize) -> Lead
     Lead { full, place, best }
 }
 
+pub fn choose_turn(b: bool, x: u64, y: u64) -> u64
+    ensures { λ r. ⌜ r ≡ cond b x y ⌝ }
+{
+    if b { x } else { y }
+}
+
+// The lowest of four: two pairs are compared, then the winners, so that fewer compares wait for each other. On a tie the first place stays.
+pub fn low_four(s: &[u32], at: usize) -> Lead
+    requires { ⌜ at + 16 ≤ length (now s) ⌝ }
+    ensures { λ r. ⌜ r ≡ lowLead (now (s .entry)) at 4 ⌝ }
+{
+    let a = turn_at(s, at);
+    let b = turn_at(s, at + 4);
+    let c = turn_at(s, at + 8);
+    let d = turn_at(s, at + 12);
+    let full = (s[at + 3] == 1) & (s[at + 7] == 1) & (s[at + 11] == 1) & (s[at + 15] == 1);
+    let second = b < a;
+    let first_place = choose(second, 1, 0);
+    let first = choose_turn(second, b, a);
+    let fourth = d < c;
+    let last_place = choose(fourth, 3, 2);
+    let last = choose_turn(fourth, d, c);
+    let later = last < first;
+    let place = choose(later, last_place, first_place);
+    let best = choose_turn(later, last, first);
+    Lead { full, place, best }
+}
+
 // .. where the compiler is told that there are four, it lays the loop out flat.
 pub fn low_lead(s: &[u32], at: usize, n: usize) -> Lead
     requires { ⌜ (at + n * 4 ≤ length (now s)) × (0 < n) × (n ≤ 16) ⌝ }
@@ -381,6 +409,50 @@ pub fn choice(s: &[u32], k: usize, limit: usize, at: usize) -> Chosen
     let up = elem_at(s, child + 2 + place * 4);
     Chosen {
         ok: p.ok & q.ok,
+        right,
+        child,
+        place,
+        up,
+    }
+}
+
+// No choice made yet.
+pub fn no_choice() -> Chosen
+    ensures { λ r. ⌜ r .ok ≡ false ⌝ }
+{
+    let up = Element {
+        rank: Rank(0),
+        tag: Tag(0),
+        length: Length(0),
+    };
+    Chosen {
+        ok: false,
+        right: false,
+        child: 0,
+        place: 0,
+        up,
+    }
+}
+
+// The lower of the children of a node of four places, by a scan of each: where both counts are not 0 and both children full and in order. Else no
+// choice is made. The scans come from the caller, since a call that holds both is too long for the compiler to lay out in place.
+pub fn choice_full(s: &[u32], limit: usize, at: usize, p: Lead, q: Lead) -> Chosen
+    requires { ⌜ Scanned (now s) at p q ⌝ }
+    ensures { λ r. ⌜ (r .ok ≡ true → ChoiceFrom 4 limit (now (s .entry)) at r) ⌝ }
+{
+    let l = s[at];
+    let r = s[at + 1];
+    let lc = at + at + 18;
+    let rc = lc + 18;
+    let fine = counts_ok(s, limit, lc);
+    let sound = counts_ok(s, limit, rc);
+    let ok = p.full & (q.full & ((l != 0) & ((r != 0) & (fine & sound))));
+    let right = q.best / 4294967296 < p.best / 4294967296;
+    let child = choose(right, rc, lc);
+    let place = choose(right, q.place, p.place);
+    let up = elem_at(s, child + 2 + place * 4);
+    Chosen {
+        ok,
         right,
         child,
         place,

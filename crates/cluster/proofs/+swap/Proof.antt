@@ -1,7 +1,11 @@
 use borrow.Author.Needs.{needs}
 use native.Mathlib.Omega.{arith}
 use mathlib.Core.Path.{_≡_, _∙_, refl}
-use Rattle.cluster.proofs.Downs.{take-within, take-under, child-ready, swap-zero, swap-bare, swap-bad, swap-stays, swap-stop, swap-done}
+use mathlib.Core.Bool.{true}
+use mathlib.Core.Logic.{⊎-elim}
+use lib.ListN.{length}
+use Rattle.cluster_nodes.specs.Leaf.{ChoiceFrom, Lies, Under}
+use Rattle.cluster.proofs.Downs.{take-within, take-under, child-ready, scanned, choice-four, choice-none, choice-any, choice-first, swap-zero, swap-bare, swap-bad, swap-stays, swap-stop, swap-done}
 use Prim.Native.Nat.{ℕ, _<_}
 use borrow.Fn.Kinds.{In}
 use borrow.Fn.PlainCycle.{Measures, is, falls, and}
@@ -10,7 +14,10 @@ use Rattle.cluster.proofs.swap.Kinds as swap-kinds
 use Rattle.cluster.proofs.+swap.Lts-swap as swap-lts
 use Rattle.cluster_nodes.proofs.bare_at.Reads as bare-at-reads
 use Rattle.cluster_nodes.proofs.choice.Reads as choice-reads
+use Rattle.cluster_nodes.proofs.choice_full.Reads as choice-full-reads
+use Rattle.cluster_nodes.proofs.low_four.Reads as low-four-reads
 use Rattle.cluster_nodes.proofs.lower.Reads as lower-reads
+use Rattle.cluster_nodes.proofs.no_choice.Reads as no-choice-reads
 use Rattle.cluster_nodes.proofs.room_under.Reads as room-under-reads
 use Rattle.cluster_nodes.proofs.set_place.Reads as set-place-reads
 use Rattle.cluster.proofs.+swap.{statement}
@@ -26,19 +33,35 @@ abbrev swap-below : ℕ → In 1 swap-kinds.ps
 swap-below t = and 1 swap-kinds.ps (falls 1 swap-kinds.ps _<_ μ-swap t) swap.Pre
 
 abbrev cs : ℕ → swap-lts.Claims
-cs t = (set-place-reads.Asked, set-place-reads.Learnt, bare-at-reads.Asked, bare-at-reads.Learnt, room-under-reads.Asked, room-under-reads.Learnt, choice-reads.Asked, choice-reads.Learnt, lower-reads.Asked, lower-reads.Learnt, swap-below t, swap.Post)
+cs t = (set-place-reads.Asked, set-place-reads.Learnt, bare-at-reads.Asked, bare-at-reads.Learnt, room-under-reads.Asked, room-under-reads.Learnt, no-choice-reads.Asked, no-choice-reads.Learnt, low-four-reads.Asked, low-four-reads.Learnt, choice-full-reads.Asked, choice-full-reads.Learnt, choice-reads.Asked, choice-reads.Learnt, lower-reads.Asked, lower-reads.Learnt, swap-below t, swap.Post)
+
+-- the node lies within the words
+lies : (t : ℕ) (c : swap-lts.Start (cs t) (swap-at t) swap.Post) → Lies (c .args .k) (c .args .at) (length (c .args .s .now))
+lies t c = take-within _ _ _ _ _ (c .pre .1)
+
+-- .. and there are levels left: so do its children
+under : (t : ℕ) (c : swap-lts.Else1 (cs t) (swap-at t) swap.Post) → Under (c .before .before .args .k) (c .before .before .args .at) (length (c .before .before .args .s .now))
+under t c = take-under _ _ _ _ _ (c .before .before .pre .1) (c .if1 .left)
+
+-- a choice of two full children, if one was made
+first : (t : ℕ) (c : swap-lts.Joined3 (cs t) (swap-at t) swap.Post) → c .if3 .c .ok ≡ true → ChoiceFrom (c .before .before .before .before .before .before .before .before .args .k) (c .before .before .room-under .result) (c .before .before .before .before .before .before .before .before .args .s .now) (c .before .before .before .before .before .before .before .before .args .at) (c .if3 .c)
+first t c = ⊎-elim (λ w. choice-four _ _ _ _ _ _ (w .0 .taken) (w .6 .ensures) (w .7)) (λ w. choice-none _ _ _ _ _ _ (c .before .no-choice .ensures) (w .1)) (c .if3 .came)
+
+-- .. or else of any
+chosen : (t : ℕ) (c : swap-lts.Joined4 (cs t) (swap-at t) swap.Post) → ChoiceFrom (c .before .before .before .before .before .before .before .before .before .before .args .k) (c .before .before .before .before .room-under .result) (c .before .before .before .before .before .before .before .before .before .before .args .s .now) (c .before .before .before .before .before .before .before .before .before .before .args .at) (c .if4 .c)
+chosen t c = ⊎-elim (λ w. choice-any _ _ _ _ _ _ (w .2 .ensures) (w .3)) (λ w. choice-first _ _ _ _ _ _ (first t (c .before .before)) (w .0 .left) (w .1)) (c .if4 .came)
 
 swap-add-i : (t : ℕ) → swap-lts.Need-add-i (cs t) (swap-at t) swap.Post
-swap-add-i t c = omega (arith, take-within (c .before .args .k) (c .before .args .left) (c .before .args .at) (c .before .args .place) (c .before .args .s .now) (c .before .pre .1))
+swap-add-i t c = omega (arith, lies t (c .before))
 
 swap-mul-i : (t : ℕ) → swap-lts.Need-mul-i (cs t) (swap-at t) swap.Post
-swap-mul-i t c = omega (arith, take-within (c .before .args .k) (c .before .args .left) (c .before .args .at) (c .before .args .place) (c .before .args .s .now) (c .before .pre .1), c .before .pre .1 .place)
+swap-mul-i t c = omega (arith, lies t (c .before), c .before .pre .1 .place)
 
 swap-add-i-2 : (t : ℕ) → swap-lts.Need-add-i-2 (cs t) (swap-at t) swap.Post
-swap-add-i-2 t c = omega (arith, take-within (c .before .args .k) (c .before .args .left) (c .before .args .at) (c .before .args .place) (c .before .args .s .now) (c .before .pre .1), c .before .pre .1 .place)
+swap-add-i-2 t c = omega (arith, lies t (c .before), c .before .pre .1 .place)
 
 swap-set-place-requires : (t : ℕ) → swap-lts.Need-set-place-requires (cs t) (swap-at t) swap.Post
-swap-set-place-requires t c κs = omega (arith, take-within (c .before .before .before .args .k) (c .before .before .before .args .left) (c .before .before .before .args .at) (c .before .before .before .args .place) (c .before .before .before .args .s .now) (c .before .before .before .pre .1), c .before .before .before .pre .1 .place)
+swap-set-place-requires t c κs = omega (arith, lies t (c .before .before .before), c .before .before .before .pre .1 .place)
 
 swap-same-length : (t : ℕ) → swap-lts.Need-same-length (cs t) (swap-at t) swap.Post
 swap-same-length t c = c .before .before .set-place .kept .0
@@ -47,10 +70,10 @@ swap-returns : (t : ℕ) → swap-lts.Need-returns (cs t) (swap-at t) swap.Post
 swap-returns t c = λ m e. swap-zero _ _ m _ _ _ _ _ e _ (c .before .before .before .before .if1 .taken) (c .before .before .set-place .ensures)
 
 swap-bare-at-requires : (t : ℕ) → swap-lts.Need-bare-at-requires (cs t) (swap-at t) swap.Post
-swap-bare-at-requires t c κs = omega (arith, take-within (c .before .before .before .args .k) (c .before .before .before .args .left) (c .before .before .before .args .at) (c .before .before .before .args .place) (c .before .before .before .args .s .now) (c .before .before .before .pre .1))
+swap-bare-at-requires t c κs = omega (arith, lies t (c .before .before .before))
 
 swap-set-place-requires-2 : (t : ℕ) → swap-lts.Need-set-place-requires-2 (cs t) (swap-at t) swap.Post
-swap-set-place-requires-2 t c κs = omega (arith, take-within (c .before .before .before .before .before .before .args .k) (c .before .before .before .before .before .before .args .left) (c .before .before .before .before .before .before .args .at) (c .before .before .before .before .before .before .args .place) (c .before .before .before .before .before .before .args .s .now) (c .before .before .before .before .before .before .pre .1), c .before .before .before .before .before .before .pre .1 .place)
+swap-set-place-requires-2 t c κs = omega (arith, lies t (c .before .before .before .before .before .before), c .before .before .before .before .before .before .pre .1 .place)
 
 swap-same-length-2 : (t : ℕ) → swap-lts.Need-same-length-2 (cs t) (swap-at t) swap.Post
 swap-same-length-2 t c = c .before .before .set-place2 .kept .0
@@ -61,47 +84,71 @@ swap-returns-2 t c = λ m e. swap-bare _ _ m _ _ _ _ _ e (c .before .before .bef
 swap-room-under-requires : (t : ℕ) → swap-lts.Need-room-under-requires (cs t) (swap-at t) swap.Post
 swap-room-under-requires t c κs = search needs
 
+swap-no-choice-requires : (t : ℕ) → swap-lts.Need-no-choice-requires (cs t) (swap-at t) swap.Post
+swap-no-choice-requires t c κs = search needs
+
+swap-add-low-four : (t : ℕ) → swap-lts.Need-add-low-four (cs t) (swap-at t) swap.Post
+swap-add-low-four t c = omega (arith, under t (c .before .before .before .before .before .before .before))
+
+swap-add-low-four-2 : (t : ℕ) → swap-lts.Need-add-low-four-2 (cs t) (swap-at t) swap.Post
+swap-add-low-four-2 t c = omega (arith, under t (c .before .before .before .before .before .before .before), c .before .if3 .taken)
+
+swap-low-four-requires : (t : ℕ) → swap-lts.Need-low-four-requires (cs t) (swap-at t) swap.Post
+swap-low-four-requires t c κs = omega (arith, under t (c .before .before .before .before .before .before .before), c .before .if3 .taken)
+
+swap-add-low-four-3 : (t : ℕ) → swap-lts.Need-add-low-four-3 (cs t) (swap-at t) swap.Post
+swap-add-low-four-3 t c = omega (arith, under t (c .before .before .before .before .before .before .before .before .before))
+
+swap-add-low-four-4 : (t : ℕ) → swap-lts.Need-add-low-four-4 (cs t) (swap-at t) swap.Post
+swap-add-low-four-4 t c = omega (arith, under t (c .before .before .before .before .before .before .before .before .before), c .before .before .before .if3 .taken)
+
+swap-low-four-requires-2 : (t : ℕ) → swap-lts.Need-low-four-requires-2 (cs t) (swap-at t) swap.Post
+swap-low-four-requires-2 t c κs = omega (arith, under t (c .before .before .before .before .before .before .before .before .before), c .before .before .before .if3 .taken)
+
+swap-choice-full-requires : (t : ℕ) → swap-lts.Need-choice-full-requires (cs t) (swap-at t) swap.Post
+swap-choice-full-requires t c κs = scanned _ _ _ _ _ (under t (c .before .before .before .before .before .before .before .before .before .before .before)) (c .before .before .before .before .before .if3 .taken) (c .before .before .before .low-four .ensures) (c .before .low-four2 .ensures)
+
 swap-choice-requires : (t : ℕ) → swap-lts.Need-choice-requires (cs t) (swap-at t) swap.Post
-swap-choice-requires t c κs = take-under _ _ _ _ _ (c .before .before .before .before .before .before .before .pre .1) (c .before .before .before .before .before .if1 .left)
+swap-choice-requires t c κs = under t (c .before .before .before .before .before .before .before .before .before)
 
 swap-same-length-3 : (t : ℕ) → swap-lts.Need-same-length-3 (cs t) (swap-at t) swap.Post
 swap-same-length-3 t c = refl
 
 swap-returns-3 : (t : ℕ) → swap-lts.Need-returns-3 (cs t) (swap-at t) swap.Post
-swap-returns-3 t c = λ m e. swap-bad _ _ m _ _ _ _ _ e (c .before .before .before .before .before .before .before .before .if1 .left) _ (c .before .before .before .before .before .before .bare-at .ensures) (c .before .before .before .before .before .if2 .left) _ (c .before .before .before .before .room-under .ensures) _ (c .before .before .choice .ensures) (c .if3 .taken)
+swap-returns-3 t c = let j = c .before .before in λ m e. swap-bad _ _ m _ _ _ _ _ e (j .before .before .before .before .before .before .before .before .if1 .left) _ (j .before .before .before .before .before .before .bare-at .ensures) (j .before .before .before .before .before .if2 .left) _ (j .before .before .before .before .room-under .ensures) _ (chosen t j) (c .if5 .taken)
 
 swap-lower-requires : (t : ℕ) → swap-lts.Need-lower-requires (cs t) (swap-at t) swap.Post
 swap-lower-requires t c κs = search needs
 
 swap-set-place-requires-3 : (t : ℕ) → swap-lts.Need-set-place-requires-3 (cs t) (swap-at t) swap.Post
-swap-set-place-requires-3 t c κs = omega (arith, take-within (c .before .before .before .before .before .before .before .before .before .before .before .before .before .before .args .k) (c .before .before .before .before .before .before .before .before .before .before .before .before .before .before .args .left) (c .before .before .before .before .before .before .before .before .before .before .before .before .before .before .args .at) (c .before .before .before .before .before .before .before .before .before .before .before .before .before .before .args .place) (c .before .before .before .before .before .before .before .before .before .before .before .before .before .before .args .s .now) (c .before .before .before .before .before .before .before .before .before .before .before .before .before .before .pre .1), c .before .before .before .before .before .before .before .before .before .before .before .before .before .before .pre .1 .place)
+swap-set-place-requires-3 t c κs = omega (arith, lies t (c .before .before .before .before .before .before .before .before .before .before .before .before .before .before .before .before), c .before .before .before .before .before .before .before .before .before .before .before .before .before .before .before .before .pre .1 .place)
 
 swap-same-length-4 : (t : ℕ) → swap-lts.Need-same-length-4 (cs t) (swap-at t) swap.Post
 swap-same-length-4 t c = c .before .before .set-place3 .kept .0
 
 swap-returns-4 : (t : ℕ) → swap-lts.Need-returns-4 (cs t) (swap-at t) swap.Post
-swap-returns-4 t c = λ m e. swap-stays _ _ m _ _ _ _ _ e (c .before .before .before .before .before .before .before .before .before .before .before .before .before .before .before .if1 .left) _ (c .before .before .before .before .before .before .before .before .before .before .before .before .before .bare-at .ensures) (c .before .before .before .before .before .before .before .before .before .before .before .before .if2 .left) _ (c .before .before .before .before .before .before .before .before .before .before .before .room-under .ensures) _ (c .before .before .before .before .before .before .before .before .before .choice .ensures) (c .before .before .before .before .before .before .before .if3 .left) _ (c .before .before .before .before .before .lower .ensures) _ (c .before .before .before .before .if4 .taken) (c .before .before .set-place3 .ensures)
+swap-returns-4 t c = let j = c .before .before .before .before .before .before .before .before .before in λ m e. swap-stays _ _ m _ _ _ _ _ e (j .before .before .before .before .before .before .before .before .if1 .left) _ (j .before .before .before .before .before .before .bare-at .ensures) (j .before .before .before .before .before .if2 .left) _ (j .before .before .before .before .room-under .ensures) _ (chosen t j) (c .before .before .before .before .before .before .before .if5 .left) _ (c .before .before .before .before .before .lower .ensures) _ (c .before .before .before .before .if6 .taken) (c .before .before .set-place3 .ensures)
 
 swap-sub-swap : (t : ℕ) → swap-lts.Need-sub-swap (cs t) (swap-at t) swap.Post
-swap-sub-swap t c = let h : c .before .before .before .before .before .before .before .before .before .before .before .before .before .before .args .left ≡ 0 → ⊥ = c .before .before .before .before .before .before .before .before .before .before .before .before .if1 .left in omega arith
+swap-sub-swap t c = let h : c .before .before .before .before .before .before .before .before .before .before .before .before .before .before .before .before .args .left ≡ 0 → ⊥ = c .before .before .before .before .before .before .before .before .before .before .before .before .before .before .if1 .left in omega arith
 
 swap-swap-requires : (t : ℕ) → swap-lts.Need-swap-requires (cs t) (swap-at t) swap.Post
-swap-swap-requires t c κs = (let h : c .before .before .before .before .before .before .before .before .before .before .before .before .before .before .args .left ≡ 0 → ⊥ = c .before .before .before .before .before .before .before .before .before .before .before .before .if1 .left in omega (arith, c .before .before .before .before .before .before .before .before .before .before .before .before .before .before .pre .0), child-ready _ _ _ _ _ (c .before .before .before .before .before .before .before .before .before .before .before .before .before .before .pre .1) _ _ (c .before .before .before .before .before .before .before .before .before .before .before .before .if1 .left) (c .before .before .before .before .before .before .choice .ensures))
+swap-swap-requires t c κs = (let h : c .before .before .before .before .before .before .before .before .before .before .before .before .before .before .before .before .args .left ≡ 0 → ⊥ = c .before .before .before .before .before .before .before .before .before .before .before .before .before .before .if1 .left in omega (arith, c .before .before .before .before .before .before .before .before .before .before .before .before .before .before .before .before .pre .0), child-ready _ _ _ _ _ (c .before .before .before .before .before .before .before .before .before .before .before .before .before .before .before .before .pre .1) _ _ (c .before .before .before .before .before .before .before .before .before .before .before .before .before .before .if1 .left) (chosen t (c .before .before .before .before .before .before)))
 
 swap-same-length-5 : (t : ℕ) → swap-lts.Need-same-length-5 (cs t) (swap-at t) swap.Post
 swap-same-length-5 t c = c .before .before .before .swap .kept .0
 
 swap-returns-5 : (t : ℕ) → swap-lts.Need-returns-5 (cs t) (swap-at t) swap.Post
-swap-returns-5 t c = λ m e. swap-stop _ _ m _ _ _ _ _ e (c .before .before .before .before .before .before .before .before .before .before .before .before .before .before .before .before .if1 .left) _ (c .before .before .before .before .before .before .before .before .before .before .before .before .before .before .bare-at .ensures) (c .before .before .before .before .before .before .before .before .before .before .before .before .before .if2 .left) _ (c .before .before .before .before .before .before .before .before .before .before .before .before .room-under .ensures) _ (c .before .before .before .before .before .before .before .before .before .before .choice .ensures) (c .before .before .before .before .before .before .before .before .if3 .left) _ (c .before .before .before .before .before .before .lower .ensures) (c .before .before .before .before .before .if4 .left) _ _ (c .before .before .before .swap .ensures) (c .if5 .taken)
+swap-returns-5 t c = let j = c .before .before .before .before .before .before .before .before .before .before in λ m e. swap-stop _ _ m _ _ _ _ _ e (j .before .before .before .before .before .before .before .before .if1 .left) _ (j .before .before .before .before .before .before .bare-at .ensures) (j .before .before .before .before .before .if2 .left) _ (j .before .before .before .before .room-under .ensures) _ (chosen t j) (c .before .before .before .before .before .before .before .before .if5 .left) _ (c .before .before .before .before .before .before .lower .ensures) (c .before .before .before .before .before .if6 .left) _ _ (c .before .before .before .swap .ensures) (c .if7 .taken)
 
 swap-set-place-requires-4 : (t : ℕ) → swap-lts.Need-set-place-requires-4 (cs t) (swap-at t) swap.Post
-swap-set-place-requires-4 t c κs = omega (arith, take-within (c .before .before .before .before .before .before .before .before .before .before .before .before .before .before .before .before .before .before .before .args .k) (c .before .before .before .before .before .before .before .before .before .before .before .before .before .before .before .before .before .before .before .args .left) (c .before .before .before .before .before .before .before .before .before .before .before .before .before .before .before .before .before .before .before .args .at) (c .before .before .before .before .before .before .before .before .before .before .before .before .before .before .before .before .before .before .before .args .place) (c .before .before .before .before .before .before .before .before .before .before .before .before .before .before .before .before .before .before .before .args .s .now) (c .before .before .before .before .before .before .before .before .before .before .before .before .before .before .before .before .before .before .before .pre .1), c .before .before .before .before .before .before .before .before .before .before .before .before .before .before .before .before .before .before .before .pre .1 .place, c .before .before .before .before .swap .kept .0)
+swap-set-place-requires-4 t c κs = omega (arith, lies t (c .before .before .before .before .before .before .before .before .before .before .before .before .before .before .before .before .before .before .before .before .before), c .before .before .before .before .before .before .before .before .before .before .before .before .before .before .before .before .before .before .before .before .before .pre .1 .place, c .before .before .before .before .swap .kept .0)
 
 swap-same-length-6 : (t : ℕ) → swap-lts.Need-same-length-6 (cs t) (swap-at t) swap.Post
 swap-same-length-6 t c = c .before .before .set-place4 .kept .0 ∙ c .before .before .before .before .before .before .before .swap .kept .0
 
 swap-returns-6 : (t : ℕ) → swap-lts.Need-returns-6 (cs t) (swap-at t) swap.Post
-swap-returns-6 t c = λ m e. swap-done _ _ m _ _ _ _ _ e (c .before .before .before .before .before .before .before .before .before .before .before .before .before .before .before .before .before .before .before .before .if1 .left) _ (c .before .before .before .before .before .before .before .before .before .before .before .before .before .before .before .before .before .before .bare-at .ensures) (c .before .before .before .before .before .before .before .before .before .before .before .before .before .before .before .before .before .if2 .left) _ (c .before .before .before .before .before .before .before .before .before .before .before .before .before .before .before .before .room-under .ensures) _ (c .before .before .before .before .before .before .before .before .before .before .before .before .before .before .choice .ensures) (c .before .before .before .before .before .before .before .before .before .before .before .before .if3 .left) _ (c .before .before .before .before .before .before .before .before .before .before .lower .ensures) (c .before .before .before .before .before .before .before .before .before .if4 .left) _ _ (c .before .before .before .before .before .before .before .swap .ensures) (c .before .before .before .before .if5 .left) _ (c .before .before .set-place4 .ensures)
+swap-returns-6 t c = let j = c .before .before .before .before .before .before .before .before .before .before .before .before .before .before in λ m e. swap-done _ _ m _ _ _ _ _ e (j .before .before .before .before .before .before .before .before .if1 .left) _ (j .before .before .before .before .before .before .bare-at .ensures) (j .before .before .before .before .before .if2 .left) _ (j .before .before .before .before .room-under .ensures) _ (chosen t j) (c .before .before .before .before .before .before .before .before .before .before .before .before .if5 .left) _ (c .before .before .before .before .before .before .before .before .before .before .lower .ensures) (c .before .before .before .before .before .before .before .before .before .if6 .left) _ _ (c .before .before .before .before .before .before .before .swap .ensures) (c .before .before .before .before .if7 .left) _ (c .before .before .set-place4 .ensures)
 
 pub +swap-spec : {M : Type 1} → statement M
 +swap-spec = close μ-swap λ t. swap-lts.spec (cs t)
@@ -118,6 +165,14 @@ pub +swap-spec : {M : Type 1} → statement M
     (swap-same-length-2 t)
     (swap-returns-2 t)
     (swap-room-under-requires t)
+    (swap-no-choice-requires t)
+    (swap-add-low-four t)
+    (swap-add-low-four-2 t)
+    (swap-low-four-requires t)
+    (swap-add-low-four-3 t)
+    (swap-add-low-four-4 t)
+    (swap-low-four-requires-2 t)
+    (swap-choice-full-requires t)
     (swap-choice-requires t)
     (swap-same-length-3 t)
     (swap-returns-3 t)
