@@ -29,6 +29,3 @@ pub mod Served
 pub mod Spare
 pub mod Blind
 pub mod Shown
-pub mod Case8
-pub mod CaseWords
-pub mod CaseTag

@@ -6,6 +6,4 @@ pub mod Calls
 pub mod Causes
 pub mod Plain
 pub mod Promise
-pub mod Case8
-pub mod CaseWords
-pub mod CaseTag
+pub mod Filled

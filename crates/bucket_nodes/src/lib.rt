@@ -2,8 +2,6 @@
 //
 // A link is a node's number plus one, and 0 is "none". Each function takes the layout and touches no other word.
 use bucket_model::Lay;
-use bucket_model::Lowest;
-use bucket_model::Room;
 use strip::Element;
 use strip::Length;
 use strip::Rank;
@@ -13,8 +11,8 @@ ghost use Prim.Native.Nat.{_≤_, _<_};
 ghost use Rattle.bucket_model.specs.Layout.{storeWords, word, headAt, tailAt, loadIn, loaded};
 ghost use Rattle.bucket_model.specs.Layout as layout;
 ghost use Rattle.bucket_model.specs.Checks.{nextOf};
-ghost use Rattle.bucket_model.specs.Calls.{fill, blankWord, tailLeft, takenWords, linkAt, joinedWords, blankCell};
-ghost use Rattle.bucket_nodes.specs.Places.{Fits, NodeOf, Takable, Linkable, Joinable, Swappable};
+ghost use Rattle.bucket_model.specs.Calls.{fill, blankWord, tailLeft, blankCell};
+ghost use Rattle.bucket_nodes.specs.Places.{Fits, NodeOf};
 
 // How many storeys of bits a queue has: two, or three.
 pub const LEAST_STOREYS: usize = 2;
@@ -31,13 +29,13 @@ const TOWER_DEEP: usize = 1 + 64 * TOWER;
 const RANKS_DEEP: u32 = 64 * RANKS;
 
 // The words of a node, and which of them is its tag, which its length and which its next.
-const NODE: usize = 3;
+pub const NODE: usize = 3;
 
-const TAG: usize = 0;
+pub const TAG: usize = 0;
 
-const LENGTH: usize = 1;
+pub const LENGTH: usize = 1;
 
-const NEXT: usize = 2;
+pub const NEXT: usize = 2;
 
 // Where the words of a queue stand that has so many storeys, words of bits, ranks and nodes.
 fn lay_of(storeys: usize, tower: usize, ranks: u32, n: u32) -> Lay
@@ -139,93 +137,6 @@ pub fn tail_left(next: u32, tail: u32) -> u32
         return 0;
     }
     tail
-}
-
-// ---- a pop
-
-// Takes the head out of its bucket, and puts the freed node first in the free chain.
-pub fn take_words(words: &mut [u32], k: Lay, low: Lowest)
-    requires { ⌜ Takable k (now words) low ⌝ }
-    ensures { λ _. ⌜ now (words .exit) ≡ takenWords k (now (words .entry)) low ⌝ }
-{
-    let head_at = k.heads + low.rank as usize;
-    let node = k.stem + NODE * (low.head as usize);
-    let free_at = k.free;
-    let held_at = k.held;
-    let free = words[free_at];
-    let held = words[held_at];
-    let tail = tail_left(low.next, low.tail);
-    words[head_at] = low.next;
-    words[head_at + k.ranks as usize] = tail;
-    words[node + TAG] = 0;
-    words[node + LENGTH] = 0;
-    words[node + NEXT] = free;
-    words[free_at] = low.head;
-    words[held_at] = held - 1;
-}
-
-// ---- a push
-
-// Where the link to a newcomer stands: the head of an empty bucket, or the next of its tail.
-fn link_at(k: Lay, rank: u32, tail: u32) -> usize
-    requires { ⌜ Linkable k rank tail ⌝ }
-    ensures is { λ r. ⌜ r ≡ linkAt k rank tail ⌝ }
-    ensures within { λ r. ⌜ r < k .free ⌝ }
-{
-    if tail == 0 {
-        return k.heads + rank as usize;
-    }
-    k.stem + NODE * (tail as usize) + NEXT
-}
-
-// Takes the node at the free link, and joins it behind the tail.
-pub fn join_words(words: &mut [u32], k: Lay, e: Element, to: Room)
-    requires { ⌜ Joinable k (now words) (e .rank .0) (to .tail) ⌝ }
-    ensures { λ _. ⌜ now (words .exit) ≡ joinedWords k (now (words .entry)) e to ⌝ }
-{
-    let rank = e.rank;
-    let tag = e.tag;
-    let length = e.length;
-    let free_at = k.free;
-    let held_at = k.held;
-    let free = words[free_at];
-    let held = words[held_at];
-    let node = k.stem + NODE * (free as usize);
-    let tail = to.tail;
-    let link = link_at(k, rank.0, tail);
-    let tail_at = k.heads + rank.0 as usize + k.ranks as usize;
-    words[free_at] = to.next;
-    words[node + TAG] = tag.0;
-    words[node + LENGTH] = length.0;
-    words[node + NEXT] = 0;
-    words[link] = free;
-    words[tail_at] = free;
-    words[held_at] = held + 1;
-}
-
-// ---- a replace
-
-// Takes the head out of its bucket, and joins it, with what e carries, to that of e. The free chain and the held count end as
-// they were, so they are not touched.
-pub fn swap_words(words: &mut [u32], k: Lay, low: Lowest, e: Element, to: Room)
-    requires { ⌜ Swappable k (now words) low (e .rank .0) to ⌝ }
-    ensures { λ _. ⌜ now (words .exit) ≡ joinedWords k (takenWords k (now (words .entry)) low) e to ⌝ }
-{
-    let rank = e.rank;
-    let new_tag = e.tag;
-    let new_length = e.length;
-    let head_at = k.heads + low.rank as usize;
-    let node = k.stem + NODE * (low.head as usize);
-    let left = tail_left(low.next, low.tail);
-    let link = link_at(k, rank.0, to.tail);
-    let tail_at = k.heads + rank.0 as usize + k.ranks as usize;
-    words[head_at] = low.next;
-    words[head_at + k.ranks as usize] = left;
-    words[node + TAG] = new_tag.0;
-    words[node + LENGTH] = new_length.0;
-    words[node + NEXT] = 0;
-    words[link] = low.head;
-    words[tail_at] = low.head;
 }
 
 // ---- clear

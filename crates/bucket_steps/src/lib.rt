@@ -1,11 +1,11 @@
 // What the bucket queue's calls write, once every test holds: a bucket's words and its bits.
 use bucket_bits::mark;
+use bucket_links::join_words;
+use bucket_links::swap_words;
+use bucket_links::take_words;
 use bucket_model::Lay;
 use bucket_model::Lowest;
 use bucket_model::Room;
-use bucket_nodes::join_words;
-use bucket_nodes::swap_words;
-use bucket_nodes::take_words;
 use strip::Element;
 ghost use mathlib.Core.Path.{_≡_};
 ghost use Rattle.bucket_model.specs.Calls.{takenBits, takenWords, joinedBits, joinedWords};

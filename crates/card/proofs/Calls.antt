@@ -2,27 +2,15 @@
 use Prim.Native.Nat.{_<_, _≤_, ℕ}
 use mathlib.Core.List.{List}
 use mathlib.Core.Path.{_∙_, _≡_, ap}
-use lib.ListN.{length, set}
+use lib.ListN.{length}
 use borrow.Author.Tests.{le-leb, lt-leb}
 use Rattle.bucket_model.specs.Calls as bucket
 use Rattle.card.specs.Bucket.{bucketAfterOut, bucketAnswered, bucketAfter, bucketDone}
-use Rattle.card.specs.Out.{answerOut, answerWords, countAnswered, countAfter}
+use Rattle.card_out.specs.Out.{answerOut, answerWords}
 use Rattle.card.specs.Tree.{treeAfter, treeAfterOut, treeDone, treeAnswered}
-use Rattle.strip.specs.Answers.{countNumber, countOf, numberOf}
+use Rattle.strip.specs.Answers.{numberOf}
 use Rattle.strip.specs.declared.Answer.{Answer}
-use Rattle.strip.specs.declared.Count.{Count}
 use Rattle.tree_model.specs.Calls as tree
-
--- ---- held
-module _ (c : Count) (out : List ℕ) where
-  pub count-short : length out < 1 → countAfter 1 out ≡ countAnswered c out
-  unfolding countAnswered
-  count-short h = rw (lt-leb 1 (length out) h)
-
-  pub count-told : (d : Count) (n : ℕ) (after : List ℕ) → 1 ≤ length out → d ≡ c → (n ≡ countNumber d) × (after ≡ set out 0 (countOf d)) → countAfter n after ≡ countAnswered c out
-  unfolding countAnswered
-  count-told d n after h e p =
-      rw (le-leb 1 (length out) h) ((λ i. record { number = p .0 i; out = p .1 i }) ∙ ap (λ (c : Count). countAfter (countNumber c) (set out 0 (countOf c))) e)
 
 -- ---- the tree
 module _ (o : tree.Outcome) where

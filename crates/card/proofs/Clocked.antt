@@ -1,18 +1,17 @@
 -- The clocked calls at the boundary: each test and what follows it make the outcome that the definitions say. Assumes nothing.
 use Prim.Native.Nat.{_-_, _<_, _≤_, ℕ}
 use native.Mathlib.Omega.{arith}
-use mathlib.Core.Bool.{_&&_, Bool, cond, false, not, true}
+use mathlib.Core.Bool.{_&&_, and-false, Bool, cond, false, not, true}
 use mathlib.Core.List.{List}
-use mathlib.Core.Path.{_∙_, _≡_, ap, ap₂, refl, sym}
+use mathlib.Core.Path.{_∙_, _≡_, ap, refl, sym}
 use lib.Dec.{eqb, leb}
-use lib.ListN.{getD, length, set}
-use borrow.Author.Tests.{eq-eqb, le-leb, leb-true, lt-leb, ne-eqb, not-false, not-true}
-use Rattle.card.specs.Clocked.{asked, clearLeft, clearOf, clearTold, clockedAfter, ClockedAfter, clockedAfterOut, ClockedAfterOut, clockedClear, clockedCycle, clockedDrain, cycleLeft, cycleOf, cycleTold, drainLeft, drainOf, drainOut, drainTold, marked, markIn, markOut, noneLeft, noneTurned, requestOf, saysNo, told, Told, toldOut, ToldOut}
-use Rattle.card.specs.Out.{answerOut, answerWords, drainWords, refusedOut, zeros}
+use lib.ListN.{length, set}
+use borrow.Author.Tests.{eq-eqb, le-leb, lt-leb, ne-eqb, not-false, not-true}
+use Rattle.card.specs.Clocked.{clearLeft, clearOf, clearTold, clockedAfter, ClockedAfter, clockedAfterOut, ClockedAfterOut, clockedClear, clockedCycle, clockedDrain, cycleLeft, cycleOf, cycleTold, drainLeft, drainOf, drainTold, noneLeft, noneTurned, saysNo, told, Told, toldOut, ToldOut}
+use Rattle.card_out.specs.Asked.{asked, marked, markIn, markOut, requestOf}
+use Rattle.card_out.specs.Out.{drainOut, answerOut, answerWords, drainWords, refusedOut, zeros}
 use Rattle.clocked_model.proofs.Drain.{drain-within}
 use Rattle.clocked_model.specs.Calls.{CycleOutcome, drainOutcome, drains, fresh, recordCount}
-use Rattle.clocked_model.specs.declared.State.{State}
-use Rattle.laws.specs.Tests.{and-left, and-right}
 use Rattle.lent_steps.proofs.Back.{back-none, clear-lent, cycle-lent, drain-lent, works-few}
 use Rattle.lent_steps.proofs.Nodes.{clear-ready, cycle-ready, drain-ready, none-ready}
 use Rattle.lent_steps.specs.Lent.{lentCleared, lentCycled, LentDrain, lentDrains, LentOutcome, worksBack}
@@ -20,51 +19,10 @@ use Rattle.lent_steps.specs.Steps.{clearFrom, cycleFrom, drainFrom, lends, reac
 use Rattle.lent_steps.specs.declared.Read.{Read}
 use Rattle.lent_steps.specs.declared.Record.{Record}
 use Rattle.lent_steps.specs.declared.Turned.{Turned}
-use Rattle.strip.specs.Answers.{blank, element, numberOf}
-use Rattle.strip.specs.declared.Answer.{Answer}
+use Rattle.strip.specs.Answers.{numberOf}
 use Rattle.strip.specs.declared.Answer.the-variants.{Refused}
 use Rattle.strip.specs.declared.Refusal.the-variants.{BadShape}
 use Rattle.strip.specs.declared.Request.{Request}
-use Rattle.strip.specs.declared.Request.the-variants.{Idle, Pop, Push, Replace}
-
--- ---- the tests
-module _ (n rank tag bytes : ℕ) where
-  pub request-idle : (n ≡ 1 → ⊥) → (n ≡ 2 → ⊥) → (n ≡ 3 → ⊥) → Idle ≡ requestOf n rank tag bytes
-  unfolding requestOf
-  request-idle a b d = rw (ne-eqb n 1 a, ne-eqb n 2 b, ne-eqb n 3 d)
-
-  pub request-push : n ≡ 1 → Push (element rank tag bytes) ≡ requestOf n rank tag bytes
-  unfolding requestOf
-  request-push e = rw (eq-eqb n 1 e)
-
-  pub request-pop : (n ≡ 1 → ⊥) → n ≡ 2 → Pop ≡ requestOf n rank tag bytes
-  unfolding requestOf
-  request-pop a e = rw (ne-eqb n 1 a, eq-eqb n 2 e)
-
-  pub request-replace : (n ≡ 1 → ⊥) → (n ≡ 2 → ⊥) → n ≡ 3 → Replace (element rank tag bytes) ≡ requestOf n rank tag bytes
-  unfolding requestOf
-  request-replace a b e = rw (ne-eqb n 1 a, ne-eqb n 2 b, eq-eqb n 3 e)
-
-module _ (mark : List ℕ) where
-  pub unmarked : length mark < 1 → false ≡ marked mark
-  unfolding marked
-  unmarked h = rw (lt-leb 1 (length mark) h)
-
-  pub marked-is : 1 ≤ length mark → leb (getD mark 0 0) 1 ≡ marked mark
-  unfolding marked
-  marked-is h = rw (le-leb 1 (length mark) h)
-
-  pub marked-some : (b : Bool) → b ≡ marked mark → not b ≡ false → 1 ≤ length mark
-  unfolding marked
-  marked-some b e f = leb-true 1 (length mark) (and-left (leb 1 (length mark)) (leb (getD mark 0 0) 1) (sym e ∙ not-false b f))
-
-  pub asked-is : (request : ℕ) (b : Bool) → b ≡ marked mark → (leb request 3 && b) ≡ asked mark request
-  unfolding asked
-  asked-is request b e = ap (λ (b : Bool). leb request 3 && b) e
-
-  pub asked-some : (request : ℕ) (b : Bool) → b ≡ asked mark request → not b ≡ false → 1 ≤ length mark
-  unfolding asked marked
-  asked-some request b e f = leb-true 1 (length mark) (and-left (leb 1 (length mark)) (leb (getD mark 0 0) 1) (and-right (leb request 3) (leb 1 (length mark) && leb (getD mark 0 0) 1) (sym e ∙ not-false b f)))
 
 -- ---- what the calls leave
 -- a clear
@@ -116,11 +74,12 @@ module _ (m levels len : ℕ) (ws mark : List ℕ) (d : Read) (out : List ℕ) w
     unfolding cycleTold
     cycle-short h t e = rw (lt-leb answerWords (length out) h) (no-short answerWords h t e)
 
-    module _ (room : answerWords ≤ length out) (b : Bool) (tested : b ≡ asked mark request) where
-      pub cycle-refused : not b ≡ true → (out₁ : List ℕ) → out₁ ≡ answerOut (Refused BadShape) out → (t : Turned) → t ≡ noneTurned (d .works) → toldOut t ws mark out₁ ≡ cycleTold m levels len ws mark d request rank tag bytes out
-      unfolding cycleTold blank
-      cycle-refused e out₁ z t n = rw (le-leb answerWords (length out) room, sym tested ∙ not-true b e) (no-zeros answerWords room t n out₁ z)
+    pub cycle-refused : (b : Bool) → b ≡ asked mark request → not b ≡ true → (out₁ : List ℕ) → out₁ ≡ refusedOut answerWords out → (t : Turned) → t ≡ noneTurned (d .works)
+        → toldOut t ws mark out₁ ≡ cycleTold m levels len ws mark d request rank tag bytes out
+    unfolding cycleTold
+    cycle-refused b tested e out₁ z t n = rw (sym tested ∙ not-true b e, and-false (leb answerWords (length out))) (λ i. toldOut (n i) ws mark (z i))
 
+    module _ (room : answerWords ≤ length out) (b : Bool) (tested : b ≡ asked mark request) where
       pub cycle-done : not b ≡ false → (q : Request) → q ≡ requestOf request rank tag bytes → (t : Turned) (after : List ℕ)
           → (after ≡ cycleFrom m levels len (markIn mark) ws d q .words) × (t ≡ turnedCycle levels (cycleFrom m levels len (markIn mark) ws d q))
           → (n : ℕ) → n ≡ cond (t .state .mark) 1 0 → (out₁ : List ℕ) → out₁ ≡ answerOut (t .answer) out → toldOut t after (set mark 0 n) out₁ ≡ cycleTold m levels len ws mark d request rank tag bytes out

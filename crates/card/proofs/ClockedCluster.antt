@@ -1,25 +1,25 @@
 -- The clocked cluster heap's calls at the boundary: each test and what follows it make the outcome that the definitions say. Assumes nothing.
 use Prim.Native.Nat.{_<_, _≤_, ℕ}
 use native.Mathlib.Omega.{arith}
-use mathlib.Core.Bool.{_&&_, Bool, cond, false, true}
+use mathlib.Core.Bool.{_&&_, and-false, Bool, cond, false, true}
 use mathlib.Core.List.{List}
-use mathlib.Core.Path.{_∙_, _≡_, ap, refl, sym}
+use mathlib.Core.Path.{_∙_, _≡_, ap, refl}
 use lib.Dec.{leb}
 use lib.ListN.{length}
 use borrow.Author.Tests.{le-leb, lt-leb}
-use Rattle.card.specs.Clocked.{drainOut, requestOf}
+use Rattle.card_out.specs.Out.{drainOut, answerOut, answerWords, drainWords, refusedOut}
+use Rattle.card_out.specs.Asked.{requestOf}
 use Rattle.card.specs.ClockedCluster.{clearOf, clearTold, cycleLeft, cycleOf, cycleTold, drainLeft, drainOf, drainTold, noneLeft, noneTurned, saysNo, stagesAfter, StagesAfter, stagesAfterOut, StagesAfterOut, stagesClear, stagesCycle, stagesDrain, told, Told, toldOut, ToldOut}
-use Rattle.card.specs.Out.{answerOut, answerWords, drainWords, refusedOut, zeros}
 use Rattle.cluster_clock_model.proofs.Drain.{drain-within}
 use Rattle.cluster_clock_model.specs.Calls.{drainOutcome, drains, stageCount}
 use Rattle.cluster_lent_steps.proofs.Back.{back-none, clear-lent, cycle-lent, drain-lent, stages-few}
 use Rattle.cluster_lent_steps.proofs.Fits.{clear-ready, cycle-ready, drain-ready, none-ready}
-use Rattle.cluster_lent_steps.specs.Lent.{lentCleared, LentDrain, lentDrains, LentOutcome, lentTurned, stagesBack}
+use Rattle.cluster_lent_steps.specs.Lent.{LentDrain, lentDrains, LentOutcome, lentTurned, stagesBack}
 use Rattle.cluster_lent_steps.specs.Steps.{clearFrom, cycleFrom, drainsFrom, lends, reach, readOf, Ready, turnedCycle, turnedDrain}
 use Rattle.cluster_lent_steps.specs.declared.ClusterRead.{ClusterRead}
 use Rattle.cluster_lent_steps.specs.declared.ClusterRecord.{ClusterRecord}
 use Rattle.cluster_lent_steps.specs.declared.ClusterTurned.{ClusterTurned}
-use Rattle.strip.specs.Answers.{blank, numberOf}
+use Rattle.strip.specs.Answers.{numberOf}
 use Rattle.strip.specs.declared.Answer.the-variants.{Refused}
 use Rattle.strip.specs.declared.Refusal.the-variants.{BadShape}
 use Rattle.strip.specs.declared.Request.{Request}
@@ -49,18 +49,17 @@ module _ (K levels len : ℕ) (ws : List ℕ) (d : ClusterRead) (out : List ℕ)
     unfolding cycleTold
     cycle-short h t e = rw (lt-leb answerWords (length out) h) (no-short answerWords h t e)
 
-    module _ (room : answerWords ≤ length out) where
-      pub cycle-refused : 3 < request → (out₁ : List ℕ) → out₁ ≡ answerOut (Refused BadShape) out → (t : ClusterTurned) → t ≡ noneTurned (d .stages) → toldOut t ws out₁ ≡ cycleTold K levels len ws d request rank tag bytes out
-      unfolding cycleTold blank refusedOut
-      cycle-refused h out₁ z t n = rw (le-leb answerWords (length out) room, lt-leb request 3 h) (λ i. toldOut (n i) ws (z i))
+    pub cycle-refused : 3 < request → (out₁ : List ℕ) → out₁ ≡ refusedOut answerWords out → (t : ClusterTurned) → t ≡ noneTurned (d .stages) → toldOut t ws out₁ ≡ cycleTold K levels len ws d request rank tag bytes out
+    unfolding cycleTold
+    cycle-refused h out₁ z t n = rw (lt-leb request 3 h, and-false (leb answerWords (length out))) (λ i. toldOut (n i) ws (z i))
 
-      pub cycle-done : request ≤ 3 → (q : Request) → q ≡ requestOf request rank tag bytes → (t : ClusterTurned) (after : List ℕ)
-          → (after ≡ cycleFrom K levels len ws d q .words) × (t ≡ turnedCycle levels (cycleFrom K levels len ws d q))
-          → (out₁ : List ℕ) → out₁ ≡ answerOut (t .answer) out → toldOut t after out₁ ≡ cycleTold K levels len ws d request rank tag bytes out
-      unfolding cycleTold
-      cycle-done h q f t after p out₁ z =
-          rw (le-leb answerWords (length out) room, le-leb request 3 h, ← f)
-          (λ i. toldOut (p .1 i) (p .0 i) ((z ∙ ap (λ (t : ClusterTurned). answerOut (t .answer) out) (p .1)) i))
+    pub cycle-done : answerWords ≤ length out → request ≤ 3 → (q : Request) → q ≡ requestOf request rank tag bytes → (t : ClusterTurned) (after : List ℕ)
+        → (after ≡ cycleFrom K levels len ws d q .words) × (t ≡ turnedCycle levels (cycleFrom K levels len ws d q))
+        → (out₁ : List ℕ) → out₁ ≡ answerOut (t .answer) out → toldOut t after out₁ ≡ cycleTold K levels len ws d request rank tag bytes out
+    unfolding cycleTold
+    cycle-done room h q f t after p out₁ z =
+        rw (le-leb answerWords (length out) room, le-leb request 3 h, ← f)
+        (λ i. toldOut (p .1 i) (p .0 i) ((z ∙ ap (λ (t : ClusterTurned). answerOut (t .answer) out) (p .1)) i))
 
   module _ (budget : ℕ) where
     pub drain-short : length out < drainWords → (t : ClusterTurned) → t ≡ noneTurned (d .stages) → toldOut t ws out ≡ drainTold K levels len ws d budget out

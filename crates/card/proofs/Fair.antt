@@ -6,9 +6,9 @@ use mathlib.Core.Path.{_∙_, _≡_, ap, refl, sym}
 use lib.Dec.{leb}
 use lib.ListN.{length}
 use borrow.Author.Tests.{le-leb, lt-leb}
-use Rattle.card.proofs.Zeros.{zeros-held}
+use Rattle.card_out.proofs.Out.{zeros-held}
 use Rattle.card.specs.Fair.{fairAfter, FairAfter, fairAfterOut, FairAfterOut, fairAnswered, fairDone, fairHeld, fairOut, fairPop, fairPush, fairReset}
-use Rattle.card.specs.Out.{answerWords, badShape, countAfter, CountAfter, refusedOut, zeros}
+use Rattle.card_out.specs.Out.{answerWords, badShape, countAfter, CountAfter, refusedOut, zeros}
 use Rattle.fair_model.specs.Calls.{answerNumber, desk, pops, Reply, reply}
 use Rattle.fair_model.specs.declared.FairAnswer.{FairAnswer}
 use Rattle.fair_model.specs.declared.FairAnswer.the-variants.{Accepted, Denied, Served}

@@ -8,9 +8,10 @@ use lib.Dec.{eqb, leb}
 use lib.ListN.{getD, length, length-set, set}
 use lib.Seq.{getD-set-same}
 use borrow.Author.Tests.{le-leb, leb-true}
-use Rattle.card.specs.Clocked.{asked, clearOf, clockedAfter, ClockedAfter, clockedAfterOut, ClockedAfterOut, clockedClear, clockedCycle, clockedDrain, cycleOf, drainOf, drainOut, marked, markIn, markOut, requestOf, saysNo}
+use Rattle.card.specs.Clocked.{clearOf, clockedAfter, ClockedAfter, clockedAfterOut, ClockedAfterOut, clockedClear, clockedCycle, clockedDrain, cycleOf, drainOf, saysNo}
+use Rattle.card_out.specs.Asked.{asked, marked, markIn, markOut, requestOf}
+use Rattle.card_out.specs.Out.{drainOut, answerOut, answerWords, badShape, CountAfter, countAfter, drainWords}
 use Rattle.card.specs.History.{asks, broughtBy, Call, callC, callM, clearC, codeOf, drain, Holds, Kept, kept}
-use Rattle.card.specs.Out.{answerOut, answerWords, badShape, CountAfter, countAfter, drainWords}
 use Rattle.clocked_model.specs.Promise.{clearedMachine, machine, Machine}
 use Rattle.laws.specs.Tests.{and-left, and-true}
 use Rattle.lent_steps.proofs.History as lent

@@ -2,7 +2,6 @@
 pub mod Calls
 pub mod Clocked
 pub mod ClockedCluster
-pub mod Sizes
 pub mod Zeros
 pub mod Cluster
 pub mod History

@@ -7,7 +7,7 @@ use lib.Dec.{leb}
 use lib.ListN.{length, set}
 use borrow.Author.Tests.{le-leb, lt-leb}
 use Rattle.card.specs.Mend.{checkAnswered, checkOut, mendAnswered, mendOut, treeCheck, treeMend}
-use Rattle.card.specs.Out.{badShape, countAfter, CountAfter, refusedOut}
+use Rattle.card_out.specs.Out.{badShape, countAfter, CountAfter, refusedOut}
 use Rattle.card.specs.Tree.{treeAfterOut, TreeAfterOut}
 use Rattle.mend_model.specs.Check.{checked, checkNumber}
 use Rattle.mend_model.specs.Mend.{Mended, mended, mendedAs, mendNumber}

@@ -5,7 +5,7 @@ use mathlib.Core.Path.{_∙_, _≡_, ap, sym}
 use Rattle.card.specs.Bucket.{bucketAfter, BucketAfter, bucketAfterOut, BucketAfterOut, bucketClear, bucketHeld, bucketPop, bucketPush, bucketReplace}
 use Rattle.card.specs.Cluster.{clusterClear, clusterHeld, clusterPop, clusterPush, clusterReplace}
 use Rattle.card.specs.Clocked.{clockedAfter, ClockedAfter, clockedAfterOut, ClockedAfterOut, clockedClear, clockedCycle, clockedDrain, clockedHeld}
-use Rattle.card.specs.Out.{countAfter, CountAfter}
+use Rattle.card_out.specs.Out.{countAfter, CountAfter}
 use Rattle.lent_steps.specs.declared.Record.{Record}
 use Rattle.card.specs.Tree.{treeAfter, TreeAfter, treeAfterOut, TreeAfterOut, treeClear, treeHeld, treePop, treePush, treeReplace}
 

@@ -9,7 +9,7 @@ use borrow.Author.Tests.{le-leb, ne-eqb, not-true, not-false}
 use Rattle.card.proofs.Pinned.{bucket, bucket-out, count}
 use Rattle.card.proofs.Zeros.{bucket-zeros}
 use Rattle.card.specs.Bucket.{bucketAfter, bucketAfterOut}
-use Rattle.card.specs.Out.{answerWords, countAfter, refusedOut}
+use Rattle.card_out.specs.Out.{answerWords, countAfter, refusedOut}
 use Rattle.card.specs.Ports.{portsBits, portsClear, portsHeld, portsPop, portsPush, portsReplace, portsWords, shape}
 use Rattle.bucket_model.specs.Calls.{Outcome}
 use Rattle.bucket_model.specs.Checks.{depthOk}

@@ -5,10 +5,10 @@ use mathlib.Core.List.{List}
 use mathlib.Core.Path.{_∙_, _≡_, ap, refl, sym}
 use lib.Dec.{leb}
 use lib.ListN.{length}
-use Rattle.card.proofs.Zeros.{told-zeros, zeros-held}
-use Rattle.card.specs.Clocked.{drainOut, requestOf}
+use Rattle.card_out.proofs.Out.{told-zeros, zeros-held}
+use Rattle.card_out.specs.Out.{drainOut, answerWords, badShape, countAfter, CountAfter, drainWords, refusedOut, zeros}
+use Rattle.card_out.specs.Asked.{requestOf}
 use Rattle.card.specs.ClockedCluster.{cycleOf, drainOf, saysNo, stagesAfter, StagesAfter, stagesAfterOut, StagesAfterOut, stagesClear, stagesCycle, stagesDrain, stagesHeld}
-use Rattle.card.specs.Out.{answerWords, badShape, countAfter, CountAfter, drainWords, refusedOut, zeros}
 use Rattle.cluster_clock_model.proofs.Drain.{drain-refused}
 use Rattle.cluster_clock_model.specs.Calls.{clockHeld, DrainOutcome, drains}
 use Rattle.cluster_clock_model.specs.declared.Stage.{Stage}

@@ -4,34 +4,19 @@ use mathlib.Core.Bool.{_&&_, Bool, cond, false, true}
 use mathlib.Core.List.{List}
 use mathlib.Core.Path.{_∙_, _≡_, ap, refl, sym}
 use lib.Dec.{leb}
-use lib.ListN.{length, set}
+use lib.ListN.{length}
 use Rattle.bucket_model.specs.Calls as bucket
 use Rattle.card.specs.Bucket.{bucketPop, bucketReplace, bucketAfterOut, bucketAnswered}
-use Rattle.card.specs.Clocked.{asked, clockedCycle, clockedDrain, cycleOf, drainOf, drainOut, marked, markIn, requestOf, saysNo}
-use Rattle.card.specs.Out.{answerOut, answerWords, badShape, countAfter, countAnswered, drainWords, refusedOut, zeros}
+use Rattle.card.specs.Clocked.{clockedCycle, clockedDrain, cycleOf, drainOf, saysNo}
+use Rattle.card_out.proofs.Out.{told-zeros}
+use Rattle.card_out.specs.Asked.{asked, marked, markIn, requestOf}
+use Rattle.card_out.specs.Out.{drainOut, answerOut, answerWords, badShape, drainWords, refusedOut, zeros}
 use Rattle.card.specs.Tree.{treePop, treeReplace, treeAfterOut, treeAnswered}
 use Rattle.lent_steps.proofs.Drained.{drain-bad}
 use Rattle.lent_steps.specs.Lent.{lentCycled, LentDrain, lentDrains, LentOutcome}
 use Rattle.lent_steps.specs.declared.Record.{Record}
-use Rattle.strip.specs.Answers.{blank, countNumber, countOf, numberOf}
-use Rattle.strip.specs.declared.Answer.{Answer}
-use Rattle.strip.specs.declared.Answer.the-variants.{Done, Out, Refused}
-use Rattle.strip.specs.declared.Count.{Count}
-use Rattle.strip.specs.declared.Count.the-variants.{Held, Unknown}
-use Rattle.tree_model.proofs.Exactly.{shape-is}
+use Rattle.strip.specs.Answers.{numberOf}
 use Rattle.tree_model.specs.Calls as tree
-
-answer-zeros : (a : Answer) (out : List ℕ) → (numberOf a ≡ 0 → ⊥) → answerOut a out ≡ zeros answerWords out
-unfolding blank
-answer-zeros Done out h = absurd (h refl)
-answer-zeros (Out e) out h = absurd (h refl)
-answer-zeros (Refused r) out h = refl
-
--- what a call leaves in `out`, where it answers a and where it does not touch it
-pub told-zeros : (a : Answer) (out : List ℕ) (b : Bool) → leb answerWords (length out) ≡ b → (cond b (numberOf a) badShape ≡ 0 → ⊥) → cond b (answerOut a out) out ≡ refusedOut answerWords out
-unfolding refusedOut
-told-zeros a out true e h = answer-zeros a out h ∙ ap (λ (b : Bool). cond b (zeros answerWords out) out) (sym e)
-told-zeros a out false e h = ap (λ (b : Bool). cond b (zeros answerWords out) out) (sym e)
 
 pub tree-zeros : (o : tree.Outcome) (ws out : List ℕ) → (treeAnswered o ws out .number ≡ 0 → ⊥) → treeAnswered o ws out .out ≡ refusedOut answerWords out
 unfolding treeAnswered
@@ -96,14 +81,3 @@ module _ (m levels : ℕ) (ws : List ℕ) (rs : List Record) (mark out : List �
           (λ i. drainOut (z .0 i) (z .1 i) out) ∙ ap (λ (b : Bool). cond b (zeros drainWords out) out) (sym e)
       go true e false h = refl
       go false e t h = refl
-
--- held answers 0
-pub zeros-held : (c : Count) (out : List ℕ) → (countAnswered c out .number ≡ 0 → ⊥) → countAnswered c out .out ≡ refusedOut 1 out
-unfolding countAnswered refusedOut
-zeros-held c out h = go (leb 1 (length out)) c h
-  where
-    go : (b : Bool) (c : Count) → (cond b (countAfter (countNumber c) (set out 0 (countOf c))) (countAfter badShape out) .number ≡ 0 → ⊥)
-        → cond b (countAfter (countNumber c) (set out 0 (countOf c))) (countAfter badShape out) .out ≡ cond b (set out 0 0) out
-    go true (Held n) h = absurd (h refl)
-    go true (Unknown r) h = refl
-    go false c h = refl

@@ -7,7 +7,7 @@ use lib.Dec.{leb}
 use lib.ListN.{length}
 use Rattle.bucket_model.specs.Layout.{queue}
 use Rattle.bucket_model.specs.Calls.{cleared, heldCount, Outcome, popped, pushed, replaced}
-use Rattle.card.specs.Out.{answerOut, answerWords, badShape, CountAfter, countAnswered}
+use Rattle.card_out.specs.Out.{answerOut, answerWords, badShape, CountAfter, countAnswered}
 use Rattle.strip.specs.Answers.{element, numberOf}
 
 -- ---- clear and push: the number, and both slices afterwards

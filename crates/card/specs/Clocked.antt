@@ -1,22 +1,21 @@
 -- The calls of the clocked tree as C sees them: total functions of all numbers, words and records handed in, to the number returned and all words and
 -- records afterwards. Assumes nothing: these are definitions.
-use Prim.Native.Nat.{_-_, ℕ}
-use mathlib.Core.Bool.{_&&_, Bool, cond, false}
+use Prim.Native.Nat.{ℕ}
+use mathlib.Core.Bool.{_&&_, cond, false}
 use mathlib.Core.List.{List}
 use lib.Dec.{eqb, leb}
-use lib.ListN.{getD, length, set}
-use Rattle.card.specs.Out.{answerOut, answerWords, badShape, CountAfter, countAnswered, drainWords, refusedOut}
+use lib.ListN.{length}
+use Rattle.card_out.specs.Out.{answerOut, answerWords, badShape, CountAfter, countAnswered, drainOut, drainWords, refusedOut}
+use Rattle.card_out.specs.Asked.{asked, marked, markIn, markOut, requestOf}
 use Rattle.clocked_model.specs.Calls.{CycleOutcome, DrainOutcome, fresh}
 use Rattle.lent_steps.specs.Lent.{lentCleared, lentCycled, LentDrain, lentDrains, LentOutcome}
 use Rattle.lent_steps.specs.Steps.{clearFrom, cycleFrom, drainFrom, turned, turnedCycle, turnedDrain}
 use Rattle.lent_steps.specs.declared.Read.{Read}
 use Rattle.lent_steps.specs.declared.Record.{Record}
 use Rattle.lent_steps.specs.declared.Turned.{Turned}
-use Rattle.strip.specs.Answers.{element, numberOf}
+use Rattle.strip.specs.Answers.{numberOf}
 use Rattle.strip.specs.declared.Answer.the-variants.{Refused}
 use Rattle.strip.specs.declared.Refusal.the-variants.{BadShape}
-use Rattle.strip.specs.declared.Request.{Request}
-use Rattle.strip.specs.declared.Request.the-variants.{Idle, Pop, Push, Replace}
 use Rattle.tree_model.specs.Calls.{heldCount}
 use Rattle.tree_model.specs.declared.Work.{Work}
 
@@ -40,29 +39,6 @@ pub record ClockedAfterOut : Type 0 where
 
 abbrev pub clockedAfterOut : ℕ → List ℕ → List Record → List ℕ → List ℕ → ClockedAfterOut
 clockedAfterOut n ws rs mark out = record { number = n; store = ws; records = rs; mark = mark; out = out }
-
--- the request of a number: 0 idle, 1 push, 2 pop, 3 replace
-unfoldable pub requestOf : ℕ → ℕ → ℕ → ℕ → Request
-requestOf n rank tag bytes =
-    cond (eqb n 1) (Push (element rank tag bytes)) (cond (eqb n 2) Pop (cond (eqb n 3) (Replace (element rank tag bytes)) Idle))
-
--- ---- the mark is a word: 1 on, 0 off
-unfoldable pub marked : List ℕ → Bool
-marked mark = leb 1 (length mark) && leb (getD mark 0 0) 1
-
-abbrev pub markIn : List ℕ → Bool
-markIn mark = eqb (getD mark 0 0) 1
-
-abbrev pub markOut : Bool → List ℕ → List ℕ
-markOut on mark = set mark 0 (cond on 1 0)
-
--- does the boundary take a call? There is a mark, and the request is one
-unfoldable pub asked : List ℕ → ℕ → Bool
-asked mark request = leb request 3 && marked mark
-
--- `out` of a drain: the cycles run, and 1 where work is left
-abbrev pub drainOut : ℕ → Bool → List ℕ → List ℕ
-drainOut n left out = set (set out 0 n) 1 (cond left 1 0)
 
 -- ---- the calls: the lent calls, their answers in numbers
 module _ (mark : List ℕ) where

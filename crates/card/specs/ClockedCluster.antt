@@ -1,12 +1,12 @@
 -- The calls of the clocked cluster heap as C sees them: total functions of all numbers, words and records handed in, to the number returned and all words
 -- and records afterwards. Assumes nothing: these are definitions.
 use Prim.Native.Nat.{ℕ}
-use mathlib.Core.Bool.{_&&_, Bool, cond, false}
+use mathlib.Core.Bool.{_&&_, cond, false}
 use mathlib.Core.List.{List}
 use lib.Dec.{leb}
 use lib.ListN.{length}
-use Rattle.card.specs.Clocked.{drainOut, requestOf}
-use Rattle.card.specs.Out.{answerOut, answerWords, badShape, CountAfter, countAnswered, drainWords, refusedOut}
+use Rattle.card_out.specs.Out.{drainOut, answerOut, answerWords, badShape, CountAfter, countAnswered, drainWords, refusedOut}
+use Rattle.card_out.specs.Asked.{requestOf}
 use Rattle.cluster_clock_model.specs.Calls.{clockHeld, DrainOutcome, TurnOutcome}
 use Rattle.cluster_clock_model.specs.declared.Stage.{Stage}
 use Rattle.cluster_lent_steps.specs.Lent.{lentCleared, LentDrain, lentDrains, LentOutcome, lentTurned}

@@ -1,12 +1,10 @@
 -- The calls of the cluster heap as C sees them: total functions of all numbers and words handed in, to the number returned and all words
 -- afterwards. Assumes nothing: these are definitions.
 use Prim.Native.Nat.{ℕ}
-use mathlib.Core.Bool.{cond}
 use mathlib.Core.List.{List}
-use Rattle.card.specs.Out.{CountAfter, countAnswered}
+use Rattle.card_out.specs.Out.{CountAfter, countAnswered}
 use Rattle.card.specs.Tree.{TreeAfter, TreeAfterOut, treeAnswered, treeDone}
-use Rattle.cluster_model.specs.Calls.{called, cleared, heldCount, Outcome, shapeOk}
-use Rattle.cluster_model.specs.Way.{extent}
+use Rattle.cluster_model.specs.Calls.{called, cleared, heldCount, Outcome}
 use Rattle.strip.specs.Answers.{element}
 use Rattle.strip.specs.declared.Request.the-variants.{Pop, Push, Replace}
 use Rattle.tree_model.specs.Calls as tree
@@ -31,7 +29,3 @@ module _ (K levels : ℕ) (ws : List ℕ) where
 
   abbrev pub clusterHeld : List ℕ → CountAfter
   clusterHeld out = countAnswered (heldCount K levels ws) out
-
--- how many words a store needs: the least length that the calls take, and 0 for a bad shape
-unfoldable pub clusterWords : ℕ → ℕ → ℕ
-clusterWords K levels = cond (shapeOk K levels (extent K levels 1)) (extent K levels 1) 0

@@ -5,7 +5,7 @@ use mathlib.Core.Bool.{cond}
 use mathlib.Core.List.{List}
 use lib.Dec.{leb}
 use lib.ListN.{length, set}
-use Rattle.card.specs.Out.{answerWords, badShape, CountAfter, countAnswered}
+use Rattle.card_out.specs.Out.{answerWords, badShape, CountAfter, countAnswered}
 use Rattle.fair_model.specs.Calls.{answerNumber, desk, pops, pushes, Reply, resets, servedElement, stateWords}
 use Rattle.fair_model.specs.declared.FairAnswer.{FairAnswer}
 use Rattle.tree_model.specs.Calls.{heldCount}

@@ -3,8 +3,9 @@ use Prim.Native.Nat.{ℕ}
 use mathlib.Core.Bool.{true}
 use mathlib.Core.List.{List}
 use mathlib.Core.Path.{_≡_}
-use Rattle.card.specs.Clocked.{clockedClear, clockedCycle, clockedDrain, drainOut, marked, markIn}
-use Rattle.card.specs.Out.{answerOut, CountAfter, countAfter}
+use Rattle.card.specs.Clocked.{clockedClear, clockedCycle, clockedDrain}
+use Rattle.card_out.specs.Out.{drainOut, answerOut, CountAfter, countAfter}
+use Rattle.card_out.specs.Asked.{marked, markIn}
 use Rattle.clocked_model.specs.Calls.{cycled, drains}
 use Rattle.clocked_model.specs.Promise.{machine, Machine}
 use Rattle.lent_steps.specs.History as lent

@@ -1,10 +1,8 @@
-pub mod Out
 pub mod Tree
 pub mod Cluster
 pub mod Bucket
 pub mod Clocked
 pub mod ClockedCluster
-pub mod Sizes
 pub mod History
 pub mod Mend
 pub mod Fair

@@ -5,7 +5,7 @@ use mathlib.Core.Bool.{cond}
 use mathlib.Core.List.{List}
 use lib.Dec.{leb}
 use lib.ListN.{length, set}
-use Rattle.card.specs.Out.{badShape, CountAfter, countAfter}
+use Rattle.card_out.specs.Out.{badShape, CountAfter, countAfter}
 use Rattle.card.specs.Tree.{TreeAfterOut, treeAfterOut}
 use Rattle.mend_model.specs.Check.{checked, checkNumber, checkSlot, checkYes}
 use Rattle.mend_model.specs.Mend.{Mended, mended, mendNumber, mendSkipped}

@@ -4,7 +4,7 @@ use Prim.Native.Nat.{ℕ}
 use mathlib.Core.Bool.{cond}
 use mathlib.Core.List.{List}
 use Rattle.card.specs.Bucket.{BucketAfter, BucketAfterOut, bucketAnswered, bucketDone}
-use Rattle.card.specs.Out.{CountAfter, countAnswered}
+use Rattle.card_out.specs.Out.{CountAfter, countAnswered}
 use Rattle.ports_model.specs.Calls.{cleared, heldCount, popped, pushed, replaced}
 use Rattle.ports_model.specs.Checks.{shapeOk}
 use Rattle.ports_model.specs.Layout.{bitWords, storeWords}

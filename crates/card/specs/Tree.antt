@@ -5,7 +5,7 @@ use mathlib.Core.Bool.{cond}
 use mathlib.Core.List.{List}
 use lib.Dec.{leb}
 use lib.ListN.{length}
-use Rattle.card.specs.Out.{answerOut, answerWords, badShape, CountAfter, countAnswered}
+use Rattle.card_out.specs.Out.{answerOut, answerWords, badShape, CountAfter, countAnswered}
 use Rattle.strip.specs.Answers.{element, numberOf}
 use Rattle.strip.specs.declared.Request.the-variants.{Pop, Push, Replace}
 use Rattle.tree_model.specs.Calls.{called, cleared, heldCount, Outcome}

@@ -2,16 +2,19 @@
 // code by hand, so it is thin: it reads the records, has the call made on what was read, and writes the records back.
 ghost use mathlib.Core.Path.{_≡_};
 ghost use Rattle.strip.specs.Answers.{numberOf};
-ghost use Rattle.card.specs.Out.{countAfter};
-ghost use Rattle.card.specs.Clocked.{clockedAfter, clockedAfterOut, marked, asked, noneTurned, told, toldOut, clearTold, cycleTold, drainTold, clockedClear, clockedCycle, clockedDrain, clockedHeld};
-use crate::DRAIN_OUT;
-use crate::OUT;
-use crate::bit;
-use crate::request_of;
-use crate::tell;
-use crate::tell_count;
-use crate::tell_drain;
+ghost use Rattle.card_out.specs.Out.{countAfter};
+ghost use Rattle.card.specs.Clocked.{clockedAfter, clockedAfterOut, noneTurned, told, toldOut, clearTold, cycleTold, drainTold, clockedClear, clockedCycle, clockedDrain, clockedHeld};
 use crate::wide;
+use card_out::DRAIN_OUT;
+use card_out::OUT;
+use card_out::bit;
+use card_out::is_asked;
+use card_out::is_marked;
+use card_out::refuse;
+use card_out::request_of;
+use card_out::tell;
+use card_out::tell_count;
+use card_out::tell_drain;
 use clocked::fresh_state;
 use clocked::held;
 use clocked_model::State;
@@ -20,32 +23,11 @@ use lent_memory::load;
 use lent_steps::Read;
 use lent_steps::Record;
 use lent_steps::Turned;
-use lent_steps::clear_beside;
-use lent_steps::cycle_read;
-use lent_steps::drain_read;
 use lent_steps::refused;
-use strip::Answer;
-use strip::Refusal;
+use lent_turns::clear_beside;
+use lent_turns::cycle_read;
+use lent_turns::drain_read;
 use strip::number;
-
-// ---- the mark and the request
-
-fn is_marked(mark: &[u32]) -> bool
-    ensures { λ r. ⌜ r ≡ marked (now (mark .entry)) ⌝ }
-{
-    if mark.len() < 1 {
-        return false;
-    }
-    mark[0] <= 1
-}
-
-// Whether the boundary takes a call: there is a mark, and the request is one.
-fn is_asked(mark: &[u32], request: u32) -> bool
-    ensures { λ r. ⌜ r ≡ asked (now (mark .entry)) request ⌝ }
-{
-    let there = is_marked(mark);
-    (request <= 3) & there
-}
 
 // ---- the calls on what was read of the records: store, mark and `out` are written, and what is left says what to write of the records
 
@@ -97,11 +79,11 @@ fn cycle_told(
 ) -> Turned
     ensures { λ r. ⌜ toldOut r (now (store .exit)) (now (mark .exit)) (now (out .exit)) ≡ cycleTold order levels len (now (store .entry)) (now (mark .entry)) read request rank tag length (now (out .entry)) ⌝ }
 {
-    if out.len() < OUT {
+    if !is_asked(mark, request) {
+        refuse(out);
         return none_turned(read);
     }
-    if !is_asked(mark, request) {
-        tell(out, Answer::Refused(Refusal::BadShape));
+    if out.len() < OUT {
         return none_turned(read);
     }
     let on = mark[0] == 1;

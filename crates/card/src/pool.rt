@@ -1,11 +1,11 @@
 // Several ports on one pool. Every number is 32 bits wide, and any may be handed over.
 ghost use mathlib.Core.Path.{_≡_};
 ghost use Rattle.card.specs.Bucket.{bucketAfter, bucketAfterOut};
-ghost use Rattle.card.specs.Out.{countAfter};
+ghost use Rattle.card_out.specs.Out.{countAfter};
 ghost use Rattle.card.specs.Ports.{shape, portsClear, portsPush, portsPop, portsReplace, portsHeld, portsBits, portsWords};
-use crate::OUT;
-use crate::tell;
-use crate::tell_count;
+use card_out::OUT;
+use card_out::tell;
+use card_out::tell_count;
 use ports_model::Shape;
 use ports_tests::bit_words;
 use ports_tests::is_numbered;

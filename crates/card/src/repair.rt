@@ -4,7 +4,7 @@ ghost use Prim.Native.Nat.{_≤_};
 ghost use lib.ListN.{length};
 ghost use Rattle.mend_model.specs.Check.{checkNumber};
 ghost use Rattle.mend_model.specs.Mend.{mendNumber};
-ghost use Rattle.card.specs.Out.{countAfter};
+ghost use Rattle.card_out.specs.Out.{countAfter};
 ghost use Rattle.card.specs.Tree.{treeAfterOut};
 ghost use Rattle.card.specs.Mend.{checkOut, mendOut, treeCheck, treeMend};
 use mend::numbers::check_number;

@@ -2,15 +2,16 @@
 // thin: it reads the records, has the call made on what was read, and writes the records back.
 ghost use mathlib.Core.Path.{_≡_};
 ghost use Rattle.strip.specs.Answers.{numberOf};
-ghost use Rattle.card.specs.Out.{countAfter};
+ghost use Rattle.card_out.specs.Out.{countAfter};
 ghost use Rattle.card.specs.ClockedCluster.{stagesAfter, stagesAfterOut, noneTurned, told, toldOut, clearTold, cycleTold, drainTold, stagesClear, stagesCycle, stagesDrain, stagesHeld};
-use crate::DRAIN_OUT;
-use crate::OUT;
-use crate::request_of;
-use crate::tell;
-use crate::tell_count;
-use crate::tell_drain;
 use crate::wide;
+use card_out::DRAIN_OUT;
+use card_out::OUT;
+use card_out::refuse;
+use card_out::request_of;
+use card_out::tell;
+use card_out::tell_count;
+use card_out::tell_drain;
 use cluster_clock::held;
 use cluster_lent_memory::hand_back;
 use cluster_lent_memory::load;
@@ -21,8 +22,6 @@ use cluster_lent_steps::refused;
 use cluster_lent_turns::clear_beside;
 use cluster_lent_turns::cycle_read;
 use cluster_lent_turns::drain_read;
-use strip::Answer;
-use strip::Refusal;
 use strip::number;
 
 // ---- the calls on what was read of the records: store and `out` are written, and what is left says what to write of the records
@@ -62,11 +61,11 @@ fn cycle_told(
 ) -> ClusterTurned
     ensures { λ r. ⌜ toldOut r (now (store .exit)) (now (out .exit)) ≡ cycleTold places levels len (now (store .entry)) read request rank tag length (now (out .entry)) ⌝ }
 {
-    if out.len() < OUT {
+    if 3 < request {
+        refuse(out);
         return none_turned(read);
     }
-    if 3 < request {
-        tell(out, Answer::Refused(Refusal::BadShape));
+    if out.len() < OUT {
         return none_turned(read);
     }
     let q = request_of(request, rank, tag, length);

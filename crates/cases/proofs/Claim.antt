@@ -2,9 +2,9 @@
 use mathlib.Core.List.{[], List, map}
 use lib.ListN.{getD}
 use mathlib.Core.Path.{ap, refl}
-use Rattle.bucket_model.proofs.Case8.{case8-holds, case8-three}
-use Rattle.bucket_model.proofs.CaseTag.{spoilt-case, tag-case}
-use Rattle.bucket_model.proofs.CaseWords.{length-case, pop-case-bits, pop-case-words, replace-case-bits, replace-case-words}
+use Rattle.bucket_cases.proofs.Case8.{case8-holds, case8-three}
+use Rattle.bucket_cases.proofs.CaseTag.{spoilt-case, tag-case}
+use Rattle.bucket_cases.proofs.CaseWords.{length-case, pop-case-bits, pop-case-words, replace-case-bits, replace-case-words}
 use Rattle.cases.specs.Table.{Right, table, told}
 use Rattle.clocked_model.proofs.Cases as clock
 use Rattle.cluster_clock_model.proofs.Cases.{case-clock, case-flight, case-flight-answers, case-tie, case-tie-answers}

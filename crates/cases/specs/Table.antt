@@ -3,9 +3,10 @@ use Prim.Native.Nat.{ℕ}
 use mathlib.Core.List.{[], _++_, _∷_, List, map}
 use mathlib.Core.Path.{_≡_}
 use lib.ListN.{getD, length, replicate}
-use Rattle.bucket_model.specs.Case8.{case8, case8Three}
-use Rattle.bucket_model.specs.CaseTag.{spoilt, spoiltCase, tagCase}
-use Rattle.bucket_model.specs.CaseWords.{filled, leftBy, lengthCase, popCase, popCaseBits, popCaseWords, replaceCase, replaceCaseBits, replaceCaseWords}
+use Rattle.bucket_cases.specs.Case8.{case8, case8Three}
+use Rattle.bucket_cases.specs.CaseTag.{spoilt, spoiltCase, tagCase}
+use Rattle.bucket_model.specs.Filled.{filled}
+use Rattle.bucket_cases.specs.CaseWords.{leftBy, lengthCase, popCase, popCaseBits, popCaseWords, replaceCase, replaceCaseBits, replaceCaseWords}
 use Rattle.bucket_model.specs.Layout.{queue}
 use Rattle.bucket_model.specs.Plain.{answersFrom, bucketAnswers, Store}
 use Rattle.clocked_model.specs.Cases.{caseEmpty, caseEmptySays, caseLost, caseLostSays, caseSix, caseSixSays, caseUntagged, caseUntaggedSays}

@@ -8,11 +8,11 @@ use lent_memory::load;
 use lent_steps::LentCycled;
 use lent_steps::LentDrained;
 use lent_steps::Record;
-use lent_steps::clear_beside;
-use lent_steps::cycle_read;
 use lent_steps::cycled_of;
-use lent_steps::drain_read;
 use lent_steps::drained_of;
+use lent_turns::clear_beside;
+use lent_turns::cycle_read;
+use lent_turns::drain_read;
 use strip::Element;
 use strip::Request;
 

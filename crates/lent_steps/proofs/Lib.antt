@@ -1,6 +1,5 @@
 -- What the proofs share.
 pub mod Records
-pub mod Turns
 pub mod Nodes
 pub mod Back
 pub mod Alike

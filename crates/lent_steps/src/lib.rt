@@ -1,5 +1,5 @@
 // The steps between a lent slice of pending records and the by-value calls of the clocked tree: a record as the host keeps it, what is read of
-// the records, the by-value call on that, and what each record becomes.
+// the records, how many are to be written after a call, and what each becomes.
 ghost use mathlib.Core.Path.{_≡_};
 ghost use mathlib.Core.Bool.{cond, false};
 ghost use Prim.Native.Nat.{_-_, _<_};
@@ -7,11 +7,7 @@ ghost use lib.Dec.{leb};
 ghost use Rattle.tree_model.specs.Levels.{idle};
 ghost use Rattle.clocked_model.specs.Promise.{hasRun, runsIdle};
 ghost use Rattle.lent_steps.specs.Lent.{workOf, bareRecord, ladenRecord, recordOf, stands, handed};
-ghost use Rattle.lent_steps.specs.Steps.{wordLimit, lends, reach, read, cycleFrom, drainFrom, clearFrom, turned, turnedCycle, turnedDrain};
-use clocked::clear;
-use clocked::cycle;
-use clocked::drain;
-use clocked::fresh_state;
+ghost use Rattle.lent_steps.specs.Steps.{wordLimit, lends, reach, read, turned};
 use clocked_model::RECORDS;
 use clocked_model::State;
 use strip::Answer;
@@ -19,7 +15,6 @@ use strip::Element;
 use strip::Length;
 use strip::Rank;
 use strip::Refusal;
-use strip::Request;
 use strip::Tag;
 use tree_model::Op;
 use tree_model::Work;
@@ -67,7 +62,7 @@ pub struct LentDrained {
 // ---- reading
 
 // Whether some tree has so many levels, and a slice of so many records has one for each level from 2.
-fn is_lent(levels: usize, len: usize) -> bool
+pub fn is_lent(levels: usize, len: usize) -> bool
     ensures { λ r. ⌜ r ≡ lends levels len ⌝ }
 {
     if levels == 0 {
@@ -142,7 +137,7 @@ pub fn read_of(works: [Work; RECORDS], ok: bool) -> Read
     Read { works, ok }
 }
 
-// ---- the by-value calls
+// ---- what a by-value call leaves
 
 // Whether a cycle with this answer ran: refusals 1 and 2 leave everything.
 pub fn has_run(a: Answer) -> bool
@@ -183,7 +178,7 @@ pub fn due(ran: bool, levels: usize) -> usize
     levels - 1
 }
 
-fn turned_by(answer: Answer, cycles: usize, left: bool, state: State, count: usize) -> Turned
+pub fn turned_by(answer: Answer, cycles: usize, left: bool, state: State, count: usize) -> Turned
     ensures { λ r. ⌜ r ≡ turned answer cycles left state count ⌝ }
 {
     Turned {
@@ -199,81 +194,6 @@ pub fn refused(state: State) -> Turned
     ensures { λ r. ⌜ r ≡ turned (Answer.Refused Refusal.BadShape) 0 false state 0 ⌝ }
 {
     turned_by(Answer::Refused(Refusal::BadShape), 0, false, state, 0)
-}
-
-// One cycle on what was read of a slice of `len` records.
-pub fn cycle_read(
-    store: &mut [u32],
-    order: usize,
-    levels: usize,
-    len: usize,
-    read: Read,
-    mark: bool,
-    request: Request,
-) -> Turned
-    ensures { λ r. ⌜ (now (store .exit) ≡ cycleFrom order levels len mark (now (store .entry)) read request .words) × (r ≡ turnedCycle levels (cycleFrom order levels len mark (now (store .entry)) read request)) ⌝ }
-{
-    let works = read.works;
-    let state = State {
-        records: works,
-        mark,
-    };
-    if !(is_lent(levels, len) & read.ok) {
-        return refused(state);
-    }
-    let c = cycle(store, order, levels, state, request);
-    let answer = c.answer;
-    let next = c.state;
-    turned_by(answer, 0, false, next, due(has_run(answer), levels))
-}
-
-// A drain on what was read of a slice of `len` records.
-pub fn drain_read(
-    store: &mut [u32],
-    order: usize,
-    levels: usize,
-    len: usize,
-    read: Read,
-    mark: bool,
-    budget: usize,
-) -> Turned
-    ensures { λ r. ⌜ (now (store .exit) ≡ drainFrom order levels len mark (now (store .entry)) read budget .words) × (r ≡ turnedDrain levels (drainFrom order levels len mark (now (store .entry)) read budget)) ⌝ }
-{
-    let works = read.works;
-    let state = State {
-        records: works,
-        mark,
-    };
-    if !(is_lent(levels, len) & read.ok) {
-        return refused(state);
-    }
-    let d = drain(store, order, levels, state, budget);
-    let answer = d.answer;
-    let cycles = d.cycles;
-    let next = d.state;
-    turned_by(answer, cycles, d.left, next, due(0 < cycles, levels))
-}
-
-// A clear beside a slice of `len` records, none of which it reads.
-pub fn clear_beside(
-    store: &mut [u32],
-    order: usize,
-    levels: usize,
-    len: usize,
-    mark: bool,
-) -> Turned
-    ensures { λ r. ⌜ (now (store .exit) ≡ clearFrom order levels len mark (now (store .entry)) .words) × (r ≡ turnedCycle levels (clearFrom order levels len mark (now (store .entry)))) ⌝ }
-{
-    let mut state = fresh_state();
-    state.mark = mark;
-    if !is_lent(levels, len) {
-        return refused(state);
-    }
-    let c = clear(store, order, levels, state);
-    let answer = c.answer;
-    let next = c.state;
-    let written = due(has_run(answer), levels);
-    turned_by(answer, 0, false, next, written)
 }
 
 // ---- writing

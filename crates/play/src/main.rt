@@ -6,9 +6,9 @@ ghost use mathlib.Core.Path.{_≡_};
 ghost use lib.Dec.{ltb};
 ghost use lib.ListN.{length};
 ghost use Rattle.io.specs.Counts.{Counts};
-ghost use Rattle.trace.specs.Play.{Makes, outBytes, pieceBytes, pieceRun, programLots};
-use trace::Piece;
-use trace::Playing;
+ghost use Rattle.trace_model.specs.Play.{Makes, outBytes, pieceBytes, pieceRun, programLots};
+use trace_model::Piece;
+use trace_model::Playing;
 
 // A store for every shape that the program takes.
 const STORE: usize = 16376;

@@ -12,7 +12,7 @@ use Rattle.bucket_model.specs.Checks.{nextOf, pushOk}
 use Rattle.bucket_model.specs.Calls as bucket
 use Rattle.bucket_model.specs.Calls.{fill, roomWith, linkAt, joinedWords, joinedBits, pushFound}
 use Rattle.bucket_model.specs.Plain.{Store, plainWith}
-use Rattle.bucket_model.specs.CaseWords.{filled}
+use Rattle.bucket_model.specs.Filled.{filled}
 use Rattle.ports_model.specs.Checks.{allTo, shapeOk, limitsOk, wholeOk, roomOk}
 use Rattle.ports_model.specs.Calls.{blankWord, cleared, pushed}
 use Rattle.ports_model.specs.Causes.{Shaped, Fair}

@@ -1,276 +1,30 @@
-// The trace program's work, all but reading and writing: the header's test, a record's test, the text of a line, and a trace played
-// piece by piece into a buffer.
+// The trace program's work, all but reading and writing: a trace played piece by piece into a buffer.
 ghost use mathlib.Core.Path.{_≡_};
 ghost use mathlib.Core.Bool.{false};
-ghost use Prim.Native.Nat.{_+_, _*_, _/_, _<_, _≤_};
+ghost use Prim.Native.Nat.{_+_, _*_, _/_, _≤_};
 ghost use lib.ListN.{length};
-ghost use Rattle.clocked_model.specs.Calls.{fresh};
-ghost use Rattle.text.specs.Text.{overlay, longest, Laid};
-ghost use Rattle.trace.specs.Format.{longestLine, longestWord, headerBytes, recordBytes, numberAt, lengthAt, markOk, traceShape, headed, headerOf, onlyBlank, entryAt, entryOf, recordsFrom, cutRecord, doneWord, refusalWord, lengthWord, outWord, wordOf, lineOf, badLine, badTrace, endLine};
-ghost use Rattle.trace.specs.Play.{Makes, after, carry, whileLive, turn, played, ending, closing, shut, opening, begun, pieceOf};
-ghost use Rattle.trace.specs.Program.{nextNumber};
+ghost use Rattle.text.specs.Text.{Laid};
+ghost use Rattle.trace_model.specs.Format.{longestLine, recordBytes, entryAt, recordsFrom, cutRecord, badLine};
+ghost use Rattle.trace_model.specs.Play.{Makes, after, carry, whileLive, turn, played, ending, closing, shut, opening, begun, pieceOf};
+ghost use Rattle.trace_model.specs.Program.{nextNumber};
 use clocked::fresh_state;
 use clocked_model::State;
-use node::capacity;
-use strip::Answer;
-use strip::Element;
-use strip::Length;
-use strip::Rank;
-use strip::Refusal;
 use strip::Request;
-use strip::Tag;
 use text::put_bytes;
 use text::put_number;
+use trace_lines::put_end;
+use trace_lines::put_line;
+use trace_model::Header;
+use trace_model::Piece;
+use trace_model::Playing;
+use trace_model::Record;
+use trace_model::Version;
+use trace_records::read_header;
+use trace_records::record_at;
+use trace_records::record_bytes;
 
 // More bytes than any line has.
 const LINE: usize = 96;
-
-// The version of a trace: its records are without a length, or with one.
-pub enum Version {
-    One,
-    Two,
-}
-
-// What a trace's first bytes say: nothing that is a header, or version, order and levels.
-pub enum Header {
-    Wrong,
-    Shape(Version, usize, usize),
-}
-
-// What a record's bytes say.
-pub enum Record {
-    Bad,
-    Good(Request),
-}
-
-// ---- the text of a line
-
-fn put_done(out: &mut [u8], at: usize, request: Request) -> usize
-    requires { ⌜ at + longestWord ≤ length (now out) ⌝ }
-    ensures { λ r. ⌜ (r ≡ at + length (doneWord request)) × (now (out .exit) ≡ overlay (now (out .entry)) at (doneWord request)) ⌝ }
-{
-    match request {
-        Request::Idle => put_bytes(out, at, b"idle"),
-        Request::Push(_) => put_bytes(out, at, b"pushed"),
-        Request::Pop => at,
-        Request::Replace(_) => at,
-    }
-}
-
-fn put_refusal(out: &mut [u8], at: usize, refusal: Refusal) -> usize
-    requires { ⌜ at + longestWord ≤ length (now out) ⌝ }
-    ensures { λ r. ⌜ (r ≡ at + length (refusalWord refusal)) × (now (out .exit) ≡ overlay (now (out .entry)) at (refusalWord refusal)) ⌝ }
-{
-    match refusal {
-        Refusal::TooSoon => put_bytes(out, at, b"too soon"),
-        Refusal::Full => put_bytes(out, at, b"full"),
-        Refusal::Empty => put_bytes(out, at, b"empty"),
-        Refusal::NoTag => put_bytes(out, at, b"no tag"),
-        Refusal::BadShape => at,
-        Refusal::Damaged => at,
-        Refusal::BadRank => at,
-        Refusal::BadPort => at,
-    }
-}
-
-// The third number, which a line of version 1 does not have.
-fn put_length(out: &mut [u8], at: usize, version: Version, len: Length) -> usize
-    requires { ⌜ at + longest + 1 ≤ length (now out) ⌝ }
-    ensures { λ r. ⌜ Laid (now (out .entry)) at (lengthWord version (len .0)) (now (out .exit)) r ⌝ }
-{
-    match version {
-        Version::One => at,
-        Version::Two => {
-            let a = put_bytes(out, at, b" ");
-            put_number(out, a, len.0 as u64)
-        }
-    }
-}
-
-fn put_out(out: &mut [u8], at: usize, version: Version, e: Element) -> usize
-    requires { ⌜ at + longestWord ≤ length (now out) ⌝ }
-    ensures { λ r. ⌜ Laid (now (out .entry)) at (outWord version e) (now (out .exit)) r ⌝ }
-{
-    let rank = e.rank;
-    let tag = e.tag;
-    let a = put_bytes(out, at, b"out ");
-    let b = put_number(out, a, rank.0 as u64);
-    let c = put_bytes(out, b, b" ");
-    let d = put_number(out, c, tag.0 as u64);
-    put_length(out, d, version, e.length)
-}
-
-fn put_word(out: &mut [u8], at: usize, version: Version, request: Request, answer: Answer) -> usize
-    requires { ⌜ at + longestWord ≤ length (now out) ⌝ }
-    ensures { λ r. ⌜ Laid (now (out .entry)) at (wordOf version request answer) (now (out .exit)) r ⌝ }
-{
-    match answer {
-        Answer::Done => put_done(out, at, request),
-        Answer::Out(e) => put_out(out, at, version, e),
-        Answer::Refused(r) => put_refusal(out, at, r),
-    }
-}
-
-// The line of one record: its number and what the cycle answered.
-fn put_line(
-    out: &mut [u8],
-    at: usize,
-    version: Version,
-    number: u64,
-    request: Request,
-    answer: Answer,
-) -> usize
-    requires { ⌜ at + longestLine ≤ length (now out) ⌝ }
-    ensures { λ r. ⌜ Laid (now (out .entry)) at (lineOf version number request answer) (now (out .exit)) r ⌝ }
-{
-    let a = put_number(out, at, number);
-    let b = put_bytes(out, a, b" ");
-    let c = put_word(out, b, version, request, answer);
-    put_bytes(out, c, b"\n")
-}
-
-// ---- the header
-
-fn wide(b: u8) -> u32
-    ensures { λ r. ⌜ (r ≡ b) × (r < 256) ⌝ }
-{
-    b as u32
-}
-
-fn mark_ok(bytes: &[u8]) -> bool
-    requires { ⌜ 7 ≤ length (now bytes) ⌝ }
-    ensures { λ r. ⌜ r ≡ markOk (now (bytes .entry)) ⌝ }
-{
-    (bytes[0] == b'P') & ((bytes[1] == b'F') & (bytes[2] == b'T'))
-}
-
-// Whether a shape is one that the program takes.
-fn shape_taken(order: usize, levels: usize) -> bool
-    ensures { λ r. ⌜ r ≡ traceShape order levels ⌝ }
-{
-    if !node::order_ok(order) {
-        return false;
-    }
-    (1 <= levels) & (capacity(order, levels) <= 4094)
-}
-
-// A shape in the version of this number, of which there are two.
-fn headed(version: u32, order: usize, levels: usize) -> Header
-    ensures { λ r. ⌜ r ≡ headed version order levels ⌝ }
-{
-    if version == 1 {
-        return Header::Shape(Version::One, order, levels);
-    }
-    if version == 2 {
-        return Header::Shape(Version::Two, order, levels);
-    }
-    Header::Wrong
-}
-
-fn read_header(bytes: &[u8]) -> Header
-    ensures { λ r. ⌜ r ≡ headerOf (now (bytes .entry)) ⌝ }
-{
-    if bytes.len() < 7 {
-        return Header::Wrong;
-    }
-    if !mark_ok(bytes) {
-        return Header::Wrong;
-    }
-    let order = bytes[5] as usize;
-    let levels = bytes[6] as usize;
-    if !shape_taken(order, levels) {
-        return Header::Wrong;
-    }
-    headed(wide(bytes[3]) + 256 * wide(bytes[4]), order, levels)
-}
-
-// ---- a record
-
-fn record_bytes(version: Version) -> usize
-    ensures { λ r. ⌜ r ≡ recordBytes version ⌝ }
-{
-    match version {
-        Version::One => 9,
-        Version::Two => 13,
-    }
-}
-
-// A number of four bytes, the low byte first.
-fn number_at(bytes: &[u8], at: usize) -> u32
-    requires { ⌜ at + 4 ≤ length (now bytes) ⌝ }
-    ensures { λ r. ⌜ r ≡ numberAt (now (bytes .entry)) at ⌝ }
-{
-    wide(bytes[at])
-        + 256 * wide(bytes[at + 1])
-        + 65536 * wide(bytes[at + 2])
-        + 16777216 * wide(bytes[at + 3])
-}
-
-fn only_blank(e: Element, request: Request) -> Record
-    ensures { λ r. ⌜ r ≡ onlyBlank e request ⌝ }
-{
-    let rank = e.rank;
-    let tag = e.tag;
-    let length = e.length;
-    if (rank.0 == 0) & ((tag.0 == 0) & (length.0 == 0)) {
-        return Record::Good(request);
-    }
-    Record::Bad
-}
-
-fn record_of(code: u8, e: Element) -> Record
-    ensures { λ r. ⌜ r ≡ entryOf code e ⌝ }
-{
-    match code {
-        0 => only_blank(e, Request::Idle),
-        1 => Record::Good(Request::Push(e)),
-        2 => only_blank(e, Request::Pop),
-        3 => Record::Good(Request::Replace(e)),
-        4..=255 => Record::Bad,
-    }
-}
-
-// The length of the record at a place: 0 in version 1, which has none.
-fn length_at(version: Version, bytes: &[u8], at: usize) -> u32
-    requires { ⌜ at + recordBytes version ≤ length (now bytes) ⌝ }
-    ensures { λ r. ⌜ r ≡ lengthAt version (now (bytes .entry)) at ⌝ }
-{
-    match version {
-        Version::One => 0,
-        Version::Two => number_at(bytes, at + 9),
-    }
-}
-
-fn record_at(version: Version, bytes: &[u8], at: usize) -> Record
-    requires { ⌜ at + recordBytes version ≤ length (now bytes) ⌝ }
-    ensures { λ r. ⌜ r ≡ entryAt version (now (bytes .entry)) at ⌝ }
-{
-    let e = Element {
-        rank: Rank(number_at(bytes, at + 1)),
-        tag: Tag(number_at(bytes, at + 5)),
-        length: Length(length_at(version, bytes, at)),
-    };
-    record_of(bytes[at], e)
-}
-
-// ---- the play
-
-// What is carried from piece to piece: the version, the shape, the machine's state, how many records were played, and whether the play
-// goes on.
-pub struct Playing {
-    pub version: Version,
-    pub order: usize,
-    pub levels: usize,
-    pub state: State,
-    pub number: u64,
-    pub live: bool,
-}
-
-// .. and how many bytes of text a call has put into its buffer.
-pub struct Piece {
-    pub play: Playing,
-    pub written: usize,
-}
 
 // The play with another state, behind so many records, live or ended.
 fn carried(play: Playing, state: State, number: u64, live: bool, written: usize) -> Piece
@@ -355,17 +109,6 @@ fn play_records(store: &mut [u32], play: Playing, bytes: &[u8], out: &mut [u8]) 
 }
 
 // ---- the end
-
-fn put_end(out: &mut [u8], at: usize, held: u32, cycles: usize) -> usize
-    requires { ⌜ at + longestLine ≤ length (now out) ⌝ }
-    ensures { λ r. ⌜ Laid (now (out .entry)) at (endLine held cycles) (now (out .exit)) r ⌝ }
-{
-    let a = put_bytes(out, at, b"held ");
-    let b = put_number(out, a, held as u64);
-    let c = put_bytes(out, b, b" drained ");
-    let d = put_number(out, c, cycles as u64);
-    put_bytes(out, d, b"\n")
-}
 
 // Drains the machine, and says how many are held and how many cycles that took.
 fn play_end(store: &mut [u32], play: Playing, at: usize, out: &mut [u8]) -> Piece

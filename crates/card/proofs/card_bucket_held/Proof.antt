@@ -1,12 +1,12 @@
 -- `card::card_bucket_held` meets its contract. Assumes nothing.
 use borrow.Author.Needs.{needs}
-use Rattle.card.proofs.Calls.{count-short, count-told}
+use Rattle.card_out.proofs.Out.{count-short, count-told}
 use Rattle.card.proofs.card_bucket_held.Statement.{statement}
 use Rattle.card.proofs.card_bucket_held.Tie as tie
 use Rattle.card.proofs.card_bucket_held.Reads as reads
 use Rattle.card.proofs.card_bucket_held.Lts as lts
 use Rattle.bucket.proofs.held.Reads as held-reads
-use Rattle.card.proofs.tell_count.Reads as tell-count-reads
+use Rattle.card_out.proofs.tell_count.Reads as tell-count-reads
 
 returns : tie.Need-returns
 returns c = count-short _ _ (c .if1 .taken)

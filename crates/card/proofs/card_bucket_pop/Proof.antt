@@ -6,7 +6,7 @@ use Rattle.card.proofs.card_bucket_pop.Tie as tie
 use Rattle.card.proofs.card_bucket_pop.Reads as reads
 use Rattle.card.proofs.card_bucket_pop.Lts as lts
 use Rattle.bucket.proofs.pop.Reads as pop-reads
-use Rattle.card.proofs.tell.Reads as tell-reads
+use Rattle.card_out.proofs.tell.Reads as tell-reads
 
 returns : tie.Need-returns
 returns c = bucket-short _ _ _ _ (c .if1 .taken)

@@ -6,7 +6,7 @@ use Rattle.card.proofs.card_bucket_replace.Tie as tie
 use Rattle.card.proofs.card_bucket_replace.Reads as reads
 use Rattle.card.proofs.card_bucket_replace.Lts as lts
 use Rattle.bucket.proofs.replace.Reads as replace-reads
-use Rattle.card.proofs.tell.Reads as tell-reads
+use Rattle.card_out.proofs.tell.Reads as tell-reads
 
 returns : tie.Need-returns
 returns c = bucket-short _ _ _ _ (c .if1 .taken)

@@ -5,7 +5,7 @@ use Rattle.card.proofs.card_cluster_pop.Statement.{statement}
 use Rattle.card.proofs.card_cluster_pop.Tie as tie
 use Rattle.card.proofs.card_cluster_pop.Reads as reads
 use Rattle.card.proofs.card_cluster_pop.Lts as lts
-use Rattle.card.proofs.tell.Reads as tell-reads
+use Rattle.card_out.proofs.tell.Reads as tell-reads
 use Rattle.cluster.proofs.pop.Reads as pop-reads
 
 returns : tie.Need-returns

@@ -5,7 +5,7 @@ use Rattle.card.proofs.card_cluster_replace.Statement.{statement}
 use Rattle.card.proofs.card_cluster_replace.Tie as tie
 use Rattle.card.proofs.card_cluster_replace.Reads as reads
 use Rattle.card.proofs.card_cluster_replace.Lts as lts
-use Rattle.card.proofs.tell.Reads as tell-reads
+use Rattle.card_out.proofs.tell.Reads as tell-reads
 use Rattle.cluster.proofs.replace.Reads as replace-reads
 
 returns : tie.Need-returns

@@ -52,10 +52,10 @@ use Rattle.lent_steps.proofs.LentCycled.Laws as P′
 use Rattle.lent_steps.proofs.Turned as U
 use Rattle.lent_steps.proofs.Turned.Laws as U′
 use Rattle.lent_memory.proofs.Recs.{R, told}
-use Rattle.lent_steps.proofs.clear_beside as step
-use Rattle.lent_steps.proofs.clear_beside.Symbol as step-def
-use Rattle.lent_steps.proofs.clear_beside.Symbol.{name as #step}
-use Rattle.lent_steps.proofs.clear_beside.Met as step-thm
+use Rattle.lent_turns.proofs.clear_beside as step
+use Rattle.lent_turns.proofs.clear_beside.Symbol as step-def
+use Rattle.lent_turns.proofs.clear_beside.Symbol.{name as #step}
+use Rattle.lent_turns.proofs.clear_beside.Met as step-thm
 use Rattle.lent_memory.proofs.hand_back as hand-back
 use Rattle.lent_memory.proofs.hand_back.Symbol as hand-back-def
 use Rattle.lent_memory.proofs.hand_back.Symbol.{name as #hand-back}
@@ -238,6 +238,6 @@ clear-spec 𝓤 H 𝓜 𝓖 𝓡 =
     entered 𝓤 H (tripleOf 𝓤 H (𝓖 .A) clear′.signature (clear′.spec 𝓤 H (𝓖 .A) (𝓜 .mem) (𝓡 .run)))
     (tables 𝓤 H 𝓜 𝓡 code.env .C) (tables 𝓤 H 𝓜 𝓡 code.env .Λ) #clear code.function (code.unfolded 𝓤 H 𝓜 𝓡)
     (clear-meets 𝓤 H (𝓖 .A) (givenOf 𝓤 H 𝓜 𝓖) (𝓜 .mem) (𝓡 .run) (tablesOf 𝓤 H 𝓜 (tables 𝓤 H 𝓜 𝓡 code.env))
-    (cited 𝓤 H (Step 𝓤 H (𝓖 .A) (𝓜 .mem) (𝓡 .run)) 𝓜 𝓡 code.env #step step-def.routine code.calls-lent-steps·clear-beside (step-thm.met 𝓤 H 𝓜 𝓖 𝓡))
+    (cited 𝓤 H (Step 𝓤 H (𝓖 .A) (𝓜 .mem) (𝓡 .run)) 𝓜 𝓡 code.env #step step-def.routine code.calls-lent-turns·clear-beside (step-thm.met 𝓤 H 𝓜 𝓖 𝓡))
     (cited 𝓤 H (Back 𝓤 H (𝓖 .A) (𝓜 .mem) (𝓡 .run)) 𝓜 𝓡 code.env #hand-back hand-back-def.routine code.calls-lent-memory·hand-back (hand-back-thm.met 𝓤 H 𝓜 𝓖 𝓡))
     (cited 𝓤 H (Answered 𝓤 H (𝓖 .A) (𝓜 .mem) (𝓡 .run)) 𝓜 𝓡 code.env #answered answered-def.routine code.calls-lent-steps·cycled-of (answered-thm.met 𝓤 H 𝓜 𝓖 𝓡)))

@@ -2,9 +2,9 @@
 use Prim.Native.Nat.{_-_, _<_, ℕ}
 use native.Mathlib.Omega.{arith}
 use mathlib.Core.Path.{_∙_, _≡_, sym}
-use lib.ListN.{length, length-replicate}
+use lib.ListN.{length, length-replicate, replicate}
 use borrow.Author.Needs.{needs}
-use Rattle.trace.specs.Play.{outBytes, pieceBytes, programLots}
+use Rattle.trace_model.specs.Play.{outBytes, pieceBytes, programLots}
 use Rattle.play.proofs.main.Statement.{statement}
 use Rattle.play.proofs.main.Tie as tie
 use Rattle.play.proofs.main.Reads as reads
@@ -14,6 +14,10 @@ use Rattle.play.proofs.piece.Reads as piece-reads
 
 fewer : (n : ℕ) → 0 < n → n - 1 < n
 fewer n h = omega arith
+
+-- as long as the buffer that it was made with
+sized : (n a : ℕ) → a ≡ length (replicate {A = ℕ} n 0) → a ≡ n
+sized n a e = e ∙ length-replicate {A = ℕ} n 0
 
 abbrev Inv-loop : tie.InvT-loop
 Inv-loop store₀ bytes₀ out₀ play₀ left₀ store bytes out play left = (length store ≡ 16376) × (length bytes ≡ pieceBytes programLots) × (length out ≡ outBytes programLots)
@@ -31,7 +35,7 @@ begin-requires : tie.Need-begin-requires Inv-loop μ-loop
 begin-requires c κs = search needs
 
 loop-holds : tie.Need-loop-holds Inv-loop μ-loop
-loop-holds c = (c .before .before .begin .kept .0 ∙ length-replicate {A = ℕ} _ 0, length-replicate {A = ℕ} _ 0, c .before .before .begin .kept .1 .0 ∙ length-replicate {A = ℕ} _ 0)
+loop-holds c = (sized 16376 _ (c .before .before .begin .kept .0), length-replicate {A = ℕ} _ 0, sized 393216 _ (c .before .before .begin .kept .1 .0))
 
 returns : tie.Need-returns Inv-loop μ-loop
 returns c = search needs

@@ -7,10 +7,10 @@ use mathlib.Core.Path.{_∙_, _≡_, ap, subst}
 use lib.Dec.{ltb}
 use lib.ListN.{length}
 use borrow.Author.Needs.{needs}
-use Rattle.trace.proofs.Pieces.{room-enough}
-use Rattle.trace.specs.Play.{Makes, outBytes, pieceBytes, pieceOf, pieceRun, programLots, Run}
-use Rattle.trace.specs.declared.Piece.{Piece}
-use Rattle.trace.specs.declared.Playing.{Playing}
+use Rattle.trace_model.proofs.Pieces.{room-enough}
+use Rattle.trace_model.specs.Play.{Makes, outBytes, pieceBytes, pieceOf, pieceRun, programLots, Run}
+use Rattle.trace_model.specs.declared.Piece.{Piece}
+use Rattle.trace_model.specs.declared.Playing.{Playing}
 use Rattle.play.proofs.play_read.Statement.{statement}
 use Rattle.play.proofs.play_read.Tie as tie
 use Rattle.play.proofs.play_read.Reads as reads

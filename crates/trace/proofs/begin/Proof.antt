@@ -1,6 +1,6 @@
 -- `trace::begin` meets its contract. Assumes nothing.
 use borrow.Author.Needs.{needs}
-use Rattle.trace.proofs.Runs.{begun-none, begun-shape, begun-wrong}
+use Rattle.trace_model.proofs.Runs.{begun-none, begun-shape, begun-wrong}
 use Rattle.trace.proofs.begin.Statement.{statement}
 use Rattle.trace.proofs.begin.Tie as tie
 use Rattle.trace.proofs.begin.Reads as reads
@@ -8,7 +8,7 @@ use Rattle.trace.proofs.begin.Lts as lts
 use Rattle.text.proofs.put_bytes.Reads as put-bytes-reads
 use Rattle.trace.proofs.closed.Reads as closed-reads
 use Rattle.trace.proofs.opened.Reads as opened-reads
-use Rattle.trace.proofs.read_header.Reads as read-header-reads
+use Rattle.trace_records.proofs.read_header.Reads as read-header-reads
 
 closed-requires : tie.Need-closed-requires
 closed-requires c κs = search needs

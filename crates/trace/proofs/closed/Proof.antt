@@ -1,7 +1,7 @@
 -- `trace::closed` meets its contract. Assumes nothing.
 use mathlib.Core.Path.{refl}
 use borrow.Author.Needs.{needs}
-use Rattle.trace.proofs.Runs.{closed-made}
+use Rattle.trace_model.proofs.Runs.{closed-made}
 use Rattle.trace.proofs.closed.Statement.{statement}
 use Rattle.trace.proofs.closed.Tie as tie
 use Rattle.trace.proofs.closed.Reads as reads

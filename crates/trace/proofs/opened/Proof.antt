@@ -1,7 +1,7 @@
 -- `trace::opened` meets its contract. Assumes nothing.
 use mathlib.Core.Path.{refl}
 use borrow.Author.Needs.{needs}
-use Rattle.trace.proofs.Runs.{opened-made}
+use Rattle.trace_model.proofs.Runs.{opened-made}
 use Rattle.clocked.proofs.Public.{clear-machine}
 use Rattle.trace.proofs.opened.Statement.{statement}
 use Rattle.trace.proofs.opened.Tie as tie

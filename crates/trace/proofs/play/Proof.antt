@@ -3,15 +3,15 @@ use native.Mathlib.Omega.{arith}
 use mathlib.Core.Path.{refl}
 use lib.ListN.{length}
 use borrow.Author.Needs.{needs}
-use Rattle.trace.proofs.Runs.{piece-made, piece-none}
-use Rattle.trace.proofs.Sizes.{lines-room, size-some}
+use Rattle.trace_model.proofs.Runs.{piece-made, piece-none}
+use Rattle.trace_model.proofs.Sizes.{lines-room, size-some}
 use Rattle.trace.proofs.play.Statement.{statement}
 use Rattle.trace.proofs.play.Tie as tie
 use Rattle.trace.proofs.play.Reads as reads
 use Rattle.trace.proofs.play.Lts as lts
 use Rattle.trace.proofs.play_records.Reads as play-records-reads
 use Rattle.trace.proofs.play_rest.Reads as play-rest-reads
-use Rattle.trace.proofs.record_bytes.Reads as record-bytes-reads
+use Rattle.trace_records.proofs.record_bytes.Reads as record-bytes-reads
 
 record-bytes-requires : tie.Need-record-bytes-requires
 record-bytes-requires c κs = search needs

@@ -2,7 +2,7 @@
 use mathlib.Core.Path.{ap}
 use borrow.Author.Needs.{needs}
 use Rattle.text.proofs.Laws.{laid-then, laid-to}
-use Rattle.trace.specs.Format.{badLine}
+use Rattle.trace_model.specs.Format.{badLine}
 use Rattle.trace.proofs.play_bad.Statement.{statement}
 use Rattle.trace.proofs.play_bad.Tie as tie
 use Rattle.trace.proofs.play_bad.Reads as reads

@@ -1,6 +1,6 @@
 -- `trace::play_end` meets its contract. Assumes nothing.
 use borrow.Author.Needs.{needs}
-use Rattle.trace.proofs.Runs.{end-made}
+use Rattle.trace_model.proofs.Runs.{end-made}
 use Rattle.trace.proofs.play_end.Statement.{statement}
 use Rattle.trace.proofs.play_end.Tie as tie
 use Rattle.trace.proofs.play_end.Reads as reads
@@ -9,7 +9,7 @@ use Rattle.clocked.proofs.drain.Reads as drain-reads
 use Rattle.clocked.proofs.held.Reads as held-reads
 use Rattle.strip.proofs.count_of.Reads as count-of-reads
 use Rattle.trace.proofs.carried.Reads as carried-reads
-use Rattle.trace.proofs.put_end.Reads as put-end-reads
+use Rattle.trace_lines.proofs.put_end.Reads as put-end-reads
 
 drain-requires : tie.Need-drain-requires
 drain-requires c κs = search needs

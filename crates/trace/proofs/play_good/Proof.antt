@@ -1,6 +1,6 @@
 -- `trace::play_good` meets its contract. Assumes nothing.
 use borrow.Author.Needs.{needs}
-use Rattle.trace.proofs.Runs.{good-made}
+use Rattle.trace_model.proofs.Runs.{good-made}
 use Rattle.trace.proofs.play_good.Statement.{statement}
 use Rattle.trace.proofs.play_good.Tie as tie
 use Rattle.trace.proofs.play_good.Reads as reads
@@ -8,7 +8,7 @@ use Rattle.trace.proofs.play_good.Lts as lts
 use Rattle.clocked.proofs.cycle.Reads as cycle-reads
 use Rattle.std.proofs.num.wrapping_add_u64.Reads as wrapping-add-u64-reads
 use Rattle.trace.proofs.carried.Reads as carried-reads
-use Rattle.trace.proofs.put_line.Reads as put-line-reads
+use Rattle.trace_lines.proofs.put_line.Reads as put-line-reads
 
 cycle-requires : tie.Need-cycle-requires
 cycle-requires c κs = search needs

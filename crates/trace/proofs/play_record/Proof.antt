@@ -1,13 +1,13 @@
 -- `trace::play_record` meets its contract. Assumes nothing.
 use borrow.Author.Needs.{needs}
-use Rattle.trace.proofs.Runs.{record-bad, record-ended, record-good}
+use Rattle.trace_model.proofs.Runs.{record-bad, record-ended, record-good}
 use Rattle.trace.proofs.play_record.Statement.{statement}
 use Rattle.trace.proofs.play_record.Tie as tie
 use Rattle.trace.proofs.play_record.Reads as reads
 use Rattle.trace.proofs.play_record.Lts as lts
 use Rattle.trace.proofs.play_bad.Reads as play-bad-reads
 use Rattle.trace.proofs.play_good.Reads as play-good-reads
-use Rattle.trace.proofs.record_at.Reads as record-at-reads
+use Rattle.trace_records.proofs.record_at.Reads as record-at-reads
 
 returns : tie.Need-returns
 returns c = record-ended _ _ _ (c .before .before .before .before .before .before .pre .1) _ (c .if1 .taken)

@@ -4,15 +4,15 @@ use native.Mathlib.Omega.{arith}
 use mathlib.Core.Path.{_∙_, _≡_, refl}
 use lib.ListN.{length}
 use borrow.Author.Needs.{needs}
-use Rattle.trace.proofs.Runs.{At, at-end, at-next, at-start, written-next}
-use Rattle.trace.proofs.Sizes.{next-fits, records-left, records-start, size-some}
-use Rattle.trace.specs.Format.{longestLine, recordBytes}
+use Rattle.trace_model.proofs.Runs.{At, at-end, at-next, at-start, written-next}
+use Rattle.trace_model.proofs.Sizes.{next-fits, records-left, records-start, size-some}
+use Rattle.trace_model.specs.Format.{longestLine, recordBytes}
 use Rattle.trace.proofs.play_records.Statement.{statement}
 use Rattle.trace.proofs.play_records.Tie as tie
 use Rattle.trace.proofs.play_records.Reads as reads
 use Rattle.trace.proofs.play_records.Lts as lts
 use Rattle.trace.proofs.play_record.Reads as play-record-reads
-use Rattle.trace.proofs.record_bytes.Reads as record-bytes-reads
+use Rattle.trace_records.proofs.record_bytes.Reads as record-bytes-reads
 
 abbrev Inv-loop : tie.InvT-loop
 Inv-loop store₀ bytes out₀ size piece₀ at₀ left₀ store out piece at left = (at + recordBytes (piece₀ .play .version) * left ≤ length bytes) × (piece .written + longestLine * left ≤ longestLine * (length bytes / recordBytes (piece₀ .play .version))) × (length store ≡ length store₀) × (length out ≡ length out₀) × At bytes (piece₀ .play) store₀ out₀ left at piece store out

@@ -14,7 +14,7 @@ use Rattle.card.proofs.clock.clear_told.Reads as reads
 use Rattle.card.proofs.clock.clear_told.Lts as lts
 use Rattle.card.proofs.clock.number_of.Reads as number-of-reads
 use Rattle.clocked.proofs.fresh_state.Reads as fresh-state-reads
-use Rattle.lent_steps.proofs.clear_beside.Reads as clear-beside-reads
+use Rattle.lent_turns.proofs.clear_beside.Reads as clear-beside-reads
 use Rattle.lent_steps.proofs.refused.Reads as refused-reads
 
 fresh-state-requires : tie.Need-fresh-state-requires

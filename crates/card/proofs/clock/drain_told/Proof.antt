@@ -1,17 +1,18 @@
 -- `card::clock::drain_told` meets its contract. Assumes nothing.
 use Prim.Native.Nat.{_≤_}
 use native.Mathlib.Omega.{arith}
-use Rattle.card.proofs.Clocked.{drain-done, drain-few, drain-refused, drain-short, marked-some}
+use Rattle.card.proofs.Clocked.{drain-done, drain-few, drain-refused, drain-short}
+use Rattle.card_out.proofs.Asked.{marked-some}
 use borrow.Author.Needs.{needs}
 use Rattle.card.proofs.clock.drain_told.Statement.{statement}
 use Rattle.card.proofs.clock.drain_told.Tie as tie
 use Rattle.card.proofs.clock.drain_told.Reads as reads
 use Rattle.card.proofs.clock.drain_told.Lts as lts
-use Rattle.card.proofs.bit.Reads as bit-reads
-use Rattle.card.proofs.clock.is_marked.Reads as is-marked-reads
+use Rattle.card_out.proofs.bit.Reads as bit-reads
+use Rattle.card_out.proofs.is_marked.Reads as is-marked-reads
 use Rattle.card.proofs.clock.none_turned.Reads as none-turned-reads
-use Rattle.card.proofs.tell_drain.Reads as tell-drain-reads
-use Rattle.lent_steps.proofs.drain_read.Reads as drain-read-reads
+use Rattle.card_out.proofs.tell_drain.Reads as tell-drain-reads
+use Rattle.lent_turns.proofs.drain_read.Reads as drain-read-reads
 
 none-turned-requires : tie.Need-none-turned-requires
 none-turned-requires c κs = search needs

@@ -2,7 +2,7 @@
 use mathlib.Core.Path.{_∙_, ap}
 use Rattle.ports_model.specs.declared.Shape.{Shape}
 use Rattle.ports_model.specs.Calls.{heldCount}
-use Rattle.card.proofs.Calls.{count-short, count-told}
+use Rattle.card_out.proofs.Out.{count-short, count-told}
 use borrow.Author.Needs.{needs}
 use Rattle.card.proofs.pool.card_ports_held.Statement.{statement}
 use Rattle.card.proofs.pool.card_ports_held.Tie as tie

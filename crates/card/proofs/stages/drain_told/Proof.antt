@@ -8,7 +8,7 @@ use Rattle.card.proofs.stages.drain_told.Tie as tie
 use Rattle.card.proofs.stages.drain_told.Reads as reads
 use Rattle.card.proofs.stages.drain_told.Lts as lts
 use Rattle.card.proofs.stages.none_turned.Reads as none-turned-reads
-use Rattle.card.proofs.tell_drain.Reads as tell-drain-reads
+use Rattle.card_out.proofs.tell_drain.Reads as tell-drain-reads
 use Rattle.cluster_lent_turns.proofs.drain_read.Reads as drain-read-reads
 
 none-turned-requires : tie.Need-none-turned-requires

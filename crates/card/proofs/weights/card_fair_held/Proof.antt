@@ -1,5 +1,5 @@
 -- `card::weights::card_fair_held` meets its contract. Assumes nothing.
-use Rattle.card.proofs.Calls.{count-short, count-told}
+use Rattle.card_out.proofs.Out.{count-short, count-told}
 use borrow.Author.Needs.{needs}
 use Rattle.card.proofs.weights.card_fair_held.Statement.{statement}
 use Rattle.card.proofs.weights.card_fair_held.Tie as tie

@@ -1,0 +1,21 @@
+-- `card_out::request_of` meets its contract. Assumes nothing.
+use Rattle.card_out.proofs.Asked.{request-idle, request-pop, request-push, request-replace}
+use Rattle.card_out.proofs.request_of.Statement.{statement}
+use Rattle.card_out.proofs.request_of.Tie as tie
+use Rattle.card_out.proofs.request_of.Reads as reads
+use Rattle.card_out.proofs.request_of.Lts as lts
+
+returns : tie.Need-returns
+returns c = request-push _ _ _ _ (c .if1 .taken)
+
+returns-2 : tie.Need-returns-2
+returns-2 c = request-pop _ _ _ _ (c .before .if1 .left) (c .if2 .taken)
+
+returns-3 : tie.Need-returns-3
+returns-3 c = request-replace _ _ _ _ (c .before .before .if1 .left) (c .before .if2 .left) (c .if3 .taken)
+
+returns-4 : tie.Need-returns-4
+returns-4 c = request-idle _ _ _ _ (c .before .before .if1 .left) (c .before .if2 .left) (c .if3 .left)
+
+pub request-of-spec : {M : Type 1} → statement M
+request-of-spec = tie.close (tie.spec returns returns-2 returns-3 returns-4)

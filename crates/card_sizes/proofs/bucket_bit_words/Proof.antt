@@ -1,0 +1,30 @@
+-- `card_sizes::bucket_bit_words` meets its contract. Assumes nothing.
+use Prim.Native.Nat.{_≤_}
+use borrow.Author.Needs.{needs}
+use Rattle.bucket_model.specs.Layout.{leastStoreys, mostStoreys}
+use Rattle.card_sizes.proofs.Sizes.{bits-none, bits-some, depths, few-bits}
+use Rattle.card_sizes.proofs.bucket_bit_words.Statement.{statement}
+use Rattle.card_sizes.proofs.bucket_bit_words.Tie as tie
+
+-- the depth has been tested
+deep : (c : tie.Else1) → (leastStoreys ≤ c .before .before .args .storeys) × (c .before .before .args .storeys ≤ mostStoreys)
+deep c = depths _ 0 _ (c .before .is-deep .ensures) (c .if1 .left)
+
+is-deep-requires : tie.Need-is-deep-requires
+is-deep-requires c κs = search needs
+
+returns : tie.Need-returns
+returns c = bits-none _ 0 _ (c .before .is-deep .ensures) (c .if1 .taken)
+
+queue-of-requires : tie.Need-queue-of-requires
+queue-of-requires c κs = deep c
+
+cast-result : tie.Need-cast-result
+cast-result c = search (needs, few-bits _ (deep (c .before .before) .0) (deep (c .before .before) .1) 0 _ (c .before .queue-of .ensures))
+
+returns-2 : tie.Need-returns-2
+returns-2 c = bits-some _ 0 _ (c .before .before .before .is-deep .ensures) (c .before .before .if1 .left) _ (c .before .queue-of .ensures)
+
+pub bucket-bit-words-spec : {M : Type 1} → statement M
+bucket-bit-words-spec =
+    tie.close (tie.spec is-deep-requires returns queue-of-requires cast-result returns-2)

@@ -1,0 +1,36 @@
+-- 01's worked trace, one of replaces, one of elements without a tag and two of version 2, by computing. Assumes nothing.
+use mathlib.Core.Path.{_≡_, refl}
+use Rattle.clocked_model.specs.Calls.{asks, drainFrom, drains, fresh, ruleMarked, isRefused, marks, popsOrReplaces, cycled, cycleRun}
+use Rattle.clocked_model.specs.Cycle.{cycleOk, cycleWords, quiet}
+use Rattle.clocked_model.specs.Records.{landed, recordAt, recordsAfter, worksOf}
+use Rattle.strip.specs.Answers.{blank, key, untagged, precedes}
+use Rattle.text.specs.Text.{decimal, decimalBy}
+use Rattle.trace_model.specs.Example.{emptied, emptiedSays, example, exampleSays, lengthless, lengthlessSays, lengths, lengthsSay, untaggedOnes, untaggedSays}
+use Rattle.trace_model.specs.Format.{badLine, cutRecord, doneWord, endLine, entryAt, entryOf, headed, headerOf, lengthAt, lengthWord, lineOf, markOk, outWord, recordsFrom, recordsOf, refusalWord, traceShape, wordOf}
+use Rattle.trace_model.specs.Program.{emptyStore, endOf, textFrom, textOf, traceText}
+use Rattle.tree_model.specs.Calls.{cleared, heldCount, orderOk, rule, shapeOk}
+use Rattle.tree_model.specs.Damage.{workOk, hasRoom, hasSome, isBlank, lifts, nodeOk, readOk, room, slotOk, stepOk}
+use Rattle.tree_model.specs.Levels.{levelMove, stepWork, top, work}
+use Rattle.tree_model.specs.Node.{every, firstEmpty, isEmpty, isNothing, keep, leastCount, low, lowest, opMove, pass, putBy, putMove, seek, slotAt, sumCounts, swapBy, swapMove, takeBy, takeMove, vacant}
+use Rattle.tree_model.specs.Words.{levelOf, levelsOf, nodeOf, slotOf, stepWords, tabulate, wipe, write}
+
+pub worked : traceText example ≡ exampleSays
+unfolding traceText textOf textFrom emptyStore endOf headerOf headed markOk traceShape recordsOf recordsFrom cutRecord entryAt lengthAt entryOf lineOf wordOf doneWord refusalWord outWord lengthWord endLine decimal decimalBy cycled cycleRun drains drainFrom heldCount fresh ruleMarked asks popsOrReplaces isRefused marks quiet cycleWords cycleOk recordAt worksOf landed recordsAfter blank key precedes untagged vacant isEmpty seek every firstEmpty leastCount lowest slotAt low keep pass putBy putMove takeBy takeMove swapBy swapMove opMove isNothing sumCounts work top levelMove stepWork room isBlank slotOk nodeOk hasRoom hasSome readOk lifts stepOk workOk slotOf write wipe tabulate nodeOf levelOf levelsOf stepWords orderOk shapeOk rule cleared
+worked = refl
+
+pub worked-replaces : traceText emptied ≡ emptiedSays
+unfolding traceText textOf textFrom emptyStore endOf headerOf headed markOk traceShape recordsOf recordsFrom cutRecord entryAt lengthAt entryOf lineOf wordOf doneWord refusalWord outWord lengthWord endLine decimal decimalBy cycled cycleRun drains drainFrom heldCount fresh ruleMarked asks popsOrReplaces isRefused marks quiet cycleWords cycleOk recordAt worksOf landed recordsAfter blank key precedes untagged vacant isEmpty seek every firstEmpty leastCount lowest slotAt low keep pass putBy putMove takeBy takeMove swapBy swapMove opMove isNothing sumCounts work top levelMove stepWork room isBlank slotOk nodeOk hasRoom hasSome readOk lifts stepOk workOk slotOf write wipe tabulate nodeOf levelOf levelsOf stepWords orderOk shapeOk rule cleared
+worked-replaces = refl
+
+pub worked-untagged : traceText untaggedOnes ≡ untaggedSays
+unfolding traceText textOf textFrom emptyStore endOf headerOf headed markOk traceShape recordsOf recordsFrom cutRecord entryAt lengthAt entryOf lineOf wordOf doneWord refusalWord outWord lengthWord endLine decimal decimalBy cycled cycleRun drains drainFrom heldCount fresh ruleMarked asks popsOrReplaces isRefused marks quiet cycleWords cycleOk recordAt worksOf landed recordsAfter blank key precedes untagged vacant isEmpty seek every firstEmpty leastCount lowest slotAt low keep pass putBy putMove takeBy takeMove swapBy swapMove opMove isNothing sumCounts work top levelMove stepWork room isBlank slotOk nodeOk hasRoom hasSome readOk lifts stepOk workOk slotOf write wipe tabulate nodeOf levelOf levelsOf stepWords orderOk shapeOk rule cleared
+worked-untagged = refl
+
+-- ---- version 2
+pub worked-lengths : traceText lengths ≡ lengthsSay
+unfolding traceText textOf textFrom emptyStore endOf headerOf headed markOk traceShape recordsOf recordsFrom cutRecord entryAt lengthAt entryOf lineOf wordOf doneWord refusalWord outWord lengthWord endLine decimal decimalBy cycled cycleRun drains drainFrom heldCount fresh ruleMarked asks popsOrReplaces isRefused marks quiet cycleWords cycleOk recordAt worksOf landed recordsAfter blank key precedes untagged vacant isEmpty seek every firstEmpty leastCount lowest slotAt low keep pass putBy putMove takeBy takeMove swapBy swapMove opMove isNothing sumCounts work top levelMove stepWork room isBlank slotOk nodeOk hasRoom hasSome readOk lifts stepOk workOk slotOf write wipe tabulate nodeOf levelOf levelsOf stepWords orderOk shapeOk rule cleared
+worked-lengths = refl
+
+pub worked-lengthless : traceText lengthless ≡ lengthlessSays
+unfolding traceText textOf textFrom emptyStore endOf headerOf headed markOk traceShape recordsOf recordsFrom cutRecord entryAt lengthAt entryOf lineOf wordOf doneWord refusalWord outWord lengthWord badLine endLine decimal decimalBy cycled cycleRun drains drainFrom heldCount fresh ruleMarked asks popsOrReplaces isRefused marks quiet cycleWords cycleOk recordAt worksOf landed recordsAfter blank key precedes untagged vacant isEmpty seek every firstEmpty leastCount lowest slotAt low keep pass putBy putMove takeBy takeMove swapBy swapMove opMove isNothing sumCounts work top levelMove stepWork room isBlank slotOk nodeOk hasRoom hasSome readOk lifts stepOk workOk slotOf write wipe tabulate nodeOf levelOf levelsOf stepWords orderOk shapeOk rule cleared
+worked-lengthless = refl

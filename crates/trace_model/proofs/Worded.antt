@@ -1,0 +1,182 @@
+-- Every line of a played trace has a word: from a cleared machine no cycle is refused 1, 2, 4 or 8. The last line says how many are stored.
+-- Assumes nothing.
+use Prim.Native.Nat.{_*_, _≤_, pred, suc, zero, ℕ}
+use native.Mathlib.Omega.{arith}
+use mathlib.Core.Bool.{_&&_, Bool, cond, false, true}
+use mathlib.Core.List.{[], _++_, _∷_, List}
+use mathlib.Core.Logic.{_⊎_, ⊎-elim}
+use mathlib.Core.Path.{_∙_, _≡_, ap, ap₂, refl, subst, sym}
+use lib.Dec.{eqb, leb}
+use lib.ListN.{drop, length, length-replicate}
+use borrow.Author.Tests.{le-leb, leb-true}
+use Rattle.clocked_model.proofs.Drain.{drain-left, drain-state}
+use Rattle.clocked_model.proofs.Exactly.{no-damage-sound, cycled-fine}
+use Rattle.clocked_model.proofs.Promises.{drained-fine, drained-left, held-says, numbers, shape-kept, undamaged}
+use Rattle.clocked_model.specs.Calls.{CycleOutcome, DrainOutcome, drains, ruleMarked, pending, popsOrReplaces, clearedMachine, cycled, cycleRun}
+use Rattle.clocked_model.specs.Promise.{ran, runs}
+use Rattle.clocked_model.specs.declared.State.{State}
+use Rattle.laws.specs.Tests.{and-left, and-right, and-true, cond-both}
+use Rattle.promise.specs.Queue.{leaves}
+use Rattle.promise.specs.Served.{always}
+use Rattle.strip.specs.Answers.{countOf, numberOf, refusalNumber}
+use Rattle.strip.specs.declared.Answer.the-variants.{Refused}
+use Rattle.strip.specs.declared.Refusal.{Refusal}
+use Rattle.strip.specs.declared.Refusal.the-variants.{BadPort, BadRank, BadShape, Damaged, Empty, Full, NoTag, TooSoon}
+use Rattle.strip.specs.declared.Request.{Request}
+use Rattle.trace_model.specs.Format.{byteAt, doneWord, endLine, headed, headerBytes, headerOf, markOk, outWord, recordsOf, refusalWord, traceLimit, traceShape, versionAt, wordOf}
+use Rattle.trace_model.specs.Program.{emptyStore, endOf, storeWords}
+use Rattle.trace_model.specs.Promise.{Silent, TraceWorded, Worded, WordedBy}
+use Rattle.trace_model.specs.declared.Header.{Header}
+use Rattle.trace_model.specs.declared.Header.the-variants.{Shape as Shaped, Wrong}
+use Rattle.trace_model.specs.declared.Record.{Record}
+use Rattle.trace_model.specs.declared.Record.the-variants.{Bad, Good}
+use Rattle.trace_model.specs.declared.Version.{Version}
+use Rattle.trace_model.specs.declared.Version.the-variants.{One, Two}
+use Rattle.tree_model.proofs.Exactly.{is-shape, shape-is}
+use Rattle.tree_model.proofs.Rules.{comes}
+use Rattle.tree_model.specs.Calls.{heldCount, orderOk, rule, ruling, Ruling, shapeOk, slotLimit}
+use Rattle.tree_model.specs.Damage.{room}
+use Rattle.tree_model.specs.Promise.{Shape, stored}
+use Rattle.tree_model.specs.Rules.{Comes, empty, full, idles, lacks, no-tag, puts, swaps, takes}
+use Rattle.tree_model.specs.Words.{slotWords}
+use Rattle.tree_model.specs.declared.Op.the-variants.{Nothing}
+use Rattle.tree_model.specs.declared.Slot.{Slot}
+
+-- ---- what a request comes to has a word
+comes-word : (v : Version) (c : ℕ) (nd : List Slot) (r : Request) (g : Ruling) → Comes c nd r g → wordOf v r (g .answer) ≡ [] → ⊥
+unfolding wordOf doneWord refusalWord outWord
+comes-word v c nd r g idles e = omega (arith, ap length e)
+comes-word v c nd r g (no-tag r′ u) e = omega (arith, ap length e)
+comes-word v c nd r g (puts x u h) e = omega (arith, ap length e)
+comes-word v c nd r g (full x u h) e = omega (arith, ap length e)
+comes-word v c nd r g (takes h) e = omega (arith, ap length e)
+comes-word v c nd r g (empty h) e = omega (arith, ap length e)
+comes-word v c nd r g (swaps x u h) e = omega (arith, ap length e)
+comes-word v c nd r g (lacks x u h) e = omega (arith, ap length e)
+
+ruleMarked-word : (v : Version) (mark : Bool) (r : Request) (c : ℕ) (nd : List Slot) → wordOf v r (ruleMarked mark r (rule c r nd) .answer) ≡ [] → ⊥
+unfolding ruleMarked wordOf refusalWord
+ruleMarked-word v mark r c nd =
+    cond-both (λ (g : Ruling). wordOf v r (g .answer) ≡ [] → ⊥) (mark && popsOrReplaces r) (ruling (Refused TooSoon) Nothing) (rule c r nd) (λ t e. omega (arith, ap length e))
+    (λ t. comes-word v c nd r (rule c r nd) (comes c r nd))
+
+pred-le : (n : ℕ) → pred n ≤ n
+pred-le zero = omega arith
+pred-le (suc n) = omega arith
+
+-- ---- one request more
+module _ (m levels : ℕ) where
+  run-next : (rs : List Request) (r : Request) (s : State) (ws : List ℕ)
+      → (runs m levels (rs ++ (r ∷ [])) s ws .state ≡ cycled m levels r (runs m levels rs s ws .state) (runs m levels rs s ws .words) .state)
+      × (runs m levels (rs ++ (r ∷ [])) s ws .words ≡ cycled m levels r (runs m levels rs s ws .state) (runs m levels rs s ws .words) .words)
+  unfolding leaves
+  run-next [] r s ws = (refl, refl)
+  run-next (x ∷ rs) r s ws = run-next rs r (cycled m levels x s ws .state) (cycled m levels x s ws .words)
+
+-- ---- from a cleared machine, whatever the words before, with a shape
+module _ (m levels : ℕ) (ws : List ℕ) (sh : Shape m levels (length ws)) where
+  abbrev stateAt : List Request → State
+  stateAt rs = ran m levels rs ws .state
+
+  abbrev wordsAt : List Request → List ℕ
+  wordsAt rs = ran m levels rs ws .words
+
+  -- NONE SILENT: after any list of cycles no cycle is refused 1, 2, 4 or 8
+  pub none-silent : (rs : List Request) (r : Request) (n : Refusal) → Silent n → cycled m levels r (stateAt rs) (wordsAt rs) .answer ≡ Refused n → ⊥
+  none-silent rs r n q e = go n q (sym (ap numberOf e)) (numbers m ws rs levels sh r)
+    where
+      other : (a k : ℕ) → k ≡ a → (k ≡ 0 → ⊥) → (k ≡ 3 → ⊥) → (k ≡ 5 → ⊥) → (k ≡ 6 → ⊥) → (k ≡ 7 → ⊥) → (a ≡ 0) ⊎ (a ≡ 3) ⊎ (a ≡ 5) ⊎ (a ≡ 6) ⊎ (a ≡ 7) → ⊥
+      other a k h no0 no3 no5 no6 no7 = ⊎-elim (λ d. no0 (h ∙ d)) (⊎-elim (λ d. no3 (h ∙ d)) (⊎-elim (λ d. no5 (h ∙ d)) (⊎-elim (λ d. no6 (h ∙ d)) (λ d. no7 (h ∙ d)))))
+
+      go : (n : Refusal) → Silent n → refusalNumber n ≡ numberOf (cycled m levels r (stateAt rs) (wordsAt rs) .answer) → (numberOf (cycled m levels r (stateAt rs) (wordsAt rs) .answer) ≡ 0) ⊎ (numberOf (cycled m levels r (stateAt rs) (wordsAt rs) .answer) ≡ 3) ⊎ (numberOf (cycled m levels r (stateAt rs) (wordsAt rs) .answer) ≡ 5) ⊎ (numberOf (cycled m levels r (stateAt rs) (wordsAt rs) .answer) ≡ 6) ⊎ (numberOf (cycled m levels r (stateAt rs) (wordsAt rs) .answer) ≡ 7) → ⊥
+      go BadShape q h = other _ 1 h (λ d. omega arith) (λ d. omega arith) (λ d. omega arith) (λ d. omega arith) (λ d. omega arith)
+      go Damaged q h = other _ 2 h (λ d. omega arith) (λ d. omega arith) (λ d. omega arith) (λ d. omega arith) (λ d. omega arith)
+      go TooSoon q h = absurd q
+      go BadRank q h = other _ 4 h (λ d. omega arith) (λ d. omega arith) (λ d. omega arith) (λ d. omega arith) (λ d. omega arith)
+      go Full q h = absurd q
+      go Empty q h = absurd q
+      go NoTag q h = absurd q
+      go BadPort q h = other _ 8 h (λ d. omega arith) (λ d. omega arith) (λ d. omega arith) (λ d. omega arith) (λ d. omega arith)
+
+  word-some : (v : Version) (rs : List Request) (r : Request) → wordOf v r (cycled m levels r (stateAt rs) (wordsAt rs) .answer) ≡ [] → ⊥
+  unfolding cycleRun
+  word-some v rs r e =
+      ruleMarked-word v (stateAt rs .mark) r (room m levels) _
+      (sym (ap (λ (o : CycleOutcome). wordOf v r (o .answer)) (cycled-fine m levels r (stateAt rs) (wordsAt rs)
+      (is-shape m levels (length (wordsAt rs)) (shape-kept m ws rs levels sh))
+      (no-damage-sound m levels r (stateAt rs) (wordsAt rs) (undamaged m ws rs levels sh r)))) ∙ e)
+
+  worded-from : (v : Version) (es : List Record) (rs : List Request) → Worded v m levels (stateAt rs) (wordsAt rs) es
+  worded-from v [] rs = tt
+  worded-from v (Bad ∷ es) rs = tt
+  worded-from v (Good r ∷ es) rs =
+      let n = run-next m levels rs r (clearedMachine m levels ws .state) (clearedMachine m levels ws .words) in
+      (word-some v rs r, subst (λ (x : State × List ℕ). Worded v m levels (x .0) (x .1) es) (ap₂ (λ (s : State) (w : List ℕ). (s, w)) (n .0) (n .1)) (worded-from v es (rs ++ (r ∷ []))))
+
+  -- THE LAST LINE: after any list of cycles the drain is not refused and leaves no work, and the line says how many are stored
+  abbrev drained : List Request → DrainOutcome
+  drained rs = drains m levels levels (stateAt rs) (wordsAt rs)
+
+  pub end-done : (rs : List Request) → (numberOf (drained rs .answer) ≡ 0) × (drained rs .left ≡ false)
+  end-done rs = (drained-fine m ws rs levels sh levels (pred-le levels), drained-left m ws rs levels sh levels (pred-le levels))
+
+  pub end-says : (rs : List Request) → endOf m levels (stateAt rs) (wordsAt rs) ≡ endLine (stored (room m levels) (drained rs .words) always) (drained rs .cycles)
+  unfolding endOf
+  end-says rs = ap (λ (n : ℕ). endLine n (drained rs .cycles)) held-now
+    where
+      held-now : countOf (heldCount m levels (drained rs .words)) ≡ stored (room m levels) (drained rs .words) always
+      held-now =
+          let d = drain-state m levels levels (stateAt rs) (wordsAt rs) in
+          subst (λ (v : List ℕ). countOf (heldCount m levels v) ≡ stored (room m levels) v always) (sym (d .0))
+          (held-says m ws rs levels sh (drained rs .cycles)
+          (ap (pending m levels) (sym (d .1)) ∙ sym (drain-left m levels levels (stateAt rs) (wordsAt rs) (shape-kept m ws rs levels sh)) ∙ end-done rs .1) .1)
+
+-- ---- the program's shapes
+trace-shape : (m levels : ℕ) → traceShape m levels ≡ true → Shape m levels storeWords
+unfolding traceShape shapeOk
+trace-shape m levels e =
+    let ord = and-left (orderOk m) (leb 1 levels && leb (room m levels) traceLimit) e in
+    let rest = and-right (orderOk m) (leb 1 levels && leb (room m levels) traceLimit) e in
+    let few : room m levels ≤ traceLimit = leb-true (room m levels) traceLimit (and-right (leb 1 levels) (leb (room m levels) traceLimit) rest) in
+    shape-is m levels storeWords
+    (and-true (orderOk m) (leb 1 levels && (leb (room m levels) slotLimit && leb (slotWords * room m levels) storeWords)) ord
+    (and-true (leb 1 levels) (leb (room m levels) slotLimit && leb (slotWords * room m levels) storeWords) (and-left (leb 1 levels) (leb (room m levels) traceLimit) rest)
+    (and-true (leb (room m levels) slotLimit) (leb (slotWords * room m levels) storeWords) (le-leb (room m levels) slotLimit (omega arith)) (le-leb (slotWords * room m levels) storeWords (omega arith)))))
+
+-- a header of a shape is one of the program's
+headed-shape : (n a b : ℕ) (v : Version) (m levels : ℕ) → headed n a b ≡ Shaped v m levels → (a ≡ m) × (b ≡ levels)
+unfolding headed
+headed-shape n a b v m levels e = go (eqb n 1) (eqb n 2) e
+  where
+    go : (s t : Bool) → cond s (Shaped One a b) (cond t (Shaped Two a b) Wrong) ≡ Shaped v m levels → (a ≡ m) × (b ≡ levels)
+    go true t p = (cc, cc)
+    go false true p = (cc, cc)
+    go false false p = let z : _≡_ {A = ℕ} 0 1 = cc in absurd (omega arith)
+
+pub header-shaped : (bs : List ℕ) (v : Version) (m levels : ℕ) → headerOf bs ≡ Shaped v m levels → Shape m levels storeWords
+unfolding headerOf
+header-shaped bs v m levels e = go (leb headerBytes (length bs) && (markOk bs && traceShape (byteAt bs 5) (byteAt bs 6))) refl e
+  where
+    go : (b : Bool) → (leb headerBytes (length bs) && (markOk bs && traceShape (byteAt bs 5) (byteAt bs 6))) ≡ b
+        → cond b (headed (versionAt bs 3) (byteAt bs 5) (byteAt bs 6)) Wrong ≡ Shaped v m levels → Shape m levels storeWords
+    go true t p =
+        let is = headed-shape (versionAt bs 3) (byteAt bs 5) (byteAt bs 6) v m levels p in
+        let ok = and-right (markOk bs) (traceShape (byteAt bs 5) (byteAt bs 6)) (and-right (leb headerBytes (length bs)) (markOk bs && traceShape (byteAt bs 5) (byteAt bs 6)) t) in
+        trace-shape m levels (sym (ap₂ traceShape (is .0) (is .1)) ∙ ok)
+    go false t p = let z : _≡_ {A = ℕ} 0 1 = cc in absurd (omega arith)
+
+store-length : length emptyStore ≡ storeWords
+unfolding emptyStore
+store-length = length-replicate {A = ℕ} storeWords 0
+
+at-first : (v : Version) (m levels : ℕ) (ws : List ℕ) → Shape m levels (length ws) → (es : List Record) → Worded v m levels (clearedMachine m levels ws .state) (clearedMachine m levels ws .words) es
+unfolding leaves
+at-first v m levels ws sh es = worded-from m levels ws sh v es []
+
+-- WORDED: every line of every trace has a word
+pub worded : (bs : List ℕ) → TraceWorded bs
+worded bs = go (headerOf bs) refl
+  where
+    go : (h : Header) → headerOf bs ≡ h → WordedBy h (drop headerBytes bs)
+    go Wrong e = tt
+    go (Shaped v m levels) e = at-first v m levels emptyStore (subst (Shape m levels) (sym store-length) (header-shaped bs v m levels e)) (recordsOf v (drop headerBytes bs))

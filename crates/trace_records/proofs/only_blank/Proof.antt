@@ -1,0 +1,14 @@
+-- `trace_records::only_blank` meets its contract. Assumes nothing.
+use Rattle.trace_records.proofs.only_blank.Statement.{statement}
+use Rattle.trace_records.proofs.only_blank.Tie as tie
+use Rattle.trace_records.proofs.only_blank.Reads as reads
+use Rattle.trace_records.proofs.only_blank.Lts as lts
+
+returns : tie.Need-returns
+returns c = rw (c .if1 .taken)
+
+returns-2 : tie.Need-returns-2
+returns-2 c = rw (c .if1 .left)
+
+pub only-blank-spec : {M : Type 1} → statement M
+only-blank-spec = tie.close (tie.spec returns returns-2)
