@@ -30,10 +30,10 @@ use Rattle.tree_model.specs.Serve.{holding, ruled}
 use Rattle.tree_model.specs.Words.{levelsOf}
 
 -- the tree gives the least of every kept store
-tree-least : (m k : ℕ) (r : Request) (ws : List ℕ) → tree.Kept m k ws → Least (tree-says.stored (room m (suc k)) ws) r (called m (suc k) r ws .answer)
+tree-least : (m k : ℕ) (r : Request) (ws : List ℕ) → tree.Kept m k ws → Least (tree-says.storedCount (room m (suc k)) ws) r (called m (suc k) r ws .answer)
 tree-least m k r ws kept =
-    subst (λ (a : Answer). Least (tree-says.stored (room m (suc k)) ws) r a) (sym (tree.kept-answer m k ws kept r))
-    (least-same (holding m k (levelsOf m (suc k) ws 0 1)) (tree-says.stored (room m (suc k)) ws) (λ f. sym (tree.stored-holding m k ws f)) r
+    subst (λ (a : Answer). Least (tree-says.storedCount (room m (suc k)) ws) r a) (sym (tree.kept-answer m k ws kept r))
+    (least-same (holding m k (levelsOf m (suc k) ws 0 1)) (tree-says.storedCount (room m (suc k)) ws) (λ f. sym (tree.stored-holding m k ws f)) r
     (ruled m k r (levelsOf m (suc k) ws 0 1) .answer) (answered m k (tree-exactly.order-pos (kept .shape)) (levelsOf m (suc k) ws 0 1) (kept .store) r .least))
 
 -- both answer a replace that they take as a pop
@@ -56,13 +56,13 @@ module _ (rs : List Request) where
   pub tree-plain : (m levels : ℕ) (ws : List ℕ) → tree-says.Shape m levels (length ws) → Taken (treeSaid m levels ws) → map rankOf (treeSaid m levels ws) ≡ answers plain rs []
   tree-plain m zero ws sh t = absurd (not-suc-le-zero (sh .some))
   tree-plain m (suc k) ws sh t =
-      ranks-plain (tree-says.treeQueue m (suc k)) (tree.Kept m k) (tree.called-kept m k) (tree-says.stored (room m (suc k))) (tree.call-sum m k) (tree-least m k) (tree-pop m k)
+      ranks-plain (tree-says.treeQueue m (suc k)) (tree.Kept m k) (tree.called-kept m k) (tree-says.storedCount (room m (suc k))) (tree.call-sum m k) (tree-least m k) (tree-pop m k)
       (λ r ws. tree-exactly.kind m (suc k) r ws) rs (tree-says.start m (suc k) ws) [] (tree.start-kept m k ws sh) (same-empty _ _ _ _ _ _ _ _ _ (tree.start-empty m k ws sh)) t
 
   pub heap-plain : (K levels : ℕ) (ws : List ℕ) → heap-says.Shape K levels (length ws) → Taken (heapSaid K levels ws) → map rankOf (heapSaid K levels ws) ≡ answers plain rs []
   heap-plain K zero ws sh t = absurd (not-suc-le-zero (sh .some))
   heap-plain K (suc k) ws sh t =
-      ranks-plain (heap-says.clusterQueue K (suc k)) (heap.Kept K k) (heap.called-kept K k) (heap-says.stored K (suc k)) (heap.call-sum K k) (λ r ws kept. heap.kept-least K k ws kept r) (heap-pop K k)
+      ranks-plain (heap-says.clusterQueue K (suc k)) (heap.Kept K k) (heap.called-kept K k) (heap-says.storedCount K (suc k)) (heap.call-sum K k) (λ r ws kept. heap.kept-least K k ws kept r) (heap-pop K k)
       (λ r ws. heap-exactly.kind K (suc k) r ws) rs (heap-says.start K (suc k) ws) [] (heap.start-kept K k ws sh) (same-empty _ _ _ _ _ _ _ _ _ (heap.start-empty K k ws sh)) t
 
   -- AGREEMENT

@@ -1,5 +1,5 @@
 -- The length decides nothing: runs from clear whose calls are alike but for their lengths are answered alike but for their lengths, and hold the same then but for these.
-use mathlib.Core.Path.{_≡_, refl, sym, ap, ap₂, _∙_}
+use mathlib.Core.Path.{_≡_, refl, sym, ap, _∙_}
 use mathlib.Core.Bool.{Bool, true, false, cond, not}
 use mathlib.Core.List.{List, [], _∷_, map}
 use Prim.Native.Nat.{ℕ}

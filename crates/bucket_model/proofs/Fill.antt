@@ -1,4 +1,4 @@
--- A list filled from the front, one store a turn. Assumes nothing.
+-- A list filled from the front, one store a turn.
 use mathlib.Core.Path.{_≡_, refl, sym, ap, _∙_}
 use mathlib.Core.List.{List, [], _∷_}
 use Prim.Native.Nat.{ℕ, zero, suc, _+_, _≤_, _<_}

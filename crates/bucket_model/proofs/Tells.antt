@@ -1,4 +1,4 @@
--- One storey of bits: m words from base on, in which bit j % 64 of word j / 64 is f j. What one bit more or less does to it, and where its lowest set bit is. Every storey is one of these: what f is differs, at the bottom whether something is held, above whether the word below is 0. Assumes nothing.
+-- One storey of bits: m words from base on, in which bit j % 64 of word j / 64 is f j. What one bit more or less does to it, and where its lowest set bit is. Every storey is one of these: what f is differs, at the bottom whether something is held, above whether the word below is 0.
 use mathlib.Core.Path.{_≡_, refl, sym, ap, _∙_}
 use mathlib.Core.List.{List}
 use Prim.Native.Nat.{ℕ, zero, suc, _+_, _-_, _*_, _/_, _%_, _^_, _≤_, _<_}

@@ -1,4 +1,4 @@
--- Storeys above one another, to any depth: each tells which words of the one below are not 0. Lowest first. Assumes nothing.
+-- Storeys above one another, to any depth: each tells which words of the one below are not 0. Lowest first.
 use mathlib.Core.Path.{_≡_, refl, sym, ap, subst, _∙_}
 use mathlib.Core.List.{List, [], _∷_}
 use mathlib.Core.Bool.{Bool, true, false, cond, not}

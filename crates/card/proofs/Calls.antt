@@ -1,4 +1,4 @@
--- What a queue answers, told: the number, the words and `out` are those of the definitions. Assumes nothing.
+-- What a queue answers, told: the number, the words and `out` are those of the definitions.
 use Prim.Native.Nat.{_<_, _≤_, ℕ}
 use mathlib.Core.List.{List}
 use mathlib.Core.Path.{_∙_, _≡_, ap}

@@ -1,5 +1,5 @@
--- The clocked calls at the boundary: each test and what follows it make the outcome that the definitions say. Assumes nothing.
-use Prim.Native.Nat.{_-_, _<_, _≤_, ℕ}
+-- The clocked calls at the boundary: each test and what follows it make the outcome that the definitions say.
+use Prim.Native.Nat.{_<_, _≤_, ℕ}
 use native.Mathlib.Omega.{arith}
 use mathlib.Core.Bool.{_&&_, and-false, Bool, cond, false, not, true}
 use mathlib.Core.List.{List}

@@ -1,4 +1,4 @@
--- The clocked cluster heap's calls at the boundary: each test and what follows it make the outcome that the definitions say. Assumes nothing.
+-- The clocked cluster heap's calls at the boundary: each test and what follows it make the outcome that the definitions say.
 use Prim.Native.Nat.{_<_, _≤_, ℕ}
 use native.Mathlib.Omega.{arith}
 use mathlib.Core.Bool.{_&&_, and-false, Bool, cond, false, true}

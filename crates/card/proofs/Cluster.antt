@@ -1,4 +1,4 @@
--- What the cluster heap answers, told: the number, the words and `out` are those of the definitions; a refused call writes zeros. Assumes nothing.
+-- What the cluster heap answers, told: the number, the words and `out` are those of the definitions; a refused call writes zeros.
 use Prim.Native.Nat.{_<_, _≤_, ℕ}
 use mathlib.Core.List.{List}
 use mathlib.Core.Path.{_≡_, ap}

@@ -1,4 +1,4 @@
--- What fair ranks answer, told; a refusal's zeros; and that each contract allows one outcome. Assumes nothing.
+-- What fair ranks answer, told; a refusal's zeros; and that each contract allows one outcome.
 use Prim.Native.Nat.{_<_, _≤_, ℕ}
 use mathlib.Core.Bool.{Bool, cond, false, true}
 use mathlib.Core.List.{List}

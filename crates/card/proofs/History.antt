@@ -1,23 +1,23 @@
--- A list of clocked calls through the boundary is the list of by-value calls on the machine that store, records and mark hold. Assumes nothing.
+-- A list of clocked calls through the boundary is the list of by-value calls on the machine that store, records and mark hold.
 use Prim.Native.Nat.{_-_, _≤_, ℕ}
 use native.Mathlib.Omega.{arith}
-use mathlib.Core.Bool.{_&&_, Bool, cond, false, true}
+use mathlib.Core.Bool.{Bool, cond, false, true}
 use mathlib.Core.List.{List}
 use mathlib.Core.Path.{_∙_, _≡_, ap, refl, subst, sym}
 use lib.Dec.{eqb, leb}
-use lib.ListN.{getD, length, length-set, set}
+use lib.ListN.{getD, length, length-set}
 use lib.Seq.{getD-set-same}
 use borrow.Author.Tests.{le-leb, leb-true}
-use Rattle.card.specs.Clocked.{clearOf, clockedAfter, ClockedAfter, clockedAfterOut, ClockedAfterOut, clockedClear, clockedCycle, clockedDrain, cycleOf, drainOf, saysNo}
+use Rattle.card.specs.Clocked.{clockedAfter, ClockedAfter, clockedClear, clockedCycle, clockedDrain, cycleOf, drainOf}
 use Rattle.card_out.specs.Asked.{asked, marked, markIn, markOut, requestOf}
-use Rattle.card_out.specs.Out.{drainOut, answerOut, answerWords, badShape, CountAfter, countAfter, drainWords}
+use Rattle.card_out.specs.Out.{drainOut, answerOut, answerWords, countAfter, drainWords}
 use Rattle.card.specs.History.{asks, broughtBy, Call, callC, callM, clearC, codeOf, drain, Holds, Kept, kept}
-use Rattle.clocked_model.specs.Promise.{clearedMachine, machine, Machine}
+use Rattle.clocked_model.specs.Promise.{clearedMachine, Machine}
 use Rattle.laws.specs.Tests.{and-left, and-true}
 use Rattle.lent_steps.proofs.History as lent
 use Rattle.lent_steps.specs.History.{memory}
 use Rattle.lent_steps.specs.History as held
-use Rattle.lent_steps.specs.Lent.{lentCleared, lentCycled, LentDrain, lentDrains, LentOutcome, readable}
+use Rattle.lent_steps.specs.Lent.{lentCleared, lentCycled, LentDrain, lentDrains, LentOutcome}
 use Rattle.lent_steps.specs.declared.Record.{Record}
 use Rattle.promise.specs.Queue.{answers, answers-same, leaves, leaves-in-step}
 use Rattle.strip.specs.Answers.{numberOf}

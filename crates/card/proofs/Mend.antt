@@ -1,4 +1,4 @@
--- What the check and the mender answer, told; a refusal's zeros; and that each contract allows one outcome. Assumes nothing.
+-- What the check and the mender answer, told; a refusal's zeros; and that each contract allows one outcome.
 use Prim.Native.Nat.{_<_, _≤_, ℕ}
 use mathlib.Core.Bool.{Bool, cond, false, true}
 use mathlib.Core.List.{List}

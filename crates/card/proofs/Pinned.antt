@@ -1,4 +1,4 @@
--- PINNED: what the contract of each exported call allows is one outcome: the number returned and every word and record afterwards. Assumes nothing.
+-- PINNED: what the contract of each exported call allows is one outcome: the number returned and every word and record afterwards.
 use Prim.Native.Nat.{ℕ}
 use mathlib.Core.List.{List}
 use mathlib.Core.Path.{_∙_, _≡_, ap, sym}

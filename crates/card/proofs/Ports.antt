@@ -1,5 +1,5 @@
--- The ports' sizes; a refusal's zeros; and that each contract allows one outcome. Assumes nothing.
-use Prim.Native.Nat.{_≤_, ℕ}
+-- The ports' sizes; a refusal's zeros; and that each contract allows one outcome.
+use Prim.Native.Nat.{ℕ}
 use native.Mathlib.Omega.{arith}
 use mathlib.Core.Bool.{_&&_, Bool, cond, false, not, true}
 use mathlib.Core.List.{List}

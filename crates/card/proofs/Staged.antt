@@ -1,4 +1,4 @@
--- The clocked cluster heap's exported calls: a refused one answers zeros, and each is pinned. Assumes nothing.
+-- The clocked cluster heap's exported calls: a refused one answers zeros, and each is pinned.
 use Prim.Native.Nat.{_-_, ℕ}
 use mathlib.Core.Bool.{_&&_, Bool, cond, false, true}
 use mathlib.Core.List.{List}

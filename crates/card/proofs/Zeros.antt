@@ -1,4 +1,4 @@
--- A refused call answers zeros wherever `out` is long enough, and does not touch one that is too short. Assumes nothing.
+-- A refused call answers zeros wherever `out` is long enough, and does not touch one that is too short.
 use Prim.Native.Nat.{ℕ}
 use mathlib.Core.Bool.{_&&_, Bool, cond, false, true}
 use mathlib.Core.List.{List}

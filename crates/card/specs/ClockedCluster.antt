@@ -1,5 +1,5 @@
 -- The calls of the clocked cluster heap as C sees them: total functions of all numbers, words and records handed in, to the number returned and all words
--- and records afterwards. Assumes nothing: these are definitions.
+-- and records afterwards.
 use Prim.Native.Nat.{ℕ}
 use mathlib.Core.Bool.{_&&_, cond, false}
 use mathlib.Core.List.{List}

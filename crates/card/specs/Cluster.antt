@@ -1,5 +1,5 @@
 -- The calls of the cluster heap as C sees them: total functions of all numbers and words handed in, to the number returned and all words
--- afterwards. Assumes nothing: these are definitions.
+-- afterwards.
 use Prim.Native.Nat.{ℕ}
 use mathlib.Core.List.{List}
 use Rattle.card_out.specs.Out.{CountAfter, countAnswered}

@@ -1,4 +1,4 @@
--- A list of clocked calls through the boundary, and the same list of by-value cycles and drains. Assumes nothing: these are definitions.
+-- A list of clocked calls through the boundary, and the same list of by-value cycles and drains.
 use Prim.Native.Nat.{ℕ}
 use mathlib.Core.Bool.{true}
 use mathlib.Core.List.{List}

@@ -1,4 +1,4 @@
--- The request of a number, and the mark: each test and what follows it make what the definitions say. Assumes nothing.
+-- The request of a number, and the mark: each test and what follows it make what the definitions say.
 use Prim.Native.Nat.{_<_, _≤_, ℕ}
 use mathlib.Core.Bool.{_&&_, Bool, false, not}
 use mathlib.Core.List.{List}

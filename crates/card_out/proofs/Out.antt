@@ -1,4 +1,4 @@
--- What `out` receives: a count told; zeros on a refusal wherever `out` is long enough, and one that is too short is not touched. Assumes nothing.
+-- What `out` receives: a count told; zeros on a refusal wherever `out` is long enough, and one that is too short is not touched.
 use Prim.Native.Nat.{_<_, _≤_, ℕ}
 use mathlib.Core.Bool.{Bool, cond, false, true}
 use mathlib.Core.List.{List}

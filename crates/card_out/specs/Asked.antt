@@ -1,4 +1,4 @@
--- The numbers handed in: the request of a cycle, and the mark. Assumes nothing: these are definitions.
+-- The numbers handed in: the request of a cycle, and the mark.
 use Prim.Native.Nat.{ℕ}
 use mathlib.Core.Bool.{_&&_, Bool, cond}
 use mathlib.Core.List.{List}

@@ -1,4 +1,4 @@
--- What `out` receives. Assumes nothing: these are definitions.
+-- What `out` receives.
 use Prim.Native.Nat.{_≤_, suc, zero, ℕ}
 use mathlib.Core.Bool.{Bool, cond}
 use mathlib.Core.List.{List}

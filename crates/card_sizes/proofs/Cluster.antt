@@ -1,4 +1,4 @@
--- The cluster heap's size is the calls' own. Assumes nothing.
+-- The cluster heap's size is the calls' own.
 use Prim.Native.Nat.{_*_, _+_, _<_, _≤_, suc, zero, ℕ}
 use native.Mathlib.Nat.{mul-le-mul-right, not-suc-le-zero}
 use native.Mathlib.Omega.{arith}

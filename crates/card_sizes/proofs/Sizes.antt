@@ -1,4 +1,4 @@
--- The sizes are the calls' own: a shape is taken exactly if its size is not 0 and the slices are as long. Assumes nothing.
+-- The sizes are the calls' own: a shape is taken exactly if its size is not 0 and the slices are as long.
 use Prim.Native.Nat.{_*_, _+_, _<_, _^_, _≤_, suc, zero, ℕ}
 use native.Mathlib.Decide.{ℕ-discrete}
 use native.Mathlib.Nat.{mul-le-mul-right}

@@ -1,5 +1,4 @@
--- How many words a store needs, so that a caller can allocate it: the least length that the calls take, and 0 for a bad shape. Assumes
--- nothing: these are definitions.
+-- How many words a store needs, so that a caller can allocate it: the least length that the calls take, and 0 for a bad shape.
 use Prim.Native.Nat.{_*_, ℕ}
 use mathlib.Core.Bool.{cond}
 use Rattle.bucket_model.specs.Checks as bucket

@@ -1,4 +1,4 @@
--- The public calls: each test of the shape and what follows it make the outcome that the definitions say. Assumes nothing.
+-- The public calls: each test of the shape and what follows it make the outcome that the definitions say.
 use Prim.Native.Nat.{ℕ}
 use mathlib.Core.Bool.{Bool, cond, false, not, true}
 use mathlib.Core.List.{List}

@@ -1,4 +1,4 @@
--- Level by level: what the code plans and writes makes the tests, the records and the words that the definitions say. Assumes nothing.
+-- Level by level: what the code plans and writes makes the tests, the records and the words that the definitions say.
 use Prim.Native.Nat.{_*_, _+_, _-_, _<_, _≤_, pred, suc, zero, ℕ}
 use native.Mathlib.Nat.{add-mul, eq-or-lt-of-le, mul-le-mul-left, mul-le-mul-right, not-suc-le-zero, suc-mul}
 use native.Mathlib.Numerals.{add-one}

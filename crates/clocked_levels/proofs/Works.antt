@@ -1,4 +1,4 @@
--- What the code has read of the records makes the work and the record that the definitions say. Assumes nothing.
+-- What the code has read of the records makes the work and the record that the definitions say.
 use Prim.Native.Nat.{_*_, _+_, _-_, _<_, _≤_, suc, zero, ℕ}
 use native.Mathlib.Numerals.{add-one}
 use native.Mathlib.Omega.{arith}

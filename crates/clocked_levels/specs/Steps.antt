@@ -1,4 +1,4 @@
--- What the code of the levels asks and says, and of their records. Assumes nothing: these are definitions.
+-- What the code of the levels asks and says, and of their records.
 use Prim.Native.Nat.{_*_, _+_, _<_, _≤_, pred, suc, zero, ℕ}
 use mathlib.Core.Bool.{Bool, cond, true}
 use mathlib.Core.List.{List}

@@ -36,7 +36,7 @@ use Rattle.tree_model.specs.Calls.{rule, Ruling, ruling}
 use Rattle.tree_model.specs.Damage.{workOk, hasRoom, hasSome, nodeOk, readOk, room, stepOk}
 use Rattle.tree_model.specs.Levels.{Level, levelMove, Levels, stepLevel, stepWork, top, work}
 use Rattle.tree_model.specs.Node.{every, firstEmpty, isNothing, leastCount, low, lowest, opMove, slotAt, sumCounts, vacant}
-use Rattle.tree_model.specs.Promise.{levelAt, stored}
+use Rattle.tree_model.specs.Promise.{levelAt, storedCount}
 use Rattle.tree_model.specs.Rules.{clears, Comes, empty, full, idles, lacks, no-tag, puts, swaps, takes, ends, exchanges, goes, passes, Puts, receives, stays, Swaps, Takes}
 use Rattle.tree_model.specs.Tree.{own}
 use Rattle.tree_model.specs.Words.{levelOf, levelsOf, nodeOf, size, slotOf, tabulate, under}
@@ -307,8 +307,8 @@ module _ (f : Element → Bool) where
         to-append (c * m) (size m k (c * m)) O,
       )
 
-  pub slots-are : (m k : ℕ) (ws : List ℕ) → stored (room m k) ws f ≡ slotSum k (levelsOf m k ws 0 1)
-  unfolding stored
+  pub slots-are : (m k : ℕ) (ws : List ℕ) → storedCount (room m k) ws f ≡ slotSum k (levelsOf m k ws 0 1)
+  unfolding storedCount
   slots-are m k ws =
       ap (λ (n : ℕ). sumTo n (λ i. own f (slotOf ws i))) (sym (size-room m k 1 ∙ one-mul (room m k)))
       ∙ to-ext (size m k 1) _ _ (λ i l. ap (λ (j : ℕ). own f (slotOf ws j)) (sym (zero-add i))) ∙ sym (levels-words m k ws 0 1)

@@ -12,7 +12,7 @@ use Rattle.tree_model.specs.Calls.{cleared, orderOk, rule, shapeOk}
 use Rattle.tree_model.specs.Damage.{workOk, hasRoom, hasSome, isBlank, lifts, nodeOk, readOk, room, slotOk, stepOk}
 use Rattle.tree_model.specs.Levels.{levelMove, stepWork, top, work}
 use Rattle.tree_model.specs.Node.{every, firstEmpty, isEmpty, isNothing, keep, leastCount, low, lowest, opMove, pass, putBy, putMove, seek, slotAt, sumCounts, swapBy, swapMove, takeBy, takeMove, vacant}
-use Rattle.tree_model.specs.Promise.{levelAt, stored}
+use Rattle.tree_model.specs.Promise.{levelAt, storedCount}
 use Rattle.tree_model.specs.Words.{levelOf, levelsOf, nodeOf, slotOf, stepWords, tabulate, wipe, write}
 
 pub case-6 : caseSix ≡ caseSixSays
@@ -40,5 +40,5 @@ unfolding caseLengthAnswers answers cycled cycleRun fresh ruleMarked asks popsOr
 case-length-answers = refl
 
 pub case-lost : caseLost ≡ caseLostSays
-unfolding caseLost stopped carried struck stored levelAt sumTo clockedA leaves cycled cycleRun drains drainFrom fresh ruleMarked asks popsOrReplaces isRefused marks quiet cycleWords cycleOk recordAt worksOf landed recordsAfter blank key precedes untagged vacant isEmpty seek every firstEmpty leastCount lowest slotAt low keep pass putBy putMove takeBy takeMove swapBy swapMove opMove isNothing sumCounts work top levelMove stepWork room isBlank slotOk nodeOk hasRoom hasSome readOk lifts stepOk workOk slotOf write wipe tabulate nodeOf levelOf levelsOf stepWords orderOk shapeOk rule cleared
+unfolding caseLost stopped carried struck storedCount levelAt sumTo clockedA leaves cycled cycleRun drains drainFrom fresh ruleMarked asks popsOrReplaces isRefused marks quiet cycleWords cycleOk recordAt worksOf landed recordsAfter blank key precedes untagged vacant isEmpty seek every firstEmpty leastCount lowest slotAt low keep pass putBy putMove takeBy takeMove swapBy swapMove opMove isNothing sumCounts work top levelMove stepWork room isBlank slotOk nodeOk hasRoom hasSome readOk lifts stepOk workOk slotOf write wipe tabulate nodeOf levelOf levelsOf stepWords orderOk shapeOk rule cleared
 case-lost = refl

@@ -2,13 +2,13 @@
 use Prim.Native.Nat.{_+_, _<_, _≤_, pred, suc, zero, ℕ}
 use native.Mathlib.Nat.{add-zero, not-suc-le-zero, zero-add}
 use native.Mathlib.Omega.{arith}
-use mathlib.Core.Bool.{Bool, cond, false, false≢true, not, true, true≢false}
+use mathlib.Core.Bool.{Bool, cond, false, not, true, true≢false}
 use mathlib.Core.List.{List}
 use mathlib.Core.Logic.{_⊎_, inl, inr}
 use mathlib.Core.Path.{_∙_, _≡_, ap, refl, subst, sym}
-use lib.Dec.{leb, ltb}
+use lib.Dec.{ltb}
 use lib.ListN.{length, replicate}
-use borrow.Author.Tests.{leb-false, leb-true, ltb-false, ltb-true}
+use borrow.Author.Tests.{ltb-false, ltb-true}
 use Rattle.clocked_model.proofs.Clock.{lead-quiet}
 use Rattle.clocked_model.proofs.Draining.{Close, close-count, close-ends, close-kind, close-needed, close-ran, close-spent, close-state, close-stops, close-within, Closes, closes, drainBy, drained, Drained, less-not, stopped, Stuck}
 use Rattle.clocked_model.proofs.Draining as close
@@ -16,7 +16,7 @@ use Rattle.clocked_model.proofs.Demand.{lead, cycleRun-lead}
 use Rattle.clocked_model.proofs.Exactly.{damage-fails, exactly-cycle, sound, cycled-bad, cycled-damaged, cycled-either, cycled-fine}
 use Rattle.clocked_model.proofs.Step.{idle-ruling}
 use Rattle.clocked_model.proofs.Turn.{after-length, cycle-length}
-use Rattle.clocked_model.specs.Calls.{CycleOutcome, cycleOutcome, drainFrom, DrainOutcome, drainOutcome, drains, isRefused, pending, cycled, cycleRun}
+use Rattle.clocked_model.specs.Calls.{allLevels, CycleOutcome, cycleOutcome, drainFrom, DrainOutcome, drainOutcome, drains, isRefused, pending, cycled, cycleRun}
 use Rattle.clocked_model.specs.Promise.{capped, clockedQueue, CycleDamage, drainLeft, drainRefusals, idles, Jams, Machine, machine}
 use Rattle.clocked_model.specs.declared.State.{State}
 use Rattle.laws.specs.Ladder.{climb-by, climb-fine, climb-stop, Exactly, fine, left-behind, stop}
@@ -39,7 +39,7 @@ use Rattle.tree_model.specs.declared.Op.the-variants.{Nothing}
 -- every cycle keeps the slice's length
 pub cycled-length : (m levels : ℕ) (r : Request) (s : State) (ws : List ℕ) → length (cycled m levels r s ws .words) ≡ length ws
 unfolding cycleRun
-cycled-length m levels r s ws = cycled-either m levels r s ws (λ c. length (c .words) ≡ length ws) refl refl (λ e f. cycle-length m (suc (pred levels)) _ 0 1 ws)
+cycled-length m levels r s ws = cycled-either m levels r s ws (λ c. length (c .words) ≡ length ws) refl refl (λ e f. cycle-length m (allLevels levels) _ 0 1 ws)
 
 -- ---- an idle cycle of a good shape: it runs, or it meets damage and leaves everything
 data Idling (m levels : ℕ) (s : State) (ws : List ℕ) : Type 0 where

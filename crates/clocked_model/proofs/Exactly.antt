@@ -7,7 +7,7 @@ use mathlib.Core.Logic.{_⊎_, inl, inr}
 use mathlib.Core.Path.{_∙_, _≡_, ap, refl, subst, sym}
 use lib.ListN.{length}
 use Rattle.clocked_model.proofs.Step.{idle-ruling}
-use Rattle.clocked_model.specs.Calls.{askedOk, asks, CycleOutcome, cycleOutcome, cycleWork, ruleMarked, ruleNow, isRefused, marks, popsOrReplaces, stepsOk, cycled, cycleRun}
+use Rattle.clocked_model.specs.Calls.{allLevels, askedOk, asks, CycleOutcome, cycleOutcome, cycleWork, ruleMarked, ruleNow, isRefused, marks, popsOrReplaces, stepsOk, cycled, cycleRun}
 use Rattle.clocked_model.specs.Cycle.{cycleOk, Works}
 use Rattle.clocked_model.specs.Promise.{Asks, CycleDamage, cycleLeft, cycleRefusals, hasRun, PopsOrReplaces, runsIdle, WorksDamaged}
 use Rattle.clocked_model.specs.declared.State.{State}
@@ -104,7 +104,7 @@ module _ (m levels : ℕ) (r : Request) (s : State) (ws : List ℕ) where
   damage-fails =
       fails-and (askedOk m levels r ws) (stepsOk m levels (g .op) s ws)
       (fails-or (not (asks r)) (rootOk m levels ws) (asks-fails r) (node-fails (room m (pred levels)) (rootOf m ws)))
-      (works-fails m (suc (pred levels)) (cycleWork m levels (g .op) s) (levelsOf m (suc (pred levels)) ws 0 1))
+      (works-fails m (allLevels levels) (cycleWork m levels (g .op) s) (levelsOf m (allLevels levels) ws 0 1))
 
   pub no-damage-sound : (CycleDamage m levels r s ws → ⊥) → sound ≡ true
   no-damage-sound d = go sound refl
@@ -120,7 +120,7 @@ module _ (m levels : ℕ) (r : Request) (s : State) (ws : List ℕ) where
 steps-none : (m levels : ℕ) (o : Op) (s : State) (ws : List ℕ) → stepsOk m levels o s ws ≡ true → stepsOk m levels Nothing s ws ≡ true
 unfolding cycleOk workOk work isNothing
 steps-none m levels o s ws e =
-    let ls : Levels (suc (pred levels)) = levelsOf m (suc (pred levels)) ws 0 1 in
+    let ls : Levels (allLevels levels) = levelsOf m (allLevels levels) ws 0 1 in
     and-right (workOk m (pred levels) (work o 0) (ls .0) (top (pred levels) (ls .1))) _ e
 
 pub refused-mark : (r : Request) (n : Refusal) → marks r (Refused n) ≡ false

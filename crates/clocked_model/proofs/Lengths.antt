@@ -7,7 +7,7 @@ use mathlib.Core.Path.{_∙_, _≡_, ap, ap₂, refl, sym}
 use lib.ListN.{length}
 use Rattle.clocked_model.proofs.Demand.{demand-answers}
 use Rattle.clocked_model.specs.Calls.{asks, isRefused, marks, popsOrReplaces}
-use Rattle.clocked_model.specs.Promise.{cycleAnswers, oneByOne, oneByOneAnswers, oneByOneQueue}
+use Rattle.clocked_model.specs.Promise.{cycleAnswers, oneByOne, oneByOneAnswers}
 use Rattle.promise.specs.Queue.{answers}
 use Rattle.strip.specs.declared.Answer.{Answer}
 use Rattle.strip.specs.declared.Answer.the-variants.{Done, Out, Refused}
@@ -17,7 +17,7 @@ use Rattle.strip.specs.declared.Request.the-variants.{Idle, Pop, Push, Replace}
 use Rattle.tree_model.proofs.Lengths.{Apart, apart-answer, apart-next, apart-start}
 use Rattle.tree_model.specs.Calls.{called, Outcome, outcome}
 use Rattle.promise.specs.Lengths.{shortAnswer, shortRequest}
-use Rattle.tree_model.specs.Promise.{Shape, start}
+use Rattle.tree_model.specs.Promise.{Shape}
 
 -- ---- the mark goes by the kind of request and by whether it is refused
 soon-short : (r : Request) → popsOrReplaces (shortRequest r) ≡ popsOrReplaces r

@@ -26,7 +26,7 @@ use Rattle.tree_model.proofs.Promises.{root-node, start-empty}
 use Rattle.tree_model.specs.Calls.{rootOf, Ruling}
 use Rattle.tree_model.specs.Damage.{workOk, room}
 use Rattle.tree_model.specs.Levels.{idle, Levels, top}
-use Rattle.tree_model.specs.Promise.{Shape, stored}
+use Rattle.tree_model.specs.Promise.{Shape, storedCount}
 use Rattle.tree_model.specs.Words.{levelOf, levelsOf, under}
 use Rattle.tree_model.specs.declared.Op.{Op}
 use Rattle.tree_model.specs.declared.Slot.{Slot}
@@ -155,6 +155,6 @@ module _ (m : ℕ) (ws : List ℕ) (cs : List Call) where
   each-remains levels sh e = nothing-lost levels sh .remains (triple e)
 
 -- with nothing pending, what remains is what is stored
-pub at-rest-remains : (m levels : ℕ) (x : Machine) → 1 ≤ levels → pending m levels (x .state) ≡ false → (f : Element → Bool) → remaining m levels x f ≡ stored (room m levels) (x .words) f
+pub at-rest-remains : (m levels : ℕ) (x : Machine) → 1 ≤ levels → pending m levels (x .state) ≡ false → (f : Element → Bool) → remaining m levels x f ≡ storedCount (room m levels) (x .words) f
 at-rest-remains m zero x some e f = absurd (not-suc-le-zero some)
 at-rest-remains m (suc k) x some e f = omega (arith, at-rest-none f m k x e .0, at-rest-none f m k x e .1)

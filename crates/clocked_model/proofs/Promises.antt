@@ -35,7 +35,7 @@ use Rattle.tree_model.proofs.Slice.{clear-zeroes}
 use Rattle.tree_model.specs.Calls.{called, cleared, heldCount, outcome, Outcome, rootOf, Ruling, ruling}
 use Rattle.tree_model.specs.Damage.{room}
 use Rattle.tree_model.specs.declared.Op.the-variants.{Nothing}
-use Rattle.tree_model.specs.Promise.{after, Shape, start, stored, treeQueue}
+use Rattle.tree_model.specs.Promise.{after, Shape, start, storedCount, treeQueue}
 use Rattle.tree_model.proofs.Promises as tree
 
 -- ---- the calls that are not too soon
@@ -70,16 +70,16 @@ soon-least held (Replace x) = λ e. absurd (omega arith)
 -- the tree beside keeps a sound store, and holds what goes in and has not come out
 module _ (m k : ℕ) where
   one-by-one-sum : (r : Request) (b : Bool × List ℕ) → Kept m k (b .1) → (f : Element → Bool)
-      → stored (room m (suc k)) (oneByOneQueue m (suc k) r b .next .1) f + given r (oneByOneQueue m (suc k) r b .said) f
-      ≡ stored (room m (suc k)) (b .1) f + brought r (oneByOneQueue m (suc k) r b .said) f
+      → storedCount (room m (suc k)) (oneByOneQueue m (suc k) r b .next .1) f + given r (oneByOneQueue m (suc k) r b .said) f
+      ≡ storedCount (room m (suc k)) (b .1) f + brought r (oneByOneQueue m (suc k) r b .said) f
   unfolding oneByOne
   one-by-one-sum r b kept f = go (b .0 && popsOrReplaces r)
     where
       now : Bool → Outcome
       now t = cond t (outcome (Refused TooSoon) (b .1)) (called m (suc k) r (b .1))
 
-      go : (t : Bool) → stored (room m (suc k)) (now t .words) f + given r (now t .answer) f ≡ stored (room m (suc k)) (b .1) f + brought r (now t .answer) f
-      go true = soon-sum r (stored (room m (suc k)) (b .1) f) f
+      go : (t : Bool) → storedCount (room m (suc k)) (now t .words) f + given r (now t .answer) f ≡ storedCount (room m (suc k)) (b .1) f + brought r (now t .answer) f
+      go true = soon-sum r (storedCount (room m (suc k)) (b .1) f) f
       go false = tree.call-sum m k r (b .1) kept f
 
 -- ---- CLEAR: "A cleared machine has none pending and the mark off"; its words are those of the tree's clear
@@ -144,35 +144,35 @@ module _ (m : ℕ) (ws : List ℕ) (rs : List Request) where
       subst (λ (n : ℕ). Shape m (suc k) n) (sym (i .same-length)) (i .kept .shape)
 
   -- HOLDS: once idled, of every kind of element as many are stored as went in and have not come out
-  pub holds : (levels : ℕ) → Shape m levels (length ws) → (n : ℕ) → Idled levels n → Holds (stored (room m levels) (at-rest-after levels n)) rs (cycleAnswers m levels rs ws)
+  pub holds : (levels : ℕ) → Shape m levels (length ws) → (n : ℕ) → Idled levels n → Holds (storedCount (room m levels) (at-rest-after levels n)) rs (cycleAnswers m levels rs ws)
   holds zero sh n e f = absurd (not-suc-le-zero (sh .some))
   holds (suc k) sh n e f =
       rw (demand-store m ws rs (suc k) sh n e, demand-answers m ws rs (suc k) sh)
       (omega (
         arith,
-        all-sum (oneByOneQueue m (suc k)) (λ b. Kept m k (b .1)) (λ r b kept. one-by-one-kept m k (b .1) kept (b .0) r) (λ b. stored (room m (suc k)) (b .1)) (one-by-one-sum m k) rs (false, start m (suc k) ws)
+        all-sum (oneByOneQueue m (suc k)) (λ b. Kept m k (b .1)) (λ r b kept. one-by-one-kept m k (b .1) kept (b .0) r) (λ b. storedCount (room m (suc k)) (b .1)) (one-by-one-sum m k) rs (false, start m (suc k) ws)
             (tree.start-kept m k ws sh) f,
         tree.start-empty m k ws sh f,
       ))
 
   -- .. so each pair as often
   pub pairs : (levels : ℕ) → Shape m levels (length ws) → (n : ℕ) → Idled levels n → (e : Element)
-      → stored (room m levels) (at-rest-after levels n) (same e) + allGiven rs (cycleAnswers m levels rs ws) (same e) ≡ allBrought rs (cycleAnswers m levels rs ws) (same e)
+      → storedCount (room m levels) (at-rest-after levels n) (same e) + allGiven rs (cycleAnswers m levels rs ws) (same e) ≡ allBrought rs (cycleAnswers m levels rs ws) (same e)
   pairs levels sh n q e = holds levels sh n q (same e)
 
   -- .. and each triple of rank, tag and length
   pub triples : (levels : ℕ) → Shape m levels (length ws) → (n : ℕ) → Idled levels n → (e : Element)
-      → stored (room m levels) (at-rest-after levels n) (triple e) + allGiven rs (cycleAnswers m levels rs ws) (triple e) ≡ allBrought rs (cycleAnswers m levels rs ws) (triple e)
+      → storedCount (room m levels) (at-rest-after levels n) (triple e) + allGiven rs (cycleAnswers m levels rs ws) (triple e) ≡ allBrought rs (cycleAnswers m levels rs ws) (triple e)
   triples levels sh n q e = holds levels sh n q (triple e)
 
   -- TAGGED: once idled no element of tag 0 is stored, and none has come out
-  pub tagged : (levels : ℕ) → Shape m levels (length ws) → (n : ℕ) → Idled levels n → Tagged (stored (room m levels) (at-rest-after levels n)) rs (cycleAnswers m levels rs ws)
+  pub tagged : (levels : ℕ) → Shape m levels (length ws) → (n : ℕ) → Idled levels n → Tagged (storedCount (room m levels) (at-rest-after levels n)) rs (cycleAnswers m levels rs ws)
   tagged levels sh n e =
-      tagged-by (clockedQueue m levels) (λ r x. barred m levels r (x .state) (x .words)) (stored (room m levels) (at-rest-after levels n)) rs _ (holds levels sh n e)
+      tagged-by (clockedQueue m levels) (λ r x. barred m levels r (x .state) (x .words)) (storedCount (room m levels) (at-rest-after levels n)) rs _ (holds levels sh n e)
 
   -- LEAST: what a cycle gives out, of a pop or a replace, has the lowest rank of all that the store held before it, once idled
   pub least : (levels : ℕ) → Shape m levels (length ws) → (n : ℕ) → Idled levels n
-      → (r : Request) → Least (stored (room m levels) (at-rest-after levels n)) r (cycled m levels r (ran m levels rs ws .state) (ran m levels rs ws .words) .answer)
+      → (r : Request) → Least (storedCount (room m levels) (at-rest-after levels n)) r (cycled m levels r (ran m levels rs ws .state) (ran m levels rs ws .words) .answer)
   unfolding oneByOne
   least zero sh n e r = absurd (not-suc-le-zero (sh .some))
   least (suc k) sh n e r =
@@ -182,13 +182,13 @@ module _ (m : ℕ) (ws : List ℕ) (rs : List Request) where
       vs : List ℕ
       vs = after m (suc k) (calls (suc k)) ws
 
-      go : (t : Bool) → Least (stored (room m (suc k)) vs) r (cond t (outcome (Refused TooSoon) vs) (called m (suc k) r vs) .answer)
-      go true = soon-least (stored (room m (suc k)) vs) r
+      go : (t : Bool) → Least (storedCount (room m (suc k)) vs) r (cond t (outcome (Refused TooSoon) vs) (called m (suc k) r vs) .answer)
+      go true = soon-least (storedCount (room m (suc k)) vs) r
       go false = tree.least m ws (calls (suc k)) (suc k) sh r
 
   -- the call held answers, once idled, how many are stored
   pub held-says : (levels : ℕ) → Shape m levels (length ws) → (n : ℕ) → Idled levels n
-      → (countNumber (heldCount m levels (at-rest-after levels n)) ≡ 0) × (countOf (heldCount m levels (at-rest-after levels n)) ≡ stored (room m levels) (at-rest-after levels n) always)
+      → (countNumber (heldCount m levels (at-rest-after levels n)) ≡ 0) × (countOf (heldCount m levels (at-rest-after levels n)) ≡ storedCount (room m levels) (at-rest-after levels n) always)
   held-says levels sh n e = rw (idled levels sh n e) (tree.held-says m ws (calls levels) levels sh)
 
   -- .. and at any time, with work pending or not, how many went in and have not come out

@@ -23,7 +23,7 @@ use Rattle.strip.specs.declared.Request.the-variants.{Pop, Push, Replace}
 use Rattle.tree_model.proofs.Replace.{kept-replaces}
 use Rattle.tree_model.specs.Calls.{called, Outcome}
 use Rattle.tree_model.specs.Damage.{room}
-use Rattle.tree_model.specs.Promise.{Shape, stored}
+use Rattle.tree_model.specs.Promise.{Shape, storedCount}
 use Rattle.tree_model.specs.Promise as tree
 
 -- a request that is not too soon is a call of the tree beside
@@ -59,8 +59,8 @@ module _ (m k : ℕ) where
   call-beside r x vs i e = subst (λ (o : Outcome). Beside (queue r x .next) (o .words)) (one-by-one-call m (suc k) (x .state .mark) r vs e) (after i r)
 
   -- once idled the words are that tree's
-  stored-beside : (x : Machine) (vs : List ℕ) → Beside x vs → (n : ℕ) → Rests m (suc k) n x → (f : Element → Bool) → storedThen m (suc k) n x f ≡ stored (room m (suc k)) vs f
-  stored-beside x vs i n h f = ap (λ (w : List ℕ). stored (room m (suc k)) w f) (settled-words m k _ _ vs (idles-in-step m k n _ _ vs i) h)
+  stored-beside : (x : Machine) (vs : List ℕ) → Beside x vs → (n : ℕ) → Rests m (suc k) n x → (f : Element → Bool) → storedThen m (suc k) n x f ≡ storedCount (room m (suc k)) vs f
+  stored-beside x vs i n h f = ap (λ (w : List ℕ). storedCount (room m (suc k)) w f) (settled-words m k _ _ vs (idles-in-step m k n _ _ vs i) h)
 
   module _ (e : Element) (tag : Untagged (Replace e) → ⊥) (x : Machine) (vs : List ℕ) (i : Beside x vs) where
     beside : tree.PopThenPush m (suc k) e vs

@@ -72,14 +72,21 @@ recordCount = 14
 unfoldable pub fresh : State
 fresh = record { records = replicate recordCount idle; mark = false }
 
+-- how many levels have a record, "each level from 2", and how many there are with the root's
+abbrev pub fromTwo : ℕ → ℕ
+fromTwo levels = pred levels
+
+abbrev pub allLevels : ℕ → ℕ
+allLevels levels = suc (fromTwo levels)
+
 module _ (m levels : ℕ) where
   -- ---- a cycle
   abbrev pub ruleNow : Request → State → List ℕ → Ruling
   ruleNow r s ws = ruleMarked (s .mark) r (ruleAt m levels r ws)
 
   -- "Level 1 does the requested operation's root step; a level with pending work does that node's step"
-  abbrev pub cycleWork : Op → State → Works (suc (pred levels))
-  cycleWork o s = (work o 0, worksOf (pred levels) (s .records) 0)
+  abbrev pub cycleWork : Op → State → Works (allLevels levels)
+  cycleWork o s = (work o 0, worksOf (fromTwo levels) (s .records) 0)
 
   -- the root passes test 2 where an operation is asked for; an idle cycle does not read it
   abbrev pub askedOk : Request → List ℕ → Bool
@@ -87,13 +94,13 @@ module _ (m levels : ℕ) where
 
   -- .. and so does all that this cycle's steps read
   abbrev pub stepsOk : Op → State → List ℕ → Bool
-  stepsOk o s ws = cycleOk m (suc (pred levels)) (cycleWork o s) (levelsOf m (suc (pred levels)) ws 0 1)
+  stepsOk o s ws = cycleOk m (allLevels levels) (cycleWork o s) (levelsOf m (allLevels levels) ws 0 1)
 
   -- the words and the state that a cycle leaves
   unfoldable pub cycleRun : Request → Ruling → State → List ℕ → CycleOutcome
   cycleRun r g s ws =
-      cycleOutcome (g .answer) (cycleWords m (suc (pred levels)) (cycleWork (g .op) s) 0 1 ws) (record {
-        records = recordsAfter m (pred levels) (restWords m (pred levels) (work (g .op) 0) 0 1 ws) 0 (s .records) (under m (pred levels) ws 0 1);
+      cycleOutcome (g .answer) (cycleWords m (allLevels levels) (cycleWork (g .op) s) 0 1 ws) (record {
+        records = recordsAfter m (fromTwo levels) (restWords m (fromTwo levels) (work (g .op) 0) 0 1 ws) 0 (s .records) (under m (fromTwo levels) ws 0 1);
         mark = marks r (g .answer);
       })
 
@@ -107,7 +114,7 @@ module _ (m levels : ℕ) where
   -- ---- drain
   -- is work pending? "records past the last level" are not counted
   abbrev pub pending : State → Bool
-  pending s = not (quiet (pred levels) (worksOf (pred levels) (s .records) 0))
+  pending s = not (quiet (fromTwo levels) (worksOf (fromTwo levels) (s .records) 0))
 
   -- "runs idle cycles until nothing is pending or the budget is spent"; "stops at 2 and reports the cycles already run, work left". A
   -- refused cycle has left everything

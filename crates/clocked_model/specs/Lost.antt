@@ -1,10 +1,10 @@
 -- "Nothing lost in flight" (02 [14]), in the middle of any work: what stands in the slots, what pending work carries, and what it will still take out of a
 -- slot. "As often" goes by how many pass a test, for every test on elements.
-use Prim.Native.Nat.{_+_, _-_, _≤_, pred, suc, ℕ}
+use Prim.Native.Nat.{_+_, _-_, _≤_, suc, ℕ}
 use mathlib.Core.Bool.{Bool}
 use mathlib.Core.List.{[], List}
 use lib.ListN.{getD}
-use Rattle.clocked_model.specs.Calls.{drains}
+use Rattle.clocked_model.specs.Calls.{drains, fromTwo}
 use Rattle.clocked_model.specs.Promise.{clearedMachine, clockedQueue, levelNow, Machine, machine}
 use Rattle.clocked_model.specs.Records.{recordAt}
 use Rattle.laws.specs.Sums.{sumTo}
@@ -16,7 +16,7 @@ use Rattle.strip.specs.declared.Request.{Request}
 use Rattle.strip.specs.declared.Request.the-variants.{Idle}
 use Rattle.tree_model.specs.Damage.{room}
 use Rattle.tree_model.specs.Node.{low}
-use Rattle.tree_model.specs.Promise.{stored}
+use Rattle.tree_model.specs.Promise.{storedCount}
 use Rattle.tree_model.specs.declared.Op.{Op}
 use Rattle.tree_model.specs.declared.Op.the-variants.{Nothing, Put, Swap, Take}
 use Rattle.tree_model.specs.declared.Slot.{Slot}
@@ -44,15 +44,15 @@ module _ (m levels : ℕ) where
 
   -- "take the elements in all slots"
   abbrev pub inSlots : Machine → (Element → Bool) → ℕ
-  inSlots x f = stored (room m levels) (x .words) f
+  inSlots x f = storedCount (room m levels) (x .words) f
 
   -- "add those carried by pending puts and swaps"
   unfoldable pub carried : Machine → (Element → Bool) → ℕ
-  carried x f = sumTo (pred levels) (λ i. carries (recordAt (x .state .records) i .op) f)
+  carried x f = sumTo (fromTwo levels) (λ i. carries (recordAt (x .state .records) i .op) f)
 
   -- "and for each pending take or swap strike out the element that its node would give next"
   unfoldable pub struck : Machine → (Element → Bool) → ℕ
-  struck x f = sumTo (pred levels) (λ i. strikes (recordAt (x .state .records) i .op) (namedBy x i) f)
+  struck x f = sumTo (fromTwo levels) (λ i. strikes (recordAt (x .state .records) i .op) (namedBy x i) f)
 
   -- "What remains"
   abbrev pub remaining : Machine → (Element → Bool) → ℕ

@@ -6,7 +6,7 @@ use mathlib.Core.Logic.{_⊎_}
 use mathlib.Core.Path.{_≡_}
 use lib.Dec.{leb}
 use lib.ListN.{getD, length, replicate}
-use Rattle.clocked_model.specs.Calls.{clockedCleared, cycleOutcome, CycleOutcome, cycleWork, drainOutcome, DrainOutcome, drains, fresh, ruleNow, marks, pending, popsOrReplaces, cycled}
+use Rattle.clocked_model.specs.Calls.{allLevels, clockedCleared, cycleOutcome, CycleOutcome, cycleWork, drainOutcome, DrainOutcome, drains, fresh, fromTwo, ruleNow, marks, pending, popsOrReplaces, cycled}
 use Rattle.clocked_model.specs.Cycle.{Works}
 use Rattle.clocked_model.specs.Records.{recordAt, worksOf}
 use Rattle.clocked_model.specs.declared.State.{State}
@@ -27,7 +27,7 @@ use Rattle.tree_model.specs.Calls.{called, heldCount, outcome, Outcome, rootOf}
 use Rattle.tree_model.specs.Damage.{room}
 use Rattle.tree_model.specs.Levels.{idle, Level, Levels, stepLevel, stepWork, top, work}
 use Rattle.tree_model.specs.Node.{sumCounts}
-use Rattle.tree_model.specs.Promise.{Agree, levelAt, NodeDamaged, Shape, Some, start, stored, fourWords, WorkDamaged}
+use Rattle.tree_model.specs.Promise.{Agree, levelAt, NodeDamaged, Shape, Some, start, storedCount, fourWords, WorkDamaged}
 use Rattle.tree_model.specs.Words.{levelsOf}
 use Rattle.tree_model.specs.declared.Op.the-variants.{Nothing}
 use Rattle.tree_model.specs.declared.Work.{Work}
@@ -110,7 +110,7 @@ WorksDamaged m (suc k) p ls = WorkDamaged m k (p .0) (ls .0) (top k (ls .1)) ⊎
 abbrev pub CycleDamage : ℕ → ℕ → Request → State → List ℕ → Type 0
 CycleDamage m levels r s ws =
     (Asks r × NodeDamaged (room m (pred levels)) (rootOf m ws))
-    ⊎ WorksDamaged m (suc (pred levels)) (cycleWork m levels (ruleNow m levels r s ws .op) s) (levelsOf m (suc (pred levels)) ws 0 1)
+    ⊎ WorksDamaged m (allLevels levels) (cycleWork m levels (ruleNow m levels r s ws .op) s) (levelsOf m (allLevels levels) ws 0 1)
 
 -- the table, in order: "Order for the tree: 1, 2, 3, then 5 or 6", and 7 "after 3 in the clocked tree". 4 is the bucket queue's
 abbrev pub cycleRefusals : ℕ → ℕ → Request → State → List ℕ → Ladder Refusal
@@ -214,9 +214,9 @@ pub record OneStep (m levels : ℕ) (r : Request) (s : State) (ws : List ℕ) : 
   -- each record is what the level above leaves for it, or is done with, or stands
   pub records : (i : ℕ) → suc i < levels → Recorded (leaveBelow m levels ws i (levelWork m levels r s ws i)) (getD (s .records) i idle) (getD (cycled m levels r s ws .state .records) i idle)
   -- the last level leaves nothing
-  pub last : leaveBelow m levels ws (pred levels) (levelWork m levels r s ws (pred levels)) .op ≡ Nothing
+  pub last : leaveBelow m levels ws (fromTwo levels) (levelWork m levels r s ws (fromTwo levels)) .op ≡ Nothing
   -- "records past the last level are left alone"
-  pub spare : (j : ℕ) → pred levels ≤ j → getD (cycled m levels r s ws .state .records) j idle ≡ getD (s .records) j idle
+  pub spare : (j : ℕ) → fromTwo levels ≤ j → getD (cycled m levels r s ws .state .records) j idle ≡ getD (s .records) j idle
 
 -- an operation's work on its way down: w at level i in this cycle, what it leaves at level i + 1 in the next, whatever is asked then
 unfoldable pub flight : (m levels i : ℕ) → Work → List Request → Machine → Work
@@ -227,7 +227,7 @@ flight m levels i w (r ∷ rs) x = flight m levels (suc i) (leaveBelow m levels 
 -- mark: words behind, records past the last level, and numbers that a record's kind does not use may differ
 pub record Alike (m levels : ℕ) (x y : Machine) : Type 0 where
   pub words : Agree (room m levels) (x .words) (y .words)
-  pub works : worksOf (pred levels) (x .state .records) 0 ≡ worksOf (pred levels) (y .state .records) 0
+  pub works : worksOf (fromTwo levels) (x .state .records) 0 ≡ worksOf (fromTwo levels) (y .state .records) 0
   pub mark : x .state .mark ≡ y .state .mark
 
 -- ---- REPLACE: "a replace is a pop and then a push" (02 [4]), of the machine x and an e that has a tag. The words may lie elsewhere, but what is
@@ -238,7 +238,7 @@ module _ (m levels : ℕ) where
   Rests n x = pending m levels (idles m levels n (x .state) (x .words) .state) ≡ false
 
   abbrev pub storedThen : ℕ → Machine → (Element → Bool) → ℕ
-  storedThen n x f = stored (room m levels) (idles m levels n (x .state) (x .words) .words) f
+  storedThen n x f = storedCount (room m levels) (idles m levels n (x .state) (x .words) .words) f
 
   pub record PopThenPush (e : Element) (x : Machine) : Type 0 where
     -- the cycle is answered as a pop's is there, refusals too ..
@@ -248,7 +248,7 @@ module _ (m levels : ℕ) where
     -- not refused, a push in the cycle after the pop is taken ..
     pub taken : numberOf (clockedQueue m levels (Replace e) x .said) ≡ 0 → clockedQueue m levels (Push e) (clockedQueue m levels Pop x .next) .said ≡ Done
     -- .. and, idled, of every kind of element as many are stored as after those two cycles; levels - 1 idle cycles are enough
-    pub idled : Rests (pred levels) x × Rests (pred levels) (clockedQueue m levels (Replace e) x .next) × Rests (pred levels) (leaves (clockedQueue m levels) (Pop ∷ Push e ∷ []) x)
+    pub idled : Rests (fromTwo levels) x × Rests (fromTwo levels) (clockedQueue m levels (Replace e) x .next) × Rests (fromTwo levels) (leaves (clockedQueue m levels) (Pop ∷ Push e ∷ []) x)
     pub stores : numberOf (clockedQueue m levels (Replace e) x .said) ≡ 0 → (i j : ℕ) → Rests i (clockedQueue m levels (Replace e) x .next) → Rests j (leaves (clockedQueue m levels) (Pop ∷ Push e ∷ []) x)
         → (f : Element → Bool) → storedThen i (clockedQueue m levels (Replace e) x .next) f ≡ storedThen j (leaves (clockedQueue m levels) (Pop ∷ Push e ∷ []) x) f
     -- that is what would have been stored without it, less what is answered, and the newcomer

@@ -1,4 +1,4 @@
--- What the code has read of the root makes the answer and the step that the definitions say. Assumes nothing.
+-- What the code has read of the root makes the answer and the step that the definitions say.
 use Prim.Native.Nat.{_*_, _+_, _<_, _≤_, pred, suc, ℕ}
 use native.Mathlib.Omega.{arith}
 use mathlib.Core.Bool.{_&&_, _||_, Bool, false, not, true, true≢false}
@@ -11,12 +11,12 @@ use Rattle.clocked_model.specs.Calls.{askedOk, asks, ruleMarked, popsOrReplaces
 use Rattle.clocked_root.specs.Root.{RulesRoot, RoomIs, RootIn, Ruled, Settles, Still}
 use Rattle.clocked_root.specs.declared.RootStep.{RootStep}
 use Rattle.laws.specs.Lists.{All}
-use Rattle.laws.specs.Tests.{and-left, and-right, and-unit, sub-one}
+use Rattle.laws.specs.Tests.{and-left, and-right, sub-one}
 use Rattle.node_plan.proofs.Planning.{below-in, chosen-low, put-planned, swap-planned, take-planned}
 use Rattle.node.proofs.Rulings.{pop-empty, pop-takes, push-untagged, replace-empty, replace-swaps, replace-untagged}
 use Rattle.node.proofs.Steps.{move-nothing, room-up, step-nothing}
-use Rattle.node_plan.specs.Planning.{Chosen, liftsOk, Planned, PlanIn, putFrom, swapFrom, takeFrom}
-use Rattle.node.specs.Scan.{Capacity, childOf, NodeIn, RoomUnder}
+use Rattle.node_plan.specs.Planning.{Chosen, liftsOk, Planned, putFrom, swapFrom, takeFrom}
+use Rattle.node.specs.Scan.{childOf, NodeIn, RoomUnder}
 use Rattle.strip.specs.Answers.{blank, untagged}
 use Rattle.strip.specs.declared.Answer.{Answer}
 use Rattle.strip.specs.declared.Answer.the-variants.{Done, Out, Refused}
@@ -29,9 +29,7 @@ use Rattle.tree_model.proofs.Words.{has-sum, node-length}
 use Rattle.tree_model.specs.Calls.{rootOf, rootOk, rule, Ruling, ruling, slotLimit, ruleAt}
 use Rattle.tree_model.specs.Damage.{hasRoom, hasSome, nodeOk, room, stepOk}
 use Rattle.tree_model.specs.Node.{every, isEmpty, leastCount, low, lowest, move, sumCounts}
-use Rattle.tree_model.specs.Words.{nodeMove, nodeOf, slotOf}
-use Rattle.tree_model.specs.declared.Move.{Move}
-use Rattle.tree_model.specs.declared.Op.{Op}
+use Rattle.tree_model.specs.Words.{nodeMove, nodeOf}
 use Rattle.tree_model.specs.declared.Op.the-variants.{Nothing, Put, Swap, Take}
 use Rattle.tree_model.specs.declared.Slot.{Slot}
 

@@ -1,4 +1,4 @@
--- What the code of a request at the root asks and says. Assumes nothing: these are definitions.
+-- What the code of a request at the root asks and says.
 use Prim.Native.Nat.{_≤_, suc, ℕ}
 use mathlib.Core.Bool.{_&&_, Bool, true}
 use mathlib.Core.List.{List}

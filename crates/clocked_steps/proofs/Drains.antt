@@ -1,4 +1,4 @@
--- Drain: each test and what follows it make the outcome that the definition says. Assumes nothing.
+-- Drain: each test and what follows it make the outcome that the definition says.
 use Prim.Native.Nat.{_+_, _-_, pred, suc, zero, ℕ}
 use native.Mathlib.Numerals.{add-one}
 use native.Mathlib.Omega.{arith}

@@ -1,8 +1,7 @@
 -- The calls in the code's shape are the calls of the definitions.
 use Prim.Native.Nat.{ℕ, zero, suc, _+_, _*_, _-_, _≤_, _<_, pred}
-use native.Mathlib.Nat.{not-suc-le-zero}
 use native.Mathlib.Omega.{arith}
-use mathlib.Core.Path.{_≡_, refl, sym, ap, ap₂, _∙_, subst}
+use mathlib.Core.Path.{_≡_, refl, ap}
 use mathlib.Core.Bool.{Bool, true, false, cond, not, _&&_, _||_}
 use mathlib.Core.List.{List}
 use lib.Dec.{leb, eqb, ltb}
@@ -13,21 +12,20 @@ use Rattle.promise.specs.Served.{always}
 use Rattle.strip.specs.Answers.{untagged}
 use Rattle.strip.specs.declared.Element.{Element}
 use Rattle.strip.specs.declared.Answer.the-variants.{Done, Out, Refused}
-use Rattle.strip.specs.declared.Refusal.the-variants.{Damaged, Empty, Full}
+use Rattle.strip.specs.declared.Refusal.the-variants.{Damaged}
 use Rattle.strip.specs.declared.Request.the-variants.{Pop, Push, Replace}
-use Rattle.cluster_model.specs.Node.{inside, low, lowElem, Node, nothingBelow, none, put, take, swap}
+use Rattle.cluster_model.specs.Node.{inside, low, lowElem, Node, nothingBelow, put, take, swap}
 use Rattle.cluster_model.specs.Heap.{room}
 use Rattle.cluster_model.specs.Words.{word, width, nodeOf}
 use Rattle.cluster_model.specs.Way.{extent, nodeIn, neatTo, nodeOk, strict, wayOk, runWords}
-use Rattle.cluster_model.specs.Calls.{called, carriedOut, heldCount, heldIn, outcome, rootHeld, rule, shapeOk}
+use Rattle.cluster_model.specs.Calls.{called, carriedOut, heldCount, outcome, rootHeld, rule, shapeOk}
 use Rattle.cluster_model.proofs.Exactly.{root-limit}
 use Rattle.cluster_model.proofs.Pass.{node-count}
-use Rattle.cluster_nodes.specs.Leaf.{lookNode, elemAt, placeIn, okBy}
+use Rattle.cluster_nodes.specs.Leaf.{lookNode}
 use Rattle.cluster_nodes.proofs.Bridge.{test-is, look-count}
-use Rattle.cluster.specs.Down.{putDown, takeDown, swapDown}
 use Rattle.cluster.specs.Coded.{heldBy, heldDown, openedTo, popDown, pushDown, replaceDown}
 use Rattle.cluster.proofs.Shapes.{shape-is}
-use Rattle.cluster_nodes.proofs.Fulls.{and-l, and-r}
+use Rattle.cluster_nodes.proofs.Fulls.{and-r}
 use Rattle.cluster.proofs.Commute.{run-none, low-place, low-elem}
 use Rattle.cluster.proofs.Taken.{way-none, take-main}
 use Rattle.cluster.proofs.Swapped.{swap-main}

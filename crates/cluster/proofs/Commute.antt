@@ -1,32 +1,31 @@
 -- A word before a node may be written before or after an operation at that node: so a node may be written on the way back.
-use Prim.Native.Nat.{ℕ, zero, suc, _+_, _*_, _≤_, _<_, pred}
+use Prim.Native.Nat.{ℕ, zero, suc, _+_, _*_, _<_, pred}
 use native.Mathlib.Nat.{not-suc-le-zero}
 use native.Mathlib.Omega.{arith}
 use mathlib.Core.Path.{_≡_, refl, sym, ap, ap₂, _∙_, subst}
-use mathlib.Core.Bool.{Bool, true, false, cond, not, _&&_, _||_}
+use mathlib.Core.Bool.{Bool, true, false}
 use mathlib.Core.List.{List, [], _∷_}
-use lib.Dec.{ltb, leb, eqb}
-use lib.ListN.{length, set}
+use lib.Dec.{ltb, eqb}
+use lib.ListN.{set}
 use lib.Seq.{getD-set-other, set-comm}
-use borrow.Author.Tests.{ltb-true, ltb-false, lt-ltb}
+use borrow.Author.Tests.{ltb-true, ltb-false}
 use Rattle.strip.specs.declared.Element.{Element}
 use Rattle.strip.specs.Answers.{element}
 use Rattle.promise.specs.Served.{always}
-use Rattle.cluster_model.specs.Node.{Place, gap, has, inside, placeAt, low, lowElem, Node, Side, lhs, rhs, Op, none, put, take, swap, begin, Begun, Finished, finish}
-use Rattle.cluster_model.specs.Words.{word, width, rowOf, placeBy, placeOf, nodeOf, lengthIn, rankIn, tagIn, markOf, writePlace, Neat, NeatRow, NeatPlace, neatPlace}
+use Rattle.cluster_model.specs.Node.{Place, has, inside, low, lowElem, Node, Side, lhs, rhs, Op, none, begin, Finished, finish}
+use Rattle.cluster_model.specs.Words.{word, width, placeBy, placeOf, nodeOf, lengthIn, rankIn, tagIn, markOf, writePlace, Neat, NeatRow, NeatPlace, neatPlace}
 use Rattle.cluster_model.specs.Way.{touch, works}
 use Rattle.cluster_model.specs.Words.{writeRow, writeNode}
-use Rattle.cluster_model.specs.Way.{child, nodeIn, lowIn, stepIn, runWords, neatTo, wayOk}
+use Rattle.cluster_model.specs.Way.{child, nodeIn, lowIn, stepIn, runWords, neatTo}
 use Rattle.cluster_nodes.proofs.Fulls.{and-l, and-r}
 use Rattle.cluster_nodes.specs.Leaf.{elemAt, lookNode, placeIn, sinkWords, raiseWords}
-use Rattle.cluster.specs.Down.{Went}
 use Rattle.cluster_nodes.specs.Scan.{lowerThan, scan}
 use Rattle.cluster_model.proofs.Words.{node-local}
 use Rattle.cluster_model.proofs.Pass.{node-count}
 use Rattle.cluster_model.proofs.Places.{low-is, place-here, gap-has}
 use Rattle.cluster_nodes.proofs.Unique.{scan-is-low, has-inj}
 use Rattle.cluster_nodes.proofs.ScanCode.{row-place}
-use Rattle.cluster_model.proofs.Neat.{neat-test, few-words, set-word}
+use Rattle.cluster_model.proofs.Neat.{neat-test}
 use Rattle.cluster_nodes.proofs.Bridge.{look-low}
 
 -- ---- a write commutes with the write of a later node

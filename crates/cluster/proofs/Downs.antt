@@ -1,11 +1,10 @@
 -- For the code of the recursions.
 use Prim.Native.Nat.{ℕ, zero, suc, _+_, _*_, _-_, _≤_, _<_}
-use native.Mathlib.Nat.{not-suc-le-zero}
 use native.Mathlib.Omega.{arith}
 use mathlib.Core.Path.{_≡_, refl, sym, ap, ap₂, _∙_, subst}
 use mathlib.Core.Bool.{Bool, true, false, cond, not, _&&_, _||_, false≢true}
 use mathlib.Core.List.{List}
-use lib.Dec.{ltb, leb, eqb}
+use lib.Dec.{ltb, leb}
 use lib.ListN.{length}
 use borrow.Author.Tests.{not-true, not-false, lt-ltb, le-ltb, le-leb, lt-leb, ltb-true, ltb-false, leb-true}
 use Rattle.strip.specs.declared.Element.{Element}
@@ -17,7 +16,7 @@ use Rattle.cluster_model.specs.Node.{gap, has, keep, pass}
 use Rattle.cluster_model.specs.Words.{word, width, writePlace}
 use Rattle.cluster_nodes.specs.Seeing.{lookTo}
 use Rattle.cluster_nodes.specs.Full.{fullTo, lowLead, highLead, isHigh, ranks}
-use Rattle.cluster_nodes.specs.Leaf.{elemAt, underOf, bareAt, okBy, raiseWords, sinkWords, lookNode, placeIn, peekOf, choiceBy, choiceOf, countsOk, begun, ChoiceFrom, Here, Lies, Under, Scanned}
+use Rattle.cluster_nodes.specs.Leaf.{elemAt, underOf, bareAt, okBy, raiseWords, sinkWords, lookNode, placeIn, choiceBy, choiceOf, countsOk, begun, ChoiceFrom, Here, Lies, Under, Scanned}
 use Rattle.cluster.specs.Down.{Went, went, fewerRight, takeBack, takeNode, takeDown, swapBack, swapNode, swapDown, putBack, putNode, putDown, putIn, putEnd, Reach, TakeReady, PutReady, TakeMeets, SwapMeets, PutMeets}
 use Rattle.cluster_nodes.proofs.Children.{choice-place, left-begins, right-begins}
 use Rattle.cluster_nodes.proofs.Fulls.{and-l, full-look, full-high, ok-full, counts-in, neat-room, best-lt}

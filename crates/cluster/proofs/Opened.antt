@@ -2,15 +2,13 @@
 use Prim.Native.Nat.{ℕ, zero, suc, _+_, _*_, _-_, _≤_, _<_}
 use native.Mathlib.Omega.{arith}
 use mathlib.Core.Path.{_≡_, refl, sym, ap, ap₂, _∙_, subst}
-use mathlib.Core.Bool.{Bool, true, false, cond, not, _&&_, _||_, false≢true}
+use mathlib.Core.Bool.{Bool, true, false, not, _&&_, _||_, false≢true}
 use mathlib.Core.List.{List, _++_}
-use lib.Dec.{eqb, leb}
+use lib.Dec.{leb}
 use lib.ListN.{length, drop, replicate}
 use borrow.Author.Tests.{not-true, not-false, eq-eqb, ne-eqb, leb-true}
 use Rattle.strip.specs.declared.Element.{Element}
-use Rattle.strip.specs.declared.Answer.{Answer}
 use Rattle.strip.specs.declared.Answer.the-variants.{Done, Out, Refused}
-use Rattle.strip.specs.declared.Count.{Count}
 use Rattle.strip.specs.declared.Count.the-variants.{Held, Unknown}
 use Rattle.strip.specs.declared.Refusal.the-variants.{BadShape, Damaged, Empty}
 use Rattle.cluster_nodes.specs.declared.Seen.{Seen}
@@ -18,10 +16,10 @@ use Rattle.cluster_model.specs.Heap.{room}
 use Rattle.cluster_model.specs.Words.{word, width}
 use Rattle.cluster_model.specs.Way.{extent}
 use Rattle.cluster_model.specs.Calls.{shapeOk, outcome, Outcome, cleared, wipe}
-use Rattle.cluster.specs.Coded.{nodesOf, Nodes, heldBy, wentTo, openedTo, heldDown, popDown, replaceDown}
+use Rattle.cluster.specs.Coded.{Nodes, heldBy, openedTo, heldDown, popDown, replaceDown}
 use Rattle.cluster_nodes.specs.Seeing.{lowOnly}
 use Rattle.cluster_nodes.specs.Leaf.{elemAt, bareAt, okBy, lookNode, placeIn, Here}
-use Rattle.cluster.specs.Down.{Went, went, takeDown, swapDown, Reach, PutReady, TakeReady, TakeMeets, SwapMeets}
+use Rattle.cluster.specs.Down.{went, takeDown, swapDown, PutReady, TakeReady, TakeMeets, SwapMeets}
 use Rattle.cluster_nodes.proofs.Looks.{within, low-lt}
 use Rattle.cluster.proofs.Downs.{lies-here}
 use Rattle.cluster.proofs.Shapes.{shape-true, shape-here, nodes-here, root-lies, extent-nodes}

@@ -19,7 +19,7 @@ use Rattle.cluster_model.specs.Heap.{room}
 use Rattle.cluster_model.specs.Words.{word, width}
 use Rattle.cluster_model.specs.Calls.{shapeOk, outcome, Outcome, heldCount}
 use Rattle.cluster_nodes.specs.Seeing.{isMarked, seeOne, lookTo}
-use Rattle.cluster_nodes.specs.Leaf.{elemAt, underOf, okBy, lookNode, placeIn}
+use Rattle.cluster_nodes.specs.Leaf.{underOf, okBy, lookNode}
 use Rattle.cluster.specs.Down.{Went, went, fewerRight, putBack, putNode, putDown, putIn, PutMeets}
 use Rattle.cluster.specs.Coded.{heldBy, wentTo, openedTo, heldDown, pushDown}
 use Rattle.cluster_nodes.proofs.Looks.{within}

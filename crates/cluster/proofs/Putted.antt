@@ -3,7 +3,7 @@ use Prim.Native.Nat.{ℕ, zero, suc, _+_, _*_, _≤_, _<_}
 use native.Mathlib.Nat.{le-of-suc-le-suc, not-suc-le-zero}
 use native.Mathlib.Numerals.{add-one}
 use native.Mathlib.Omega.{arith}
-use mathlib.Core.Path.{_≡_, refl, sym, ap, ap₂, _∙_}
+use mathlib.Core.Path.{_≡_, refl, sym, ap, _∙_}
 use mathlib.Core.Bool.{Bool, true, false, cond, not, _&&_, _||_}
 use mathlib.Core.List.{List, [], _∷_}
 use lib.Dec.{ltb, leb}
@@ -12,7 +12,7 @@ use lib.Seq.{getD-set-other}
 use borrow.Author.Tests.{le-leb, le-ltb, lt-leb, lt-ltb, ltb-false, ltb-true}
 use Rattle.strip.specs.declared.Element.{Element}
 use Rattle.promise.specs.Served.{always}
-use Rattle.cluster_model.specs.Node.{begin, fewer, finish, finished, free, freeHere, gap, has, high, highElem, inside, keep, lhs, Node, none, nothing, Op, pass, Place, put, putBy, raise, rhs, seek, Side, sideIf, store}
+use Rattle.cluster_model.specs.Node.{begin, fewer, finish, finished, free, freeHere, gap, has, high, highElem, inside, keep, lhs, Node, none, pass, Place, put, putBy, raise, rhs, seek, Side, sideIf, store}
 use Rattle.cluster_model.specs.Heap.{room}
 use Rattle.cluster_model.specs.Words.{Neat, nodeOf, width, word, writeNode, writePlace}
 use Rattle.cluster_model.specs.Way.{child, nodeIn, nodeOk, ownOk, roomy, runWords, stepIn, touch, wayOk, works}
@@ -22,11 +22,11 @@ use Rattle.cluster_model.proofs.Places.{high-is, inside-length, no-free, place-
 use Rattle.cluster_nodes.proofs.Bridge.{look-free, look-high, test-is}
 use Rattle.cluster_nodes.proofs.ScanCode.{row-place}
 use Rattle.cluster_nodes.proofs.Unique.{scan-is-high}
-use Rattle.cluster_nodes.specs.Leaf.{elemAt, lookNode, okBy, placeIn, raiseWords, underOf}
+use Rattle.cluster_nodes.specs.Leaf.{elemAt, lookNode, placeIn, raiseWords}
 use Rattle.cluster_nodes.specs.Scan.{highAs, scan}
-use Rattle.cluster.specs.Down.{fewerRight, putBack, putDown, putNode, went, Went}
+use Rattle.cluster.specs.Down.{fewerRight, putBack, putDown, putNode, went}
 use Rattle.cluster.proofs.Commute.{has-elem, run-none, run-place, run-raise}
-use Rattle.cluster.proofs.Taken.{last-bare, neat-in, one-place, under-room, way-none}
+use Rattle.cluster.proofs.Taken.{neat-in, one-place, under-room, way-none}
 
 -- ---- tests
 flip : (a b : ℕ) → ltb a b ≡ not (leb b a)

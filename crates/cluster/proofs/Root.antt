@@ -1,10 +1,8 @@
 -- The root is node 0: its first word is word 0.
 use Prim.Native.Nat.{ℕ, _+_, _*_}
 use native.Mathlib.Omega.{arith}
-use mathlib.Core.Path.{_≡_, ap, ap₂}
-use mathlib.Core.Bool.{Bool}
+use mathlib.Core.Path.{_≡_, ap}
 use mathlib.Core.List.{List}
-use Rattle.strip.specs.declared.Element.{Element}
 use Rattle.cluster_model.specs.Words.{width, word}
 use Rattle.cluster_nodes.specs.declared.Seen.{Seen}
 use Rattle.cluster_nodes.specs.Leaf.{elemAt, lookNode, okBy, placeIn}

@@ -1,15 +1,15 @@
 -- For the code of the shape.
-use Prim.Native.Nat.{ℕ, zero, suc, _+_, _*_, _-_, _≤_, _<_, pred, _^_, _%_}
-use native.Mathlib.Nat.{not-suc-le-zero, mul-le-mul-right, mul-le-mul}
+use Prim.Native.Nat.{ℕ, zero, suc, _+_, _*_, _-_, _≤_, _<_, _^_, _%_}
+use native.Mathlib.Nat.{not-suc-le-zero, mul-le-mul-right}
 use native.Mathlib.Omega.{arith}
-use mathlib.Core.Path.{_≡_, refl, sym, ap, ap₂, _∙_, subst}
-use mathlib.Core.Bool.{Bool, true, false, cond, not, _&&_, _||_, false≢true}
+use mathlib.Core.Path.{_≡_, refl, sym, ap, _∙_, subst}
+use mathlib.Core.Bool.{Bool, true, false, not, _&&_, false≢true}
 use mathlib.Core.List.{List}
-use lib.Dec.{ltb, leb, eqb}
+use lib.Dec.{leb}
 use lib.ListN.{length}
-use borrow.Author.Tests.{not-true, not-false, le-leb, lt-leb, leb-true, leb-false}
+use borrow.Author.Tests.{not-false, le-leb, lt-leb, leb-true, leb-false}
 use Rattle.cluster_model.specs.Heap.{room}
-use Rattle.cluster_model.specs.Words.{word, width}
+use Rattle.cluster_model.specs.Words.{width}
 use Rattle.cluster_model.specs.Way.{extent}
 use Rattle.cluster_model.specs.Calls.{shapeOk}
 use Rattle.cluster.specs.Coded.{nodesOf, Nodes}

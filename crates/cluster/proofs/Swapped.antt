@@ -1,35 +1,27 @@
 -- The swap in the code's shape is the swap of the definitions, tests included.
-use Prim.Native.Nat.{ℕ, zero, suc, _+_, _*_, _-_, _/_, _≤_, _<_, pred}
-use native.Mathlib.Nat.{not-suc-le-zero}
+use Prim.Native.Nat.{ℕ, zero, suc, _+_, _*_, _<_}
 use native.Mathlib.Omega.{arith}
-use mathlib.Core.Path.{_≡_, refl, sym, ap, ap₂, _∙_, subst}
-use mathlib.Core.Bool.{Bool, true, false, cond, not, _&&_, _||_}
-use mathlib.Core.List.{List, [], _∷_}
-use lib.Dec.{ltb, leb, eqb}
-use lib.ListN.{length, set}
-use lib.Seq.{set-set, getD-set-other}
-use borrow.Author.Tests.{eq-eqb, ne-eqb, eqb-true, eqb-false, ltb-true, lt-ltb, le-ltb, leb-true}
+use mathlib.Core.Path.{_≡_, refl, sym, ap, _∙_}
+use mathlib.Core.Bool.{Bool, true, false, cond, _&&_}
+use mathlib.Core.List.{List}
+use lib.Dec.{ltb, eqb}
+use lib.Seq.{set-set}
 use Rattle.strip.specs.declared.Element.{Element}
 use Rattle.strip.specs.Answers.{key}
-use Rattle.cluster_nodes.specs.declared.Found.{Found}
 use Rattle.cluster_nodes.specs.declared.Chosen.{Chosen}
 use Rattle.promise.specs.Served.{always}
-use Rattle.cluster_model.specs.Node.{Place, gap, has, inside, low, lowElem, Node, Side, lhs, rhs, sideIf, pick, lowerSide, store, sink, nothingBelow, Op, none, put, take, swap, begin, swapBy, Finished, finished, trialBy, trialFrom, finish}
+use Rattle.cluster_model.specs.Node.{Place, has, inside, low, Node, Side, lhs, rhs, sideIf, pick, lowerSide, store, nothingBelow, Op, none, swap, begin, swapBy, finished, trialBy, trialFrom, finish}
 use Rattle.cluster_model.specs.Heap.{room}
-use Rattle.cluster_model.specs.Way.{strict, some, under1}
-use Rattle.cluster_model.specs.Words.{word, width, nodeOf, writePlace, Neat}
+use Rattle.cluster_model.specs.Words.{word, width, nodeOf, writePlace}
 use Rattle.cluster_model.specs.Way.{touch, works}
 use Rattle.cluster_model.specs.Words.{writeNode}
-use Rattle.cluster_model.specs.Way.{child, nodeIn, lowIn, stepIn, runWords, neatTo, nodeOk, readOk, childrenOk, ownOk, wayOk}
-use Rattle.cluster_nodes.specs.Leaf.{underOf, bareAt, okBy, lookNode, placeIn, peekOf, rightLower, choiceBy, choiceOf, elemAt}
-use Rattle.cluster.specs.Down.{Went, went, swapBack, swapNode, swapDown}
-use Rattle.cluster_model.proofs.Places.{low-is, place-here}
-use Rattle.cluster_model.proofs.Pass.{node-count}
-use Rattle.cluster_model.proofs.Neat.{few-words, set-word}
-use Rattle.cluster_nodes.proofs.Bridge.{test-is, look-count, both-zero}
-use Rattle.cluster.proofs.Taken.{way-none, under-room, one-place, choice-ok, neat-here, low-here, Chose, chose, last-bare}
+use Rattle.cluster_model.specs.Way.{child, nodeIn, lowIn, stepIn, runWords, nodeOk, readOk, childrenOk, ownOk, wayOk}
+use Rattle.cluster_nodes.specs.Leaf.{bareAt, placeIn, choiceOf}
+use Rattle.cluster.specs.Down.{went, swapBack, swapNode, swapDown}
+use Rattle.cluster_nodes.proofs.Bridge.{both-zero}
+use Rattle.cluster.proofs.Taken.{way-none, under-room, one-place, choice-ok, neat-here, low-here, chose, last-bare}
 use Rattle.cluster_nodes.proofs.Fulls.{and-l, and-r}
-use Rattle.cluster.proofs.Commute.{run-place, run-none, neat-of, low-place, low-elem}
+use Rattle.cluster.proofs.Commute.{run-place, run-none}
 
 store-twice : (i : ℕ) (p q : Place) (n : Node) → store i p (store i q n) ≡ store i p n
 store-twice i p q n = let e = set-set (n .places) i q p in λ t. record { left = n .left; right = n .right; places = e t }

@@ -1,20 +1,20 @@
 -- The take in the code's shape is the take of the definitions, tests included.
-use Prim.Native.Nat.{ℕ, zero, suc, _+_, _*_, _-_, _/_, _≤_, _<_, pred}
+use Prim.Native.Nat.{ℕ, zero, suc, _+_, _*_, _≤_, _<_, pred}
 use native.Mathlib.Nat.{not-suc-le-zero}
 use native.Mathlib.Omega.{arith}
-use mathlib.Core.Path.{_≡_, refl, sym, ap, ap₂, _∙_, subst}
+use mathlib.Core.Path.{_≡_, refl, sym, ap, ap₂, _∙_}
 use mathlib.Core.Bool.{Bool, true, false, cond, not, _&&_, _||_}
-use mathlib.Core.List.{List, [], _∷_}
+use mathlib.Core.List.{List}
 use lib.Dec.{ltb, leb, eqb}
 use lib.ListN.{length, set}
 use lib.Seq.{set-set, getD-set-other}
-use borrow.Author.Tests.{eq-eqb, ne-eqb, eqb-true, eqb-false, ltb-true, lt-ltb, le-ltb, leb-true}
+use borrow.Author.Tests.{eq-eqb, ne-eqb, ltb-true, lt-ltb, le-ltb, leb-true}
 use Rattle.strip.specs.declared.Element.{Element}
 use Rattle.strip.specs.Answers.{key}
 use Rattle.cluster_nodes.specs.declared.Found.{Found}
 use Rattle.cluster_nodes.specs.declared.Chosen.{Chosen}
 use Rattle.promise.specs.Served.{always}
-use Rattle.cluster_model.specs.Node.{Place, gap, has, inside, low, lowElem, Node, Side, lhs, rhs, sideIf, pick, lowerSide, store, sink, nothingBelow, Op, none, put, take, swap, begin, takeBy, Finished, finished, fillFrom, finish}
+use Rattle.cluster_model.specs.Node.{Place, gap, has, inside, low, lowElem, Node, Side, lhs, rhs, sideIf, pick, lowerSide, store, sink, nothingBelow, Op, none, take, begin, takeBy, finished, fillFrom, finish}
 use Rattle.cluster_model.specs.Heap.{room}
 use Rattle.cluster_model.specs.Way.{strict, some, under1}
 use Rattle.cluster_model.specs.Words.{word, width, nodeOf, writePlace, Neat}
@@ -22,8 +22,8 @@ use Rattle.cluster_model.specs.Way.{touch, works}
 use Rattle.cluster_model.specs.Words.{writeNode}
 use Rattle.cluster_model.specs.Way.{child, nodeIn, lowIn, stepIn, runWords, neatTo, nodeOk, readOk, childrenOk, ownOk, wayOk}
 use Rattle.cluster_nodes.specs.Seeing.{lookTo}
-use Rattle.cluster_nodes.specs.Leaf.{underOf, bareAt, okBy, lookNode, placeIn, peekHere, peekAt, peekOf, rightLower, choiceBy, choiceOf, sinkWords, elemAt}
-use Rattle.cluster.specs.Down.{Went, went, takeBack, takeNode, takeDown}
+use Rattle.cluster_nodes.specs.Leaf.{underOf, bareAt, lookNode, placeIn, peekHere, peekAt, peekOf, rightLower, choiceBy, choiceOf, sinkWords, elemAt}
+use Rattle.cluster.specs.Down.{went, takeBack, takeNode, takeDown}
 use Rattle.cluster_model.proofs.Places.{low-is, place-here}
 use Rattle.cluster_model.proofs.Pass.{node-count}
 use Rattle.cluster_model.proofs.Neat.{few-words, set-word}

@@ -1,6 +1,5 @@
 -- The calls: the shape that is tested is the definition's, and behind it stand the steps.
-use Prim.Native.Nat.{_*_, _+_, _-_, _≤_, pred, suc, zero, ℕ}
-use native.Mathlib.Nat.{not-suc-le-zero}
+use Prim.Native.Nat.{_-_, pred, suc, zero, ℕ}
 use native.Mathlib.Omega.{arith}
 use mathlib.Core.Bool.{Bool, false, not, true}
 use mathlib.Core.List.{List}
@@ -9,19 +8,15 @@ use lib.ListN.{length}
 use borrow.Author.Tests.{not-false, not-true}
 use Rattle.strip.specs.declared.Answer.{Answer}
 use Rattle.strip.specs.declared.Answer.the-variants.{Refused}
-use Rattle.strip.specs.declared.Count.{Count}
 use Rattle.strip.specs.declared.Count.the-variants.{Held, Unknown}
 use Rattle.strip.specs.declared.Refusal.the-variants.{BadShape, Damaged}
 use Rattle.strip.specs.declared.Request.{Request}
 use Rattle.cluster.proofs.Shapes.{shape-here, shape-true}
 use Rattle.cluster_clock_model.proofs.Exactly.{turned-bad}
 use Rattle.cluster_clock_model.specs.Calls.{clockCleared, clockHeld, DrainOutcome, drainOutcome, drains, fresh, turned, TurnOutcome, turnOutcome}
-use Rattle.cluster_clock_model.specs.Test.{saneAt}
 use Rattle.cluster_clock_model.specs.declared.Stage.{Stage}
-use Rattle.cluster_model.specs.Calls.{cleared, heldIn, Outcome, outcome, rootHeld, shapeOk}
+use Rattle.cluster_model.specs.Calls.{cleared, Outcome, outcome, shapeOk}
 use Rattle.cluster_model.specs.Heap.{room}
-use Rattle.cluster_model.specs.Way.{nodeIn}
-use Rattle.cluster_nodes.specs.Leaf.{Here}
 use Rattle.cluster_turns.proofs.Turns.{shape-root}
 use Rattle.cluster_turns.specs.Turn.{Opened, RootIn}
 use Rattle.cluster_turns.specs.declared.Root.{Root}

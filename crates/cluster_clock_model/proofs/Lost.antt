@@ -17,7 +17,7 @@ use Rattle.cluster_clock_model.specs.Promise.{carriedBy, carries, machin
 use Rattle.cluster_clock_model.specs.Stage.{below, stageAt}
 use Rattle.cluster_model.specs.Heap.{carried}
 use Rattle.cluster_model.specs.Node.{fill, inside, trial}
-use Rattle.cluster_model.specs.Promise.{nodes, stored}
+use Rattle.cluster_model.specs.Promise.{nodes, storedCount}
 use Rattle.cluster_model.specs.Way.{nodeIn}
 use Rattle.laws.specs.Sums.{grid, sumTo, to-add, to-append, to-ext, to-zero}
 use Rattle.promise.specs.Served.{hit}
@@ -134,7 +134,7 @@ module _ (f : Element → Bool) where
         row W b c n = let l : W (n + n) ≡ W (n * 2 + 0) = ap W (omega arith) in let r : W (suc (n + n)) ≡ W (n * 2 + 1) = ap W (omega arith) in omega arith
 
     pub flight-sum : (k : ℕ) → Ranged k 0 0 rs → within f (suc k) (treeIn K (suc k) 0 0 rs ws 0) ≡ remaining K (suc k) (machine rs ws) f
-    unfolding stored carriedBy sumTo
+    unfolding storedCount carriedBy sumTo
     flight-sum k r =
         let all : cells k 0 ≡ nodes (suc k) = omega (arith, cells-reach k 0, reach-all k) in
         let places : sumTo (cells k 0) (λ m. at (0 + m)) ≡ sumTo (nodes (suc k)) at = to-ext (cells k 0) (λ m. at (0 + m)) at (λ m l. ap at (omega arith)) ∙ ap (λ (n : ℕ). sumTo n at) all in

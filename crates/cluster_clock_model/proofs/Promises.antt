@@ -23,7 +23,7 @@ use Rattle.cluster_clock_model.specs.Promise.{AtRest, callAnswers, clear
 use Rattle.cluster_model.specs.Calls.{heldIn, rule, ruleAt, Ruling}
 use Rattle.cluster_model.specs.Heap.{room, Sound}
 use Rattle.cluster_model.specs.Node.{low, lowElem, Place}
-use Rattle.cluster_model.specs.Promise.{Shape, stored}
+use Rattle.cluster_model.specs.Promise.{Shape, storedCount}
 use Rattle.cluster_model.specs.Way.{heapIn, nodeIn}
 use Rattle.cluster_model.proofs.Exactly.{comes-number}
 use Rattle.cluster_model.proofs.Rules.{comes, lowest-is}
@@ -96,7 +96,7 @@ module _ (K k : ℕ) where
       go true q = refl
       go false q = absurd (true≢false (sym (ap not q) ∙ e))
 
-  pub rest-remains : (x : Machine) → Kept K k x → AtRest K (suc k) x → (f : Element → Bool) → remaining K (suc k) x f ≡ stored K (suc k) (x .words) f
+  pub rest-remains : (x : Machine) → Kept K k x → AtRest K (suc k) x → (f : Element → Bool) → remaining K (suc k) x f ≡ storedCount K (suc k) (x .words) f
   rest-remains x kept e f = sym (kept-remains x kept f) ∙ rest-stored K (x .records) (x .words) k f (quiet-of x e)
 
   pub rest-sound : (x : Machine) → Kept K k x → AtRest K (suc k) x → Sound K (suc k) (heapIn K (suc k) (x .words) 0)
@@ -219,7 +219,7 @@ module _ (K : ℕ) (ws : List ℕ) (rs : List Request) where
   rested-sound zero sh n e = absurd (not-suc-le-zero (sh .some))
   rested-sound (suc k) sh n e = rest-sound K k (idles K (suc k) n (ran K (suc k) rs ws)) (idles-kept K k n _ (ran-kept k sh)) e
 
-  pub rested-holds : (levels : ℕ) → Shape K levels (length ws) → (n : ℕ) → AtRest K levels (idles K levels n (ran K levels rs ws)) → Holds (stored K levels (idles K levels n (ran K levels rs ws) .words)) rs (turnAnswers K levels rs ws)
+  pub rested-holds : (levels : ℕ) → Shape K levels (length ws) → (n : ℕ) → AtRest K levels (idles K levels n (ran K levels rs ws)) → Holds (storedCount K levels (idles K levels n (ran K levels rs ws) .words)) rs (turnAnswers K levels rs ws)
   rested-holds zero sh n e f = absurd (not-suc-le-zero (sh .some))
   rested-holds (suc k) sh n e f =
       let x : Machine = ran K (suc k) rs ws in
@@ -279,7 +279,7 @@ module _ (K : ℕ) (ws : List ℕ) (rs : List Request) (levels : ℕ) (sh : Shap
   pub drained-sound : Sound K levels (heapIn K levels (d .words) 0)
   drained-sound = rw (drain-state K levels budget (x .records) (x .words) .0) (rested-sound K ws rs levels sh (d .cycles) at-rest)
 
-  pub drained-holds : Holds (stored K levels (d .words)) rs (turnAnswers K levels rs ws)
+  pub drained-holds : Holds (storedCount K levels (d .words)) rs (turnAnswers K levels rs ws)
   drained-holds f = rw (drain-state K levels budget (x .records) (x .words) .0) (rested-holds K ws rs levels sh (d .cycles) at-rest f)
 
 -- PINNED: every public call, for all inputs

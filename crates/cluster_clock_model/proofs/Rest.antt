@@ -19,7 +19,7 @@ use Rattle.cluster_clock_model.specs.Promise.{clearedMachine}
 use Rattle.cluster_clock_model.specs.Stage.{below, childOf, noStage, stageAt}
 use Rattle.cluster_model.specs.Heap.{Fit, Heap, many, room, Sound}
 use Rattle.cluster_model.specs.Node.{inside, lhs, Node, nothing, rhs}
-use Rattle.cluster_model.specs.Promise.{nodes, Shape, start, stored}
+use Rattle.cluster_model.specs.Promise.{nodes, Shape, start, storedCount}
 use Rattle.cluster_model.specs.Way.{child, extent, heapIn, nodeIn, spotOf}
 use Rattle.cluster_model.specs.Words.{width}
 use Rattle.cluster_model.proofs.NeatLevels.{zero-row}
@@ -81,7 +81,7 @@ module _ (K : ℕ) (rs : List Stage) (ws : List ℕ) where
   rest-tree k q = rest-next k 0 0 0 0 refl q
 
   -- what is stored is then all that there is
-  pub rest-stored : (k : ℕ) (f : Element → Bool) → quiet k rs 0 ≡ true → within f (suc k) (treeIn K (suc k) 0 0 rs ws 0) ≡ stored K (suc k) ws f
+  pub rest-stored : (k : ℕ) (f : Element → Bool) → quiet k rs 0 ≡ true → within f (suc k) (treeIn K (suc k) 0 0 rs ws 0) ≡ storedCount K (suc k) ws f
   rest-stored k f q = ap (within f (suc k)) (rest-tree k q) ∙ calm-many f (suc k) (heapIn K (suc k) ws 0) ∙ sym (stored-many K (suc k) ws f)
 
 -- ---- the cleared machine

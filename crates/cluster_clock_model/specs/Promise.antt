@@ -17,7 +17,7 @@ use Rattle.cluster_clock_model.specs.Stage.{below, handed, levelStage, l
 use Rattle.cluster_model.specs.Calls.{heldIn, ruleAt}
 use Rattle.cluster_model.specs.Heap.{room}
 use Rattle.cluster_model.specs.Node.{gap, lhs, placeAt, rhs}
-use Rattle.cluster_model.specs.Promise.{Agree, AnyTo, marked, PlaceDamaged, Shape, start, stored, Stuck}
+use Rattle.cluster_model.specs.Promise.{Agree, AnyTo, marked, PlaceDamaged, Shape, start, storedCount, Stuck}
 use Rattle.cluster_model.specs.Way.{child, extent, nodeIn}
 use Rattle.cluster_model.specs.Words.{word}
 use Rattle.laws.specs.Ladder.{fine, Ladder, rung, stop}
@@ -177,7 +177,7 @@ carries (Swap j x) f = 0
 module _ (K levels : ℕ) where
   -- "take the elements in all slots": the places
   abbrev pub inPlaces : Machine → (Element → Bool) → ℕ
-  inPlaces x f = stored K levels (x .words) f
+  inPlaces x f = storedCount K levels (x .words) f
 
   -- "add those carried by pending puts"
   unfoldable pub carriedBy : Machine → (Element → Bool) → ℕ

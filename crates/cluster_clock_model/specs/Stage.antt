@@ -1,7 +1,7 @@
 -- One cycle over the words and the records: one pass in place, from the root down. A level is read before it is written, the level below is read as it
 -- stood at the cycle's start, and each level writes its own nodes and loads the record below it.
 use Prim.Native.Nat.{_+_, suc, zero, ℕ}
-use mathlib.Core.Bool.{Bool, cond, false, true}
+use mathlib.Core.Bool.{Bool, false, true}
 use mathlib.Core.List.{[], _∷_, List}
 use lib.ListN.{getD, set}
 use Rattle.cluster_clock_model.specs.declared.Due.{Due}

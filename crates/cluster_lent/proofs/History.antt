@@ -1,7 +1,7 @@
--- A list of lent calls is the list of by-value cycles: the host's memory holds the machine that they leave. Assumes nothing.
-use Prim.Native.Nat.{_-_, _<_, _≤_, pred, suc, zero, ℕ}
+-- A list of lent calls is the list of by-value cycles: the host's memory holds the machine that they leave.
+use Prim.Native.Nat.{_-_, _≤_, pred, ℕ}
 use native.Mathlib.Omega.{arith}
-use mathlib.Core.Bool.{_&&_, Bool, cond, false, true, true≢false}
+use mathlib.Core.Bool.{Bool, cond, false, true, true≢false}
 use mathlib.Core.List.{[], List}
 use mathlib.Core.Path.{_∙_, _≡_, ap, refl, subst, sym}
 use lib.Dec.{eqb, leb, ltb}
@@ -12,13 +12,13 @@ use Rattle.cluster_clock_model.proofs.Drain.{drain-state}
 use Rattle.cluster_clock_model.proofs.Exactly.{clear-taken, sound, turned-either, turned-length}
 use Rattle.cluster_clock_model.proofs.Promises.{shape-kept}
 use Rattle.cluster_clock_model.proofs.Rest.{few-levels}
-use Rattle.cluster_clock_model.specs.Calls.{DrainOutcome, drains, fresh, stageCount, turned, TurnOutcome, turnRun}
+use Rattle.cluster_clock_model.specs.Calls.{DrainOutcome, drains, fresh, stageCount, turned, turnRun}
 use Rattle.cluster_clock_model.specs.Promise.{clearedMachine, idles, machine, Machine, ran, turnAnswers, turnQueue}
 use Rattle.cluster_clock_model.specs.declared.Stage.{Stage}
 use Rattle.cluster_lent.proofs.Plain.{kinds-back, Plain, plain-fresh, plain-read, read-back, turned-plain}
 use Rattle.cluster_lent.specs.History.{clearedMemory, Holds, lentQueue, Memory, memory}
 use Rattle.cluster_lent_steps.proofs.Back.{back-length}
-use Rattle.cluster_lent_steps.specs.Lent.{drainOf, kindsOk, lentCleared, LentDrain, lentDrains, lentOf, lentOutcome, LentOutcome, lentTurned, readable, recordsBack, stagesBack, stagesRead}
+use Rattle.cluster_lent_steps.specs.Lent.{kindsOk, lentCleared, lentDrains, lentOf, lentOutcome, LentOutcome, lentTurned, readable, recordsBack, stagesBack, stagesRead}
 use Rattle.cluster_lent_steps.specs.declared.ClusterRecord.{ClusterRecord}
 use Rattle.cluster_model.specs.Calls.{heldIn, rule, ruleAt, ruling, Ruling, shapeOk}
 use Rattle.cluster_model.specs.Heap.{room}
@@ -27,7 +27,6 @@ use Rattle.cluster_model.specs.Promise.{Shape}
 use Rattle.cluster_model.specs.Way.{nodeIn}
 use Rattle.laws.specs.Tests.{and-left, and-true, sub-one}
 use Rattle.promise.specs.Queue.{answers, answers-same, leaves, leaves-in-step, leaves-keep}
-use Rattle.strip.specs.declared.Answer.{Answer}
 use Rattle.strip.specs.Answers.{untagged}
 use Rattle.strip.specs.declared.Answer.the-variants.{Done, Out, Refused}
 use Rattle.strip.specs.declared.Element.{Element}

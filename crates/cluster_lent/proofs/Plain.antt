@@ -1,8 +1,8 @@
--- Records written and read again: what a cycle leaves comes back as it was. Assumes nothing.
-use Prim.Native.Nat.{_+_, _-_, _<_, _≤_, pred, suc, zero, ℕ}
+-- Records written and read again: what a cycle leaves comes back as it was.
+use Prim.Native.Nat.{_+_, _<_, _≤_, pred, suc, zero, ℕ}
 use native.Mathlib.Nat.{eq-or-lt-of-le, le-of-suc-le-suc, not-suc-le-zero}
 use native.Mathlib.Omega.{arith}
-use mathlib.Core.Bool.{_&&_, Bool, cond, false, true}
+use mathlib.Core.Bool.{Bool, cond, false, true}
 use mathlib.Core.List.{List}
 use mathlib.Core.Logic.{_⊎_, inl, inr, ⊎-elim}
 use mathlib.Core.Path.{_∙_, _≡_, ap, refl, subst, sym}
@@ -12,17 +12,17 @@ use lib.Seq.{ext-getD, getD-set-other, getD-set-same}
 use borrow.Author.Tests.{le-leb, leb-false, leb-true}
 use Rattle.cluster_clock_model.proofs.Exactly.{turned-either}
 use Rattle.cluster_clock_model.proofs.Seen.{pass-others, pass-records}
-use Rattle.cluster_clock_model.specs.Calls.{fresh, stageCount, turned, TurnOutcome, turnRun}
+use Rattle.cluster_clock_model.specs.Calls.{fresh, stageCount, turned, turnRun}
 use Rattle.cluster_clock_model.specs.Stage.{begins, below, filled, handed, levelStage, levelWords, loaded, noStage, pass, stage, stageAt, work, Work}
 use Rattle.cluster_clock_model.specs.declared.Due.{Due}
 use Rattle.cluster_clock_model.specs.declared.Due.the-variants.{Fill, Nothing, Put, Swap}
 use Rattle.cluster_clock_model.specs.declared.Stage.{Stage}
-use Rattle.cluster_lent_steps.proofs.Back.{back-at, back-length, back-past, stages-few}
+use Rattle.cluster_lent_steps.proofs.Back.{back-at, stages-few}
 use Rattle.cluster_lent_steps.specs.Lent.{carries, kindsOk, noRecord, recordBy, recordOf, stageOf, stagesBack, stagesRead}
 use Rattle.cluster_lent_steps.specs.declared.ClusterRecord.{ClusterRecord}
 use Rattle.cluster_model.specs.Calls.{ruleAt, Ruling}
 use Rattle.cluster_model.specs.Node.{fill, lhs, Note, nothing, onto, rhs, trial}
-use Rattle.laws.specs.Tests.{and-true, sub-one}
+use Rattle.laws.specs.Tests.{and-true}
 use Rattle.strip.specs.declared.Request.{Request}
 
 either : (b : Bool) → (b ≡ true) ⊎ (b ≡ false)

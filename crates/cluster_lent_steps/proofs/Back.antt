@@ -1,4 +1,4 @@
--- What the code of a lent call has read, had turned and written back is what the definitions say. Assumes nothing.
+-- What the code of a lent call has read, had turned and written back is what the definitions say.
 use Prim.Native.Nat.{_-_, _<_, _≤_, suc, zero, ℕ}
 use native.Mathlib.Nat.{eq-or-lt-of-le, le-of-suc-le-suc, not-suc-le-zero}
 use native.Mathlib.Omega.{arith}
@@ -17,15 +17,13 @@ use Rattle.cluster_clock_model.proofs.Rest.{few-levels}
 use Rattle.cluster_clock_model.specs.Calls.{clockCleared, drainOutcome, DrainOutcome, drains, fresh, stageCount, turned, turnOutcome, TurnOutcome}
 use Rattle.cluster_clock_model.specs.Stage.{noStage, stageAt}
 use Rattle.cluster_clock_model.specs.declared.Stage.{Stage}
-use Rattle.cluster_lent_steps.proofs.Records.{lends-few, lends-levels, lends-within}
+use Rattle.cluster_lent_steps.proofs.Records.{lends-within}
 use Rattle.cluster_lent_steps.specs.Lent.{drainOf, kindsOk, lentCleared, lentDrain, LentDrain, lentDrains, lentOf, lentOutcome, LentOutcome, lentTurned, noRecord, readable, recordOf, recordsBack, stageOf, stagesBack, stagesRead}
 use Rattle.cluster_lent_steps.specs.Steps.{clearFrom, cycleFrom, drainsFrom, lends, reach, readOf, turnedCycle, turnedDrain}
 use Rattle.cluster_lent_steps.specs.declared.ClusterRead.{ClusterRead}
 use Rattle.cluster_lent_steps.specs.declared.ClusterRecord.{ClusterRecord}
-use Rattle.cluster_lent_steps.specs.declared.ClusterTurned.{ClusterTurned}
 use Rattle.cluster_model.proofs.Damages.{shape-is}
 use Rattle.cluster_model.specs.Calls.{shapeOk}
-use Rattle.strip.specs.declared.Answer.{Answer}
 use Rattle.strip.specs.declared.Answer.the-variants.{Refused}
 use Rattle.strip.specs.declared.Refusal.the-variants.{BadShape}
 use Rattle.strip.specs.declared.Request.{Request}

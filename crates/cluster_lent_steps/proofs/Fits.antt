@@ -1,4 +1,4 @@
--- A record that is written lies within the slice, and its node and its place fit their words. Assumes nothing.
+-- A record that is written lies within the slice, and its node and its place fit their words.
 use Prim.Native.Nat.{_+_, _-_, _<_, _≤_, pred, suc, zero, ℕ}
 use native.Mathlib.Nat.{eq-or-lt-of-le}
 use native.Mathlib.Omega.{arith}
@@ -13,18 +13,18 @@ use borrow.Author.Tests.{ltb-true}
 use Rattle.clocked_model.proofs.Exactly.{zero-ran}
 use Rattle.clocked_model.specs.Promise.{hasRun}
 use Rattle.cluster_clock_model.proofs.Drain.{drain-ran, drain-state}
-use Rattle.cluster_clock_model.proofs.Exactly.{sound, turned-either}
+use Rattle.cluster_clock_model.proofs.Exactly.{turned-either}
 use Rattle.cluster_clock_model.proofs.OneStep.{stages-ranged}
 use Rattle.cluster_clock_model.proofs.Rest.{few-levels}
 use Rattle.cluster_clock_model.proofs.Seen.{handed-in, pass-others, pass-records, Ranged, ranged-set}
 use Rattle.cluster_clock_model.specs.Calls.{askedOk, clockCleared, drainOutcome, DrainOutcome, drains, fresh, stageCount, turned, turnOutcome, TurnOutcome, turnRun}
-use Rattle.cluster_clock_model.specs.Promise.{idles, machine, Machine, turnQueue}
+use Rattle.cluster_clock_model.specs.Promise.{idles, machine, turnQueue}
 use Rattle.cluster_clock_model.specs.Stage.{begins, below, filled, handed, levelStage, levelWords, loaded, noStage, pass, stageAt, work, Work}
 use Rattle.cluster_clock_model.specs.Test.{stagesOk}
 use Rattle.cluster_clock_model.specs.declared.Stage.{Stage}
 use Rattle.cluster_lent_steps.proofs.Records.{lends-few, lends-within}
 use Rattle.cluster_lent_steps.specs.Lent.{recordOf}
-use Rattle.cluster_lent_steps.specs.Steps.{clearFrom, cycleFrom, drainsFrom, lends, Ready, turnedCycle, turnedDrain, wordLimit, Written}
+use Rattle.cluster_lent_steps.specs.Steps.{clearFrom, cycleFrom, drainsFrom, lends, Ready, turnedCycle, turnedDrain, Written}
 use Rattle.cluster_lent_steps.specs.declared.ClusterRead.{ClusterRead}
 use Rattle.cluster_lent_steps.specs.declared.ClusterTurned.{ClusterTurned}
 use Rattle.cluster_model.proofs.Damages.{shape-is}

@@ -1,9 +1,9 @@
--- Records read and written one after the other, and what the tests of them say. Assumes nothing.
+-- Records read and written one after the other, and what the tests of them say.
 use Prim.Native.Nat.{_-_, _<_, _≤_, ℕ}
 use native.Mathlib.Omega.{arith}
 use mathlib.Core.Bool.{_&&_, Bool, cond, false, true}
 use mathlib.Core.Path.{_∙_, _≡_, ap, refl, subst, sym}
-use lib.Dec.{eqb, leb}
+use lib.Dec.{leb}
 use borrow.Author.Tests.{eq-eqb, le-leb, leb-true, lt-leb, ne-eqb}
 use Rattle.cluster_clock_model.specs.Calls.{stageCount}
 use Rattle.cluster_clock_model.specs.Stage.{noStage, stage, stageNumbers}

@@ -1,5 +1,5 @@
 -- The clocked cluster heap's calls over records in the host's own memory, as 02 [13] has them for the tree: each is the by-value call on the records read,
--- and what that leaves is written back. Assumes nothing: these are definitions.
+-- and what that leaves is written back.
 use Prim.Native.Nat.{_-_, suc, zero, ℕ}
 use mathlib.Core.Bool.{_&&_, Bool, cond, false, true}
 use mathlib.Core.List.{[], _∷_, List}

@@ -1,6 +1,6 @@
--- What the code between the slice and the by-value calls asks and says. Assumes nothing: these are definitions.
+-- What the code between the slice and the by-value calls asks and says.
 use Prim.Native.Nat.{_-_, _<_, _≤_, ℕ}
-use mathlib.Core.Bool.{_&&_, Bool, cond, false, true}
+use mathlib.Core.Bool.{_&&_, Bool, cond, false}
 use mathlib.Core.List.{List}
 use lib.Dec.{leb, ltb}
 use Rattle.cluster_clock_model.specs.Calls.{clockCleared, drainOutcome, DrainOutcome, drains, fresh, stageCount, turned, turnOutcome, TurnOutcome}

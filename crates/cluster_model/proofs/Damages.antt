@@ -1,13 +1,13 @@
 -- Each test for damage fails exactly where the place, the node, the step or the path is damaged; and the shape's test says what 02's numbers say.
 use Prim.Native.Nat.{_*_, _+_, _<_, _≤_, suc, zero, ℕ}
 use native.Mathlib.Omega.{arith}
-use mathlib.Core.Bool.{_&&_, _||_, Bool, false, not, true, true≢false}
+use mathlib.Core.Bool.{_&&_, _||_, Bool, false, true, true≢false}
 use mathlib.Core.List.{List}
 use mathlib.Core.Logic.{_⊎_, inl, inr, ⊎-elim}
-use mathlib.Core.Path.{_≡_, ap, refl, subst, sym}
+use mathlib.Core.Path.{_≡_, refl}
 use lib.Dec.{eqb, leb, ltb}
 use lib.ListN.{length}
-use borrow.Author.Tests.{eq-eqb, eqb-false, eqb-true, le-ltb, lt-leb, leb-false, ltb-false, ne-eqb}
+use borrow.Author.Tests.{eqb-false, eqb-true, le-ltb, ltb-false, ne-eqb}
 use Rattle.laws.specs.Fails.{Fails, fails-and, fails-leb, fails-or, fails-true}
 use Rattle.laws.specs.Means.{Means, means-and, means-by, means-leb}
 use Rattle.promise.specs.Served.{always}

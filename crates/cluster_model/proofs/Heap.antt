@@ -5,14 +5,12 @@ use native.Mathlib.Omega.{arith}
 use mathlib.Core.Path.{_≡_, refl}
 use mathlib.Core.Bool.{Bool}
 use mathlib.Core.List.{List}
-use lib.ListN.{length}
 use Rattle.promise.specs.Served.{always, hit}
 use Rattle.strip.specs.declared.Element.{Element}
-use Rattle.strip.specs.Answers.{key}
 use Rattle.cluster_model.specs.Node.{Bag, under, Place, has, inside, placeAt, low, lowElem, Op, none, put, take, swap, nothing, Begun, begin, Finished, finish, toLeft, toRight}
-use Rattle.cluster_model.specs.Heap.{Heap, lowest, act, many, room, Fit, Sound, Can, Became}
-use Rattle.cluster_model.proofs.Places.{hit-le, under-mono, inside-le, inside-length, place-hit, IsLow, low-least}
-use Rattle.cluster_model.proofs.Step.{IsBag, Least, Asks, Begins, begins, Finishes, children-can, finishes, low-fit}
+use Rattle.cluster_model.specs.Heap.{Heap, lowest, act, many, room, Sound, Can, Became}
+use Rattle.cluster_model.proofs.Places.{hit-le, under-mono, inside-le, inside-length, place-hit, low-least}
+use Rattle.cluster_model.proofs.Step.{IsBag, Least, Asks, begins, Finishes, children-can, finishes, low-fit}
 
 -- ---- what a heap holds
 pub many-le : (f g : Element → Bool) → ((e : Element) → hit (f e) ≤ hit (g e)) → (k : ℕ) (h : Heap k) → many f k h ≤ many g k h

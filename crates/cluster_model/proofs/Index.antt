@@ -6,8 +6,8 @@ use mathlib.Core.Path.{_≡_, refl, sym, ap, ap₂, _∙_, subst}
 use mathlib.Core.List.{List}
 use lib.ListN.{length}
 use Rattle.strip.specs.declared.Element.{Element}
-use Rattle.cluster_model.specs.Node.{low, lowElem, Node, Side, lhs, rhs, Op, begin, Finished, finish}
-use Rattle.cluster_model.specs.Heap.{Heap, lowest, act}
+use Rattle.cluster_model.specs.Node.{low, lowElem, Side, lhs, rhs, Op, begin, Finished, finish}
+use Rattle.cluster_model.specs.Heap.{act}
 use Rattle.cluster_model.specs.Words.{width, nodeOf, rowOf, Neat, Only}
 use Rattle.cluster_model.specs.Way.{child, extent, heapIn, lowIn, nodeIn, runWords, stepIn, touch, works}
 use Rattle.cluster_model.proofs.Levels.{apply-root, childOf, heapOf, Levels, nodeAt, Shaped}

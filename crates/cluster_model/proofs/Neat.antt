@@ -1,20 +1,20 @@
 -- In a neat node a write of one place and the two counts is the write of the whole node; what is written is neat.
 use Prim.Native.Nat.{ℕ, zero, suc, _+_, _*_, _≤_, _<_}
-use native.Mathlib.Nat.{not-suc-le-zero, le-refl, le-of-suc-le-suc}
+use native.Mathlib.Nat.{not-suc-le-zero, le-of-suc-le-suc}
 use native.Mathlib.Omega.{arith}
-use mathlib.Core.Path.{_≡_, refl, sym, ap, ap₂, _∙_, subst}
-use mathlib.Core.Bool.{Bool, true, false, _&&_, _||_, true≢false, false≢true}
+use mathlib.Core.Path.{_≡_, refl, sym, ap, _∙_}
+use mathlib.Core.Bool.{Bool, true, false, _&&_, _||_, false≢true}
 use mathlib.Core.List.{List, [], _∷_}
-use mathlib.Core.Logic.{_⊎_, inl, inr, ⊎-elim}
+use mathlib.Core.Logic.{inr}
 use lib.Dec.{eqb}
-use lib.ListN.{length, getD, set, length-set}
-use lib.Seq.{getD-set-same, getD-set-other}
-use borrow.Author.Tests.{eqb-true, eqb-false, eq-eqb, ne-eqb}
+use lib.ListN.{set}
+use lib.Seq.{getD-set-other}
+use borrow.Author.Tests.{eqb-true}
 use Rattle.strip.specs.Answers.{element}
 use Rattle.strip.specs.declared.Element.{Element}
-use Rattle.cluster_model.specs.Node.{Place, gap, has, Node}
-use Rattle.cluster_model.specs.Words.{word, rowOf, placeBy, placeOf, width, nodeOf, markOf, rankIn, tagIn, lengthIn, writePlace, writeRow, writeNode, Only, NeatPlace, NeatRow, Neat, neatPlace}
-use Rattle.cluster_model.proofs.Words.{row-local, place-local, write-only, write-length, write-place}
+use Rattle.cluster_model.specs.Node.{Place}
+use Rattle.cluster_model.specs.Words.{word, rowOf, placeBy, placeOf, nodeOf, markOf, rankIn, tagIn, lengthIn, writePlace, writeRow, writeNode, NeatPlace, NeatRow, Neat, neatPlace}
+use Rattle.cluster_model.proofs.Words.{row-local, place-local, write-only}
 
 pub set-word : (ws : List ℕ) (i v : ℕ) → v ≡ word ws i → set ws i v ≡ ws
 set-word [] i v e = refl

@@ -1,22 +1,20 @@
 -- The words stay neat: what an operation writes is neat, and so is a cleared slice.
 use Prim.Native.Nat.{ℕ, zero, suc, _+_, _*_, _^_, _≤_, _<_}
-use native.Mathlib.Nat.{not-suc-le-zero, le-refl, le-of-suc-le-suc, mul-le-mul-right, pow-suc}
+use native.Mathlib.Nat.{mul-le-mul-right, pow-suc}
 use native.Mathlib.Omega.{arith}
-use mathlib.Core.Path.{_≡_, refl, sym, ap, ap₂, _∙_, subst}
+use mathlib.Core.Path.{_≡_, refl, sym, ap, _∙_, subst}
 use mathlib.Core.Bool.{Bool, true, false}
 use mathlib.Core.List.{List, [], _∷_}
-use mathlib.Core.Logic.{_⊎_, inl, inr, ⊎-elim}
+use mathlib.Core.Logic.{inl, inr}
 use lib.Dec.{ltb, eqb}
-use lib.ListN.{length, getD, set, length-set}
-use lib.Seq.{getD-set-same, getD-set-other}
+use lib.ListN.{length, set, length-set}
 use borrow.Author.Tests.{ltb-true, ltb-false, eqb-true, eqb-false}
 use Rattle.strip.specs.Answers.{element}
-use Rattle.strip.specs.declared.Element.{Element}
-use Rattle.cluster_model.specs.Node.{Place, gap, has, Node, Op, Finished, Begun}
+use Rattle.cluster_model.specs.Node.{Place, gap, Node, Op, Finished}
 use Rattle.cluster_model.proofs.Levels.{childOf}
-use Rattle.cluster_model.specs.Words.{word, rowOf, placeBy, placeOf, width, nodeOf, markOf, rankIn, tagIn, lengthIn, writePlace, writeRow, writeNode, Only, NeatPlace, NeatRow, Neat}
+use Rattle.cluster_model.specs.Words.{word, placeBy, placeOf, width, markOf, rankIn, tagIn, lengthIn, writePlace, writeRow, writeNode, Only, NeatPlace, NeatRow, Neat}
 use Rattle.cluster_model.specs.Way.{touch, works, extent}
-use Rattle.cluster_model.proofs.Words.{Written, written, write-length, write-place}
+use Rattle.cluster_model.proofs.Words.{written, write-length, write-place}
 use Rattle.cluster_model.proofs.Neat.{neat-local, neat-row}
 use Rattle.cluster_model.proofs.Pass.{actWords, applyWords, spot, row-only, touch-only, touch-length, spot-in, act-count, child-in, apply-only}
 

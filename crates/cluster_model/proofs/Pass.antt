@@ -1,21 +1,21 @@
 -- The pass over the words, from the top down, is the operation on the levels that the words hold.
 use Prim.Native.Nat.{ℕ, zero, suc, _+_, _*_, _≤_, _<_}
-use native.Mathlib.Nat.{not-suc-le-zero, le-refl, le-of-suc-le-suc, mul-le-mul-right}
+use native.Mathlib.Nat.{not-suc-le-zero, le-of-suc-le-suc, mul-le-mul-right}
 use native.Mathlib.Omega.{arith}
 use mathlib.Core.Path.{_≡_, refl, sym, ap, ap₂, _∙_, subst}
 use mathlib.Core.Bool.{Bool, true, false, true≢false}
 use mathlib.Core.List.{List, [], _∷_}
-use mathlib.Core.Logic.{_⊎_, inl, inr, ⊎-elim}
-use lib.Dec.{ltb, eqb}
-use lib.ListN.{length, getD, set, length-set}
+use mathlib.Core.Logic.{inl, inr, ⊎-elim}
+use lib.Dec.{ltb}
+use lib.ListN.{length, set, length-set}
 use lib.Seq.{getD-set-same, getD-set-other}
 use Rattle.strip.specs.declared.Element.{Element}
 use Rattle.strip.specs.Answers.{blank, key}
-use Rattle.cluster_model.specs.Node.{Place, gap, has, free, low, high, lowElem, highElem, keep, pass, Node, Side, lhs, rhs, pick, fewer, lowerSide, store, raise, sink, nothingBelow, Op, none, put, take, swap, Note, nothing, fill, trial, onto, Begun, putBy, takeBy, swapBy, begin, Finished, fillFrom, trialBy, trialFrom, finish}
+use Rattle.cluster_model.specs.Node.{Place, gap, has, free, low, high, lowElem, highElem, keep, Node, Side, lhs, rhs, pick, fewer, lowerSide, store, raise, sink, nothingBelow, Op, none, put, take, swap, Note, nothing, fill, trial, onto, Begun, putBy, takeBy, swapBy, begin, Finished, fillFrom, trialBy, trialFrom, finish}
 use Rattle.cluster_model.proofs.Levels.{Levels, nodeAt, childOf, lowAt, actAt, apply}
 use Rattle.cluster_model.specs.Words.{word, rowOf, placeOf, width, nodeOf, writePlace, writeRow, writeNode, Only}
 use Rattle.cluster_model.specs.Way.{touch, works, extent}
-use Rattle.cluster_model.proofs.Words.{levelsOf, Local, row-local, row-write, place-local, write-only, write-length, write-place, node-local, levels-after, levels-write}
+use Rattle.cluster_model.proofs.Words.{levelsOf, row-local, place-local, write-only, write-length, write-place, node-local, levels-write}
 
 -- where node n of a level stands that begins at b
 abbrev pub spot : ℕ → ℕ → ℕ → ℕ

@@ -1,19 +1,19 @@
 -- The laws of counting over places, and of the three choices of a place. What comes after goes by these laws alone.
 use Prim.Native.Nat.{ℕ, zero, suc, _+_, _≤_, _<_}
-use native.Mathlib.Nat.{not-suc-le-zero, le-of-suc-le-suc, le-refl, lt-of-not-le, le-of-lt}
+use native.Mathlib.Nat.{not-suc-le-zero, le-of-suc-le-suc, lt-of-not-le, le-of-lt}
 use native.Mathlib.Omega.{arith}
-use mathlib.Core.Path.{_≡_, refl, sym, ap, _∙_, subst}
+use mathlib.Core.Path.{_≡_, refl, ap, subst}
 use mathlib.Core.Bool.{Bool, true, false, cond}
 use mathlib.Core.List.{List, [], _∷_}
 use lib.Dec.{ltb, leb, eqb}
-use lib.ListN.{length, getD, set, length-set}
+use lib.ListN.{length, getD, set}
 use lib.Seq.{getD-set-same, getD-set-other}
 use borrow.Author.Tests.{ltb-true, ltb-false, lt-ltb, le-ltb, leb-true, leb-false, eqb-true, eqb-false}
 use Rattle.promise.specs.Served.{always, hit}
 use Rattle.strip.specs.declared.Element.{Element}
 use Rattle.strip.proofs.Order.{Before, before-not, before-upto, rank-before, UpTo, upto-before, upto-self}
-use Rattle.strip.specs.Answers.{blank, key, precedes}
-use Rattle.cluster_model.specs.Node.{ahead, Bag, under, above, Place, gap, has, hitAt, inside, elemOf, placeAt, seek, freeHere, lowHere, highHere, free, low, high, lowElem, highElem, keep, pass}
+use Rattle.strip.specs.Answers.{key, precedes}
+use Rattle.cluster_model.specs.Node.{ahead, under, above, Place, gap, has, hitAt, inside, elemOf, placeAt, seek, freeHere, lowHere, highHere, free, low, high, lowElem, highElem, keep, pass}
 
 pub not-lt : (a b : ℕ) → ¬ (b < a) → a ≤ b
 not-lt a b h = omega arith

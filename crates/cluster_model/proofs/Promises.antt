@@ -1,7 +1,7 @@
 -- The promises: from a cleared store, over any list of requests, the heap is sound, nothing is damaged, it holds exactly what went in and has not come
 -- out, and what comes out has the lowest rank.
 use Prim.Native.Nat.{_+_, _<_, _≤_, suc, zero, ℕ}
-use native.Mathlib.Nat.{not-suc-le-zero, zero-add}
+use native.Mathlib.Nat.{not-suc-le-zero}
 use native.Mathlib.Omega.{arith}
 use mathlib.Core.Bool.{Bool, true}
 use mathlib.Core.List.{List}
@@ -9,7 +9,7 @@ use mathlib.Core.Logic.{_⊎_, inr}
 use mathlib.Core.Path.{_∙_, _≡_, ap, refl, subst, sym}
 use lib.ListN.{getD, length}
 use Rattle.promise.specs.Queue.{answers, leaves, leaves-keep, pins}
-use Rattle.promise.specs.Served.{all-sum, allBrought, allGiven, always, brought, given, Holds, Least, least-same, same, triple}
+use Rattle.promise.specs.Served.{all-sum, allBrought, allGiven, always, brought, given, Holds, Least, least-same, triple}
 use Rattle.promise.specs.Tagged.{Tagged, tagged-by}
 use Rattle.strip.specs.Answers.{countNumber, countOf, numberOf}
 use Rattle.strip.specs.declared.Answer.{Answer}
@@ -18,13 +18,13 @@ use Rattle.strip.specs.declared.Element.{Element}
 use Rattle.strip.specs.declared.Request.{Request}
 use Rattle.cluster_model.specs.Calls.{called, cleared, heldCount, heldIn, Outcome, outcome, rootOk, ruleAt, wipe}
 use Rattle.cluster_model.specs.Heap.{act, Heap, many, room, Sound}
-use Rattle.cluster_model.specs.Node.{inside, lowElem, Op}
-use Rattle.cluster_model.specs.Promise.{after, clusterQueue, Damage, Pinned, Shape, start, stored, Zeroed}
+use Rattle.cluster_model.specs.Node.{lowElem}
+use Rattle.cluster_model.specs.Promise.{after, clusterQueue, Damage, Pinned, Shape, start, storedCount, Zeroed}
 use Rattle.cluster_model.specs.Way.{extent, heapIn, nodeIn, runWords, wayOk}
 use Rattle.cluster_model.specs.Words.{word}
-use Rattle.cluster_model.proofs.Damages.{is-shape, shape-is}
+use Rattle.cluster_model.proofs.Damages.{is-shape}
 use Rattle.cluster_model.proofs.Exactly.{barred, called-either, called-fine, cleared-fine, comes-number, counted-is, no-damage}
-use Rattle.cluster_model.proofs.Index.{NeatIn, root-neat, run-heap, run-length, run-neat, run-only}
+use Rattle.cluster_model.proofs.Index.{root-neat, run-heap, run-length, run-neat, run-only}
 use Rattle.cluster_model.proofs.NeatLevels.{clear-neat, NeatLevels}
 use Rattle.cluster_model.proofs.Rules.{comes}
 use Rattle.cluster_model.proofs.Serve.{answered, cleared-holds, cleared-sound, root-held}
@@ -71,11 +71,11 @@ module _ (K k : ℕ) (ws : List ℕ) (kept : Kept K k ws) where
   unfolding heapIn
   sum-served r = answered K k two h (kept .sound) r .sum
 
-  pub kept-least : (r : Request) → Least (stored K (suc k) ws) r (called K (suc k) r ws .answer)
+  pub kept-least : (r : Request) → Least (storedCount K (suc k) ws) r (called K (suc k) r ws .answer)
   unfolding heapIn
   kept-least r =
-      subst (λ (a : Answer). Least (stored K (suc k) ws) r a) (sym (kept-answer r))
-      (least-same (λ f. many f (suc k) h) (stored K (suc k) ws) (λ f. sym (stored-many K (suc k) ws f)) r (ruleAt K (suc k) r ws .answer) (answered K k two h (kept .sound) r .least))
+      subst (λ (a : Answer). Least (storedCount K (suc k) ws) r a) (sym (kept-answer r))
+      (least-same (λ f. many f (suc k) h) (storedCount K (suc k) ws) (λ f. sym (stored-many K (suc k) ws f)) r (ruleAt K (suc k) r ws .answer) (answered K k two h (kept .sound) r .least))
 
   -- the call held
   pub kept-held : heldIn K (suc k) ws ≡ many always (suc k) h
@@ -104,7 +104,7 @@ module _ (K k : ℕ) where
   leaves-kept = leaves-keep (clusterQueue K (suc k)) (Kept K k) called-kept
 
   pub call-sum : (r : Request) (ws : List ℕ) → Kept K k ws → (f : Element → Bool)
-      → stored K (suc k) (called K (suc k) r ws .words) f + given r (called K (suc k) r ws .answer) f ≡ stored K (suc k) ws f + brought r (called K (suc k) r ws .answer) f
+      → storedCount K (suc k) (called K (suc k) r ws .words) f + given r (called K (suc k) r ws .answer) f ≡ storedCount K (suc k) ws f + brought r (called K (suc k) r ws .answer) f
   call-sum r ws kept f =
       rw (stored-many K (suc k) (called K (suc k) r ws .words) f, stored-many K (suc k) ws f, kept-heap K k ws kept r, kept-answer K k ws kept r) (sum-served K k ws kept r f)
 
@@ -124,7 +124,7 @@ module _ (K k : ℕ) (ws : List ℕ) (sh : Shape K (suc k) (length ws)) where
         sound = subst (Sound K (suc k)) (sym (zero-heap K (suc k) (start K (suc k) ws) start-zero)) (cleared-sound K (suc k));
       }
 
-  pub start-empty : (f : Element → Bool) → stored K (suc k) (start K (suc k) ws) f ≡ 0
+  pub start-empty : (f : Element → Bool) → storedCount K (suc k) (start K (suc k) ws) f ≡ 0
   start-empty f = stored-many K (suc k) (start K (suc k) ws) f ∙ ap (many f (suc k)) (zero-heap K (suc k) (start K (suc k) ws) start-zero) ∙ cleared-holds K (suc k) f
 
 -- CLEAR: "Clear writes zeros", and nothing behind
@@ -142,26 +142,26 @@ module _ (K : ℕ) (ws : List ℕ) (rs : List Request) where
   said levels = answers (clusterQueue K levels) rs (start K levels ws)
 
   -- HOLDS: of every kind of element as many are stored as went in and have not come out
-  pub holds : (levels : ℕ) → Shape K levels (length ws) → Holds (stored K levels (after K levels rs ws)) rs (said levels)
+  pub holds : (levels : ℕ) → Shape K levels (length ws) → Holds (storedCount K levels (after K levels rs ws)) rs (said levels)
   holds zero sh f = absurd (not-suc-le-zero (sh .some))
   holds (suc k) sh f =
-      omega (arith, all-sum (clusterQueue K (suc k)) (Kept K k) (called-kept K k) (stored K (suc k)) (call-sum K k) rs (start K (suc k) ws) (start-kept K k ws sh) f, start-empty K k ws sh f)
+      omega (arith, all-sum (clusterQueue K (suc k)) (Kept K k) (called-kept K k) (storedCount K (suc k)) (call-sum K k) rs (start K (suc k) ws) (start-kept K k ws sh) f, start-empty K k ws sh f)
 
   -- .. so each triple of rank, tag and length as often
   pub triples : (levels : ℕ) → Shape K levels (length ws) → (e : Element)
-      → stored K levels (after K levels rs ws) (triple e) + allGiven rs (said levels) (triple e) ≡ allBrought rs (said levels) (triple e)
+      → storedCount K levels (after K levels rs ws) (triple e) + allGiven rs (said levels) (triple e) ≡ allBrought rs (said levels) (triple e)
   triples levels sh e = holds levels sh (triple e)
 
   -- TAGGED: no element of tag 0 is stored, and none has come out
-  pub tagged : (levels : ℕ) → Shape K levels (length ws) → Tagged (stored K levels (after K levels rs ws)) rs (said levels)
-  tagged levels sh = tagged-by (clusterQueue K levels) (barred K levels) (stored K levels (after K levels rs ws)) rs (start K levels ws) (holds levels sh)
+  pub tagged : (levels : ℕ) → Shape K levels (length ws) → Tagged (storedCount K levels (after K levels rs ws)) rs (said levels)
+  tagged levels sh = tagged-by (clusterQueue K levels) (barred K levels) (storedCount K levels (after K levels rs ws)) rs (start K levels ws) (holds levels sh)
 
   -- what is kept after these requests
   now-kept : (k : ℕ) → Shape K (suc k) (length ws) → Kept K k (after K (suc k) rs ws)
   now-kept k sh = leaves-kept K k rs (start K (suc k) ws) (start-kept K k ws sh)
 
   -- LEAST: what comes out, of a pop or a replace, has the lowest rank of all stored before
-  pub least : (levels : ℕ) → Shape K levels (length ws) → (r : Request) → Least (stored K levels (after K levels rs ws)) r (called K levels r (after K levels rs ws) .answer)
+  pub least : (levels : ℕ) → Shape K levels (length ws) → (r : Request) → Least (storedCount K levels (after K levels rs ws)) r (called K levels r (after K levels rs ws) .answer)
   least zero sh r = absurd (not-suc-le-zero (sh .some))
   least (suc k) sh r = kept-least K k (after K (suc k) rs ws) (now-kept k sh) r
 
@@ -192,7 +192,7 @@ module _ (K : ℕ) (ws : List ℕ) (rs : List Request) where
 
   -- the call held answers how many are stored
   pub held-says : (levels : ℕ) → Shape K levels (length ws)
-      → (countNumber (heldCount K levels (after K levels rs ws)) ≡ 0) × (countOf (heldCount K levels (after K levels rs ws)) ≡ stored K levels (after K levels rs ws) always)
+      → (countNumber (heldCount K levels (after K levels rs ws)) ≡ 0) × (countOf (heldCount K levels (after K levels rs ws)) ≡ storedCount K levels (after K levels rs ws) always)
   held-says zero sh = absurd (not-suc-le-zero (sh .some))
   held-says (suc k) sh =
       let now : List ℕ = after K (suc k) rs ws in

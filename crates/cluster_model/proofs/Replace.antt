@@ -23,7 +23,7 @@ use Rattle.strip.specs.declared.Request.the-variants.{Pop, Push, Replace}
 use Rattle.cluster_model.specs.Calls.{called, heldIn, Outcome, rule, ruling}
 use Rattle.cluster_model.specs.Heap.{room}
 use Rattle.cluster_model.specs.Node.{lowElem, none, swap, take}
-use Rattle.cluster_model.specs.Promise.{after, PopThenPush, Shape, start, stored}
+use Rattle.cluster_model.specs.Promise.{after, PopThenPush, Shape, start, storedCount}
 use Rattle.cluster_model.specs.Way.{nodeIn}
 use Rattle.cluster_model.proofs.Exactly.{root-limit, stands}
 use Rattle.cluster_model.proofs.Promises.{call-sum, called-kept, Kept, kept-called, kept-held, leaves-kept, sound-root, start-kept}
@@ -78,7 +78,7 @@ module _ (K k : ℕ) (x : Element) (tag : Untagged (Replace x) → ⊥) (ws : Li
       go (Refused n) e = stands K (suc k) ws (Replace x) n (ap numberOf e) ∙ sym (stands K (suc k) ws Pop n (ap numberOf (sym same ∙ e)))
 
   -- the pop leaves one less than it found, so that there is room
-  pop-sum : numberOf a ≡ 0 → (f : Element → Bool) → stored K (suc k) vs f + hit (f (elementOf a)) ≡ stored K (suc k) ws f
+  pop-sum : numberOf a ≡ 0 → (f : Element → Bool) → storedCount K (suc k) vs f + hit (f (elementOf a)) ≡ storedCount K (suc k) ws f
   pop-sum e f =
       let p : numberOf (called K (suc k) Pop ws .answer) ≡ 0 = ap numberOf (sym same) ∙ e in
       omega (arith, call-sum K k Pop ws kept f, given-out (called K (suc k) Pop ws .answer) p f, ap (λ (b : Answer). hit (f (elementOf b))) same)
@@ -98,10 +98,10 @@ module _ (K k : ℕ) (x : Element) (tag : Untagged (Replace x) → ⊥) (ws : Li
   push-taken : numberOf a ≡ 0 → called K (suc k) (Push x) vs .answer ≡ Done
   push-taken e = ap (λ (o : Outcome). o .answer) (kept-called K k vs popped (Push x)) ∙ push-done (room K (suc k)) (heldIn K (suc k) vs) x (lowElem (nodeIn K vs 0 .places)) has (less e)
 
-  replace-sum : numberOf a ≡ 0 → (f : Element → Bool) → stored K (suc k) (called K (suc k) (Replace x) ws .words) f + hit (f (elementOf a)) ≡ stored K (suc k) ws f + hit (f x)
+  replace-sum : numberOf a ≡ 0 → (f : Element → Bool) → storedCount K (suc k) (called K (suc k) (Replace x) ws .words) f + hit (f (elementOf a)) ≡ storedCount K (suc k) ws f + hit (f x)
   replace-sum e f = omega (arith, call-sum K k (Replace x) ws kept f, given-out a e f, brought-in x a e f)
 
-  push-sum : numberOf a ≡ 0 → (f : Element → Bool) → stored K (suc k) (called K (suc k) (Push x) vs .words) f ≡ stored K (suc k) vs f + hit (f x)
+  push-sum : numberOf a ≡ 0 → (f : Element → Bool) → storedCount K (suc k) (called K (suc k) (Push x) vs .words) f ≡ storedCount K (suc k) vs f + hit (f x)
   push-sum e f = omega (arith, call-sum K k (Push x) vs popped f, ap (λ (b : Answer). brought (Push x) b f) (push-taken e))
 
   pub kept-replaces : PopThenPush K (suc k) x ws

@@ -2,15 +2,15 @@
 use Prim.Native.Nat.{_+_, _<_, _≤_, suc, zero, ℕ}
 use native.Mathlib.Nat.{le-of-suc-le-suc, le-refl, not-suc-le-zero}
 use native.Mathlib.Omega.{arith}
-use mathlib.Core.Bool.{_&&_, _||_, Bool, cond, false, false≢true, not, true, true≢false}
+use mathlib.Core.Bool.{_&&_, _||_, Bool, cond, false, not, true}
 use mathlib.Core.List.{[], _∷_, List}
-use mathlib.Core.Logic.{_⊎_, inl, inr, ⊎-elim}
-use mathlib.Core.Path.{_∙_, _≡_, ap, refl, subst, sym}
+use mathlib.Core.Logic.{inl, inr}
+use mathlib.Core.Path.{_≡_, ap, refl, subst, sym}
 use lib.Dec.{eqb, ltb}
-use lib.ListN.{getD, length, set}
+use lib.ListN.{getD, length}
 use borrow.Author.Tests.{eqb-false, eqb-true, ltb-false, ltb-true}
 use Rattle.laws.specs.Means.{means-no}
-use Rattle.promise.specs.Refused.{Untagged, untagged-means}
+use Rattle.promise.specs.Refused.{untagged-means}
 use Rattle.promise.specs.Served.{always, hit}
 use Rattle.strip.proofs.Order.{Before, before-says, UpTo, upto-says}
 use Rattle.strip.specs.Answers.{key, precedes, untagged}
@@ -19,10 +19,10 @@ use Rattle.strip.specs.declared.Element.{Element}
 use Rattle.strip.specs.declared.Refusal.the-variants.{Empty, Full, NoTag}
 use Rattle.strip.specs.declared.Request.{Request}
 use Rattle.strip.specs.declared.Request.the-variants.{Idle, Pop, Push, Replace}
-use Rattle.cluster_model.specs.Calls.{rule, Ruling, ruling}
-use Rattle.cluster_model.specs.Node.{above, ahead, begin, elemOf, fewer, fillFrom, finish, Finished, finished, free, freeHere, gap, has, high, highElem, highHere, hitAt, inside, keep, lhs, low, lowElem, lowerSide, lowHere, Node, none, nothingBelow, Op, pass, pick, Place, placeAt, put, putBy, raise, rhs, seek, Side, sideIf, sink, store, swap, swapBy, take, takeBy, trialBy, trialFrom}
+use Rattle.cluster_model.specs.Calls.{rule, ruling}
+use Rattle.cluster_model.specs.Node.{above, ahead, begin, elemOf, fewer, fillFrom, finish, finished, free, freeHere, gap, has, high, highElem, highHere, inside, keep, lhs, low, lowElem, lowerSide, lowHere, Node, none, nothingBelow, pass, pick, Place, placeAt, put, putBy, rhs, seek, Side, sideIf, sink, store, swap, swapBy, take, takeBy, trialBy, trialFrom}
 use Rattle.cluster_model.specs.Rules.{clears, Comes, empty, ends, exchanges, Fewer, fills, full, goes, idles, IsFree, IsHighest, IsLowest, lacks, Lower, no-tag, passes, puts, Puts, stays, stepOf, swaps, Swaps, takes, Takes}
-use Rattle.cluster_model.proofs.Places.{above-of, gap-has, high-is, inside-most, IsHigh, IsLow, low-is, place-hit, set-twice, some-ahead}
+use Rattle.cluster_model.proofs.Places.{above-of, gap-has, high-is, inside-most, low-is, place-hit, set-twice, some-ahead}
 
 -- ---- places
 pub free-is : (ps : List Place) → free ps < length ps → IsFree ps (free ps)

@@ -1,10 +1,9 @@
 -- A request served on a sound heap leaves it sound, holding what was brought in less what was given out; what is given has the lowest rank.
-use Prim.Native.Nat.{_+_, _<_, _≤_, suc, zero, ℕ}
+use Prim.Native.Nat.{_+_, _<_, suc, zero, ℕ}
 use native.Mathlib.Omega.{arith}
 use mathlib.Core.Bool.{Bool}
-use mathlib.Core.List.{[], _∷_, List}
 use mathlib.Core.Path.{_≡_, refl, sym}
-use lib.ListN.{length, length-replicate, replicate}
+use lib.ListN.{length-replicate, replicate}
 use Rattle.promise.specs.Refused.{zero-told}
 use Rattle.promise.specs.Served.{always, brought, given, hit, Least, lower, unrefused}
 use Rattle.strip.specs.Answers.{blank, key, refusalNumber}
@@ -15,7 +14,7 @@ use Rattle.strip.specs.declared.Refusal.the-variants.{Empty, Full, NoTag}
 use Rattle.strip.specs.declared.Request.{Request}
 use Rattle.strip.specs.declared.Request.the-variants.{Idle, Pop, Push, Replace}
 use Rattle.cluster_model.specs.Calls.{rootHeld, rule, Ruling, ruling}
-use Rattle.cluster_model.specs.Heap.{act, Can, Fit, gain, Heap, loss, lowest, many, Rest, room, Sound}
+use Rattle.cluster_model.specs.Heap.{act, Can, gain, Heap, loss, lowest, many, room, Sound}
 use Rattle.cluster_model.specs.Node.{Bag, gap, inside, lowElem, none, under}
 use Rattle.cluster_model.specs.Rules.{Comes, empty, full, idles, lacks, no-tag, puts, swaps, takes}
 use Rattle.cluster_model.proofs.Heap.{acts, heap-least}

@@ -1,19 +1,19 @@
 -- The two halves of an operation at one node, over the bags of its children.
 use Prim.Native.Nat.{ℕ, zero, suc, _+_, _≤_, _<_, pred}
-use native.Mathlib.Nat.{not-suc-le-zero, le-of-suc-le-suc, le-refl, le-of-lt}
+use native.Mathlib.Nat.{le-refl}
 use native.Mathlib.Omega.{arith}
 use mathlib.Core.Path.{_≡_, refl, sym, ap, _∙_, subst}
-use mathlib.Core.Bool.{Bool, true, false, cond, not, _&&_, _||_}
-use mathlib.Core.List.{List, [], _∷_}
-use lib.Dec.{ltb, leb, eqb}
-use lib.ListN.{length, getD, set, length-set}
+use mathlib.Core.Bool.{Bool, true, false, not, _&&_, _||_}
+use mathlib.Core.List.{List}
+use lib.Dec.{ltb, eqb}
+use lib.ListN.{length, set, length-set}
 use borrow.Author.Tests.{ltb-true, ltb-false, eqb-true, eqb-false}
 use Rattle.promise.specs.Served.{always, hit}
 use Rattle.strip.specs.declared.Element.{Element}
-use Rattle.strip.specs.Answers.{blank, key}
-use Rattle.cluster_model.specs.Node.{Bag, under, above, Place, gap, has, hitAt, inside, elemOf, placeAt, free, low, high, lowElem, highElem, keep, pass, Node, Side, lhs, rhs, count, pick, sideIf, fewer, lowerSide, store, raise, sink, nothingBelow, Op, none, put, take, swap, Note, nothing, fill, trial, onto, Begun, begun, putBy, takeBy, swapBy, begin, Finished, finished, fillFrom, trialBy, trialFrom, finish, toLeft, toRight}
-use Rattle.cluster_model.specs.Heap.{carried, Ordered, Rest, Waiting, Order, owedLeft, owedRight, Fit, Can, gain, loss, Became}
-use Rattle.cluster_model.proofs.Places.{not-lt, hit-le, not-under, is-under, under-mono, parted, is-above, not-above, above-of, inside-most, inside-length, inside-parted, inside-under, inside-put, gap-has, place-here, place-hit, place-same, place-other, set-twice, free-found, no-free, under-between, IsLow, low-is, low-least, IsHigh, high-is, keep-pass, keep-le}
+use Rattle.strip.specs.Answers.{key}
+use Rattle.cluster_model.specs.Node.{Bag, under, above, Place, gap, has, inside, elemOf, placeAt, free, low, high, lowElem, highElem, keep, pass, Node, Side, lhs, rhs, pick, sideIf, fewer, lowerSide, store, raise, sink, nothingBelow, Op, none, put, take, swap, Note, nothing, fill, trial, onto, Begun, begun, putBy, takeBy, swapBy, begin, Finished, fillFrom, trialBy, trialFrom, finish, toLeft, toRight}
+use Rattle.cluster_model.specs.Heap.{carried, Rest, Waiting, Fit, Can, gain, loss, Became}
+use Rattle.cluster_model.proofs.Places.{hit-le, not-under, is-under, parted, is-above, above-of, inside-length, inside-parted, inside-put, gap-has, place-here, place-hit, place-same, place-other, set-twice, free-found, no-free, IsLow, low-is, low-least, IsHigh, high-is, keep-pass, keep-le}
 
 -- the laws of a bag
 pub record IsBag (β : Bag) : Type 0 where

@@ -1,6 +1,6 @@
 -- What the words of a store hold, node by node, is what the heap at its root holds; and a cleared slice is the cleared heap.
 use Prim.Native.Nat.{_*_, _+_, _-_, _<_, _≤_, suc, zero, ℕ}
-use native.Mathlib.Nat.{add-assoc, zero-add}
+use native.Mathlib.Nat.{zero-add}
 use native.Mathlib.Omega.{arith}
 use mathlib.Core.Bool.{Bool}
 use mathlib.Core.List.{_++_, _∷_, List}
@@ -12,13 +12,13 @@ use Rattle.laws.specs.Sums.{grid, sumTo, to-add, to-append, to-ext, to-zero}
 use Rattle.strip.specs.Answers.{element}
 use Rattle.strip.specs.declared.Element.{Element}
 use Rattle.cluster_model.specs.Calls.{wipe}
-use Rattle.cluster_model.specs.Heap.{Heap, many}
-use Rattle.cluster_model.specs.Node.{gap, inside, lhs, Node, Place, rhs}
-use Rattle.cluster_model.specs.Promise.{nodes, stored, Zeroed}
+use Rattle.cluster_model.specs.Heap.{many}
+use Rattle.cluster_model.specs.Node.{gap, inside, Node, Place}
+use Rattle.cluster_model.specs.Promise.{nodes, storedCount, Zeroed}
 use Rattle.cluster_model.specs.Way.{extent, heapIn, nodeIn}
 use Rattle.cluster_model.specs.Words.{nodeOf, placeBy, placeOf, rowOf, width, word}
 use Rattle.cluster_model.proofs.Index.{root-heap}
-use Rattle.cluster_model.proofs.Levels.{childOf, clear-heap, clearHeap, clearLevels, clearNode, heapOf, Levels, nodeAt}
+use Rattle.cluster_model.proofs.Levels.{clear-heap, clearHeap, clearLevels, clearNode, heapOf, Levels, nodeAt}
 use Rattle.cluster_model.proofs.Pass.{row-at}
 use Rattle.cluster_model.proofs.Words.{levelsOf}
 
@@ -63,8 +63,8 @@ levels-sum f K (suc k) ws b c =
         let right : M (suc (n + n)) ≡ M (n * 2 + 1) = ap M (omega arith) in
         omega (arith, own, left, right)
 
-pub stored-many : (K k : ℕ) (ws : List ℕ) (f : Element → Bool) → stored K k ws f ≡ many f k (heapIn K k ws 0)
-unfolding stored sumTo
+pub stored-many : (K k : ℕ) (ws : List ℕ) (f : Element → Bool) → storedCount K k ws f ≡ many f k (heapIn K k ws 0)
+unfolding storedCount sumTo
 stored-many K k ws f =
     let O : ℕ → ℕ = λ i. inside f (nodeIn K ws i .places) in
     let all : nodes k ≡ cells k 1 = omega (arith, cells-nodes k 1) in

@@ -1,6 +1,6 @@
 -- "of a longer one the rest is never touched": not read either. Two stores that agree on the words of the shape are answered the same and left the
 -- same there, whatever stands behind.
-use Prim.Native.Nat.{_*_, _+_, _<_, _≤_, pred, suc, zero, ℕ}
+use Prim.Native.Nat.{_*_, _+_, _≤_, pred, suc, zero, ℕ}
 use native.Mathlib.Decide.{ℕ-discrete}
 use native.Mathlib.Nat.{not-suc-le-zero}
 use native.Mathlib.Omega.{arith}
@@ -15,17 +15,16 @@ use Rattle.laws.specs.Tests.{and-left, and-right}
 use Rattle.promise.specs.Served.{always}
 use Rattle.strip.specs.declared.Element.{Element}
 use Rattle.strip.specs.declared.Request.{Request}
-use Rattle.cluster_model.specs.Calls.{called, heldCount, heldIn, Outcome, rootHeld, rootOk, rule, ruleAt, Ruling, shapeOk}
+use Rattle.cluster_model.specs.Calls.{called, heldCount, Outcome, rootHeld, rootOk, rule, ruleAt, Ruling, shapeOk}
 use Rattle.cluster_model.specs.Heap.{room}
 use Rattle.cluster_model.specs.Node.{begin, finish, Finished, inside, lhs, low, lowElem, Node, none, nothingBelow, Op, Place, put, rhs, Side, swap, take}
 use Rattle.cluster_model.specs.Promise.{Agree, Shape}
 use Rattle.cluster_model.specs.Way.{child, childrenOk, extent, Lies, lowIn, neatTo, nodeIn, nodeOk, ownOk, readOk, roomy, runWords, some, stepIn, strict, touch, under1, wayOk, works}
-use Rattle.cluster_model.specs.Words.{lengthIn, markOf, neatPlace, rankIn, tagIn, width, word, writeNode, writePlace, writeRow}
+use Rattle.cluster_model.specs.Words.{lengthIn, markOf, neatPlace, rankIn, tagIn, width, writeNode, writePlace, writeRow}
 use Rattle.cluster_model.proofs.Damages.{is-shape}
 use Rattle.cluster_model.proofs.Exactly.{called-fine, called-root, called-way}
 use Rattle.cluster_model.proofs.Slice.{lies-all}
-use Rattle.cluster_model.proofs.Pass.{touch-length}
-use Rattle.cluster_model.proofs.Words.{node-local, write-length}
+use Rattle.cluster_model.proofs.Words.{node-local}
 
 -- ---- the same word written in both
 module _ (N : ℕ) where

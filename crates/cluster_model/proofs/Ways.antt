@@ -5,14 +5,14 @@ use native.Mathlib.Omega.{arith}
 use mathlib.Core.Bool.{_&&_, _||_, Bool, false, true}
 use mathlib.Core.List.{List}
 use mathlib.Core.Path.{_≡_, ap, ap₂, refl, subst, sym}
-use lib.Dec.{eqb, leb, ltb}
+use lib.Dec.{eqb, ltb}
 use lib.ListN.{length}
 use borrow.Author.Tests.{eq-eqb, eqb-false, le-leb, lt-ltb, ltb-false}
 use Rattle.laws.specs.Tests.{and-true}
 use Rattle.promise.specs.Served.{always}
 use Rattle.strip.specs.Answers.{element}
 use Rattle.strip.specs.declared.Element.{Element}
-use Rattle.cluster_model.specs.Node.{Bag, Begun, begin, Finished, finish, inside, lhs, low, lowElem, Node, none, nothing, nothingBelow, Op, pick, Place, put, rhs, Side, swap, take, toLeft, toRight}
+use Rattle.cluster_model.specs.Node.{Bag, Begun, begin, Finished, finish, inside, lhs, low, lowElem, Node, none, nothing, nothingBelow, Op, pick, Place, put, rhs, Side, swap, take}
 use Rattle.cluster_model.specs.Heap.{Can, Fit, Heap, lowest, many, room, Sound}
 use Rattle.cluster_model.specs.Words.{lengthIn, markOf, Neat, neatPlace, NeatPlace, NeatRow, placeBy, placeOf, rankIn, tagIn, width, word}
 use Rattle.cluster_model.specs.Way.{child, childrenOk, heapIn, lowIn, neatTo, nodeIn, nodeOk, ownOk, readOk, roomy, some, stepIn, strict, under1, wayOk}

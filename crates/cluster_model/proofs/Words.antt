@@ -1,19 +1,17 @@
 -- What is written in the words of one node is a store into that node of its level, and nothing else changes.
 use Prim.Native.Nat.{ℕ, zero, suc, _+_, _*_, _≤_, _<_}
-use native.Mathlib.Nat.{not-suc-le-zero, le-refl, le-of-suc-le-suc, mul-le-mul-right}
+use native.Mathlib.Nat.{not-suc-le-zero, le-of-suc-le-suc, mul-le-mul-right}
 use native.Mathlib.Omega.{arith}
-use mathlib.Core.Path.{_≡_, refl, sym, ap, ap₂, _∙_, subst}
-use mathlib.Core.Bool.{Bool, true, false}
-use mathlib.Core.List.{List, [], _∷_}
+use mathlib.Core.Path.{_≡_, refl, sym, ap, ap₂, _∙_}
+use mathlib.Core.List.{List, _∷_}
 use mathlib.Core.Logic.{_⊎_, inl, inr, ⊎-elim}
 use lib.Dec.{eqb}
-use lib.ListN.{length, getD, set, length-set}
+use lib.ListN.{length, set, length-set}
 use lib.Seq.{getD-set-same, getD-set-other}
 use Rattle.strip.specs.Answers.{element}
-use Rattle.strip.specs.declared.Element.{Element}
 use Rattle.cluster_model.specs.Node.{Place, gap, has, Node, store}
 use Rattle.cluster_model.proofs.Levels.{Levels}
-use Rattle.cluster_model.specs.Words.{word, rowOf, placeBy, placeOf, width, nodeOf, markOf, rankIn, tagIn, lengthIn, placeWords, writePlace, Only}
+use Rattle.cluster_model.specs.Words.{word, rowOf, placeBy, placeOf, width, nodeOf, markOf, rankIn, tagIn, lengthIn, writePlace, Only}
 
 -- k levels from word b on, the first of c nodes
 unfoldable pub levelsOf : ℕ → (k : ℕ) → List ℕ → ℕ → ℕ → Levels k

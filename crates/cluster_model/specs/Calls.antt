@@ -1,13 +1,12 @@
 -- The five calls of the cluster heap, each a total function of K, levels and words to an answer and the words afterwards.
-use Prim.Native.Nat.{ℕ, _+_, _*_, pred}
-use mathlib.Core.Bool.{Bool, true, false, cond, _&&_}
-use mathlib.Core.List.{List, [], _∷_, _++_}
+use Prim.Native.Nat.{ℕ, _+_, pred}
+use mathlib.Core.Bool.{Bool, cond, _&&_}
+use mathlib.Core.List.{List, _++_}
 use lib.Dec.{leb, eqb, ltb}
 use lib.ListN.{length, drop, replicate}
 use Rattle.promise.specs.Served.{always}
 use Rattle.strip.specs.Answers.{untagged}
 use Rattle.strip.specs.declared.Element.{Element}
-use Rattle.strip.specs.declared.Refusal.{Refusal}
 use Rattle.strip.specs.declared.Refusal.the-variants.{BadShape, Damaged, Full, Empty, NoTag}
 use Rattle.strip.specs.declared.Answer.{Answer}
 use Rattle.strip.specs.declared.Answer.the-variants.{Done, Out, Refused}

@@ -1,14 +1,13 @@
 -- The heap as a tree of nodes: an operation done to its end, what the heap holds, and when it is sound.
 use Prim.Native.Nat.{ℕ, zero, suc, _+_, _≤_, _<_}
 use mathlib.Core.Path.{_≡_}
-use mathlib.Core.Bool.{Bool, true, false}
-use mathlib.Core.List.{List, [], _∷_}
-use lib.Dec.{ltb}
-use lib.ListN.{length, getD, set}
+use mathlib.Core.Bool.{Bool}
+use mathlib.Core.List.{List}
+use lib.ListN.{length, set}
 use Rattle.promise.specs.Served.{always, hit}
 use Rattle.strip.specs.declared.Element.{Element}
-use Rattle.strip.specs.Answers.{blank, key}
-use Rattle.cluster_model.specs.Node.{Bag, under, above, Place, gap, has, inside, placeAt, low, lowElem, Node, Side, lhs, rhs, Op, none, put, take, swap, Note, nothing, fill, trial, onto, Begun, begin, Finished, finish, toLeft, toRight}
+use Rattle.strip.specs.Answers.{blank}
+use Rattle.cluster_model.specs.Node.{Bag, under, above, Place, gap, has, inside, placeAt, low, lowElem, Node, lhs, rhs, Op, none, put, take, swap, Note, nothing, fill, trial, onto, begin, finish, toLeft, toRight}
 
 -- a node and the two heaps below it
 abbrev pub Heap : ℕ → Type 0

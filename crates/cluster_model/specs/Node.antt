@@ -1,6 +1,6 @@
 -- A place, a node; the choice of a place; the two halves of an operation at one node: what it does at the node alone, and what is settled with the
 -- children.
-use Prim.Native.Nat.{ℕ, zero, suc, _+_, pred}
+use Prim.Native.Nat.{ℕ, suc, _+_, pred}
 use mathlib.Core.Bool.{Bool, true, false, cond, not, _&&_, _||_}
 use mathlib.Core.List.{List, [], _∷_}
 use lib.Dec.{ltb, leb, eqb}

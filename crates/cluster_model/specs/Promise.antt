@@ -20,7 +20,7 @@ use Rattle.strip.specs.declared.Request.{Request}
 use Rattle.strip.specs.declared.Request.the-variants.{Pop, Push, Replace}
 use Rattle.cluster_model.specs.Calls.{called, cleared, heldCount, heldIn, ruleAt}
 use Rattle.cluster_model.specs.Heap.{room}
-use Rattle.cluster_model.specs.Node.{Finished, inside, lhs, Node, none, Op, put, rhs, swap, take}
+use Rattle.cluster_model.specs.Node.{inside, lhs, Node, none, Op, put, rhs, swap, take}
 use Rattle.cluster_model.specs.Way.{child, extent, nodeIn, stepIn, under1}
 use Rattle.cluster_model.specs.Words.{word}
 
@@ -102,8 +102,8 @@ nodes zero = 0
 nodes (suc k) = suc (nodes k + nodes k)
 
 -- how many places of the nodes of these levels hold an element that passes the test
-unfoldable pub stored : ℕ → ℕ → List ℕ → (Element → Bool) → ℕ
-stored K levels ws f = sumTo (nodes levels) (λ m. inside f (nodeIn K ws m .places))
+unfoldable pub storedCount : ℕ → ℕ → List ℕ → (Element → Bool) → ℕ
+storedCount K levels ws f = sumTo (nodes levels) (λ m. inside f (nodeIn K ws m .places))
 
 -- "Clear writes zeros. .. of a longer one the rest is never touched", word by word
 pub record Zeroed (n : ℕ) (ws vs : List ℕ) : Type 0 where
@@ -137,10 +137,10 @@ pub record PopThenPush (K levels : ℕ) (x : Element) (ws : List ℕ) : Type 0 w
   pub taken : numberOf (called K levels (Replace x) ws .answer) ≡ 0 → called K levels (Push x) (called K levels Pop ws .words) .answer ≡ Done
   -- .. and of every kind of element as many are stored as after the pop and the push
   pub stores : numberOf (called K levels (Replace x) ws .answer) ≡ 0 → (f : Element → Bool)
-      → stored K levels (called K levels (Replace x) ws .words) f ≡ stored K levels (leaves (clusterQueue K levels) (Pop ∷ Push x ∷ []) ws) f
+      → storedCount K levels (called K levels (Replace x) ws .words) f ≡ storedCount K levels (leaves (clusterQueue K levels) (Pop ∷ Push x ∷ []) ws) f
   -- that is what was stored, less what is answered, and the newcomer
   pub swapped : (e : Element) → called K levels (Replace x) ws .answer ≡ Out e → (f : Element → Bool)
-      → stored K levels (called K levels (Replace x) ws .words) f + hit (f e) ≡ stored K levels ws f + hit (f x)
+      → storedCount K levels (called K levels (Replace x) ws .words) f + hit (f e) ≡ storedCount K levels ws f + hit (f x)
 
 -- ---- each public call's outcome is one
 pub record Pinned (K levels : ℕ) (ws : List ℕ) : Type 0 where

@@ -1,5 +1,5 @@
 -- The rules in 02's own words: the three choices of a place, the two of a child, and the steps of put, take and swap at a node.
-use Prim.Native.Nat.{_+_, _<_, _≤_, suc, ℕ}
+use Prim.Native.Nat.{_+_, _<_, _≤_, ℕ}
 use mathlib.Core.List.{List}
 use mathlib.Core.Logic.{_⊎_}
 use mathlib.Core.Path.{_≡_}

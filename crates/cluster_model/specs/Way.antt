@@ -2,7 +2,7 @@
 -- 2m + 1 and 2m + 2. The tests for damage: of a node, of a step, and of an operation's whole path.
 use Prim.Native.Nat.{ℕ, zero, suc, _+_, _*_, _≤_}
 use mathlib.Core.Bool.{Bool, true, false, _&&_, _||_}
-use mathlib.Core.List.{List, [], _∷_}
+use mathlib.Core.List.{List}
 use lib.Dec.{eqb, leb, ltb}
 use lib.ListN.{length}
 use Rattle.promise.specs.Served.{always}

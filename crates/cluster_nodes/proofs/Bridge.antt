@@ -1,28 +1,23 @@
 -- The code's scan and tests are those of the definitions.
-use Prim.Native.Nat.{ℕ, zero, suc, _+_, _*_, _-_, _≤_, _<_, pred}
-use native.Mathlib.Nat.{not-suc-le-zero}
-use native.Mathlib.Numerals.{add-one}
+use Prim.Native.Nat.{ℕ, zero, suc, _+_, _*_, _≤_, _<_}
 use native.Mathlib.Omega.{arith}
-use mathlib.Core.Path.{_≡_, refl, sym, ap, ap₂, _∙_, subst}
-use mathlib.Core.Bool.{Bool, true, false, cond, not, _&&_, _||_}
+use mathlib.Core.Path.{_≡_, refl, sym, ap, _∙_}
+use mathlib.Core.Bool.{Bool, true, false, cond, not, _&&_}
 use mathlib.Core.List.{_++_, List, [], _∷_}
-use lib.Dec.{ltb, leb, eqb}
+use lib.Dec.{ltb, eqb}
 use lib.ListN.{length}
 use borrow.Author.Tests.{eq-eqb, ne-eqb, eqb-true, eqb-false, le-ltb, lt-ltb, ltb-false, ltb-true}
 use Rattle.strip.specs.declared.Element.{Element}
 use Rattle.strip.specs.Answers.{element}
 use Rattle.promise.specs.Served.{always}
-use Rattle.cluster_nodes.specs.declared.Seen.{Seen}
-use Rattle.cluster_model.specs.Node.{Place, gap, has, hitAt, inside, free, seek, freeHere, placeAt, Node, nothingBelow}
-use Rattle.cluster_model.specs.Heap.{room}
+use Rattle.cluster_model.specs.Node.{Place, gap, has, hitAt, inside, free, seek, freeHere, nothingBelow}
 use Rattle.cluster_model.specs.Words.{word, width, rowOf, placeBy, placeOf, nodeOf, neatPlace}
 use Rattle.cluster_nodes.specs.Scan.{lowerThan, highAs, scan}
 use Rattle.cluster_nodes.specs.Seeing.{isMarked, seeOne, lookTo}
-use Rattle.cluster_model.specs.Way.{nodeIn, neatTo, nodeOk, strict}
-use Rattle.cluster_nodes.specs.Leaf.{bareAt, okBy, lookNode, elemAt, placeIn}
+use Rattle.cluster_model.specs.Way.{neatTo, nodeOk, strict}
+use Rattle.cluster_nodes.specs.Leaf.{bareAt, okBy, lookNode}
 use Rattle.cluster_model.proofs.Pass.{node-count}
 use Rattle.cluster_nodes.proofs.ScanCode.{row-place}
-use Rattle.cluster_nodes.proofs.Unique.{scan-is-low, scan-is-high}
 use Rattle.cluster_nodes.proofs.Looks.{within}
 
 -- ---- the scan

@@ -1,23 +1,19 @@
 -- For the code that chooses between two children.
-use Prim.Native.Nat.{ℕ, zero, suc, _+_, _*_, _-_, _≤_, _<_}
-use native.Mathlib.Nat.{not-suc-le-zero}
+use Prim.Native.Nat.{ℕ, _+_, _*_, _≤_, _<_}
 use native.Mathlib.Omega.{arith}
 use mathlib.Core.Path.{_≡_, refl, sym, ap, ap₂, _∙_, subst}
-use mathlib.Core.Bool.{Bool, true, false, cond, not, _&&_, _||_, false≢true}
+use mathlib.Core.Bool.{Bool, true, false, cond, not, _&&_, _||_}
 use mathlib.Core.List.{List}
-use lib.Dec.{ltb, leb, eqb}
-use lib.ListN.{length}
-use borrow.Author.Tests.{not-true, not-false, lt-ltb, le-ltb, leb-true}
+use lib.Dec.{ltb, eqb}
 use Rattle.strip.specs.declared.Element.{Element}
 use Rattle.strip.specs.Answers.{key}
 use Rattle.cluster_nodes.specs.declared.Seen.{Seen}
 use Rattle.cluster_nodes.specs.declared.Found.{Found}
 use Rattle.cluster_nodes.specs.declared.Chosen.{Chosen}
-use Rattle.cluster_model.specs.Node.{gap, has, keep, pass}
-use Rattle.cluster_model.specs.Words.{word, width, writePlace}
+use Rattle.cluster_model.specs.Words.{word, width}
 use Rattle.cluster_nodes.specs.Seeing.{lookTo}
 use Rattle.cluster_nodes.specs.Leaf.{elemAt, okBy, placeIn, peekHere, peekAt, peekOf, rightLower, rightRank, choiceBy, choiceOf, begun}
-use Rattle.cluster_nodes.proofs.Looks.{low-lt, high-lt}
+use Rattle.cluster_nodes.proofs.Looks.{low-lt}
 
 -- ---- the lower child
 pub peek-place : (K limit : ℕ) (ws : List ℕ) (o count : ℕ) (p : Found) → 0 < K → p ≡ peekAt K limit ws o count → p .place < K

@@ -1,18 +1,16 @@
 -- Four places by pairs, and the lower of two full children of four places each.
-use Prim.Native.Nat.{ℕ, zero, suc, _+_, _*_, _/_, _≤_, _<_}
+use Prim.Native.Nat.{ℕ, _+_, _*_, _/_, _<_}
 use native.Mathlib.Omega.{arith}
 use mathlib.Core.Path.{_≡_, refl, sym, ap, ap₂, _∙_, subst}
-use mathlib.Core.Bool.{Bool, true, false, cond, not, _&&_, _||_, false≢true}
+use mathlib.Core.Bool.{Bool, true, false, cond, not, _&&_}
 use mathlib.Core.List.{List}
-use lib.Dec.{ltb, leb, eqb}
+use lib.Dec.{ltb, eqb}
 use borrow.Author.Tests.{ltb-true, ltb-false, lt-ltb, le-ltb, eqb-false, not-true}
 use Rattle.strip.specs.declared.Element.{Element}
-use Rattle.cluster_model.specs.Words.{word, width}
+use Rattle.cluster_model.specs.Words.{word}
 use Rattle.cluster_nodes.specs.declared.Lead.{Lead}
-use Rattle.cluster_nodes.specs.declared.Found.{Found}
-use Rattle.cluster_nodes.specs.declared.Chosen.{Chosen}
-use Rattle.cluster_nodes.specs.Full.{fullTo, turnAt, bestTo, turns, lowTo, lowLead}
-use Rattle.cluster_nodes.specs.Leaf.{elemAt, countsOk, rightRank, choiceOf, begun, ChoiceFrom, Scanned}
+use Rattle.cluster_nodes.specs.Full.{fullTo, turnAt, bestTo, turns, lowLead}
+use Rattle.cluster_nodes.specs.Leaf.{elemAt, countsOk, rightRank, ChoiceFrom, Scanned}
 use Rattle.cluster_nodes.proofs.Fulls.{and-l, and-r, full-next, full-first, best-first, best-taken, best-stays, best-lt, peek-full}
 use Rattle.cluster_nodes.proofs.Children.{choice-from}
 

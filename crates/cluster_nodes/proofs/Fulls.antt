@@ -3,16 +3,16 @@ use Prim.Native.Nat.{ℕ, zero, suc, _+_, _*_, _/_, _≤_, _<_}
 use native.Mathlib.Nat.{not-suc-le-zero}
 use native.Mathlib.Numerals.{add-one}
 use native.Mathlib.Omega.{arith}
-use mathlib.Core.Path.{_≡_, refl, sym, ap, ap₂, _∙_, subst}
+use mathlib.Core.Path.{_≡_, refl, sym, ap, ap₂, _∙_}
 use mathlib.Core.Bool.{Bool, true, false, cond, not, _&&_, _||_, false≢true}
 use mathlib.Core.List.{List}
 use lib.Dec.{ltb, leb, eqb}
-use borrow.Author.Tests.{eq-eqb, ne-eqb, eqb-true, eqb-false, ltb-true, ltb-false, lt-ltb, le-ltb, le-leb, leb-true}
+use borrow.Author.Tests.{eq-eqb, ne-eqb, eqb-true, eqb-false, ltb-true, ltb-false, le-leb, leb-true}
 use Rattle.strip.specs.declared.Element.{Element}
-use Rattle.strip.specs.Answers.{element, key, precedes, turn}
+use Rattle.strip.specs.Answers.{element, precedes, turn}
 use Rattle.strip.proofs.Order.{turn-before, turn-upto}
-use Rattle.cluster_model.specs.Node.{Place, gap, has, placeAt}
-use Rattle.cluster_model.specs.Words.{word, width, placeOf, placeBy, neatPlace, rowOf}
+use Rattle.cluster_model.specs.Node.{Place, placeAt}
+use Rattle.cluster_model.specs.Words.{word, placeOf, placeBy, neatPlace, rowOf}
 use Rattle.cluster_nodes.specs.declared.Seen.{Seen}
 use Rattle.cluster_nodes.specs.declared.Lead.{Lead}
 use Rattle.cluster_nodes.specs.declared.Found.{Found}

@@ -1,5 +1,5 @@
 -- For the code of the scan and of a node's tests.
-use Prim.Native.Nat.{ℕ, zero, suc, _+_, _*_, _-_, _/_, _≤_, _<_, pred}
+use Prim.Native.Nat.{ℕ, zero, suc, _+_, _*_, _-_, _≤_, _<_, pred}
 use lib.ListN.{set}
 use native.Mathlib.Nat.{not-suc-le-zero}
 use native.Mathlib.Numerals.{add-one}
@@ -7,17 +7,17 @@ use native.Mathlib.Omega.{arith}
 use mathlib.Core.Path.{_≡_, refl, sym, ap, ap₂, _∙_, subst}
 use mathlib.Core.Bool.{Bool, true, false, cond, not, _&&_, _||_}
 use mathlib.Core.List.{List}
-use lib.Dec.{ltb, leb, eqb}
+use lib.Dec.{leb, eqb}
 use borrow.Author.Tests.{eq-eqb, le-ltb, lt-ltb, ne-eqb}
 use Rattle.cluster_nodes.specs.declared.Seen.{Seen}
 use Rattle.cluster_nodes.specs.declared.Found.{Found}
 use Rattle.strip.specs.Answers.{key}
 use Rattle.strip.specs.declared.Element.{Element}
 use Rattle.cluster_model.specs.Node.{keep, pass}
-use Rattle.cluster_model.specs.Words.{word, placeOf, neatPlace, width}
+use Rattle.cluster_model.specs.Words.{word, placeOf, neatPlace}
 use Rattle.cluster_nodes.specs.Scan.{lowerThan, highAs}
 use Rattle.cluster_nodes.specs.Seeing.{isMarked, seeOne, lookTo, noLook}
-use Rattle.cluster_nodes.specs.Leaf.{okBy, bareAt, underOf, lookNode, peekHere, peekAt, raiseWords, sinkWords}
+use Rattle.cluster_nodes.specs.Leaf.{okBy, bareAt, underOf, peekHere, peekAt, raiseWords, sinkWords}
 
 pub see-is : (ws : List ℕ) (o j : ℕ) (v : Seen) (count free low high : ℕ) (lower higher : Bool)
     → lower ≡ lowerThan (placeOf ws (o + j * 4)) (placeOf ws (o + v .low * 4)) → higher ≡ highAs (placeOf ws (o + j * 4)) (placeOf ws (o + v .high * 4))

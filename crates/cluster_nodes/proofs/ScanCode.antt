@@ -1,18 +1,17 @@
 -- For the code of the scans.
-use Prim.Native.Nat.{ℕ, zero, suc, _+_, _*_, _≤_, _<_}
+use Prim.Native.Nat.{ℕ, zero, suc, _+_, _*_, _<_}
 use native.Mathlib.Nat.{not-suc-le-zero, le-of-suc-le-suc}
-use native.Mathlib.Numerals.{add-one}
 use native.Mathlib.Omega.{arith}
-use mathlib.Core.Path.{_≡_, refl, sym, ap, ap₂, _∙_, subst}
-use mathlib.Core.Bool.{_&&_, _||_, Bool, true, false, cond}
-use mathlib.Core.List.{List, [], _∷_}
+use mathlib.Core.Path.{_≡_, ap, _∙_}
+use mathlib.Core.Bool.{_&&_, _||_, true, false}
+use mathlib.Core.List.{List}
 use lib.Dec.{ltb, leb, eqb}
-use lib.ListN.{length, getD}
+use lib.ListN.{getD}
 use borrow.Author.Tests.{ne-eqb}
 use Rattle.strip.specs.Answers.{key, precedes}
-use Rattle.cluster_model.specs.Node.{Place, placeAt}
-use Rattle.cluster_model.specs.Words.{word, rowOf, placeBy, placeOf}
-use Rattle.cluster_nodes.specs.Scan.{lowerThan, highAs, scan}
+use Rattle.cluster_model.specs.Node.{placeAt}
+use Rattle.cluster_model.specs.Words.{rowOf, placeBy, placeOf}
+use Rattle.cluster_nodes.specs.Scan.{lowerThan, highAs}
 
 pub lower-none : (ws : List ℕ) (i k : ℕ) → getD ws (i + 3) 0 ≡ 0 → false ≡ lowerThan (placeOf ws i) (placeOf ws k)
 unfolding lowerThan placeOf placeBy

@@ -1,7 +1,7 @@
 -- What the code of one node computes: the tests of a node once it has been scanned, the lower of two children, a count one more or less.
-use Prim.Native.Nat.{ℕ, zero, suc, _+_, _*_, _-_, _/_, _≤_, _<_, pred}
+use Prim.Native.Nat.{ℕ, _+_, _*_, _-_, _/_, _≤_, _<_, pred}
 use mathlib.Core.Path.{_≡_}
-use mathlib.Core.Bool.{Bool, true, false, cond, not, _&&_, _||_}
+use mathlib.Core.Bool.{Bool, true, cond, not, _&&_, _||_}
 use mathlib.Core.List.{List}
 use lib.Dec.{ltb, leb, eqb}
 use lib.ListN.{length, set}
@@ -11,8 +11,7 @@ use Rattle.cluster_nodes.specs.declared.Seen.{Seen}
 use Rattle.cluster_nodes.specs.declared.Lead.{Lead}
 use Rattle.cluster_nodes.specs.declared.Found.{Found}
 use Rattle.cluster_nodes.specs.declared.Chosen.{Chosen}
-use Rattle.cluster_model.specs.Node.{gap, has, keep, pass}
-use Rattle.cluster_model.specs.Words.{word, width, writePlace}
+use Rattle.cluster_model.specs.Words.{word, width}
 use Rattle.cluster_nodes.specs.Seeing.{lookTo}
 use Rattle.cluster_nodes.specs.Full.{lowLead}
 

@@ -1,9 +1,8 @@
 -- The scans that the code makes over the places of a node, by the number of places seen.
-use Prim.Native.Nat.{ℕ, zero, suc, _+_}
+use Prim.Native.Nat.{ℕ, zero, suc}
 use mathlib.Core.Bool.{Bool, true, false, cond}
-use mathlib.Core.List.{List, [], _∷_}
+use mathlib.Core.List.{List}
 use lib.Dec.{leb}
-use Rattle.strip.specs.declared.Element.{Element}
 use Rattle.strip.specs.Answers.{key, precedes}
 use Rattle.cluster_model.specs.Node.{Place, gap, has, placeAt}
 

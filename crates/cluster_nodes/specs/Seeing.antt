@@ -1,6 +1,6 @@
 -- One scan of a node's places: neat so far, how many are marked, the first that is not, the lowest, the highest.
 use Prim.Native.Nat.{ℕ, zero, suc, _+_, _*_}
-use mathlib.Core.Bool.{Bool, true, false, cond, not, _&&_, _||_}
+use mathlib.Core.Bool.{Bool, true, cond, not, _&&_}
 use mathlib.Core.List.{List}
 use lib.Dec.{eqb}
 use Rattle.cluster_nodes.specs.declared.Seen.{Seen}

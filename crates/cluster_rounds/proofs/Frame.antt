@@ -2,10 +2,10 @@
 use Prim.Native.Nat.{_*_, _+_, _≤_, suc, zero, ℕ}
 use native.Mathlib.Nat.{mul-le-mul-right}
 use native.Mathlib.Omega.{arith}
-use mathlib.Core.Bool.{_&&_, Bool, false, not, true}
+use mathlib.Core.Bool.{_&&_, Bool, false, true}
 use mathlib.Core.List.{List}
 use mathlib.Core.Path.{_∙_, _≡_, ap, ap₂, refl, subst, sym}
-use lib.Dec.{eqb, ltb}
+use lib.Dec.{eqb}
 use Rattle.promise.specs.Served.{always}
 use Rattle.cluster_clock_model.specs.Stage.{below, stageAt}
 use Rattle.cluster_clock_model.specs.Test.{givesOk, sane, saneAt, stageOk, stagesOk, waitOk}

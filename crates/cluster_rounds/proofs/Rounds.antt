@@ -1,5 +1,5 @@
 -- Level by level: what the code leaves is what the definition's pass leaves, and the next level is ready.
-use Prim.Native.Nat.{_*_, _+_, _-_, _<_, _≤_, suc, zero, ℕ}
+use Prim.Native.Nat.{_*_, _+_, _-_, _<_, _≤_, suc, ℕ}
 use native.Mathlib.Numerals.{add-one}
 use native.Mathlib.Omega.{arith}
 use mathlib.Core.Bool.{_&&_, Bool, false, true}
@@ -7,23 +7,22 @@ use mathlib.Core.List.{List}
 use mathlib.Core.Logic.{inr}
 use mathlib.Core.Path.{_∙_, _≡_, ap, ap₂, refl, subst, sym}
 use lib.ListN.{length, length-set, set}
-use Rattle.promise.specs.Served.{always}
 use Rattle.cluster_nodes.proofs.Fulls.{and-l, and-r}
 use Rattle.cluster.proofs.Taken.{under-room}
 use Rattle.cluster_clock_model.proofs.Seen.{handed-in, level-length, level-only, set-later}
-use Rattle.cluster_clock_model.specs.Stage.{begins, below, filled, handed, levelStage, levelWords, loaded, pass, Passed, stageAt, work, Work, worked}
+use Rattle.cluster_clock_model.specs.Stage.{begins, below, filled, handed, levelStage, levelWords, loaded, pass, Passed, stageAt, Work, worked}
 use Rattle.cluster_clock_model.specs.Test.{saneAt, stageOk, stagesOk}
 use Rattle.cluster_clock_model.specs.declared.Stage.{Stage}
 use Rattle.cluster_model.proofs.Pass.{node-count}
 use Rattle.cluster_model.proofs.Places.{low-is, place-here}
 use Rattle.cluster_model.specs.Heap.{room}
-use Rattle.cluster_model.specs.Node.{begin, Begun, inside, low, lowElem, Node, Op, take, swap}
+use Rattle.cluster_model.specs.Node.{begin, Begun, low, lowElem, Node, take, swap}
 use Rattle.cluster_model.specs.Way.{nodeIn, spotOf, touch, works}
 use Rattle.cluster_model.specs.Words.{width, word}
 use Rattle.cluster_nodes.specs.Leaf.{underOf}
 use Rattle.cluster_rounds.proofs.Frame.{given-after, sane-after, stages-after}
 use Rattle.cluster_rounds.proofs.Tested.{filled-sited, handed-sane, in-range, level-lies, lies-next, node-lies, pends, sane-sited}
-use Rattle.cluster_rounds.specs.Round.{ends, Lies, passed, Ready, TaskIn}
+use Rattle.cluster_rounds.specs.Round.{Lies, passed, RoundReady, TaskIn}
 use Rattle.cluster_steps.specs.Stage.{Begins, Gives, GivesBy, LevelIn, Lowest, opOf, Pends, Sited, StageTest, workOf, Works}
 use Rattle.cluster_steps.specs.declared.Job.{Job}
 use Rattle.cluster_steps.specs.declared.Job.the-variants as job
@@ -69,7 +68,7 @@ module _ (K k a : ℕ) (t : Task) (ws : List ℕ) (lies : Lies K k a (length ws)
     begun-load = begun .stage ∙ ap (λ (b : Begun). loaded (b .note) (t .node)) same
 
 -- ---- a level and the record below it
-module _ (K k a : ℕ) (t : Task) (i : ℕ) (rs : List Stage) (ws : List ℕ) (now : Ready K (suc k) a t i rs ws) where
+module _ (K k a : ℕ) (t : Task) (i : ℕ) (rs : List Stage) (ws : List ℕ) (now : RoundReady K (suc k) a t i rs ws) where
   abbrev q : Stage
   q = stageAt rs i
 
@@ -129,7 +128,7 @@ module _ (K k a : ℕ) (t : Task) (i : ℕ) (rs : List Stage) (ws : List ℕ) (n
         gives = given-after K ws ws₂ (below a) stands next (below a) (omega arith) (settles .2);
       }
 
-      pub step-ready : Ready K k (below a) next (i + 1) (set rs i load) ws₂
+      pub step-ready : RoundReady K k (below a) next (i + 1) (set rs i load) ws₂
       step-ready = record {
         lies = subst (Lies K k (below a)) (sym len) (lies-next K k a (length ws) (now .lies));
         small = omega (arith, room-less, now .small);
@@ -148,7 +147,7 @@ module _ (K k a : ℕ) (t : Task) (i : ℕ) (rs : List Stage) (ws : List ℕ) (n
           ∙ ap (λ (l : Stage). pass K k (below a) (handed K (q .due) (q .node) a ws) (suc i) (set rs i l) (levelWords K a (workOf t) q ws)) load-is
 
 -- ---- the last level
-module _ (K a : ℕ) (t : Task) (i : ℕ) (rs : List Stage) (ws : List ℕ) (now : Ready K 0 a t i rs ws) where
+module _ (K a : ℕ) (t : Task) (i : ℕ) (rs : List Stage) (ws : List ℕ) (now : RoundReady K 0 a t i rs ws) where
   pub last-works : Works (t .job) K (a + t .node) (t .place) ws
   last-works = works-by K (a + t .node) (t .place) ws (t .job) ws (now .task .gives) (task-sited K 0 a t ws (now .lies) (now .small) (now .task))
 
@@ -158,7 +157,7 @@ module _ (K a : ℕ) (t : Task) (i : ℕ) (rs : List Stage) (ws : List ℕ) (now
 
 -- ---- the loop over the levels: i of k are done, and what is left comes to P
 pub record Going (K k a : ℕ) (t : Task) (i : ℕ) (rs : List Stage) (ws : List ℕ) (len : ℕ) (P : Passed K) : Type 0 where
-  pub ready : Ready K (k - i) a t i rs ws
+  pub ready : RoundReady K (k - i) a t i rs ws
   pub whole : length ws ≡ len
   pub spare : k ≤ length rs
   pub goal : pass K (k - i) a (workOf t) i rs ws ≡ P
@@ -168,8 +167,8 @@ module _ (K k a : ℕ) (t : Task) (i : ℕ) (rs : List Stage) (ws : List ℕ) (l
     left-over : k - i ≡ suc (k - (i + 1))
     left-over = omega arith
 
-    ready-here : Ready K (suc (k - (i + 1))) a t i rs ws
-    ready-here = subst (λ (j : ℕ). Ready K j a t i rs ws) left-over (now .ready)
+    ready-here : RoundReady K (suc (k - (i + 1))) a t i rs ws
+    ready-here = subst (λ (j : ℕ). RoundReady K j a t i rs ws) left-over (now .ready)
 
     pub go-small : a ≤ 5460
     go-small = omega (arith, level-lies K (k - (i + 1)) a (length ws) (ready-here .lies) .nodes)
@@ -194,8 +193,8 @@ module _ (K k a : ℕ) (t : Task) (i : ℕ) (rs : List Stage) (ws : List ℕ) (l
     none-left : k - i ≡ 0
     none-left = omega arith
 
-    ready-last : Ready K 0 a t i rs ws
-    ready-last = subst (λ (j : ℕ). Ready K j a t i rs ws) none-left (now .ready)
+    ready-last : RoundReady K 0 a t i rs ws
+    ready-last = subst (λ (j : ℕ). RoundReady K j a t i rs ws) none-left (now .ready)
 
     pub end-works : Works (t .job) K (a + t .node) (t .place) ws
     end-works = last-works K a t i rs ws ready-last
@@ -203,11 +202,11 @@ module _ (K k a : ℕ) (t : Task) (i : ℕ) (rs : List Stage) (ws : List ℕ) (l
     pub end-pass : (ws₁ : List ℕ) (load : Stage) → Begins K a (t .node) (t .place) (opOf (t .job)) ws ws₁ load → passed K ws₁ rs ≡ P
     end-pass ws₁ load begun = last-pass K a t i rs ws ready-last ws₁ load begun ∙ ap (λ (j : ℕ). pass K j a (workOf t) i rs ws) (sym none-left) ∙ now .goal
 
-pub go-first : (K k : ℕ) (t : Task) (rs : List Stage) (ws : List ℕ) → Ready K k 0 t 0 rs ws → k ≤ length rs → Going K k 0 t 0 rs ws (length ws) (pass K k 0 (workOf t) 0 rs ws)
+pub go-first : (K k : ℕ) (t : Task) (rs : List Stage) (ws : List ℕ) → RoundReady K k 0 t 0 rs ws → k ≤ length rs → Going K k 0 t 0 rs ws (length ws) (pass K k 0 (workOf t) 0 rs ws)
 go-first K k t rs ws ready spare =
     let e : k ≡ k - 0 = omega arith in
     record {
-      ready = subst (λ (j : ℕ). Ready K j 0 t 0 rs ws) e ready;
+      ready = subst (λ (j : ℕ). RoundReady K j 0 t 0 rs ws) e ready;
       whole = refl;
       spare = spare;
       goal = ap (λ (j : ℕ). pass K j 0 (workOf t) 0 rs ws) (sym e);

@@ -8,7 +8,7 @@ use mathlib.Core.List.{List}
 use mathlib.Core.Path.{_∙_, _≡_, ap, ap₂, refl, subst, sym}
 use lib.Dec.{eqb, leb, ltb}
 use lib.ListN.{length}
-use borrow.Author.Tests.{eq-eqb, eqb-false, leb-true, ltb-true, ne-eqb, not-true}
+use borrow.Author.Tests.{eqb-false, leb-true, ltb-true, ne-eqb, not-true}
 use Rattle.promise.specs.Served.{always}
 use Rattle.strip.specs.Answers.{key}
 use Rattle.strip.specs.declared.Element.{Element}
@@ -19,15 +19,13 @@ use Rattle.cluster_clock_model.specs.Stage.{below, childOf, filled, handed, low
 use Rattle.cluster_clock_model.specs.Test.{givesOk, isGap, sane, saneAt, stageOk, waitOk}
 use Rattle.cluster_clock_model.specs.declared.Due.{Due}
 use Rattle.cluster_clock_model.specs.declared.Due.the-variants as due
-use Rattle.cluster_clock_model.specs.declared.Stage.{Stage}
 use Rattle.cluster_model.proofs.Neat.{neat-row}
 use Rattle.cluster_model.proofs.NeatLevels.{node-written}
-use Rattle.cluster_model.proofs.Pass.{node-count, node-length, node-only, node-read}
-use Rattle.cluster_model.proofs.Words.{node-local}
+use Rattle.cluster_model.proofs.Pass.{node-length, node-only, node-read}
 use Rattle.cluster_model.specs.Heap.{room}
-use Rattle.cluster_model.specs.Node.{fill, fillFrom, finish, inside, lhs, lowerSide, Node, Note, nothingBelow, pick, placeAt, rhs, Side, sideIf, sink, trial, trialBy, trialFrom}
+use Rattle.cluster_model.specs.Node.{fill, fillFrom, finish, inside, lhs, lowerSide, Node, nothingBelow, pick, placeAt, rhs, Side, sideIf, sink, trial, trialBy, trialFrom}
 use Rattle.cluster_model.specs.Way.{child, neatTo, nodeIn, roomy, some, spotOf, touch, works}
-use Rattle.cluster_model.specs.Words.{Neat, nodeOf, Only, width, word, writeNode}
+use Rattle.cluster_model.specs.Words.{Neat, nodeOf, width, word, writeNode}
 use Rattle.cluster_nodes.proofs.Bridge.{both-zero}
 use Rattle.cluster_nodes.specs.Leaf.{bareAt, Here}
 use Rattle.cluster_rounds.specs.Round.{ends, Lies}

@@ -5,7 +5,7 @@ use mathlib.Core.List.{List}
 use mathlib.Core.Path.{_≡_}
 use lib.ListN.{length}
 use Rattle.cluster_clock_model.specs.Calls.{stageCount}
-use Rattle.cluster_clock_model.specs.Stage.{below, pass, Passed}
+use Rattle.cluster_clock_model.specs.Stage.{below, Passed}
 use Rattle.cluster_clock_model.specs.Test.{saneAt, stagesOk}
 use Rattle.cluster_clock_model.specs.declared.Stage.{Stage}
 use Rattle.cluster_model.specs.Heap.{room}
@@ -33,7 +33,7 @@ pub record TaskIn (K k a : ℕ) (t : Task) (ws : List ℕ) : Type 0 where
   pub gives : Gives K a t ws
 
 -- the tests have passed, and what is to be done at the first level can be done
-pub record Ready (K k a : ℕ) (t : Task) (i : ℕ) (rs : List Stage) (ws : List ℕ) : Type 0 where
+pub record RoundReady (K k a : ℕ) (t : Task) (i : ℕ) (rs : List Stage) (ws : List ℕ) : Type 0 where
   pub lies : Lies K k a (length ws)
   pub small : room K k ≤ 5460
   pub records : k ≤ stageCount

@@ -8,7 +8,7 @@ ghost use Rattle.cluster_clock_model.specs.Stage.{pass};
 ghost use Rattle.cluster_clock_model.specs.Test.{stagesOk};
 ghost use Rattle.cluster_model.specs.Heap.{room};
 ghost use Rattle.cluster_steps.specs.Stage.{workOf};
-ghost use Rattle.cluster_rounds.specs.Round.{Lies, passed, Ready};
+ghost use Rattle.cluster_rounds.specs.Round.{Lies, passed, RoundReady};
 use cluster_clock_model::STAGES;
 use cluster_clock_model::Stage;
 use cluster_nodes::room_under;
@@ -46,7 +46,7 @@ pub fn run_levels(
     first: Task,
     records: [Stage; STAGES],
 ) -> [Stage; STAGES]
-    requires { ⌜ Ready k below 0 first 0 records (now s) ⌝ }
+    requires { ⌜ RoundReady k below 0 first 0 records (now s) ⌝ }
     ensures { λ r. ⌜ passed k (now (s .exit)) r ≡ pass k below 0 (workOf first) 0 records (now (s .entry)) ⌝ }
 {
     let mut left = records;

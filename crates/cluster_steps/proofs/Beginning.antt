@@ -1,10 +1,10 @@
 -- The words that a level's work leaves at its node are the definitions'.
 use Prim.Native.Nat.{_*_, _+_, _<_, _≤_, ℕ}
 use native.Mathlib.Omega.{arith}
-use mathlib.Core.Bool.{Bool, cond, false, not, true}
+use mathlib.Core.Bool.{Bool, cond, false, true}
 use mathlib.Core.List.{List}
 use mathlib.Core.Path.{_∙_, _≡_, ap, ap₂, refl, subst, sym}
-use lib.Dec.{eqb, ltb}
+use lib.Dec.{ltb}
 use lib.ListN.{length}
 use borrow.Author.Tests.{le-ltb, lt-ltb}
 use Rattle.promise.specs.Served.{always}
@@ -13,12 +13,11 @@ use Rattle.cluster.proofs.Putted.{high-elem, high-place, raised-place}
 use Rattle.cluster.proofs.Taken.{one-place}
 use Rattle.cluster_model.proofs.Pass.{node-count}
 use Rattle.cluster_model.proofs.Places.{no-free}
-use Rattle.cluster_model.specs.Node.{begin, fewer, free, gap, has, high, highElem, inside, keep, Node, nothing, nothingBelow, Note, onto, pass, Place, put, putBy, raise, Side, sideIf, store, swap, swapBy, take, takeBy}
-use Rattle.cluster_model.specs.Way.{nodeIn, spotOf, touch, works}
-use Rattle.cluster_model.specs.Words.{Neat, nodeOf, width, word, writeNode, writePlace}
+use Rattle.cluster_model.specs.Node.{begin, fewer, free, gap, has, high, highElem, inside, keep, Node, nothingBelow, pass, Place, put, putBy, raise, Side, sideIf, store, swap, swapBy, take, takeBy}
+use Rattle.cluster_model.specs.Way.{nodeIn, touch, works}
+use Rattle.cluster_model.specs.Words.{nodeOf, width, word, writeNode, writePlace}
 use Rattle.cluster_nodes.proofs.Bridge.{both-zero, look-free}
-use Rattle.cluster_nodes.proofs.Looks.{high-lt}
-use Rattle.cluster_nodes.specs.Leaf.{bareAt, elemAt, Here, lookNode, placeIn, raiseWords}
+use Rattle.cluster_nodes.specs.Leaf.{bareAt, elemAt, lookNode, placeIn, raiseWords}
 use Rattle.cluster_nodes.specs.Seeing.{lookTo}
 use Rattle.cluster_nodes.specs.declared.Seen.{Seen}
 use Rattle.cluster_clock_model.specs.Stage.{loaded, noStage, stage, childOf}

@@ -7,7 +7,6 @@ use mathlib.Core.Bool.{_&&_, _||_, Bool, cond, false, not, true}
 use mathlib.Core.List.{List}
 use mathlib.Core.Path.{_∙_, _≡_, ap, ap₂, refl, subst, sym}
 use lib.Dec.{eqb, ltb}
-use lib.ListN.{length}
 use borrow.Author.Tests.{eqb-false, not-false, not-true}
 use Rattle.promise.specs.Served.{always}
 use Rattle.strip.specs.Answers.{key}
@@ -15,9 +14,9 @@ use Rattle.strip.specs.declared.Element.{Element}
 use Rattle.cluster.proofs.Commute.{low-elem, low-place}
 use Rattle.cluster.proofs.Taken.{one-place, sunk-place}
 use Rattle.cluster_model.proofs.Neat.{no-words}
-use Rattle.cluster_model.specs.Node.{fill, fillFrom, finish, Finished, finished, has, inside, lhs, low, lowElem, lowerSide, Node, none, pick, Place, rhs, Side, sideIf, sink, store, swap, take, trial, trialBy, trialFrom}
+use Rattle.cluster_model.specs.Node.{fill, fillFrom, finish, has, inside, lhs, low, lowerSide, none, pick, rhs, Side, sideIf, sink, store, swap, take, trial, trialBy, trialFrom}
 use Rattle.cluster_model.specs.Way.{child, nodeIn, touch}
-use Rattle.cluster_model.specs.Words.{Neat, nodeOf, width, word, writeNode, writePlace}
+use Rattle.cluster_model.specs.Words.{nodeOf, width, word, writeNode, writePlace}
 use Rattle.cluster_nodes.specs.Leaf.{bareAt, begun, choiceBy, choiceOf, elemAt, lookNode, peekAt, peekHere, peekOf, placeIn, rightLower, sinkWords, Under}
 use Rattle.cluster_nodes.specs.declared.Chosen.{Chosen}
 use Rattle.cluster_nodes.specs.declared.Found.{Found}

@@ -1,13 +1,13 @@
 -- The code's tests are the definitions': of a node in which one place may be waiting, and of a record.
 use Prim.Native.Nat.{_*_, _+_, _-_, _<_, _≤_, suc, zero, ℕ}
-use native.Mathlib.Nat.{mul-le-mul-right, not-suc-le-zero}
+use native.Mathlib.Nat.{mul-le-mul-right}
 use native.Mathlib.Omega.{arith}
-use mathlib.Core.Bool.{_&&_, _||_, Bool, Bool·beq, cond, false, not, true}
+use mathlib.Core.Bool.{_&&_, _||_, Bool, Bool·beq, false, not, true}
 use mathlib.Core.List.{List}
 use mathlib.Core.Path.{_∙_, _≡_, ap, ap₂, refl, subst, sym}
 use lib.Dec.{eqb, leb, ltb}
 use lib.ListN.{length}
-use borrow.Author.Tests.{eq-eqb, le-leb, le-ltb, lt-leb, lt-ltb, leb-false, leb-true, ltb-false, ltb-true, ne-eqb}
+use borrow.Author.Tests.{le-leb, le-ltb, lt-leb, lt-ltb, leb-false, leb-true, ltb-false, ltb-true, ne-eqb}
 use Rattle.promise.specs.Served.{always}
 use Rattle.strip.specs.Answers.{element}
 use Rattle.strip.specs.declared.Element.{Element}
@@ -19,12 +19,12 @@ use Rattle.cluster_clock_model.specs.declared.Due.the-variants as due
 use Rattle.cluster_clock_model.specs.declared.Stage.{Stage}
 use Rattle.cluster_model.proofs.Pass.{node-count}
 use Rattle.cluster_model.specs.Heap.{room}
-use Rattle.cluster_model.specs.Node.{inside, lhs, Node, nothingBelow, Place, placeAt, rhs}
-use Rattle.cluster_model.specs.Way.{child, neatTo, nodeIn, roomy, some}
+use Rattle.cluster_model.specs.Node.{inside, nothingBelow, placeAt}
+use Rattle.cluster_model.specs.Way.{nodeIn, roomy, some}
 use Rattle.cluster_model.specs.Words.{nodeOf, placeBy, placeOf, width, word}
 use Rattle.cluster_nodes.proofs.Bridge.{both-zero, look-count, look-neat}
 use Rattle.cluster_nodes.proofs.ScanCode.{row-place}
-use Rattle.cluster_nodes.specs.Leaf.{bareAt, Here, lookNode, okBy, placeIn, underOf}
+use Rattle.cluster_nodes.specs.Leaf.{bareAt, Here, okBy, underOf}
 use Rattle.cluster_nodes.specs.Seeing.{lookTo, lowOnly}
 use Rattle.cluster_nodes.specs.declared.Seen.{Seen}
 use Rattle.cluster_steps.specs.Stage.{LevelIn, StageTest, Three, waitBy}

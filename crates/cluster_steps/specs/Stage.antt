@@ -7,14 +7,13 @@ use mathlib.Core.Path.{_≡_}
 use lib.Dec.{eqb}
 use lib.ListN.{length}
 use Rattle.promise.specs.Served.{always}
-use Rattle.strip.specs.declared.Element.{Element}
 use Rattle.cluster_clock_model.specs.Stage.{below, loaded, settled, childOf, Work, work}
 use Rattle.cluster_clock_model.specs.Test.{givesOk, saneAt, stageOk}
 use Rattle.cluster_clock_model.specs.declared.Due.{Due}
 use Rattle.cluster_clock_model.specs.declared.Due.the-variants as due
 use Rattle.cluster_clock_model.specs.declared.Stage.{Stage}
 use Rattle.cluster_model.specs.Heap.{room}
-use Rattle.cluster_model.specs.Node.{begin, inside, lhs, low, Node, none, Note, nothingBelow, Op, put, rhs, swap, take}
+use Rattle.cluster_model.specs.Node.{begin, inside, lhs, low, none, Note, nothingBelow, Op, put, rhs, swap, take}
 use Rattle.cluster_model.specs.Way.{child, nodeIn, spotOf, touch, works}
 use Rattle.cluster_model.specs.Words.{Neat, width, word, writeNode}
 use Rattle.cluster_nodes.specs.Leaf.{bareAt, Here}

@@ -1,5 +1,5 @@
 -- Drain: each test and what follows it make the outcome that the definition says.
-use Prim.Native.Nat.{_+_, _-_, _≤_, pred, suc, zero, ℕ}
+use Prim.Native.Nat.{_+_, _-_, _≤_, suc, zero, ℕ}
 use native.Mathlib.Numerals.{add-one}
 use native.Mathlib.Omega.{arith}
 use mathlib.Core.Bool.{_&&_, Bool, cond, false, not, true}

@@ -1,10 +1,10 @@
 -- The root as it is read, and the ruling on a request, are the definitions'.
-use Prim.Native.Nat.{_*_, _+_, _-_, _<_, _≤_, pred, suc, zero, ℕ}
+use Prim.Native.Nat.{_*_, _+_, _-_, _<_, _≤_, suc, ℕ}
 use native.Mathlib.Omega.{arith}
 use mathlib.Core.Bool.{_&&_, _||_, Bool, cond, false, false≢true, not, true, true≢false}
 use mathlib.Core.List.{List}
 use mathlib.Core.Path.{_∙_, _≡_, ap, ap₂, refl, subst, sym}
-use lib.Dec.{eqb, leb, ltb}
+use lib.Dec.{eqb, leb}
 use lib.ListN.{length}
 use borrow.Author.Tests.{eq-eqb, eqb-false, eqb-true, le-ltb, leb-true, lt-ltb, ne-eqb, not-false, not-true}
 use Rattle.clocked_model.specs.Calls.{asks}
@@ -24,11 +24,11 @@ use Rattle.cluster_clock_model.specs.Test.{sane, saneAt}
 use Rattle.cluster_model.proofs.Pass.{node-count}
 use Rattle.cluster_model.specs.Calls.{heldIn, rootHeld, rule, ruleAt, Ruling, ruling}
 use Rattle.cluster_model.specs.Heap.{room}
-use Rattle.cluster_model.specs.Node.{inside, low, lowElem, Node, none, nothingBelow, Op, put, swap, take}
+use Rattle.cluster_model.specs.Node.{inside, low, lowElem, Node, none, nothingBelow, swap, take}
 use Rattle.cluster_model.specs.Way.{neatTo, nodeIn, works}
 use Rattle.cluster_model.specs.Words.{nodeOf, width, word}
 use Rattle.cluster_nodes.proofs.Looks.{low-lt, within}
-use Rattle.cluster_nodes.specs.Leaf.{elemAt, Here, lookNode, okBy, placeIn}
+use Rattle.cluster_nodes.specs.Leaf.{elemAt, lookNode, okBy, placeIn}
 use Rattle.cluster_nodes.specs.Seeing.{lookTo, lowOnly}
 use Rattle.cluster_nodes.specs.declared.Seen.{Seen}
 use Rattle.cluster_rounds.proofs.Tested.{sane-counts}
@@ -38,7 +38,7 @@ use Rattle.cluster_steps.specs.Stage.{GivesBy, Lowest, opOf, workOf}
 use Rattle.cluster_steps.specs.declared.Job.{Job}
 use Rattle.cluster_steps.specs.declared.Job.the-variants as job
 use Rattle.cluster_steps.specs.declared.Task.{Task}
-use Rattle.cluster_turns.specs.Turn.{GivesAt, Opened, RootIn, Rules, RulesFor, RulesRoot}
+use Rattle.cluster_turns.specs.Turn.{GivesAt, Opened, RootIn, Rules, RulesFor}
 use Rattle.cluster_turns.specs.declared.Root.{Root}
 use Rattle.cluster_turns.specs.declared.Ruled.{Ruled}
 

@@ -1,9 +1,9 @@
 -- A shape that passes gives what the passes over the levels ask; a cycle is the definition's.
-use Prim.Native.Nat.{_*_, _+_, _-_, _<_, _≤_, suc, zero, ℕ}
+use Prim.Native.Nat.{_*_, _+_, _≤_, suc, zero, ℕ}
 use native.Mathlib.Omega.{arith}
 use mathlib.Core.Bool.{_&&_, Bool, false, not, true}
 use mathlib.Core.List.{List}
-use mathlib.Core.Path.{_∙_, _≡_, ap, ap₂, refl, subst, sym}
+use mathlib.Core.Path.{_∙_, _≡_, ap, ap₂, refl, sym}
 use lib.ListN.{length}
 use borrow.Author.Tests.{not-false, not-true}
 use Rattle.strip.specs.declared.Answer.{Answer}
@@ -18,12 +18,11 @@ use Rattle.cluster_clock_model.specs.Calls.{askedOk, stageCount, turned, turnOu
 use Rattle.cluster_clock_model.specs.Stage.{below, pass, Passed, Work, work}
 use Rattle.cluster_clock_model.specs.Test.{stagesOk}
 use Rattle.cluster_clock_model.specs.declared.Stage.{Stage}
-use Rattle.cluster_model.specs.Calls.{ruleAt, Ruling, shapeOk}
+use Rattle.cluster_model.specs.Calls.{ruleAt, shapeOk}
 use Rattle.cluster_model.specs.Heap.{room}
-use Rattle.cluster_model.specs.Promise.{Shape}
 use Rattle.cluster_model.specs.Words.{width}
 use Rattle.cluster_rounds.proofs.Tested.{node-lies}
-use Rattle.cluster_rounds.specs.Round.{ends, Lies, passed, Ready}
+use Rattle.cluster_rounds.specs.Round.{ends, Lies, passed, RoundReady}
 use Rattle.cluster_steps.specs.Stage.{workOf}
 use Rattle.cluster_turns.specs.Turn.{RootIn, RulesFor, RulesRoot}
 use Rattle.cluster_turns.specs.declared.Ruled.{Ruled}
@@ -94,7 +93,7 @@ module _ (K k top : ℕ) (rs : List Stage) (ws : List ℕ) (shaped : shapeOk K (
     turn-damaged e a rs′ p = (λ i. turnOutcome (p .0 i) ws (p .1 i)) ∙ sym (turned-damaged K (suc k) r rs ws shaped (sound-is ∙ not-true t e))
 
     module _ (e : not t ≡ false) where
-      pub turn-ready : Ready K k 0 (g .task) 0 rs ws
+      pub turn-ready : RoundReady K k 0 (g .task) 0 rs ws
       turn-ready = record {
         lies = shape-lies K k (length ws) shaped;
         small = shape-small K k (length ws) shaped;

@@ -24,7 +24,7 @@ use Rattle.strip.specs.declared.Request.the-variants.{Pop, Push}
 use Rattle.tree_model.proofs.Promises.{call-sum, called-kept, Kept, kept-held, kept-least}
 use Rattle.tree_model.specs.Calls.{called, heldCount, Outcome}
 use Rattle.tree_model.specs.Damage.{room}
-use Rattle.tree_model.specs.Promise.{stored}
+use Rattle.tree_model.specs.Promise.{storedCount}
 use Rattle.fair_model.specs.Calls.{blankState, clockOf, Desk, desk, lastOf, nextElement, nextFinish, noted, pops, pushes, Reply, resets, stateWords, timed, told}
 use Rattle.fair_model.specs.Ledger.{AllLawful, anew, comes, entry, found, goes, Lawful, listed, Move, moved, noStrip, rank, run, stays, Strip, without, World}
 use Rattle.fair_model.specs.Promise.{Attributed, Call, Entry, fairQueue, moveBy, moveOf, moves, pop, push, replyTo, reset, Struck}
@@ -65,7 +65,7 @@ module _ (m k : ℕ) where
     pub long : stateWords ≤ length (d .state)
     pub clock : s .clock ≡ clockOf (d .state)
     pub last : (i : ℕ) → i < flows → s .last i ≡ lastOf (d .state) i
-    pub holds : (f : Element → Bool) → stored (room m (suc k)) (d .store) f ≡ listed (s .waiting) f
+    pub holds : (f : Element → Bool) → storedCount (room m (suc k)) (d .store) f ≡ listed (s .waiting) f
 
   -- a call's reply agrees with what it comes to in the ledger, which is lawful
   pub record Follows (v : Move) (s : World) (d : Desk) : Type 0 where
@@ -83,9 +83,9 @@ module _ (m k : ℕ) where
   module _ (s : World) (d : Desk) (a : Agrees s d) where
     -- what the store holds after a request that was answered b
     pub sum-as : (r : Request) (b : Answer) → called m (suc k) r (d .store) .answer ≡ b → (f : Element → Bool)
-        → stored (room m (suc k)) (called m (suc k) r (d .store) .words) f + given r b f ≡ listed (s .waiting) f + brought r b f
+        → storedCount (room m (suc k)) (called m (suc k) r (d .store) .words) f + given r b f ≡ listed (s .waiting) f + brought r b f
     sum-as r b e f =
-        subst (λ (b : Answer). stored (room m (suc k)) (called m (suc k) r (d .store) .words) f + given r b f ≡ listed (s .waiting) f + brought r b f) e
+        subst (λ (b : Answer). storedCount (room m (suc k)) (called m (suc k) r (d .store) .words) f + given r b f ≡ listed (s .waiting) f + brought r b f) e
         (call-sum m k r (d .store) (a .kept) f ∙ ap (λ (n : ℕ). n + brought r (called m (suc k) r (d .store) .answer) f) (a .holds f))
 
     -- the queue says no, and everything stands
@@ -143,8 +143,8 @@ module _ (m k : ℕ) where
       unfolding moved
       went e h g =
           let same : rank (found s q) ≡ e .rank .0 = ap (λ (y : Element). y .rank .0) (g .1) in
-          let low : stored (room m (suc k)) (d .store) (lower (e .rank .0)) ≡ 0 =
-          subst (λ (b : Answer). Least (stored (room m (suc k)) (d .store)) Pop b) h (kept-least m k (d .store) (a .kept) Pop) refl in
+          let low : storedCount (room m (suc k)) (d .store) (lower (e .rank .0)) ≡ 0 =
+          subst (λ (b : Answer). Least (storedCount (room m (suc k)) (d .store)) Pop b) h (kept-least m k (d .store) (a .kept) Pop) refl in
           record {
             lawful = (g .0, subst (λ (v : ℕ). All (λ x. v ≤ rank x) (s .waiting)) (sym same) (listed-least (e .rank .0) (s .waiting) (sym (a .holds (lower (e .rank .0))) ∙ low)));
             agrees =

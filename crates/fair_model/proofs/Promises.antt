@@ -29,14 +29,14 @@ use Rattle.tree_model.proofs.Many.{many-held}
 use Rattle.tree_model.proofs.Promises.{Kept, kept-held, kept-least, kept-numbers, leaves-kept, start-kept, stored-holding}
 use Rattle.tree_model.specs.Calls.{called, Outcome}
 use Rattle.tree_model.specs.Damage.{room}
-use Rattle.tree_model.specs.Promise.{after, refusals, Shape, start, stored}
+use Rattle.tree_model.specs.Promise.{after, refusals, Shape, start, storedCount}
 use Rattle.tree_model.specs.Serve.{holding}
 use Rattle.tree_model.specs.Tree.{treeOf}
 use Rattle.tree_model.specs.Words.{levelsOf}
 use Rattle.fair_model.specs.Calls.{clockOf, Desk, desk, lastOf, nextElement, nextFinish, noted, pops, pushes, Reply, resets, stateWords, told}
-use Rattle.fair_model.specs.Ledger.{AllLawful, anew, comes, fresh, goes, Lawful, listed, Move, moved, noStrip, rank, served, stays, Strip, Within, World}
+use Rattle.fair_model.specs.Ledger.{AllLawful, anew, comes, fresh, goes, Lawful, listed, Move, moved, noStrip, rank, stays, Strip, Within, World}
 use Rattle.fair_model.specs.Promise.{Attributed, book, booked, Call, deskAt, Entry, fairQueue, fairRefusals, From, moveBy, moveOf, moves, Noted, opened, placeBy, placeOf, pop, push, queued, reset, Runs, servedIn, SteadyIn, Struck, StruckIn, worldAt}
-use Rattle.fair_model.specs.Ranks.{cells, finish, flows, Good, latest, step}
+use Rattle.fair_model.specs.Ranks.{cells, finish, Good, latest, step}
 use Rattle.fair_model.specs.declared.FairAnswer.{FairAnswer}
 use Rattle.fair_model.specs.declared.FairAnswer.the-variants.{Accepted, Served}
 use Rattle.fair_model.specs.declared.FairRefusal.{FairRefusal}
@@ -48,7 +48,7 @@ use Rattle.fair_model.proofs.Orderly.{cost-some, finish-is, fresh-order
 use Rattle.fair_model.proofs.Outcomes.{blank-at, blank-length, pop-either, push-either, push-gives-none, reset-either}
 
 -- ---- an accepted reset
-stored-le : (m k : ℕ) (ws : List ℕ) (f : Element → Bool) → stored (room m (suc k)) ws f ≤ stored (room m (suc k)) ws always
+stored-le : (m k : ℕ) (ws : List ℕ) (f : Element → Bool) → storedCount (room m (suc k)) ws f ≤ storedCount (room m (suc k)) ws always
 unfolding holding
 stored-le m k ws f = omega (arith, stored-holding m k ws f, stored-holding m k ws always, many-held f (suc k) (treeOf m (suc k) (levelsOf m (suc k) ws 0 1) 0))
 
@@ -140,17 +140,17 @@ module _ (m k : ℕ) (d : Desk) (s : World) (a : Agrees m k s d) (o : Orderly s)
   unfolding fairQueue
   served-lawful e q p t = subst (λ (z : FairAnswer). Lawful (moveOf pop z q) s) p (follows m k s d a (record { call = pop; place = q }) (subst (λ (z : FairAnswer). Struck z q s) (sym p) t) .lawful)
 
-  served-least : (e : Element) → pops m (suc k) d .said ≡ Served e → stored (room m (suc k)) (d .store) (lower (e .rank .0)) ≡ 0
+  served-least : (e : Element) → pops m (suc k) d .said ≡ Served e → storedCount (room m (suc k)) (d .store) (lower (e .rank .0)) ≡ 0
   served-least e =
-      pop-either m (suc k) d (λ (z : Reply). z .said ≡ Served e → stored (room m (suc k)) (d .store) (lower (e .rank .0)) ≡ 0)
+      pop-either m (suc k) d (λ (z : Reply). z .said ≡ Served e → storedCount (room m (suc k)) (d .store) (lower (e .rank .0)) ≡ 0)
       (λ x p. let z : _≡_ {A = ℕ} 0 1 = cc in absurd (omega arith)) (λ long. by (called m (suc k) Pop (d .store) .answer) refl)
     where
-      by : (b : Answer) → called m (suc k) Pop (d .store) .answer ≡ b → told b ≡ Served e → stored (room m (suc k)) (d .store) (lower (e .rank .0)) ≡ 0
+      by : (b : Answer) → called m (suc k) Pop (d .store) .answer ≡ b → told b ≡ Served e → storedCount (room m (suc k)) (d .store) (lower (e .rank .0)) ≡ 0
       by Done p t = let z : _≡_ {A = ℕ} 0 1 = cc in absurd (omega arith)
       by (Out y) p t =
           let same : y ≡ e = cc in
-          subst (λ (x : Element). stored (room m (suc k)) (d .store) (lower (x .rank .0)) ≡ 0) same
-          (subst (λ (b : Answer). Least (stored (room m (suc k)) (d .store)) Pop b) p (kept-least m k (d .store) (a .kept) Pop) refl)
+          subst (λ (x : Element). storedCount (room m (suc k)) (d .store) (lower (x .rank .0)) ≡ 0) same
+          (subst (λ (b : Answer). Least (storedCount (room m (suc k)) (d .store)) Pop b) p (kept-least m k (d .store) (a .kept) Pop) refl)
       by (Refused y) p t = let z : _≡_ {A = ℕ} 0 1 = cc in absurd (omega arith)
 
   abbrev Limit : Refusal → Type 0

@@ -16,7 +16,7 @@ use Rattle.strip.specs.declared.Request.the-variants.{Pop, Push}
 use Rattle.tree_model.specs.Calls.{called, heldCount}
 use Rattle.fair_model.specs.Calls.{blankState, denied, Desk, desk, nextElement, nextFinish, noted, passedOn, pops, pushes, Reply, reply, resets, stateWords, stripOk, timed}
 use Rattle.fair_model.specs.Promise.{Alike, AlikeReply, Call, fairQueue, pop, push, reset}
-use Rattle.fair_model.specs.Ranks.{finish, latest}
+use Rattle.fair_model.specs.Ranks.{latest}
 use Rattle.fair_model.specs.declared.FairAnswer.the-variants.{Accepted}
 use Rattle.fair_model.specs.declared.FairRefusal.the-variants.{BadStrip, ClockSpent, NotEmpty}
 use Rattle.fair_model.proofs.Outcomes.{blank-at, pop-either, push-either, reset-either, strip-means}

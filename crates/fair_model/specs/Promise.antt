@@ -18,7 +18,7 @@ use Rattle.strip.specs.declared.Request.{Request}
 use Rattle.strip.specs.declared.Request.the-variants.{Pop, Push}
 use Rattle.tree_model.specs.Calls.{heldCount}
 use Rattle.tree_model.specs.Damage.{room}
-use Rattle.tree_model.specs.Promise.{after, refusals, Shape, stored}
+use Rattle.tree_model.specs.Promise.{after, refusals, Shape, storedCount}
 use Rattle.fair_model.specs.Calls.{answerNumber, clockOf, Desk, desk, lastOf, nextElement, nextFinish, pops, pushes, Reply, resets, stateOk, stateWords, stripOk}
 use Rattle.fair_model.specs.Ledger.{anew, comes, found, fresh, goes, listed, Move, moved, run, served, stays, Steady, Strip, World}
 use Rattle.fair_model.specs.Ranks.{flows, Good, latest}
@@ -178,17 +178,17 @@ pub record Runs (m levels : ℕ) (d : Desk) (s : World) : Type 0 where
   pub clock : s .clock ≡ clockOf (d .state)
   pub last : (i : ℕ) → i < flows → s .last i ≡ lastOf (d .state) i
   -- HOLDS: .. and of every kind of element the store holds as many as wait
-  pub holds : (f : Element → Bool) → stored (room m levels) (d .store) f ≡ listed (s .waiting) f
+  pub holds : (f : Element → Bool) → storedCount (room m levels) (d .store) f ≡ listed (s .waiting) f
   -- AHEAD: no rank held is below the clock; TOP: none is above the largest
-  pub ahead : stored (room m levels) (d .store) (lower (clockOf (d .state))) ≡ 0
-  pub top : stored (room m levels) (d .store) (λ e. ltb latest (e .rank .0)) ≡ 0
+  pub ahead : storedCount (room m levels) (d .store) (lower (clockOf (d .state))) ≡ 0
+  pub top : storedCount (room m levels) (d .store) (λ e. ltb latest (e .rank .0)) ≡ 0
   -- RISES: no call but an accepted reset lets the clock or a finish fall
   pub rises : (c : Entry) → Struck (replyTo m levels c d .said) (c .place) s → (moveBy m levels c d ≡ anew → ⊥)
       → (clockOf (d .state) ≤ clockOf (replyTo m levels c d .next .state)) × ((i : ℕ) → i < flows → lastOf (d .state) i ≤ lastOf (replyTo m levels c d .next .state) i)
   -- UNDAMAGED: of the queue's refusals only 5, 6 and 7 are answered
   pub undamaged : (c : Call) (q : Refusal) → answerNumber (fairQueue m levels c d .said) ≡ refusalNumber q → (refusalNumber q ≡ 5) ⊎ (refusalNumber q ≡ 6) ⊎ (refusalNumber q ≡ 7)
   -- LEAST: what is served has the lowest rank held
-  pub least : (e : Element) → pops m levels d .said ≡ Served e → stored (room m levels) (d .store) (lower (e .rank .0)) ≡ 0
+  pub least : (e : Element) → pops m levels d .said ≡ Served e → storedCount (room m levels) (d .store) (lower (e .rank .0)) ≡ 0
   -- IN ORDER: no strip of its flow that still waits came before it
   pub in-order : (e : Element) (q : ℕ) → pops m levels d .said ≡ Served e → Struck (Served e) q s → All (λ x. x .flow ≡ found s q .flow → ⊥) (take q (s .waiting))
 

@@ -1,12 +1,11 @@
 -- When a test fails: each test with the readable fact that holds exactly where the test answers no.
 use Prim.Native.Nat.{_<_, ℕ}
-use native.Mathlib.Omega.{arith}
-use mathlib.Core.Bool.{_&&_, _||_, Bool, false, false≢true, not, true, true≢false}
+use mathlib.Core.Bool.{_&&_, _||_, Bool, false, not, true, true≢false}
 use mathlib.Core.List.{[], _∷_, List}
 use mathlib.Core.Logic.{_⊎_, inl, inr, ⊎-elim}
 use mathlib.Core.Path.{_≡_, refl, sym, _∙_}
-use lib.Dec.{eqb, leb, ltb}
-use borrow.Author.Tests.{eq-eqb, eqb-true, leb-false, lt-leb, le-ltb, ltb-false, eqb-false, ne-eqb, ltb-true, lt-ltb}
+use lib.Dec.{eqb, leb}
+use borrow.Author.Tests.{eq-eqb, eqb-true, leb-false, lt-leb}
 use Rattle.laws.specs.Lists.{All}
 
 -- the test answers no exactly where D holds

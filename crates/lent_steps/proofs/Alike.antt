@@ -1,5 +1,4 @@
 -- A machine goes by its levels' work and its mark: two states that agree on these answer alike, leave the same words, and agree again.
--- Assumes nothing.
 use Prim.Native.Nat.{_≤_, pred, suc, zero, ℕ}
 use native.Mathlib.Omega.{arith}
 use mathlib.Core.Bool.{_&&_, Bool, cond, false, false≢true, not, true, true≢false}

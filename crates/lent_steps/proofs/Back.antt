@@ -1,4 +1,4 @@
--- What the code of a lent call has read, had turned and written back is what the definitions say. Assumes nothing.
+-- What the code of a lent call has read, had turned and written back is what the definitions say.
 use Prim.Native.Nat.{_-_, _<_, _≤_, suc, zero, ℕ}
 use native.Mathlib.Nat.{eq-or-lt-of-le, le-of-suc-le-suc, not-suc-le-zero}
 use native.Mathlib.Omega.{arith}
@@ -9,28 +9,24 @@ use mathlib.Core.Path.{_∙_, _≡_, ap, ap₂, refl, sym}
 use lib.Dec.{leb, ltb}
 use lib.ListN.{getD, length, length-replicate, length-set, replicate, set}
 use lib.Seq.{getD-set-other, getD-set-same}
-use borrow.Author.Tests.{le-leb, leb-false, leb-true, lt-leb}
+use borrow.Author.Tests.{le-leb}
 use Rattle.clocked_model.proofs.Demand.{few-levels}
 use Rattle.clocked_model.proofs.Drain.{drain-bad}
 use Rattle.clocked_model.proofs.Exactly.{cycled-bad}
 use Rattle.clocked_model.specs.Calls.{clockedCleared, cycled, cycleOutcome, CycleOutcome, drainOutcome, DrainOutcome, drains, recordCount}
 use Rattle.clocked_model.specs.declared.State.{State}
 use Rattle.clocked_model.specs.Promise.{hasRun}
-use Rattle.lent_steps.proofs.Records.{lends-few, lends-levels, lends-within}
+use Rattle.lent_steps.proofs.Records.{lends-within}
 use Rattle.lent_steps.specs.Lent.{drainOf, handed, kindsOk, lentCleared, lentCycled, lentDrain, LentDrain, lentDrains, lentOf, lentOutcome, LentOutcome, noRecord, readable, recordsBack, stateRead, workOf, worksBack, worksRead}
-use Rattle.lent_steps.specs.Steps.{clearFrom, cycleFrom, drainFrom, lends, reach, readOf, stateOf, turnedCycle, turnedDrain, unread}
+use Rattle.lent_steps.specs.Steps.{clearFrom, cycleFrom, drainFrom, lends, reach, readOf, turnedCycle, turnedDrain}
 use Rattle.lent_steps.specs.declared.Read.{Read}
 use Rattle.lent_steps.specs.declared.Record.{Record}
-use Rattle.lent_steps.specs.declared.Turned.{Turned}
-use Rattle.strip.specs.declared.Answer.{Answer}
-use Rattle.strip.specs.declared.Answer.the-variants.{Done, Refused}
+use Rattle.strip.specs.declared.Answer.the-variants.{Refused}
 use Rattle.strip.specs.declared.Refusal.the-variants.{BadShape}
 use Rattle.strip.specs.declared.Request.{Request}
 use Rattle.tree_model.proofs.Exactly.{shape-is}
 use Rattle.tree_model.specs.Calls.{shapeOk}
-use Rattle.tree_model.specs.Damage.{room}
 use Rattle.tree_model.specs.Levels.{idle}
-use Rattle.tree_model.specs.Words.{wipe}
 use Rattle.tree_model.specs.declared.Work.{Work}
 
 -- ---- reading, one after the other

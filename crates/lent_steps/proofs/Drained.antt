@@ -1,4 +1,4 @@
--- "at 1 it reports 0 and no work left". Assumes nothing.
+-- "at 1 it reports 0 and no work left".
 use Prim.Native.Nat.{_-_, ℕ}
 use native.Mathlib.Omega.{arith}
 use mathlib.Core.Bool.{Bool, cond, false, true}
@@ -7,7 +7,7 @@ use mathlib.Core.Path.{_≡_, ap, refl}
 use lib.ListN.{length}
 use Rattle.clocked_model.proofs.Drain as model
 use Rattle.clocked_model.proofs.Drain.{done, End, jammed}
-use Rattle.clocked_model.specs.Calls.{drainOutcome, DrainOutcome, drains}
+use Rattle.clocked_model.specs.Calls.{DrainOutcome, drains}
 use Rattle.clocked_model.specs.declared.State.{State}
 use Rattle.lent_steps.specs.Lent.{drainOf, lentDrain, LentDrain, lentDrains, readable, stateRead}
 use Rattle.lent_steps.specs.declared.Record.{Record}

@@ -1,11 +1,10 @@
--- Record for record: what the host's records are after a cycle, after a drain, and after any list of cycles. Assumes nothing.
+-- Record for record: what the host's records are after a cycle, after a drain, and after any list of cycles.
 use Prim.Native.Nat.{_-_, _<_, _≤_, pred, suc, zero, ℕ}
 use native.Mathlib.Omega.{arith}
-use mathlib.Core.Bool.{_&&_, Bool, cond, false, false≢true, true, true≢false}
+use mathlib.Core.Bool.{Bool, cond, false, false≢true, true}
 use mathlib.Core.List.{[], _∷_, List}
-use mathlib.Core.Logic.{_⊎_, inl, inr, ⊎-elim}
 use mathlib.Core.Path.{_∙_, _≡_, ap, ap₂, refl, subst, sym}
-use lib.Dec.{leb, ltb}
+use lib.Dec.{ltb}
 use lib.ListN.{getD, getD-replicate, length, replicate}
 use lib.Seq.{ext-getD}
 use borrow.Author.Tests.{lt-ltb, ltb-false, ltb-true}
@@ -13,7 +12,7 @@ use Rattle.clocked_model.proofs.Demand.{few-levels}
 use Rattle.clocked_model.proofs.Drain.{drain-bad, drain-ran, drain-state}
 use Rattle.clocked_model.proofs.Exactly.{cycled-either, sound-no-damage, zero-ran}
 use Rattle.clocked_model.proofs.OneStep.{one-step}
-use Rattle.clocked_model.specs.Calls.{cycled, cycleRun, CycleOutcome, DrainOutcome, drains, fresh, recordCount, ruleMarked, ruleNow}
+use Rattle.clocked_model.specs.Calls.{cycled, cycleRun, CycleOutcome, drains, fresh, recordCount, ruleMarked, ruleNow}
 use Rattle.clocked_model.specs.Cycle.{Works}
 use Rattle.clocked_model.specs.Promise.{clearedMachine, clockedQueue, CycleDamage, hasRun, idles, leaveBelow, levelWork, machine, Machine, ran}
 use Rattle.clocked_model.specs.Records.{landed, worksOf}

@@ -1,29 +1,28 @@
 -- A list of lent calls is the list of by-value calls on the machine that the host's memory holds: so what is shown of the by-value form holds of the
--- host's own memory. Assumes nothing.
-use Prim.Native.Nat.{_-_, _<_, _≤_, pred, suc, zero, ℕ}
-use native.Mathlib.Nat.{eq-or-lt-of-le, not-suc-le-zero}
+-- host's own memory.
+use Prim.Native.Nat.{_-_, _≤_, pred, ℕ}
 use native.Mathlib.Omega.{arith}
-use mathlib.Core.Bool.{_&&_, Bool, cond, false, true, true≢false}
-use mathlib.Core.List.{[], _∷_, List}
+use mathlib.Core.Bool.{Bool, false, true, true≢false}
+use mathlib.Core.List.{[], List}
 use mathlib.Core.Logic.{_⊎_, inl, inr, ⊎-elim}
-use mathlib.Core.Path.{_∙_, _≡_, ap, ap₂, refl, subst, sym}
+use mathlib.Core.Path.{_∙_, _≡_, ap, refl, subst, sym}
 use lib.Dec.{leb, ltb}
-use lib.ListN.{getD, length, length-replicate, replicate}
-use borrow.Author.Tests.{le-leb, leb-true, ltb-false, ltb-true}
+use lib.ListN.{length, length-replicate, replicate}
+use borrow.Author.Tests.{le-leb, leb-true, ltb-false}
 use Rattle.clocked_model.proofs.Demand.{few-levels}
-use Rattle.clocked_model.proofs.Drain.{cycled-length, drain-ran, drain-state}
+use Rattle.clocked_model.proofs.Drain.{cycled-length, drain-state}
 use Rattle.clocked_model.proofs.Exactly.{stands as left-behind}
 use Rattle.clocked_model.proofs.Promises.{clear-fresh, clear-taken, shape-kept}
-use Rattle.clocked_model.specs.Calls.{clockedCleared, cycled, cycleOutcome, CycleOutcome, DrainOutcome, drains, fresh, recordCount}
+use Rattle.clocked_model.specs.Calls.{cycled, CycleOutcome, DrainOutcome, drains, fresh, recordCount}
 use Rattle.clocked_model.specs.Promise.{clearedMachine, clockedQueue, cycleAnswers, cycleLeft, hasRun, idles, machine, Machine, ran}
 use Rattle.clocked_model.specs.Records.{worksOf}
 use Rattle.clocked_model.specs.declared.State.{State}
 use Rattle.laws.specs.Tests.{and-left, and-right, and-true, sub-one}
 use Rattle.lent_steps.proofs.Alike.{Alike, cycled-records, cycled-same, drains-kept, drains-same, SameCycle, SameDrain}
-use Rattle.lent_steps.proofs.Back.{back-at, back-length, back-none, back-past, works-few}
+use Rattle.lent_steps.proofs.Back.{back-length, works-few}
 use Rattle.lent_steps.proofs.Stood.{kinds-back, Stood, stood-fresh, stood-on, stood-read, works-back}
-use Rattle.lent_steps.specs.History.{clearedMemory, Holds, lentIdles, lentQueue, Memory, memory}
-use Rattle.lent_steps.specs.Lent.{drainOf, kindsOk, lentCleared, lentCycled, lentDrain, LentDrain, lentDrains, lentOf, lentOutcome, LentOutcome, noRecord, readable, recordsBack, stateRead, worksBack, worksRead}
+use Rattle.lent_steps.specs.History.{clearedMemory, Holds, lentQueue, Memory, memory}
+use Rattle.lent_steps.specs.Lent.{drainOf, kindsOk, lentCleared, lentCycled, lentDrains, lentOf, lentOutcome, LentOutcome, readable, recordsBack, stateRead, worksBack}
 use Rattle.lent_steps.specs.Steps.{unread}
 use Rattle.lent_steps.specs.declared.Record.{Record}
 use Rattle.promise.specs.Queue.{answers, answers-same, leaves, leaves-in-step, leaves-keep}
@@ -34,8 +33,6 @@ use Rattle.strip.specs.declared.Refusal.{Refusal}
 use Rattle.strip.specs.declared.Refusal.the-variants.{BadPort, BadRank, BadShape, Damaged, Empty, Full, NoTag, TooSoon}
 use Rattle.strip.specs.declared.Request.{Request}
 use Rattle.strip.specs.declared.Request.the-variants.{Idle}
-use Rattle.tree_model.proofs.Exactly.{is-shape, shape-is}
-use Rattle.tree_model.specs.Calls.{shapeOk}
 use Rattle.tree_model.specs.Levels.{idle}
 use Rattle.tree_model.specs.Promise.{Shape}
 use Rattle.tree_model.specs.declared.Work.{Work}

@@ -1,4 +1,4 @@
--- A record that is written lies within the slice, and its node fits its word. Assumes nothing.
+-- A record that is written lies within the slice, and its node fits its word.
 use Prim.Native.Nat.{_*_, _+_, _-_, _<_, _≤_, pred, suc, zero, ℕ}
 use native.Mathlib.Nat.{eq-or-lt-of-le, mul-le-mul-right, suc-mul, suc-pred-eq-of-pos}
 use native.Mathlib.Omega.{arith}
@@ -10,27 +10,23 @@ use lib.Dec.{ltb}
 use lib.ListN.{getD, getD-replicate, length, replicate}
 use borrow.Author.Tests.{ltb-true}
 use Rattle.clocked_model.proofs.Demand.{few-levels}
-use Rattle.clocked_model.proofs.Drain.{cycled-length, drain-bad, drain-ran, drain-state}
-use Rattle.clocked_model.proofs.Exactly.{cycled-either, sound, zero-ran}
+use Rattle.clocked_model.proofs.Drain.{drain-ran, drain-state}
+use Rattle.clocked_model.proofs.Exactly.{cycled-either, zero-ran}
 use Rattle.clocked_model.proofs.Turn.{after-length, plain-rest, works-after}
 use Rattle.clocked_model.specs.Calls.{askedOk, clockedCleared, cycleOutcome, CycleOutcome, cycleWork, drainOutcome, drains, DrainOutcome, fresh, ruleNow, recordCount, stepsOk, cycled, cycleRun}
 use Rattle.clocked_model.specs.Cycle.{cycleOk, cycleWorks, Works}
-use Rattle.clocked_model.specs.Promise.{clockedQueue, hasRun, idles, machine, Machine}
+use Rattle.clocked_model.specs.Promise.{clockedQueue, hasRun, idles, machine}
 use Rattle.clocked_model.specs.Records.{recordAt, worksOf}
 use Rattle.clocked_model.specs.declared.State.{State}
-use Rattle.laws.specs.Lists.{All, all-at, all-replicate, all-set}
 use Rattle.laws.specs.Tests.{and-left, and-right, sub-one}
 use Rattle.lent_steps.proofs.Records.{lends-few, lends-within}
-use Rattle.lent_steps.specs.Lent.{recordBy, recordOf, workOf, worksRead}
-use Rattle.lent_steps.specs.Steps.{clearFrom, cycleFrom, drainFrom, lends, reach, Ready, readOf, stateOf, turnedCycle, turnedDrain, unread, wordLimit}
+use Rattle.lent_steps.specs.Lent.{recordBy, recordOf}
+use Rattle.lent_steps.specs.Steps.{clearFrom, cycleFrom, drainFrom, lends, Ready, stateOf, turnedCycle, turnedDrain, unread, wordLimit}
 use Rattle.lent_steps.specs.declared.Read.{Read}
-use Rattle.lent_steps.specs.declared.Record.{Record}
 use Rattle.lent_steps.specs.declared.Turned.{Turned}
 use Rattle.promise.specs.Queue.{leaves, leaves-keep}
 use Rattle.strip.specs.Answers.{numberOf}
-use Rattle.strip.specs.declared.Answer.{Answer}
 use Rattle.strip.specs.declared.Answer.the-variants.{Done, Refused}
-use Rattle.strip.specs.declared.Element.{Element}
 use Rattle.strip.specs.declared.Refusal.the-variants.{BadShape}
 use Rattle.strip.specs.declared.Request.{Request}
 use Rattle.strip.specs.declared.Request.the-variants.{Idle}

@@ -1,19 +1,16 @@
--- Records read and written one after the other, and what the tests of them say. Assumes nothing.
+-- Records read and written one after the other, and what the tests of them say.
 use Prim.Native.Nat.{_-_, _<_, _≤_, ℕ}
 use native.Mathlib.Omega.{arith}
 use mathlib.Core.Bool.{_&&_, Bool, cond, false, not, true}
-use mathlib.Core.List.{List}
-use mathlib.Core.Path.{_∙_, _≡_, ap, ap₂, refl, subst, sym}
+use mathlib.Core.Path.{_∙_, _≡_, ap, refl, subst, sym}
 use lib.Dec.{eqb, leb}
-use lib.ListN.{getD, length, replicate, set}
-use borrow.Author.Tests.{eq-eqb, le-leb, leb-false, leb-true, lt-leb, ne-eqb, not-false, not-true}
+use borrow.Author.Tests.{eq-eqb, le-leb, leb-true, lt-leb, ne-eqb, not-false, not-true}
 use Rattle.clocked_model.specs.Calls.{recordCount}
 use Rattle.laws.specs.Tests.{and-left, and-right}
 use Rattle.lent_steps.specs.Lent.{carries, handed, recordBy, recordOf, standing, stands, workOf}
 use Rattle.lent_steps.specs.Steps.{lends, reach, wordLimit}
 use Rattle.lent_steps.specs.declared.Record.{Record}
 use Rattle.strip.specs.declared.Element.{Element}
-use Rattle.tree_model.specs.Levels.{idle}
 use Rattle.tree_model.specs.Node.{isNothing}
 use Rattle.tree_model.specs.declared.Op.{Op}
 use Rattle.tree_model.specs.declared.Op.the-variants.{Nothing, Put, Swap, Take}

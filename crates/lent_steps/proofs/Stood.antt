@@ -1,18 +1,17 @@
 -- One record over a cycle: what the host's record becomes, that it can be read again, and that a record of nothing stands until it is loaded.
--- Assumes nothing.
-use Prim.Native.Nat.{_+_, _-_, _<_, _≤_, pred, suc, zero, ℕ}
+use Prim.Native.Nat.{_+_, _<_, _≤_, pred, suc, zero, ℕ}
 use native.Mathlib.Nat.{add-zero, zero-add, eq-or-lt-of-le, le-of-suc-le-suc, not-suc-le-zero}
 use native.Mathlib.Omega.{arith}
-use mathlib.Core.Bool.{_&&_, Bool, cond, false, false≢true, not, true, true≢false}
+use mathlib.Core.Bool.{Bool, cond, false, false≢true, not, true, true≢false}
 use mathlib.Core.List.{List}
 use mathlib.Core.Logic.{⊎-elim}
 use mathlib.Core.Path.{_∙_, _≡_, ap, ap₂, refl, subst, sym}
 use lib.Dec.{eqb, leb}
-use lib.ListN.{getD, getD-replicate, length, length-set, replicate, set}
+use lib.ListN.{getD, getD-replicate, length, length-set, set}
 use lib.Seq.{getD-set-other, getD-set-same}
-use borrow.Author.Tests.{eqb-false, eqb-true, le-leb, leb-true}
+use borrow.Author.Tests.{eqb-false, le-leb, leb-true}
 use Rattle.clocked_model.proofs.Exactly.{cycled-either}
-use Rattle.clocked_model.proofs.Turn.{after-before, plain-work, works-set}
+use Rattle.clocked_model.proofs.Turn.{after-before, works-set}
 use Rattle.clocked_model.specs.Calls.{cycled, cycleRun, fresh, recordCount, ruleNow}
 use Rattle.clocked_model.specs.Cycle.{Works}
 use Rattle.clocked_model.specs.Records.{landed, recordAt, recordsAfter, worksOf}

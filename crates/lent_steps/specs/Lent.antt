@@ -1,12 +1,11 @@
 -- The clocked tree's calls over records in the host's own memory: "entry points that are lent this slice of records and do what the by-value form does,
--- record for record" (02 [13]). Each is the by-value call on the records read, and what that leaves is written back. Assumes nothing: these are
--- definitions.
+-- record for record" (02 [13]). Each is the by-value call on the records read, and what that leaves is written back.
 use Prim.Native.Nat.{_-_, suc, zero, ℕ}
 use mathlib.Core.Bool.{_&&_, Bool, cond, false, not, true}
 use mathlib.Core.List.{List}
 use lib.Dec.{eqb, leb, ltb}
 use lib.ListN.{getD, length, replicate, set}
-use Rattle.clocked_model.specs.Calls.{clockedCleared, cycled, cycleOutcome, CycleOutcome, drainOutcome, DrainOutcome, drains, fresh, recordCount}
+use Rattle.clocked_model.specs.Calls.{clockedCleared, cycled, CycleOutcome, DrainOutcome, drains, fresh, recordCount}
 use Rattle.clocked_model.specs.Promise.{hasRun}
 use Rattle.clocked_model.specs.declared.State.{State}
 use Rattle.lent_steps.specs.declared.Record.{Record}

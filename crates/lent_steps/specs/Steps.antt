@@ -1,13 +1,13 @@
--- What the code between the slice and the by-value calls asks and says. Assumes nothing: these are definitions.
+-- What the code between the slice and the by-value calls asks and says.
 use Prim.Native.Nat.{_-_, _<_, _≤_, ℕ}
-use mathlib.Core.Bool.{_&&_, Bool, cond, false, true}
+use mathlib.Core.Bool.{_&&_, Bool, cond, false}
 use mathlib.Core.List.{List}
 use lib.Dec.{leb, ltb}
-use lib.ListN.{getD, replicate, set}
+use lib.ListN.{getD}
 use Rattle.clocked_model.specs.Calls.{clockedCleared, cycled, cycleOutcome, CycleOutcome, drainOutcome, DrainOutcome, drains, fresh, recordCount}
 use Rattle.clocked_model.specs.declared.State.{State}
 use Rattle.clocked_model.specs.Promise.{hasRun}
-use Rattle.lent_steps.specs.Lent.{kindsOk, noRecord, recordOf, workOf, worksRead}
+use Rattle.lent_steps.specs.Lent.{kindsOk, recordOf, worksRead}
 use Rattle.lent_steps.specs.declared.Read.{Read}
 use Rattle.lent_steps.specs.declared.Record.{Record}
 use Rattle.lent_steps.specs.declared.Turned.{Turned}

@@ -1,4 +1,4 @@
--- The check by descent: what a node's loop and a slot's calls make together. Assumes nothing.
+-- The check by descent: what a node's loop and a slot's calls make together.
 use Prim.Native.Nat.{ℕ, zero, suc, _+_, _-_, _*_, _<_, _≤_}
 use native.Mathlib.Nat.{not-suc-le-zero, mul-le-mul-right}
 use native.Mathlib.Numerals.{add-one}

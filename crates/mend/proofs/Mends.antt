@@ -1,4 +1,4 @@
--- The mender's loop over the slots. Assumes nothing.
+-- The mender's loop over the slots.
 use Prim.Native.Nat.{_+_, _-_, _<_, _≤_, suc, zero, ℕ}
 use native.Mathlib.Numerals.{add-one}
 use native.Mathlib.Omega.{arith}

@@ -1,4 +1,4 @@
--- What a tested shape says of the store: where its words, nodes and slots lie. Assumes nothing.
+-- What a tested shape says of the store: where its words, nodes and slots lie.
 use Prim.Native.Nat.{_*_, _+_, _<_, _≤_, ℕ}
 use native.Mathlib.Omega.{arith}
 use mathlib.Core.Bool.{Bool, false, not, true}

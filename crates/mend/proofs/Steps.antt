@@ -1,4 +1,4 @@
--- What the check's code has read makes the definitions' answers. Assumes nothing.
+-- What the check's code has read makes the definitions' answers.
 use Prim.Native.Nat.{ℕ, zero, suc, _+_, _-_, _*_, _/_, _≤_}
 use native.Mathlib.Nat.{mul-comm, mul-le-mul-right, suc-mul, mul-le-mul, div-le-self}
 use native.Mathlib.Numerals.{add-one}

@@ -1,4 +1,4 @@
--- The loops over levels and slots. Assumes nothing.
+-- The loops over levels and slots.
 use Prim.Native.Nat.{ℕ, zero, suc, _+_, _-_, _*_, _<_, _≤_, pred}
 use native.Mathlib.Nat.{not-suc-le-zero, one-mul}
 use native.Mathlib.Numerals.{add-one}

@@ -1,4 +1,4 @@
--- What the check's functions ask of the words. Assumes nothing: these are definitions.
+-- What the check's functions ask of the words.
 use Prim.Native.Nat.{_*_, _+_, _<_, _≤_, pred, suc, ℕ}
 use mathlib.Core.Bool.{Bool, cond, true}
 use mathlib.Core.List.{[], List}

@@ -27,7 +27,7 @@ use Rattle.tree_model.proofs.Slice.{clear-zeroes}
 use Rattle.tree_model.specs.Calls.{called, Outcome, rootOf, shapeOk}
 use Rattle.tree_model.specs.Damage.{room}
 use Rattle.tree_model.specs.Node.{isEmpty}
-use Rattle.tree_model.specs.Promise.{after, Shape, start, stored, treeQueue}
+use Rattle.tree_model.specs.Promise.{after, Shape, start, storedCount, treeQueue}
 use Rattle.tree_model.specs.Tree.{own, ownBy}
 use Rattle.tree_model.specs.Words.{slotOf, slotWords}
 use Rattle.tree_model.specs.declared.Slot.{Slot}
@@ -39,13 +39,13 @@ use Rattle.mend_model.specs.declared.Mend.the-variants.{Skipped, Unmende
 use Rattle.mend_model.proofs.Passes.{reached-passes}
 
 -- ---- a push of an element with a tag, into a store with room
-module _ (m k : ℕ) (x : Element) (t : untagged x ≡ false) (ws : List ℕ) (kept : Kept m k ws) (h : stored (room m (suc k)) ws always < room m (suc k)) where
+module _ (m k : ℕ) (x : Element) (t : untagged x ≡ false) (ws : List ℕ) (kept : Kept m k ws) (h : storedCount (room m (suc k)) ws always < room m (suc k)) where
   push-taken : called m (suc k) (Push x) ws .answer ≡ Done
   push-taken =
       ap (λ (o : Outcome). o .answer) (kept-called m k ws kept (Push x))
       ∙ push-done (room m (suc k)) x (rootOf m ws) t (omega (arith, kept-sum m k ws kept, stored-holding m k ws always))
 
-  push-sum : (f : Element → Bool) → stored (room m (suc k)) (called m (suc k) (Push x) ws .words) f ≡ stored (room m (suc k)) ws f + hit (f x)
+  push-sum : (f : Element → Bool) → storedCount (room m (suc k)) (called m (suc k) (Push x) ws .words) f ≡ storedCount (room m (suc k)) ws f + hit (f x)
   push-sum f = omega (arith, call-sum m k (Push x) ws kept f, ap (λ (a : Answer). brought (Push x) a f) push-taken)
 
 -- ---- the elements that are taken over: those of slot i and the n - 1 after it
@@ -81,16 +81,16 @@ has-tag s e = not-true (untagged (s .element)) (and-right (not (isEmpty s)) (not
 -- a list of requests of which each is answered done, and which adds so many
 pub record Adds (m k : ℕ) (rs : List Request) (to : List ℕ) (add : (Element → Bool) → ℕ) : Type 0 where
   pub done : All (λ a. a ≡ Done) (answers (treeQueue m (suc k)) rs to)
-  pub sum : (f : Element → Bool) → stored (room m (suc k)) (leaves (treeQueue m (suc k)) rs to) f ≡ stored (room m (suc k)) to f + add f
+  pub sum : (f : Element → Bool) → storedCount (room m (suc k)) (leaves (treeQueue m (suc k)) rs to) f ≡ storedCount (room m (suc k)) to f + add f
 
 adds-push : (m k : ℕ) (x : Element) (rs : List Request) (to : List ℕ) (add : (Element → Bool) → ℕ) → untagged x ≡ false → Kept m k to
-    → stored (room m (suc k)) to always < room m (suc k) → Adds m k rs (called m (suc k) (Push x) to .words) add → Adds m k (Push x ∷ rs) to (λ f. hit (f x) + add f)
+    → storedCount (room m (suc k)) to always < room m (suc k) → Adds m k rs (called m (suc k) (Push x) to .words) add → Adds m k (Push x ∷ rs) to (λ f. hit (f x) + add f)
 unfolding answers leaves
 adds-push m k x rs to add t kept h a =
     record { done = (push-taken m k x t to kept h, a .done); sum = λ f. omega (arith, a .sum f, push-sum m k x t to kept h f) }
 
 -- as many slots are left as there is room for
-pushes-add : (m k : ℕ) (ws : List ℕ) (n i : ℕ) (to : List ℕ) → Kept m k to → stored (room m (suc k)) to always + n ≤ room m (suc k) → Adds m k (pushes ws i n) to (takenFrom ws i n)
+pushes-add : (m k : ℕ) (ws : List ℕ) (n i : ℕ) (to : List ℕ) → Kept m k to → storedCount (room m (suc k)) to always + n ≤ room m (suc k) → Adds m k (pushes ws i n) to (takenFrom ws i n)
 unfolding pushes answers leaves takenFrom sumTo
 pushes-add m k ws zero i to kept h = record { done = tt; sum = λ f. omega arith }
 pushes-add m k ws (suc n) i to kept h = go (keeps (slotOf ws i)) refl (λ to kept h. pushes-add m k ws n (suc i) to kept h)
@@ -99,12 +99,12 @@ pushes-add m k ws (suc n) i to kept h = go (keeps (slotOf ws i)) refl (λ to kep
     part b e f = one-more ws i n f ∙ ap (λ (a : ℕ). a + takenFrom ws (suc i) n f) (own-taken f (slotOf ws i) ∙ ap (λ (b : Bool). cond b (hit (f (slotOf ws i .element))) 0) e)
 
     go : (b : Bool) → keeps (slotOf ws i) ≡ b
-        → ((to : List ℕ) → Kept m k to → stored (room m (suc k)) to always + n ≤ room m (suc k) → Adds m k (pushes ws (suc i) n) to (takenFrom ws (suc i) n))
+        → ((to : List ℕ) → Kept m k to → storedCount (room m (suc k)) to always + n ≤ room m (suc k) → Adds m k (pushes ws (suc i) n) to (takenFrom ws (suc i) n))
         → Adds m k (cond b (Push (slotOf ws i .element) ∷ pushes ws (suc i) n) (pushes ws (suc i) n)) to (takenFrom ws i (suc n))
     go true e ih =
         let x : Element = slotOf ws i .element in
         let t : untagged x ≡ false = has-tag (slotOf ws i) e in
-        let l : stored (room m (suc k)) to always < room m (suc k) = omega arith in
+        let l : storedCount (room m (suc k)) to always < room m (suc k) = omega arith in
         let a = adds-push m k x (pushes ws (suc i) n) to (takenFrom ws (suc i) n) t kept l
         (ih (called m (suc k) (Push x) to .words) (called-kept m k (Push x) to kept) (omega (arith, push-sum m k x t to kept l always))) in
         record { done = a .done; sum = λ f. omega (arith, a .sum f, part true e f) }
@@ -134,16 +134,16 @@ module _ (m : ℕ) (ws to : List ℕ) where
     pub mended-passes : checked m levels (mended m levels ws to .words) ≡ Whole
     mended-passes = ap (λ (o : Mended). checked m levels (o .words)) mended-is ∙ reached-passes m levels to (all levels) two
 
-  taken-stored : (n : ℕ) (f : Element → Bool) → takenFrom ws 0 n f ≡ stored n ws (withTag f)
-  unfolding takenFrom stored
+  taken-stored : (n : ℕ) (f : Element → Bool) → takenFrom ws 0 n f ≡ storedCount n ws (withTag f)
+  unfolding takenFrom storedCount
   taken-stored n f = to-ext n _ _ (λ j l. ap (λ (p : ℕ). own (withTag f) (slotOf ws p)) (omega arith))
 
   -- HOLDS EXACTLY the elements of the first store's slots, less the skipped, each as often
   pub mended-holds : (levels : ℕ) → Shape m levels (length ws) → Shape m levels (length to) → (f : Element → Bool)
-      → stored (room m levels) (mended m levels ws to .words) f ≡ stored (room m levels) ws (withTag f)
+      → storedCount (room m levels) (mended m levels ws to .words) f ≡ storedCount (room m levels) ws (withTag f)
   mended-holds zero one two f = absurd (not-suc-le-zero (two .some))
   mended-holds (suc k) one two f =
-      ap (λ (o : Mended). stored (room m (suc k)) (o .words) f) (mended-is (suc k) one two)
+      ap (λ (o : Mended). storedCount (room m (suc k)) (o .words) f) (mended-is (suc k) one two)
       ∙ omega (arith, adds k two .sum f, start-empty m k to two f, taken-stored (room m (suc k)) f)
 
 -- ---- what was skipped
@@ -160,8 +160,8 @@ own-both f s = go (s .count)
     go zero = refl
     go (suc c) = both (f (s .element)) (untagged (s .element))
 
-stored-both : (n : ℕ) (ws : List ℕ) (f : Element → Bool) → stored n ws (withTag f) + stored n ws (withoutTag f) ≡ stored n ws f
-unfolding stored
+stored-both : (n : ℕ) (ws : List ℕ) (f : Element → Bool) → storedCount n ws (withTag f) + storedCount n ws (withoutTag f) ≡ storedCount n ws f
+unfolding storedCount
 stored-both n ws f = sym (to-add n _ _) ∙ to-ext n _ _ (λ i l. own-both f (slotOf ws i))
 
 skip-own : (s : Slot) → hit (skips s) ≡ own untagged s
@@ -181,13 +181,13 @@ skipped-from ws (suc n) i =
     (skipped-from ws n (suc i) ∙ to-ext n _ _ (λ j l. ap (λ (p : ℕ). own untagged (slotOf ws p)) (suc-add i j ∙ sym (add-suc i j))))
 
 -- SKIPPED: the number reported is how many of the first store's elements have no tag
-pub skipped-is : (ws : List ℕ) (n : ℕ) → skipped ws 0 n ≡ stored n ws untagged
-unfolding stored
+pub skipped-is : (ws : List ℕ) (n : ℕ) → skipped ws 0 n ≡ storedCount n ws untagged
+unfolding storedCount
 skipped-is ws n = skipped-from ws n 0 ∙ to-ext n _ _ (λ j l. ap (λ (p : ℕ). own untagged (slotOf ws p)) (omega arith))
 
 -- ---- COMES BACK: with what was skipped, of every kind of element as many as before
 pub comes-back : (m levels : ℕ) (ws to : List ℕ) → Shape m levels (length ws) → Shape m levels (length to) → (f : Element → Bool)
-    → stored (room m levels) (mended m levels ws to .words) f + stored (room m levels) ws (withoutTag f) ≡ stored (room m levels) ws f
+    → storedCount (room m levels) (mended m levels ws to .words) f + storedCount (room m levels) ws (withoutTag f) ≡ storedCount (room m levels) ws f
 comes-back m levels ws to one two f = omega (arith, mended-holds m ws to levels one two f, stored-both (room m levels) ws f)
 
 own-fewer : (f : Element → Bool) (s : Slot) → own (withoutTag f) s ≤ own untagged s
@@ -206,13 +206,13 @@ unfolding sumTo
 to-le zero g h p = omega arith
 to-le (suc n) g h p = omega (arith, p 0, to-le n (λ i. g (suc i)) (λ i. h (suc i)) (λ i. p (suc i)))
 
-stored-fewer : (n : ℕ) (ws : List ℕ) (f : Element → Bool) → stored n ws (withoutTag f) ≤ stored n ws untagged
-unfolding stored
+stored-fewer : (n : ℕ) (ws : List ℕ) (f : Element → Bool) → storedCount n ws (withoutTag f) ≤ storedCount n ws untagged
+unfolding storedCount
 stored-fewer n ws f = to-le n _ _ (λ i. own-fewer f (slotOf ws i))
 
 -- .. so that with nothing skipped the elements are the same, each as often
 pub same-back : (m levels : ℕ) (ws to : List ℕ) → Shape m levels (length ws) → Shape m levels (length to) → skipped ws 0 (room m levels) ≡ 0 → (f : Element → Bool)
-    → stored (room m levels) (mended m levels ws to .words) f ≡ stored (room m levels) ws f
+    → storedCount (room m levels) (mended m levels ws to .words) f ≡ storedCount (room m levels) ws f
 same-back m levels ws to one two none f =
     omega (arith, comes-back m levels ws to one two f, stored-fewer (room m levels) ws f, skipped-is ws (room m levels))
 

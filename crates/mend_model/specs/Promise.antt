@@ -23,7 +23,7 @@ use Rattle.tree_model.specs.Calls.{called, heldCount}
 use Rattle.tree_model.specs.Damage.{room}
 use Rattle.tree_model.specs.Levels.{Levels}
 use Rattle.tree_model.specs.Node.{slotAt, sumCounts}
-use Rattle.tree_model.specs.Promise.{Damage, levelAt, PopThenPush, Shape, stored, treeQueue}
+use Rattle.tree_model.specs.Promise.{Damage, levelAt, PopThenPush, Shape, storedCount, treeQueue}
 use Rattle.tree_model.specs.Tree.{Sound, treeOf}
 use Rattle.tree_model.specs.Words.{levelsOf}
 use Rattle.tree_model.specs.declared.Slot.{Slot}
@@ -102,12 +102,12 @@ module _ (m levels : ℕ) (ws : List ℕ) (rs : List Request) where
     pub undamaged : (r : Request) → Damage m levels r then → ⊥
     pub numbers : (r : Request) → let n = numberOf (called m levels r then .answer) in (n ≡ 0) ⊎ (n ≡ 5) ⊎ (n ≡ 6) ⊎ (n ≡ 7)
     -- what was stored and went in is what is stored and came out
-    pub holds : (f : Element → Bool) → stored (room m levels) then f + allGiven rs saidFrom f ≡ stored (room m levels) ws f + allBrought rs saidFrom f
-    pub least : (r : Request) → Least (stored (room m levels) then) r (called m levels r then .answer)
+    pub holds : (f : Element → Bool) → storedCount (room m levels) then f + allGiven rs saidFrom f ≡ storedCount (room m levels) ws f + allBrought rs saidFrom f
+    pub least : (r : Request) → Least (storedCount (room m levels) then) r (called m levels r then .answer)
     pub replaces : (x : Element) → (Untagged (Replace x) → ⊥) → PopThenPush m levels x then
-    pub held : (countNumber (heldCount m levels then) ≡ 0) × (countOf (heldCount m levels then) ≡ stored (room m levels) then always)
+    pub held : (countNumber (heldCount m levels then) ≡ 0) × (countOf (heldCount m levels then) ≡ storedCount (room m levels) then always)
     -- the check does not look at tags: where no element without one was stored, none is and none has come out
-    pub tagged : stored (room m levels) ws untagged ≡ 0 → Tagged (stored (room m levels) then) rs saidFrom
+    pub tagged : storedCount (room m levels) ws untagged ≡ 0 → Tagged (storedCount (room m levels) then) rs saidFrom
 
 -- ---- tests on elements: those that the mender takes over, and those that it skips
 abbrev pub withTag : (Element → Bool) → Element → Bool

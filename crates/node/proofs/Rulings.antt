@@ -1,4 +1,4 @@
--- What is read of the root makes the ruling on a request. Assumes nothing.
+-- What is read of the root makes the ruling on a request.
 use Prim.Native.Nat.{_<_, _≤_, ℕ}
 use native.Mathlib.Omega.{arith}
 use mathlib.Core.Bool.{false, true}

@@ -1,13 +1,13 @@
--- What the code of a shape has counted makes the shape that the definitions say. Assumes nothing.
-use Prim.Native.Nat.{_*_, _-_, _<_, _≤_, pred, suc, zero, ℕ}
+-- What the code of a shape has counted makes the shape that the definitions say.
+use Prim.Native.Nat.{_*_, _-_, _<_, _≤_, suc, zero, ℕ}
 use native.Mathlib.Omega.{arith}
-use native.Mathlib.Nat.{mul-le-mul-right, pos-of-ne-zero}
+use native.Mathlib.Nat.{mul-le-mul-right}
 use mathlib.Core.Bool.{_&&_, Bool, cond, false, not, true, true≢false}
-use mathlib.Core.Path.{_∙_, _≡_, ap, ap₂, refl, sym}
+use mathlib.Core.Path.{_∙_, _≡_, ap, refl, sym}
 use lib.Dec.{eqb, leb}
-use borrow.Author.Tests.{eq-eqb, le-leb, leb-true, ne-eqb, not-false, not-true}
+use borrow.Author.Tests.{eq-eqb, le-leb, ne-eqb}
 use Rattle.laws.specs.Tests.{and-left, and-right, sub-one}
-use Rattle.node.proofs.Steps.{order-range, shape-above, shape-levels, shape-order, shape-slice}
+use Rattle.node.proofs.Steps.{shape-above, shape-levels, shape-order, shape-slice}
 use Rattle.node.specs.Scan.{Capacity, RoomUnder}
 use Rattle.node.specs.Shaping.{isTree, Shaped}
 use Rattle.node.specs.declared.shape.Shape.{Shape}

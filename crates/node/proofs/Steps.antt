@@ -1,4 +1,4 @@
--- What the code of a node's tests and steps has read makes the test's answer and the step. Assumes nothing.
+-- What the code of a node's tests and steps has read makes the test's answer and the step.
 use Prim.Native.Nat.{_*_, _+_, _-_, _<_, _≤_, pred, suc, zero, ℕ}
 use native.Mathlib.Nat.{mul-le-mul-right, pos-of-ne-zero, suc-add, zero-add}
 use native.Mathlib.Numerals.{add-one}

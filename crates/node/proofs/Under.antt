@@ -1,4 +1,4 @@
--- The room below the next level's slots. Assumes nothing.
+-- The room below the next level's slots.
 use Prim.Native.Nat.{_*_, _+_, _-_, _/_, _<_, suc, zero, ℕ}
 use native.Mathlib.Nat.{add-mul-div-right, div-eq-of-lt, mul-comm, mul-le-mul-right, mul-suc, zero-add}
 use native.Mathlib.Omega.{arith}

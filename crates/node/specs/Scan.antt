@@ -1,4 +1,4 @@
--- What a step at a node asks of the words, and the numbers of a tree's shape. Assumes nothing: these are definitions.
+-- What a step at a node asks of the words, and the numbers of a tree's shape.
 use Prim.Native.Nat.{_*_, _+_, _<_, _≤_, pred, suc, zero, ℕ}
 use mathlib.Core.Bool.{Bool, cond}
 use mathlib.Core.List.{List}

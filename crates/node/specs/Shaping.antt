@@ -1,4 +1,4 @@
--- A tree's shape by its order and levels. Assumes nothing: these are definitions.
+-- A tree's shape by its order and levels.
 use Prim.Native.Nat.{_*_, _-_, _≤_, ℕ}
 use mathlib.Core.Bool.{Bool, cond}
 use mathlib.Core.Path.{_≡_}

@@ -1,4 +1,4 @@
--- What the code of a planned step has read makes the choice, the test and the step that the definitions say. Assumes nothing.
+-- What the code of a planned step has read makes the choice, the test and the step that the definitions say.
 use Prim.Native.Nat.{_*_, _+_, _-_, _<_, _≤_, pred, suc, ℕ}
 use native.Mathlib.Nat.{mul-le-mul-right}
 use native.Mathlib.Numerals.{add-one}

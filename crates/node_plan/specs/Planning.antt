@@ -1,4 +1,4 @@
--- What a step that is looked at before it is done says of its node. Assumes nothing: these are definitions.
+-- What a step that is looked at before it is done says of its node.
 use Prim.Native.Nat.{_+_, _-_, _<_, _≤_, pred, suc, ℕ}
 use mathlib.Core.Bool.{_&&_, _||_, Bool, cond, not, true}
 use mathlib.Core.List.{List}

@@ -1,4 +1,4 @@
--- The scans by turns find the place that the rules choose: in turn, and by two pairs and then the winners. Assumes nothing.
+-- The scans by turns find the place that the rules choose: in turn, and by two pairs and then the winners.
 use Prim.Native.Nat.{_+_, _<_, _≤_, suc, ℕ}
 use native.Mathlib.Nat.{not-suc-le-zero}
 use native.Mathlib.Numerals.{add-one}

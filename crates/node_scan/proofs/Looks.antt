@@ -1,4 +1,4 @@
--- The scans that keep the best number read so far choose the same places. Assumes nothing.
+-- The scans that keep the best number read so far choose the same places.
 use Prim.Native.Nat.{_+_, _<_, _≤_, suc, zero, ℕ}
 use native.Mathlib.Numerals.{add-one}
 use native.Mathlib.Omega.{arith}

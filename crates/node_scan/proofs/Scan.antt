@@ -1,4 +1,4 @@
--- The scans find the places that the rules choose. Assumes nothing.
+-- The scans find the places that the rules choose.
 use Prim.Native.Nat.{_+_, _<_, _≤_, suc, zero, ℕ}
 use native.Mathlib.Nat.{not-suc-le-zero}
 use native.Mathlib.Numerals.{add-one}

@@ -1,4 +1,4 @@
--- What a scan of a node asks of the words, and what it finds. Assumes nothing: these are definitions.
+-- What a scan of a node asks of the words, and what it finds.
 use Prim.Native.Nat.{_*_, _+_, _<_, _≤_, ℕ}
 use mathlib.Core.Bool.{cond}
 use mathlib.Core.List.{List}

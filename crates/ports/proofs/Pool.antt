@@ -1,50 +1,36 @@
 -- From what a call has tested to what its next step asks for, and to what the rules answer.
-use mathlib.Core.Path.{_≡_, refl, sym, ap, subst, _∙_}
-use mathlib.Core.Bool.{Bool, true, false, cond, not, _&&_, Bool·beq}
+use mathlib.Core.Path.{_≡_, refl, sym, subst, _∙_}
+use mathlib.Core.Bool.{Bool, true, _&&_, Bool·beq}
 use mathlib.Core.List.{List}
 use Prim.Native.Nat.{ℕ, _+_, _-_, _*_, _≤_, _<_, max}
 use native.Mathlib.Decide.{ℕ-discrete}
 use native.Mathlib.Omega.{arith}
-use borrow.Author.Tests.{lt-ltb, ltb-true, ne-eqb, le-leb}
-use lib.Dec.{leb, ltb, eqb}
+use borrow.Author.Tests.{ltb-true, ne-eqb, le-leb}
+use lib.Dec.{ltb, eqb}
 use lib.ListN.{length}
-use Rattle.laws.specs.Means.{Means, means-eqb, means-not, means-ltb, means-leb}
-use Rattle.laws.specs.Sums.{sumTo}
 use Rattle.laws.specs.Tests.{and-left, and-right}
-use Rattle.laws.specs.Updates.{Upd}
-use Rattle.strip.specs.Answers.{untagged}
-use Rattle.strip.specs.declared.Answer.the-variants.{Done, Out}
-use Rattle.strip.specs.declared.Count.the-variants.{Held, Unknown}
-use Rattle.strip.specs.declared.Element.{Element}
-use Rattle.strip.specs.declared.Refusal.{Refusal}
-use Rattle.strip.specs.declared.Refusal.the-variants.{BadShape, BadPort, BadRank, NoTag, Damaged, Full, Empty}
 use Rattle.bucket_model.specs.declared.Lay.{Lay}
 use Rattle.bucket_model.specs.declared.Lowest.{Lowest}
 use Rattle.bucket_model.specs.declared.Room.{Room}
-use Rattle.bucket_model.specs.Layout as bucket
 use Rattle.bucket_model.specs.Layout.{Laid, word}
-use Rattle.bucket_model.specs.Checks.{depthOk}
-use Rattle.bucket_model.specs.Calls.{Outcome, outcome, refused, fill, lowestOf, takenBits, takenWords, given, popFound, roomWith, joinedBits, joinedWords, pushFound, replaceJoined}
-use Rattle.bucket_model.specs.Causes as causes
-use Rattle.bucket_model.proofs.Returns.{either}
+use Rattle.bucket_model.specs.Calls.{takenBits, takenWords, roomWith}
 use Rattle.bucket_model.proofs.Taken.{held-after, free-after, taken-foreign}
 use Rattle.bucket_tests.specs.Stores.{Stands, Roomy, Freeing, FoundRoom, roomFreed}
 use Rattle.bucket_tests.proofs.Read.{freed-is, node-after}
 use Rattle.bucket_steps.specs.Stores.{Joining}
 use Rattle.bucket_steps.proofs.Steps as steps
 use Rattle.ports_model.specs.declared.Shape.{Shape}
-use Rattle.ports_model.specs.Layout.{portWords, bitWords, storeWords, freeAt, heldAt, floorAt, ceilingAt, seat}
-use Rattle.ports_model.specs.Checks.{shapeOk, isShaped, limitsOk, usedIn, claimedIn, limitsKept, wholeOk, isWhole, roomOk, hasRoom}
-use Rattle.ports_model.specs.Calls.{blankWord, cleared, heldCount, popped, pushed, roomAfter, replaceFound, replaced}
-use Rattle.ports_model.specs.Causes.{Shaped, Fair, Whole}
+use Rattle.ports_model.specs.Layout.{freeAt, heldAt, floorAt, ceilingAt, seat}
+use Rattle.ports_model.specs.Checks.{isShaped, usedIn, claimedIn, limitsKept, wholeOk, isWhole, roomOk, hasRoom}
+use Rattle.ports_model.specs.Calls.{roomAfter}
+use Rattle.ports_model.specs.Causes.{Shaped, Whole}
 use Rattle.ports_model.specs.Causes as ports
 use Rattle.ports_model.proofs.Frame.{room-used, free-some}
-use Rattle.ports_model.proofs.Facts.{shape-means, limits-mean, kept-means, whole-means, room-means}
+use Rattle.ports_model.proofs.Facts.{shape-means, kept-means, whole-means, room-means}
 use Rattle.ports_model.proofs.Places.{laid, shaped-at, foreign-held, foreign-floor, foreign-ceiling}
 use Rattle.ports_model.proofs.Sums.{to-upd, to-le, to-part}
 use Rattle.ports_tests.specs.declared.Totals.{Totals}
 use Rattle.ports_tests.specs.Sums.{Summed, Numbers, wholeBy, roomBy}
-use Rattle.ports.specs.Blank.{Wiping, blankAt}
 
 -- ---- what a known port is
 

@@ -24,7 +24,7 @@ use Rattle.bucket_model.specs.Calls.{outcome, refused, fill, lowestOf, takenBit
 use Rattle.bucket_model.proofs.Returns.{either}
 use Rattle.bucket_tests.specs.Stores.{Freeing, FoundRoom, roomFreed}
 use Rattle.ports_model.specs.declared.Shape.{Shape}
-use Rattle.ports_model.specs.Layout.{ranksOf, bitWords, storeWords, heldAt, seat}
+use Rattle.ports_model.specs.Layout.{ranksOf, bitWords, heldAt, seat}
 use Rattle.ports_model.specs.Checks.{shapeOk, isShaped, limitsOk, isWhole, hasRoom}
 use Rattle.ports_model.specs.Calls.{blankWord, cleared, heldCount, popped, pushed, roomOf, roomAfter, replaced}
 use Rattle.ports_model.proofs.Returns as told

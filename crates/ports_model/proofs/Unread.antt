@@ -1,6 +1,6 @@
 -- What a call at a port does not read: the other ports' bits, heads and tails, and what stands behind the shape. Two stores that agree on the rest are answered the same and left the same there. Clear reads the limits alone.
 use mathlib.Core.Path.{_≡_, refl, sym, ap, _∙_}
-use mathlib.Core.Bool.{Bool, true, cond, not, _&&_}
+use mathlib.Core.Bool.{Bool, cond, not, _&&_}
 use mathlib.Core.List.{List}
 use mathlib.Core.Logic.{inl, inr}
 use Prim.Native.Nat.{ℕ, zero, suc, _+_, _-_, _*_, _/_, _%_, _^_, _≤_, _<_, max}
@@ -23,7 +23,7 @@ use Rattle.bucket_model.specs.Promise.{AgreeOn, Agree, AlikeOn}
 use Rattle.bucket_model.specs.Calls as queue
 use Rattle.bucket_model.proofs.Fill.{fill-at}
 use Rattle.bucket_model.proofs.Unread.{Has, Covers, alike-cond, top-same, room-same, standing, join-same, push-found-same, low-same, given-same, pop-found-same, after-agrees, has-taken, has-taken-bits}
-use Rattle.ports_model.specs.Layout.{Shape, ranksOf, bitWords, nodesAt, freeAt, storeWords, heldAt, floorAt, ceilingAt, seat, limitWords}
+use Rattle.ports_model.specs.Layout.{Shape, ranksOf, bitWords, freeAt, storeWords, heldAt, floorAt, ceilingAt, seat, limitWords}
 use Rattle.ports_model.specs.Checks.{allTo, isShaped, usedIn, claimedIn, keptAt, limitsKept, wholeOk, isWhole, roomOk, hasRoom}
 use Rattle.ports_model.specs.Calls.{blankPort, blankWord, cleared, known, heldCount, giving, popped, roomOf, pushed, roomAfter, replaceFound, replaced}
 use Rattle.ports_model.specs.Causes.{Shaped, Fair}

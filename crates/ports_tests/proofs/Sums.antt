@@ -1,14 +1,14 @@
 -- One port more, and all of them.
-use mathlib.Core.Path.{_≡_, refl, sym, ap, subst, _∙_}
+use mathlib.Core.Path.{_≡_, refl, sym, ap, _∙_}
 use mathlib.Core.List.{List}
-use mathlib.Core.Bool.{Bool, true, false, _&&_, _||_}
-use Prim.Native.Nat.{ℕ, zero, suc, _+_, _-_, _*_, _^_, _≤_, _<_, max}
+use mathlib.Core.Bool.{Bool, true, false, _&&_}
+use Prim.Native.Nat.{ℕ, _+_, _-_, _*_, _^_, _≤_, _<_, max}
 use native.Mathlib.Decide.{decLt}
 use native.Mathlib.Numerals.{add-one}
 use native.Mathlib.Omega.{arith}
 use native.Mathlib.Nat.{mul-le-mul, mul-le-mul-right}
 use borrow.Author.Tests.{lt-ltb, le-ltb, lt-leb, le-leb}
-use lib.Dec.{leb, ltb, eqb, lit≤}
+use lib.Dec.{leb, ltb, lit≤}
 use lib.ListN.{length}
 use Rattle.laws.specs.Means.{Means, means-leb, means-and, means-by}
 use Rattle.laws.specs.Sums.{sumTo, to-append}
@@ -16,10 +16,10 @@ use Rattle.bucket_model.specs.declared.Lay.{Lay}
 use Rattle.bucket_model.specs.Layout.{queue, leastStoreys, mostStoreys, pool, wordsOf, nodeWords, word}
 use Rattle.bucket_bits.proofs.Numbers.{words-le}
 use Rattle.ports_model.specs.declared.Shape.{Shape}
-use Rattle.ports_model.specs.Layout.{mostPorts, portWords, bitWords, storeWords, freeAt, seat, limitWords, floorOf, ceilingOf}
-use Rattle.ports_model.specs.Checks.{allTo, shapeOk, limitsOk, wholeOk, roomOk}
+use Rattle.ports_model.specs.Layout.{mostPorts, portWords, bitWords, storeWords, seat, limitWords, floorOf, ceilingOf}
+use Rattle.ports_model.specs.Checks.{allTo, shapeOk, limitsOk}
 use Rattle.ports_tests.specs.declared.Totals.{Totals}
-use Rattle.ports_tests.specs.Sums.{Numbers, numbersOk, Summed, Floors, wholeBy, roomBy}
+use Rattle.ports_tests.specs.Sums.{Numbers, numbersOk, Summed, Floors}
 
 -- ---- sums
 

@@ -1,6 +1,6 @@
 -- The paper's number, rank, tag and length of each answer.
 use Prim.Native.Nat.{ℕ, _*_, _+_}
-use mathlib.Core.Bool.{Bool, true, false, _&&_, _||_}
+use mathlib.Core.Bool.{Bool, _&&_, _||_}
 use lib.Dec.{eqb, ltb}
 use Rattle.strip.specs.declared.Element.{Element}
 use Rattle.strip.specs.declared.Refusal.{Refusal}

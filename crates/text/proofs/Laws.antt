@@ -1,4 +1,4 @@
--- A text laid piece by piece, and digits that say their number. Assumes nothing.
+-- A text laid piece by piece, and digits that say their number.
 use Prim.Native.Nat.{_%_, _*_, _+_, _-_, _/_, _<_, _^_, _≤_, suc, zero, ℕ}
 use native.Mathlib.Nat.{add-zero, le-of-lt, pow-suc, pow-zero}
 use native.Mathlib.Numerals.{add-one}

@@ -1,4 +1,4 @@
--- Text as lists of bytes: quoted texts, numbers in decimal, and a text laid into a buffer. Assumes nothing: these are definitions.
+-- Text as lists of bytes: quoted texts, numbers in decimal, and a text laid into a buffer.
 use Prim.Native.Char.{code}
 use Prim.Native.Nat.{_%_, _*_, _+_, _-_, _/_, suc, zero, ℕ}
 use Prim.Native.String.{String}

@@ -1,4 +1,4 @@
--- 01's worked trace, one of replaces, one of elements without a tag and two of version 2, by computing. Assumes nothing.
+-- 01's worked trace, one of replaces, one of elements without a tag and two of version 2, by computing.
 use mathlib.Core.Path.{_≡_, refl}
 use Rattle.clocked_model.specs.Calls.{asks, drainFrom, drains, fresh, ruleMarked, isRefused, marks, popsOrReplaces, cycled, cycleRun}
 use Rattle.clocked_model.specs.Cycle.{cycleOk, cycleWords, quiet}

@@ -1,4 +1,4 @@
--- The lengths of words and lines. Assumes nothing.
+-- The lengths of words and lines.
 use Prim.Native.Nat.{_≤_, ℕ}
 use native.Mathlib.Omega.{arith}
 use lib.ListN.{length, length-append}

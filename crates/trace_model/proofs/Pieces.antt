@@ -1,4 +1,4 @@
--- Played in the program's pieces, a trace gives the text that the whole program is defined by. Assumes nothing.
+-- Played in the program's pieces, a trace gives the text that the whole program is defined by.
 use Prim.Native.Nat.{_%_, _*_, _+_, _/_, _<_, _≤_, suc, zero, ℕ}
 use native.Mathlib.Nat.{add-assoc, add-zero, le-of-lt, zero-add}
 use native.Mathlib.Numerals.{add-one}

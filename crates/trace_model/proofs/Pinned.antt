@@ -1,4 +1,4 @@
--- What the contracts of `begin` and `play` allow is one outcome. Assumes nothing.
+-- What the contracts of `begin` and `play` allow is one outcome.
 use Prim.Native.Nat.{_+_, _<_, _^_, ℕ}
 use native.Mathlib.Omega.{arith}
 use mathlib.Core.Bool.{Bool}

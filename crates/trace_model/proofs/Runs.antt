@@ -1,4 +1,4 @@
--- A play step by step, by what the code has done. Assumes nothing.
+-- A play step by step, by what the code has done.
 use Prim.Native.Nat.{_%_, _+_, _-_, _/_, _<_, _≤_, suc, zero, ℕ}
 use native.Mathlib.Omega.{arith}
 use mathlib.Core.Bool.{Bool, cond, false, not, true}

@@ -1,4 +1,4 @@
--- Counting records by their bytes, in either version. Assumes nothing.
+-- Counting records by their bytes, in either version.
 use Prim.Native.Nat.{_%_, _*_, _+_, _-_, _/_, _<_, _≤_, ℕ}
 use native.Mathlib.Omega.{arith}
 use mathlib.Core.Path.{_≡_, ap, subst, sym}

@@ -1,5 +1,4 @@
 -- Every line of a played trace has a word: from a cleared machine no cycle is refused 1, 2, 4 or 8. The last line says how many are stored.
--- Assumes nothing.
 use Prim.Native.Nat.{_*_, _≤_, pred, suc, zero, ℕ}
 use native.Mathlib.Omega.{arith}
 use mathlib.Core.Bool.{_&&_, Bool, cond, false, true}
@@ -36,7 +35,7 @@ use Rattle.tree_model.proofs.Exactly.{is-shape, shape-is}
 use Rattle.tree_model.proofs.Rules.{comes}
 use Rattle.tree_model.specs.Calls.{heldCount, orderOk, rule, ruling, Ruling, shapeOk, slotLimit}
 use Rattle.tree_model.specs.Damage.{room}
-use Rattle.tree_model.specs.Promise.{Shape, stored}
+use Rattle.tree_model.specs.Promise.{Shape, storedCount}
 use Rattle.tree_model.specs.Rules.{Comes, empty, full, idles, lacks, no-tag, puts, swaps, takes}
 use Rattle.tree_model.specs.Words.{slotWords}
 use Rattle.tree_model.specs.declared.Op.the-variants.{Nothing}
@@ -120,14 +119,14 @@ module _ (m levels : ℕ) (ws : List ℕ) (sh : Shape m levels (length ws)) wher
   pub end-done : (rs : List Request) → (numberOf (drained rs .answer) ≡ 0) × (drained rs .left ≡ false)
   end-done rs = (drained-fine m ws rs levels sh levels (pred-le levels), drained-left m ws rs levels sh levels (pred-le levels))
 
-  pub end-says : (rs : List Request) → endOf m levels (stateAt rs) (wordsAt rs) ≡ endLine (stored (room m levels) (drained rs .words) always) (drained rs .cycles)
+  pub end-says : (rs : List Request) → endOf m levels (stateAt rs) (wordsAt rs) ≡ endLine (storedCount (room m levels) (drained rs .words) always) (drained rs .cycles)
   unfolding endOf
   end-says rs = ap (λ (n : ℕ). endLine n (drained rs .cycles)) held-now
     where
-      held-now : countOf (heldCount m levels (drained rs .words)) ≡ stored (room m levels) (drained rs .words) always
+      held-now : countOf (heldCount m levels (drained rs .words)) ≡ storedCount (room m levels) (drained rs .words) always
       held-now =
           let d = drain-state m levels levels (stateAt rs) (wordsAt rs) in
-          subst (λ (v : List ℕ). countOf (heldCount m levels v) ≡ stored (room m levels) v always) (sym (d .0))
+          subst (λ (v : List ℕ). countOf (heldCount m levels v) ≡ storedCount (room m levels) v always) (sym (d .0))
           (held-says m ws rs levels sh (drained rs .cycles)
           (ap (pending m levels) (sym (d .1)) ∙ sym (drain-left m levels levels (stateAt rs) (wordsAt rs) (shape-kept m ws rs levels sh)) ∙ end-done rs .1) .1)
 

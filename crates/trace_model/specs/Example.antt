@@ -1,5 +1,4 @@
--- 01's worked trace, one of replaces, one of elements without a tag and two of version 2, and what they give. Assumes nothing: these are
--- definitions.
+-- 01's worked trace, one of replaces, one of elements without a tag and two of version 2, and what they give.
 use Prim.Native.Nat.{ℕ}
 use mathlib.Core.List.{[], _++_, _∷_, List}
 use Rattle.text.specs.Text.{bytesOf}

@@ -1,4 +1,4 @@
--- The trace's bytes: header, records, and the text of a line. Assumes nothing: these are definitions.
+-- The trace's bytes: header, records, and the text of a line.
 use Prim.Native.Nat.{_%_, _*_, _+_, _/_, suc, zero, ℕ}
 use mathlib.Core.Bool.{_&&_, Bool, cond, not}
 use mathlib.Core.List.{[], _++_, _∷_, List}

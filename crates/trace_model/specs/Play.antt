@@ -1,4 +1,4 @@
--- The program's steps: what is carried from one to the next, and the text that each writes. Assumes nothing: these are definitions.
+-- The program's steps: what is carried from one to the next, and the text that each writes.
 use Prim.Native.Nat.{_*_, _+_, _/_, _≤_, suc, zero, ℕ}
 use mathlib.Core.Bool.{Bool, cond, false, true}
 use mathlib.Core.List.{[], _++_, _∷_, List}

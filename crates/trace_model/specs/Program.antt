@@ -1,4 +1,4 @@
--- The trace program whole: from the bytes of standard input to the bytes of standard output. Assumes nothing: these are definitions.
+-- The trace program whole: from the bytes of standard input to the bytes of standard output.
 use Prim.Native.Nat.{_%_, _*_, _+_, _^_, ℕ}
 use mathlib.Core.List.{[], _++_, _∷_, List}
 use lib.ListN.{drop, replicate}

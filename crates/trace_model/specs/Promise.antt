@@ -1,4 +1,4 @@
--- What is promised of a played trace beside its text. Assumes nothing: these are definitions.
+-- What is promised of a played trace beside its text.
 use Prim.Native.Nat.{ℕ}
 use mathlib.Core.List.{[], _∷_, List}
 use mathlib.Core.Path.{_≡_}

@@ -1,4 +1,4 @@
--- The header and a record as they are read: each test and what follows it make what the definitions say. Assumes nothing.
+-- The header and a record as they are read: each test and what follows it make what the definitions say.
 use Prim.Native.Nat.{_+_, _<_, _≤_, ℕ}
 use native.Mathlib.Omega.{arith}
 use mathlib.Core.Bool.{_&&_, Bool, false, not, true}

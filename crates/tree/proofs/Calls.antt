@@ -1,4 +1,4 @@
--- What a call's tests have found makes its outcome. Assumes nothing.
+-- What a call's tests have found makes its outcome.
 use Prim.Native.Nat.{_*_, _+_, _-_, _<_, _≤_, suc, zero, ℕ}
 use native.Mathlib.Nat.{zero-add}
 use native.Mathlib.Numerals.{add-one}

@@ -1,4 +1,4 @@
--- What a call without a tag is answered. Assumes nothing: these are definitions.
+-- What a call without a tag is answered.
 use Prim.Native.Nat.{ℕ}
 use mathlib.Core.Bool.{true}
 use mathlib.Core.List.{List}

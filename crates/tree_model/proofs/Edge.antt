@@ -1,6 +1,6 @@
 -- 01's worked case 9, at the limits of 02 [7]: "case 9's refused 7, 12 and 5 levels become 9, 16 and 6". The words are any that are long enough, so that
 -- the capacity decides.
-use Prim.Native.Nat.{_*_, _<_, _≤_, ℕ}
+use Prim.Native.Nat.{_<_, ℕ}
 use native.Mathlib.Omega.{arith}
 use mathlib.Core.Bool.{Bool, cond, false, true}
 use mathlib.Core.List.{List}

@@ -1,5 +1,5 @@
 -- The length decides nothing: two histories alike but for lengths are answered alike but for lengths.
-use Prim.Native.Nat.{_*_, _+_, pred, suc, zero, ℕ}
+use Prim.Native.Nat.{_*_, _+_, suc, zero, ℕ}
 use native.Mathlib.Nat.{not-suc-le-zero}
 use mathlib.Core.Bool.{_&&_, _||_, Bool, cond, false, not, true}
 use mathlib.Core.List.{[], _∷_, List, map}
@@ -20,7 +20,7 @@ use Rattle.tree_model.specs.Damage.{room}
 use Rattle.promise.specs.Lengths.{short, shortAnswer, shortRequest}
 use Rattle.tree_model.specs.Lengths.{shortLevel, shortLevels, shortNode, shortOp, shortSlot}
 use Rattle.tree_model.specs.Levels.{apply, Level, levelMove, Levels, stepLevel, stepWork, top, work}
-use Rattle.tree_model.specs.Node.{every, firstEmpty, isEmpty, keep, leastCount, low, lowest, move, opMove, pass, putBy, putMove, seek, slotAt, sumCounts, swapBy, swapMove, takeBy, takeMove, vacant}
+use Rattle.tree_model.specs.Node.{every, firstEmpty, isEmpty, keep, leastCount, low, lowest, opMove, pass, putBy, putMove, seek, slotAt, sumCounts, swapBy, swapMove, takeBy, takeMove, vacant}
 use Rattle.tree_model.specs.Promise.{Shape, start, treeQueue}
 use Rattle.tree_model.specs.Serve.{bareLevels, ruled, serve}
 use Rattle.tree_model.specs.Words.{levelsOf}

@@ -28,7 +28,7 @@ use Rattle.tree_model.specs.Calls.{called, heldCount, Outcome, outcome, 
 use Rattle.tree_model.specs.Damage.{nodeOk, room}
 use Rattle.tree_model.specs.Levels.{apply, Level, Levels, work}
 use Rattle.tree_model.specs.Node.{slotAt, sumCounts, vacant}
-use Rattle.tree_model.specs.Promise.{after, Damage, Pinned, Shape, start, stored, treeQueue, Zeroed}
+use Rattle.tree_model.specs.Promise.{after, Damage, Pinned, Shape, start, storedCount, treeQueue, Zeroed}
 use Rattle.tree_model.specs.Serve.{bareLevels, holding, ruled, serve, Store}
 use Rattle.tree_model.specs.Tree.{hang, many, own, Sound, Tree, treeOf}
 use Rattle.tree_model.specs.Words.{applyWords, levelOf, levelsOf, nodeOf, size, slotOf, tabulate, slotWords, wipe}
@@ -98,8 +98,8 @@ wiped-levels m (suc k) n ws fits b c h =
     (wiped-levels m k n ws fits (b + c * m) (c * m) (omega arith))
 
 -- ---- the words of a store
-pub stored-holding : (m k : ℕ) (ws : List ℕ) (f : Element → Bool) → stored (room m (suc k)) ws f ≡ holding m k (levelsOf m (suc k) ws 0 1) f
-unfolding stored holding sumTo
+pub stored-holding : (m k : ℕ) (ws : List ℕ) (f : Element → Bool) → storedCount (room m (suc k)) ws f ≡ holding m k (levelsOf m (suc k) ws 0 1) f
+unfolding storedCount holding sumTo
 stored-holding m k ws f =
     let e : size m (suc k) 1 ≡ room m (suc k) = size-room m (suc k) 1 ∙ one-mul (room m (suc k)) in
     let p : sumTo (room m (suc k)) (λ i. own f (slotOf ws i)) ≡ sumTo (size m (suc k) 1) (λ i. own f (slotOf ws (0 + i))) =
@@ -178,7 +178,7 @@ module _ (m k : ℕ) where
   leaves-kept = leaves-keep (treeQueue m (suc k)) (Kept m k) called-kept
 
   pub call-sum : (r : Request) (ws : List ℕ) → Kept m k ws → (f : Element → Bool)
-      → stored (room m (suc k)) (called m (suc k) r ws .words) f + given r (called m (suc k) r ws .answer) f ≡ stored (room m (suc k)) ws f + brought r (called m (suc k) r ws .answer) f
+      → storedCount (room m (suc k)) (called m (suc k) r ws .words) f + given r (called m (suc k) r ws .answer) f ≡ storedCount (room m (suc k)) ws f + brought r (called m (suc k) r ws .answer) f
   call-sum r ws kept f =
       rw (stored-holding m k (called m (suc k) r ws .words) f, stored-holding m k ws f, kept-words m k ws kept r, kept-answer m k ws kept r)
       (answered m k (order-pos (kept .shape)) (levelsOf m (suc k) ws 0 1) (kept .store) r .sum f)
@@ -200,7 +200,7 @@ module _ (m k : ℕ) (ws : List ℕ) (sh : Shape m (suc k) (length ws)) where
         store = subst (λ (l : Levels (suc k)). Store m k l) (sym start-bare) (cleared-store m k);
       }
 
-  pub start-empty : (f : Element → Bool) → stored (room m (suc k)) (start m (suc k) ws) f ≡ 0
+  pub start-empty : (f : Element → Bool) → storedCount (room m (suc k)) (start m (suc k) ws) f ≡ 0
   start-empty f = stored-holding m k (start m (suc k) ws) f ∙ ap (λ (l : Levels (suc k)). holding m k l f) start-bare ∙ cleared-holds m k f
 
 -- the call held on a kept store
@@ -212,15 +212,15 @@ kept-sum m k ws kept = ap sumCounts (sym (root-node m ws)) ∙ root-sum m k (ord
 module _ (m k : ℕ) (ws : List ℕ) (kept : Kept m k ws) where
   -- a list of requests: what is stored then and came out is what was stored and went in
   pub kept-sums : (rs : List Request) (f : Element → Bool)
-      → stored (room m (suc k)) (leaves (treeQueue m (suc k)) rs ws) f + allGiven rs (answers (treeQueue m (suc k)) rs ws) f
-      ≡ stored (room m (suc k)) ws f + allBrought rs (answers (treeQueue m (suc k)) rs ws) f
-  kept-sums rs f = all-sum (treeQueue m (suc k)) (Kept m k) (called-kept m k) (stored (room m (suc k))) (call-sum m k) rs ws kept f
+      → storedCount (room m (suc k)) (leaves (treeQueue m (suc k)) rs ws) f + allGiven rs (answers (treeQueue m (suc k)) rs ws) f
+      ≡ storedCount (room m (suc k)) ws f + allBrought rs (answers (treeQueue m (suc k)) rs ws) f
+  kept-sums rs f = all-sum (treeQueue m (suc k)) (Kept m k) (called-kept m k) (storedCount (room m (suc k))) (call-sum m k) rs ws kept f
 
   -- a request
-  pub kept-least : (r : Request) → Least (stored (room m (suc k)) ws) r (called m (suc k) r ws .answer)
+  pub kept-least : (r : Request) → Least (storedCount (room m (suc k)) ws) r (called m (suc k) r ws .answer)
   kept-least r =
-      subst (λ (a : Answer). Least (stored (room m (suc k)) ws) r a) (sym (kept-answer m k ws kept r))
-      (least-same (holding m k (levelsOf m (suc k) ws 0 1)) (stored (room m (suc k)) ws) (λ f. sym (stored-holding m k ws f)) r
+      subst (λ (a : Answer). Least (storedCount (room m (suc k)) ws) r a) (sym (kept-answer m k ws kept r))
+      (least-same (holding m k (levelsOf m (suc k) ws 0 1)) (storedCount (room m (suc k)) ws) (λ f. sym (stored-holding m k ws f)) r
       (ruled m k r (levelsOf m (suc k) ws 0 1) .answer) (answered m k (order-pos (kept .shape)) (levelsOf m (suc k) ws 0 1) (kept .store) r .least))
 
   pub kept-undamaged : (r : Request) → Damage m (suc k) r ws → ⊥
@@ -230,7 +230,7 @@ module _ (m k : ℕ) (ws : List ℕ) (kept : Kept m k ws) where
   kept-numbers r = rw (kept-called m k ws kept r) (comes-number (room m (suc k)) (rootOf m ws) r _ (comes (room m (suc k)) r (rootOf m ws)))
 
   -- held
-  pub kept-held : (countNumber (heldCount m (suc k) ws) ≡ 0) × (countOf (heldCount m (suc k) ws) ≡ stored (room m (suc k)) ws always)
+  pub kept-held : (countNumber (heldCount m (suc k) ws) ≡ 0) × (countOf (heldCount m (suc k) ws) ≡ storedCount (room m (suc k)) ws always)
   kept-held =
       let e = counted-is m (suc k) ws (is-shape m (suc k) (length ws) (kept .shape)) (sound-root m k ws kept) in
       (ap countNumber e, ap countOf e ∙ kept-sum m k ws kept ∙ sym (stored-holding m k ws always))
@@ -242,27 +242,27 @@ module _ (m : ℕ) (ws : List ℕ) (rs : List Request) where
   said levels = answers (treeQueue m levels) rs (start m levels ws)
 
   -- HOLDS: of every kind of element as many are stored as went in and have not come out
-  pub holds : (levels : ℕ) → Shape m levels (length ws) → Holds (stored (room m levels) (after m levels rs ws)) rs (said levels)
+  pub holds : (levels : ℕ) → Shape m levels (length ws) → Holds (storedCount (room m levels) (after m levels rs ws)) rs (said levels)
   holds zero sh f = absurd (not-suc-le-zero (sh .some))
   holds (suc k) sh f = omega (arith, kept-sums m k (start m (suc k) ws) (start-kept m k ws sh) rs f, start-empty m k ws sh f)
 
   -- .. so each pair as often
   pub pairs : (levels : ℕ) → Shape m levels (length ws) → (e : Element)
-      → stored (room m levels) (after m levels rs ws) (same e) + allGiven rs (said levels) (same e) ≡ allBrought rs (said levels) (same e)
+      → storedCount (room m levels) (after m levels rs ws) (same e) + allGiven rs (said levels) (same e) ≡ allBrought rs (said levels) (same e)
   pairs levels sh e = holds levels sh (same e)
 
   -- .. and each triple of rank, tag and length
   pub triples : (levels : ℕ) → Shape m levels (length ws) → (e : Element)
-      → stored (room m levels) (after m levels rs ws) (triple e) + allGiven rs (said levels) (triple e) ≡ allBrought rs (said levels) (triple e)
+      → storedCount (room m levels) (after m levels rs ws) (triple e) + allGiven rs (said levels) (triple e) ≡ allBrought rs (said levels) (triple e)
   triples levels sh e = holds levels sh (triple e)
 
   -- TAGGED: no element of tag 0 is stored, and none has come out
-  pub tagged : (levels : ℕ) → Shape m levels (length ws) → Tagged (stored (room m levels) (after m levels rs ws)) rs (said levels)
-  tagged levels sh = tagged-by (treeQueue m levels) (barred m levels) (stored (room m levels) (after m levels rs ws)) rs (start m levels ws) (holds levels sh)
+  pub tagged : (levels : ℕ) → Shape m levels (length ws) → Tagged (storedCount (room m levels) (after m levels rs ws)) rs (said levels)
+  tagged levels sh = tagged-by (treeQueue m levels) (barred m levels) (storedCount (room m levels) (after m levels rs ws)) rs (start m levels ws) (holds levels sh)
 
   -- LEAST: what comes out, of a pop or a replace, has the lowest rank of all stored before
   pub least : (levels : ℕ) → Shape m levels (length ws) → (r : Request)
-      → Least (stored (room m levels) (after m levels rs ws)) r (called m levels r (after m levels rs ws) .answer)
+      → Least (storedCount (room m levels) (after m levels rs ws)) r (called m levels r (after m levels rs ws) .answer)
   least zero sh r = absurd (not-suc-le-zero (sh .some))
   least (suc k) sh r = kept-least m k (after m (suc k) rs ws) (leaves-kept m k rs (start m (suc k) ws) (start-kept m k ws sh)) r
 
@@ -288,7 +288,7 @@ module _ (m : ℕ) (ws : List ℕ) (rs : List Request) where
 
   -- the call held answers how many are stored
   pub held-says : (levels : ℕ) → Shape m levels (length ws)
-      → (countNumber (heldCount m levels (after m levels rs ws)) ≡ 0) × (countOf (heldCount m levels (after m levels rs ws)) ≡ stored (room m levels) (after m levels rs ws) always)
+      → (countNumber (heldCount m levels (after m levels rs ws)) ≡ 0) × (countOf (heldCount m levels (after m levels rs ws)) ≡ storedCount (room m levels) (after m levels rs ws) always)
   held-says zero sh = absurd (not-suc-le-zero (sh .some))
   held-says (suc k) sh = kept-held m k (after m (suc k) rs ws) (leaves-kept m k rs (start m (suc k) ws) (start-kept m k ws sh))
 

@@ -25,7 +25,7 @@ use Rattle.tree_model.proofs.Promises.{call-sum, called-kept, Kept, kep
 use Rattle.tree_model.specs.Calls.{called, Outcome, rootOf, rule, ruling}
 use Rattle.tree_model.specs.Damage.{room}
 use Rattle.tree_model.specs.Node.{low, sumCounts}
-use Rattle.tree_model.specs.Promise.{after, PopThenPush, Shape, start, stored}
+use Rattle.tree_model.specs.Promise.{after, PopThenPush, Shape, start, storedCount}
 use Rattle.tree_model.specs.declared.Op.the-variants.{Nothing, Swap, Take}
 use Rattle.tree_model.specs.declared.Slot.{Slot}
 
@@ -78,7 +78,7 @@ module _ (m k : ℕ) (x : Element) (tag : Untagged (Replace x) → ⊥) (ws : Li
       go (Refused n) e = stands m (suc k) ws (Replace x) n (ap numberOf e) ∙ sym (stands m (suc k) ws Pop n (ap numberOf (sym same ∙ e)))
 
   -- the pop leaves one less than it found, so that there is room
-  pop-sum : numberOf a ≡ 0 → (f : Element → Bool) → stored (room m (suc k)) vs f + hit (f (elementOf a)) ≡ stored (room m (suc k)) ws f
+  pop-sum : numberOf a ≡ 0 → (f : Element → Bool) → storedCount (room m (suc k)) vs f + hit (f (elementOf a)) ≡ storedCount (room m (suc k)) ws f
   pop-sum e f =
       let p : numberOf (called m (suc k) Pop ws .answer) ≡ 0 = ap numberOf (sym same) ∙ e in
       omega (arith, call-sum m k Pop ws kept f, given-out (called m (suc k) Pop ws .answer) p f, ap (λ (b : Answer). hit (f (elementOf b))) same)
@@ -98,10 +98,10 @@ module _ (m k : ℕ) (x : Element) (tag : Untagged (Replace x) → ⊥) (ws : Li
   push-taken : numberOf a ≡ 0 → called m (suc k) (Push x) vs .answer ≡ Done
   push-taken e = ap (λ (o : Outcome). o .answer) (kept-called m k vs popped (Push x)) ∙ push-done (room m (suc k)) x (rootOf m vs) has (less e)
 
-  replace-sum : numberOf a ≡ 0 → (f : Element → Bool) → stored (room m (suc k)) (called m (suc k) (Replace x) ws .words) f + hit (f (elementOf a)) ≡ stored (room m (suc k)) ws f + hit (f x)
+  replace-sum : numberOf a ≡ 0 → (f : Element → Bool) → storedCount (room m (suc k)) (called m (suc k) (Replace x) ws .words) f + hit (f (elementOf a)) ≡ storedCount (room m (suc k)) ws f + hit (f x)
   replace-sum e f = omega (arith, call-sum m k (Replace x) ws kept f, given-out a e f, brought-in x a e f)
 
-  push-sum : numberOf a ≡ 0 → (f : Element → Bool) → stored (room m (suc k)) (called m (suc k) (Push x) vs .words) f ≡ stored (room m (suc k)) vs f + hit (f x)
+  push-sum : numberOf a ≡ 0 → (f : Element → Bool) → storedCount (room m (suc k)) (called m (suc k) (Push x) vs .words) f ≡ storedCount (room m (suc k)) vs f + hit (f x)
   push-sum e f = omega (arith, call-sum m k (Push x) vs popped f, ap (λ (b : Answer). brought (Push x) b f) (push-taken e))
 
   pub kept-replaces : PopThenPush m (suc k) x ws

@@ -1,12 +1,11 @@
 -- The five calls of the one-at-a-time tree, each a total function of order, levels and words to an answer and the words afterwards.
-use Prim.Native.Nat.{ℕ, zero, suc, _+_, _*_, pred}
-use mathlib.Core.Bool.{Bool, true, false, cond, not, _&&_, _||_}
-use mathlib.Core.List.{List, [], _∷_}
+use Prim.Native.Nat.{ℕ, _*_, pred}
+use mathlib.Core.Bool.{Bool, cond, _&&_, _||_}
+use mathlib.Core.List.{List}
 use lib.Dec.{ltb, leb, eqb}
 use lib.ListN.{length}
 use Rattle.strip.specs.Answers.{untagged}
 use Rattle.strip.specs.declared.Element.{Element}
-use Rattle.strip.specs.declared.Refusal.{Refusal}
 use Rattle.strip.specs.declared.Refusal.the-variants.{BadShape, Damaged, Full, Empty, NoTag}
 use Rattle.strip.specs.declared.Answer.{Answer}
 use Rattle.strip.specs.declared.Answer.the-variants.{Done, Out, Refused}
@@ -18,7 +17,7 @@ use Rattle.tree_model.specs.declared.Slot.{Slot}
 use Rattle.tree_model.specs.declared.Op.{Op}
 use Rattle.tree_model.specs.declared.Op.the-variants.{Nothing, Put, Take, Swap}
 use Rattle.tree_model.specs.Node.{sumCounts, low}
-use Rattle.tree_model.specs.Levels.{Levels, work}
+use Rattle.tree_model.specs.Levels.{work}
 use Rattle.tree_model.specs.Words.{slotWords, nodeOf, levelsOf, applyWords, wipe}
 use Rattle.tree_model.specs.Damage.{room, nodeOk, pathOk}
 

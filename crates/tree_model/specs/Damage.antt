@@ -1,7 +1,7 @@
 -- The tests for damage: of a slot, a node, a step, and of an operation's whole path.
 use Prim.Native.Nat.{ℕ, zero, suc, _+_, _*_, pred}
 use mathlib.Core.Bool.{Bool, true, false, not, _&&_, _||_}
-use mathlib.Core.List.{List, [], _∷_}
+use mathlib.Core.List.{List, []}
 use lib.Dec.{ltb, leb, eqb}
 use lib.ListN.{length, getD}
 use Rattle.strip.specs.declared.Element.{Element}

@@ -1,4 +1,4 @@
--- A shape at the edge of the limits, 01's worked case 9. Assumes nothing: these are definitions.
+-- A shape at the edge of the limits, 01's worked case 9.
 use Prim.Native.Nat.{_*_, _≤_, ℕ}
 use mathlib.Core.List.{List}
 use mathlib.Core.Path.{_≡_}

@@ -1,7 +1,7 @@
 -- The store as levels, and an operation done to its end.
 use Prim.Native.Nat.{ℕ, zero, suc, _+_, _*_}
 use mathlib.Core.Path.{_≡_}
-use mathlib.Core.List.{List, [], _∷_}
+use mathlib.Core.List.{List, []}
 use lib.ListN.{length, getD, set}
 use Rattle.laws.specs.Lists.{All}
 use Rattle.tree_model.specs.declared.Slot.{Slot}

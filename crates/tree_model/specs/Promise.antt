@@ -132,8 +132,8 @@ Agree n ws vs = (p : ℕ) → p < 4 * n → getD ws p 0 ≡ getD vs p 0
 
 -- ---- what a store holds
 -- how many of the first n slots hold an element that passes the test
-unfoldable pub stored : ℕ → List ℕ → (Element → Bool) → ℕ
-stored n ws f = sumTo n (λ i. own f (slotOf ws i))
+unfoldable pub storedCount : ℕ → List ℕ → (Element → Bool) → ℕ
+storedCount n ws f = sumTo n (λ i. own f (slotOf ws i))
 
 -- ---- the tree as a queue: push, pop and replace on its words
 abbrev pub treeQueue : ℕ → ℕ → Request → List ℕ → Step Answer (List ℕ)
@@ -157,10 +157,10 @@ pub record PopThenPush (m levels : ℕ) (x : Element) (ws : List ℕ) : Type 0 w
   pub taken : numberOf (called m levels (Replace x) ws .answer) ≡ 0 → called m levels (Push x) (called m levels Pop ws .words) .answer ≡ Done
   -- .. and of every kind of element as many are stored as after the pop and the push
   pub stores : numberOf (called m levels (Replace x) ws .answer) ≡ 0 → (f : Element → Bool)
-      → stored (room m levels) (called m levels (Replace x) ws .words) f ≡ stored (room m levels) (leaves (treeQueue m levels) (Pop ∷ Push x ∷ []) ws) f
+      → storedCount (room m levels) (called m levels (Replace x) ws .words) f ≡ storedCount (room m levels) (leaves (treeQueue m levels) (Pop ∷ Push x ∷ []) ws) f
   -- that is what was stored, less what is answered, and the newcomer
   pub swapped : (e : Element) → called m levels (Replace x) ws .answer ≡ Out e → (f : Element → Bool)
-      → stored (room m levels) (called m levels (Replace x) ws .words) f + hit (f e) ≡ stored (room m levels) ws f + hit (f x)
+      → storedCount (room m levels) (called m levels (Replace x) ws .words) f + hit (f e) ≡ storedCount (room m levels) ws f + hit (f x)
 
 -- ---- each public call's outcome is one
 pub record Pinned (m levels : ℕ) (ws : List ℕ) : Type 0 where

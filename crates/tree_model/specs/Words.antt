@@ -1,10 +1,9 @@
 -- The lent words: "Slots lie in one lent slice, level by level, node by node"; "A tree slot is then four words, with length before count" (02 [9]):
 -- rank, tag, length, count.
 use Prim.Native.Nat.{ℕ, zero, suc, _+_, _*_}
-use mathlib.Core.Bool.{Bool, true, false, cond}
+use mathlib.Core.Bool.{cond}
 use mathlib.Core.List.{List, [], _∷_, _++_}
 use lib.ListN.{getD, set, drop, replicate}
-use Rattle.strip.specs.declared.Element.{Element}
 use Rattle.strip.specs.Answers.{element}
 use Rattle.tree_model.specs.declared.Slot.{Slot}
 use Rattle.tree_model.specs.declared.Op.{Op}

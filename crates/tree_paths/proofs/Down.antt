@@ -1,4 +1,4 @@
--- The numbers of a level, and what a step at one of its nodes needs. Assumes nothing.
+-- The numbers of a level, and what a step at one of its nodes needs.
 use Prim.Native.Nat.{_*_, _+_, _-_, _<_, _≤_, suc, zero, ℕ}
 use native.Mathlib.Nat.{add-mul, mul-le-mul-left, mul-le-mul-right, not-suc-le-zero, suc-mul}
 use native.Mathlib.Omega.{arith}

@@ -1,4 +1,4 @@
--- A level tested on the way down and written on the way back. Assumes nothing.
+-- A level tested on the way down and written on the way back.
 use Prim.Native.Nat.{_*_, _+_, _-_, _/_, _<_, _≤_, suc, zero, ℕ}
 use native.Mathlib.Nat.{mul-le-mul, mul-le-mul-right}
 use native.Mathlib.Numerals.{add-one}

@@ -1,4 +1,4 @@
--- What the recursions over the levels ask of the words, and what they answer and leave. Assumes nothing: these are definitions.
+-- What the recursions over the levels ask of the words, and what they answer and leave.
 use Prim.Native.Nat.{_*_, _+_, _-_, _<_, _≤_, ℕ}
 use mathlib.Core.Bool.{Bool, cond, true}
 use mathlib.Core.List.{List}

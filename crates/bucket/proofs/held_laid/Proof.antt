@@ -11,18 +11,19 @@ use borrow.Author.Needs.{needs}
 use Rattle.bucket.proofs.held_laid.Statement.{statement}
 use Rattle.bucket.proofs.held_laid.Tie as tie
 
+-- places on the way, each from a later one
+abbrev to-start : tie.Else1 → tie.Start
+to-start c = c .before .before .before .before
+
 -- what has been tested so far
-ok : (c : tie.Else1) → isShaped (c .before .before .before .before .args .k) (c .before .before .before .before .args .bits .now) (c .before .before .before .before .args .words .now) ≡ true
+ok : (c : tie.Else1) → let start = to-start c in isShaped (start .args .k) (start .args .bits .now) (start .args .words .now) ≡ true
 ok c = sym (c .before .is-shaped .ensures) ∙ not-false (c .before .is-shaped .result) (c .if1 .left)
 
-st : (c : tie.Else1) → Stands (c .before .before .before .before .args .k) (c .before .before .before .before .args .bits .now) (c .before .before .before .before .args .words .now)
-st c = stands _ _ _ (c .before .before .before .before .pre) (ok c)
+st : (c : tie.Else1) → let start = to-start c in Stands (start .args .k) (start .args .bits .now) (start .args .words .now)
+st c = stands _ _ _ (to-start c .pre) (ok c)
 
-sound : (c : tie.Else2) → isWhole (c .before .before .before .before .before .before .args .k) (c .before .before .before .before .before .before .args .bits .now) (c .before .before .before .before .before .before .args .words .now) ≡ true
+sound : (c : tie.Else2) → let start = c .before .before .before .before .before .before in isWhole (start .args .k) (start .args .bits .now) (start .args .words .now) ≡ true
 sound c = sym (c .before .is-whole .ensures) ∙ not-false (c .before .is-whole .result) (c .if2 .left)
-
-is-shaped-requires : tie.Need-is-shaped-requires
-is-shaped-requires c κs = search needs
 
 returns : tie.Need-returns
 returns c = held-bad _ _ _ (sym (c .before .is-shaped .ensures) ∙ not-true (c .before .is-shaped .result) (c .if1 .taken))
@@ -40,6 +41,5 @@ returns-3 : tie.Need-returns-3
 returns-3 c = held-told _ _ _ _ (ok (c .before .before .before)) (sound (c .before)) (c .held-count .ensures)
 
 pub held-laid-spec : {M : Type 1} → statement M
-held-laid-spec =
-    tie.close
-    (tie.spec is-shaped-requires returns is-whole-requires returns-2 held-count-requires returns-3)
+held-laid-spec = tie.close
+    (tie.spec (λ c κs. search needs) returns is-whole-requires returns-2 held-count-requires returns-3)

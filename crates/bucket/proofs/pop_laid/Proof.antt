@@ -13,36 +13,43 @@ use borrow.Author.Needs.{needs}
 use Rattle.bucket.proofs.pop_laid.Statement.{statement}
 use Rattle.bucket.proofs.pop_laid.Tie as tie
 
+-- places on the way, each from a later one
+abbrev to-start : tie.Else1 → tie.Start
+to-start c = c .before .before .before .before .before .before
+
+abbrev to-else1 : tie.Else2 → tie.Else1
+to-else1 c = c .before .before .before .before
+
+abbrev to-else2 : tie.Else3 → tie.Else2
+to-else2 c = c .before .before .before .before .before
+
 -- what has been tested so far
-ok : (c : tie.Else1) → isShaped (c .before .before .before .before .before .before .args .k) (c .before .before .before .before .before .before .args .bits .now) (c .before .before .before .before .before .before .args .words .now) ≡ true
+ok : (c : tie.Else1) → let start = to-start c in isShaped (start .args .k) (start .args .bits .now) (start .args .words .now) ≡ true
 ok c = sym (c .before .is-shaped .ensures) ∙ not-false (c .before .is-shaped .result) (c .if1 .left)
 
-st : (c : tie.Else1) → Stands (c .before .before .before .before .before .before .args .k) (c .before .before .before .before .before .before .args .bits .now) (c .before .before .before .before .before .before .args .words .now)
-st c = stands _ _ _ (c .before .before .before .before .before .before .pre) (ok c)
+st : (c : tie.Else1) → let start = to-start c in Stands (start .args .k) (start .args .bits .now) (start .args .words .now)
+st c = stands _ _ _ (to-start c .pre) (ok c)
 
-given : (c : tie.Else2) → (isWhole (c .before .before .before .before .before .before .before .before .before .before .args .k) (c .before .before .before .before .before .before .before .before .before .before .args .bits .now) (c .before .before .before .before .before .before .before .before .before .before .args .words .now) && not (eqb (word (c .before .before .before .before .before .before .before .before .before .before .args .words .now) (c .before .before .before .before .before .before .before .before .before .before .args .k .held)) 0)) ≡ true
+given : (c : tie.Else2) → let start = to-start (to-else1 c) in (isWhole (start .args .k) (start .args .bits .now) (start .args .words .now) && not (eqb (word (start .args .words .now) (start .args .k .held)) 0)) ≡ true
 given c = sym (c .before .has-some .ensures) ∙ not-false (c .before .has-some .result) (c .if2 .left)
 
-sound : (c : tie.Else2) → isWhole (c .before .before .before .before .before .before .before .before .before .before .args .k) (c .before .before .before .before .before .before .before .before .before .before .args .bits .now) (c .before .before .before .before .before .before .before .before .before .before .args .words .now) ≡ true
-sound c = whole-of (c .before .before .before .before .before .before .before .before .before .before .args .k) (c .before .before .before .before .before .before .before .before .before .before .args .bits .now) (c .before .before .before .before .before .before .before .before .before .before .args .words .now) (not (eqb (word (c .before .before .before .before .before .before .before .before .before .before .args .words .now) (c .before .before .before .before .before .before .before .before .before .before .args .k .held)) 0)) (given c)
+sound : (c : tie.Else2) → let start = to-start (to-else1 c) in isWhole (start .args .k) (start .args .bits .now) (start .args .words .now) ≡ true
+sound c =
+    let start = to-start (to-else1 c) in
+    whole-of (start .args .k) (start .args .bits .now) (start .args .words .now) (not (eqb (word (start .args .words .now) (start .args .k .held)) 0)) (given c)
 
-some : (c : tie.Else2) → word (c .before .before .before .before .before .before .before .before .before .before .args .words .now) (c .before .before .before .before .before .before .before .before .before .before .args .k .held) ≡ 0 → ⊥
-some c = some-of (c .before .before .before .before .before .before .before .before .before .before .args .k) (c .before .before .before .before .before .before .before .before .before .before .args .bits .now) (c .before .before .before .before .before .before .before .before .before .before .args .words .now) (given c)
+some : (c : tie.Else2) → let start = to-start (to-else1 c) in word (start .args .words .now) (start .args .k .held) ≡ 0 → ⊥
+some c =
+    let start = to-start (to-else1 c) in
+    some-of (start .args .k) (start .args .bits .now) (start .args .words .now) (given c)
 
 good : (c : tie.Else3) → c .before .before .find-lowest .result .good ≡ true
 good c = not-false (c .before .before .find-lowest .result .good) (c .if3 .left)
 
-takes : (c : tie.Else3) → Freeing (c .before .before .before .before .before .before .before .before .before .before .before .before .before .before .before .args .k) (c .before .before .before .before .before .before .before .before .before .before .before .before .before .before .before .args .bits .now) (c .before .before .before .before .before .before .before .before .before .before .before .before .before .before .before .args .words .now) (c .before .before .find-lowest .result)
-takes c = freeing _ _ _ (st (c .before .before .before .before .before .before .before .before .before)) _ (some (c .before .before .before .before .before)) (c .before .before .find-lowest .ensures) (good c)
-
-is-shaped-requires : tie.Need-is-shaped-requires
-is-shaped-requires c κs = search needs
-
-same-length : tie.Need-same-length
-same-length c = search needs
-
-same-length-2 : tie.Need-same-length-2
-same-length-2 c = search needs
+takes : (c : tie.Else3) → let start = to-start (to-else1 (to-else2 c)) in Freeing (start .args .k) (start .args .bits .now) (start .args .words .now) (c .before .before .find-lowest .result)
+takes c =
+    let else2 = to-else2 c in let else1 = to-else1 else2 in
+    freeing _ _ _ (st else1) _ (some else2) (c .before .before .find-lowest .ensures) (good c)
 
 returns : tie.Need-returns
 returns c = pop-bad _ _ _ (sym (c .before .is-shaped .ensures) ∙ not-true (c .before .is-shaped .result) (c .if1 .taken))
@@ -53,26 +60,18 @@ has-some-requires c κs = st (c .before .before)
 limit-or-damage-requires : tie.Need-limit-or-damage-requires
 limit-or-damage-requires c κs = st (c .before .before .before .before .before .before)
 
-same-length-3 : tie.Need-same-length-3
-same-length-3 c = search needs
-
-same-length-4 : tie.Need-same-length-4
-same-length-4 c = search needs
-
 returns-2 : tie.Need-returns-2
-returns-2 c = pop-limit _ _ _ (ok (c .before .before .before .before .before .before .before)) _ (sym (c .before .before .before .before .has-some .ensures) ∙ not-true (c .before .before .before .before .has-some .result) (c .before .before .before .if2 .taken)) (c .limit-or-damage .ensures)
+returns-2 c =
+    let then2 = c .before .before .before in let at-has-some = then2 .before in let else1 = at-has-some .before .before .before in
+    pop-limit _ _ _ (ok else1) _ (sym (at-has-some .has-some .ensures) ∙ not-true (at-has-some .has-some .result) (then2 .if2 .taken)) (c .limit-or-damage .ensures)
 
 find-lowest-requires : tie.Need-find-lowest-requires
 find-lowest-requires c κs = st (c .before .before .before .before .before .before)
 
-same-length-5 : tie.Need-same-length-5
-same-length-5 c = search needs
-
-same-length-6 : tie.Need-same-length-6
-same-length-6 c = search needs
-
 returns-3 : tie.Need-returns-3
-returns-3 c = pop-unfit _ _ _ (ok (c .before .before .before .before .before .before .before .before .before)) (sound (c .before .before .before .before .before)) (some (c .before .before .before .before .before)) (lowestOf (c .before .before .before .before .before .before .before .before .before .before .before .before .before .before .before .args .k) (c .before .before .before .before .before .before .before .before .before .before .before .before .before .before .before .args .bits .now) (c .before .before .before .before .before .before .before .before .before .before .before .before .before .before .before .args .words .now)) refl (sym (c .before .before .find-lowest .ensures .good) ∙ not-true (c .before .before .find-lowest .result .good) (c .if3 .taken))
+returns-3 c =
+    let else2 = c .before .before .before .before .before in let else1 = to-else1 else2 in let start = to-start else1 in
+    pop-unfit _ _ _ (ok else1) (sound else2) (some else2) (lowestOf (start .args .k) (start .args .bits .now) (start .args .words .now)) refl (sym (c .before .before .find-lowest .ensures .good) ∙ not-true (c .before .before .find-lowest .result .good) (c .if3 .taken))
 
 element-of-requires : tie.Need-element-of-requires
 element-of-requires c κs = takes (c .before) .takable .node
@@ -80,34 +79,15 @@ element-of-requires c κs = takes (c .before) .takable .node
 take-requires : tie.Need-take-requires
 take-requires c κs = takes (c .before .before .before .before)
 
-same-length-7 : tie.Need-same-length-7
-same-length-7 c = search needs
-
-same-length-8 : tie.Need-same-length-8
-same-length-8 c = search needs
-
 returns-4 : tie.Need-returns-4
-returns-4 c = pop-out _ _ _ (ok (c .before .before .before .before .before .before .before .before .before .before .before .before .before .before .before .before .before .before)) (sound (c .before .before .before .before .before .before .before .before .before .before .before .before .before .before)) (some (c .before .before .before .before .before .before .before .before .before .before .before .before .before .before)) _ (c .before .before .before .before .before .before .before .before .before .before .before .find-lowest .ensures .is (good (c .before .before .before .before .before .before .before .before .before))) _ _ _ (good (c .before .before .before .before .before .before .before .before .before)) (c .before .before .before .before .before .before .before .element-of .ensures) (c .before .before .before .before .take .ensures .0) (c .before .before .before .before .take .ensures .1)
+returns-4 c =
+    let at-take = c .before .before .before .before in let at-element-of = at-take .before .before .before in
+    let else3 = at-element-of .before .before in let at-find-lowest = else3 .before .before in let else2 = to-else2 else3 in
+    let else1 = to-else1 else2 in
+    pop-out _ _ _ (ok else1) (sound else2) (some else2) _ (at-find-lowest .find-lowest .ensures .is (good else3)) _ _ _ (good else3) (at-element-of .element-of .ensures) (at-take .take .ensures .0) (at-take .take .ensures .1)
 
 pub pop-laid-spec : {M : Type 1} → statement M
-pop-laid-spec =
-    tie.close
-    (tie.spec
-    is-shaped-requires
-    same-length
-    same-length-2
-    returns
-    has-some-requires
-    limit-or-damage-requires
-    same-length-3
-    same-length-4
-    returns-2
-    find-lowest-requires
-    same-length-5
-    same-length-6
-    returns-3
-    element-of-requires
-    take-requires
-    same-length-7
-    same-length-8
-    returns-4)
+pop-laid-spec = tie.close
+    (tie.spec (λ c κs. search needs) (λ c. search needs) (λ c. search needs) returns has-some-requires limit-or-damage-requires
+    (λ c. search needs) (λ c. search needs) returns-2 find-lowest-requires (λ c. search needs) (λ c. search needs) returns-3
+    element-of-requires take-requires (λ c. search needs) (λ c. search needs) returns-4)

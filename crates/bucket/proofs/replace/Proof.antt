@@ -10,30 +10,28 @@ use borrow.Author.Needs.{needs}
 use Rattle.bucket.proofs.replace.Statement.{statement}
 use Rattle.bucket.proofs.replace.Tie as tie
 
-is-deep-requires : tie.Need-is-deep-requires
-is-deep-requires c κs = search needs
-
 returns : tie.Need-returns
-returns c = replace-bad _ _ _ (c .before .before .before .before .args .e) (undeep (c .before .before .before .before .args .storeys) (c .before .before .before .before .args .n) (c .before .before .before .before .args .bits .now) (c .before .before .before .before .args .words .now) (sym (c .before .is-deep .ensures) ∙ not-true (c .before .is-deep .result) (c .if1 .taken)))
+returns c =
+    let start = c .before .before .before .before in
+    replace-bad _ _ _ (start .args .e) (undeep (start .args .storeys) (start .args .n) (start .args .bits .now) (start .args .words .now) (sym (c .before .is-deep .ensures) ∙ not-true (c .before .is-deep .result) (c .if1 .taken)))
 
 queue-of-requires : tie.Need-queue-of-requires
-queue-of-requires c κs = deep-of (c .before .before .before .before .before .before .args .storeys) (sym (c .before .before .before .is-deep .ensures) ∙ not-false (c .before .before .before .is-deep .result) (c .before .before .if1 .left))
+queue-of-requires c κs =
+    let at-is-deep = c .before .before .before in let start = at-is-deep .before .before .before in
+    deep-of (start .args .storeys) (sym (at-is-deep .is-deep .ensures) ∙ not-false (at-is-deep .is-deep .result) (c .before .before .if1 .left))
 
 replace-laid-requires : tie.Need-replace-laid-requires
 replace-laid-requires c κs =
-    let deep = deep-of (c .before .before .before .before .before .before .before .args .storeys) (sym (c .before .before .before .before .is-deep .ensures) ∙ not-false (c .before .before .before .before .is-deep .result) (c .before .before .before .if1 .left)) in
-    queue-placed (c .before .before .before .before .before .before .before .args .storeys) _ _ (deep .0) (deep .1) (c .queue-of .ensures)
-
-same-length : tie.Need-same-length
-same-length c = search needs
-
-same-length-2 : tie.Need-same-length-2
-same-length-2 c = search needs
+    let else1 = c .before .before .before in let at-is-deep = else1 .before in let start = at-is-deep .before .before .before in
+    let deep = deep-of (start .args .storeys) (sym (at-is-deep .is-deep .ensures) ∙ not-false (at-is-deep .is-deep .result) (else1 .if1 .left)) in
+    queue-placed (start .args .storeys) _ _ (deep .0) (deep .1) (c .queue-of .ensures)
 
 returns-2 : tie.Need-returns-2
-returns-2 c = c .before .before .before .before .replace-laid .ensures ∙ ap (λ (k : Lay). replaced k (c .before .before .before .before .before .before .before .before .before .before .before .before .args .bits .now) (c .before .before .before .before .before .before .before .before .before .before .before .before .args .words .now) (c .before .before .before .before .before .before .before .before .before .before .before .before .args .e)) (c .before .before .before .before .before .queue-of .ensures)
+returns-2 c =
+    let at-replace-laid = c .before .before .before .before in let at-queue-of = at-replace-laid .before in
+    let start = at-queue-of .before .before .before .before .before .before .before in
+    at-replace-laid .replace-laid .ensures ∙ ap (λ (k : Lay). replaced k (start .args .bits .now) (start .args .words .now) (start .args .e)) (at-queue-of .queue-of .ensures)
 
 pub replace-spec : {M : Type 1} → statement M
-replace-spec =
-    tie.close
-    (tie.spec is-deep-requires returns queue-of-requires replace-laid-requires same-length same-length-2 returns-2)
+replace-spec = tie.close
+    (tie.spec (λ c κs. search needs) returns queue-of-requires replace-laid-requires (λ c. search needs) (λ c. search needs) returns-2)

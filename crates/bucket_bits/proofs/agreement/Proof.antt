@@ -16,12 +16,6 @@ Inv-loop bits base storeys tower clears gone empty own c₀ d₀ g₀ i₀ c d g
 abbrev μ-loop : tie.MeasureT-loop
 μ-loop bits base storeys tower clears gone empty own c₀ d₀ g₀ i₀ c d g i = d
 
-add-g : tie.Need-add-g Inv-loop μ-loop
-add-g c = search needs
-
-add-i : tie.Need-add-i Inv-loop μ-loop
-add-i c = search needs
-
 loop-holds : tie.Need-loop-holds Inv-loop μ-loop
 loop-holds c = climbing-start _ _ _ _ _ _ _ _ (c .before .pre .0 .words) (c .before .pre .1 .0) (c .before .pre .1 .1 .0) (c .before .pre .1 .1 .1)
 
@@ -29,7 +23,7 @@ loop-holds c = climbing-start _ _ _ _ _ _ _ _ (c .before .pre .0 .words) (c .bef
 some : (c : tie.Then1 Inv-loop μ-loop) → 0 < c .before .before .loop .d
 some c = ltb-true 0 (c .before .before .loop .d) (and-right (c .before .before .loop .c .agrees) (ltb 0 (c .before .before .loop .d)) (c .if1 .taken))
 
-room : (c : tie.Then1 Inv-loop μ-loop) → (0 < c .before .before .loop .g) × (0 < c .before .before .loop .i) × Climbable (c .before .before .before .before .args .bits .now) (c .before .before .before .before .args .base) (c .before .before .loop .c .clears) (c .before .before .loop .g - 1) (c .before .before .loop .i - 1)
+room : (c : tie.Then1 Inv-loop μ-loop) → let start = c .before .before .before .before in (0 < c .before .before .loop .g) × (0 < c .before .before .loop .i) × Climbable (start .args .bits .now) (start .args .base) (c .before .before .loop .c .clears) (c .before .before .loop .g - 1) (c .before .before .loop .i - 1)
 room c = climbing-room _ _ _ _ _ _ _ _ _ _ _ (c .before .before .before .before .pre .0 .long) (some c) (c .before .before .loop .inv)
 
 sub-climb-one : tie.Need-sub-climb-one Inv-loop μ-loop
@@ -54,26 +48,14 @@ loop-less : tie.Need-loop-less Inv-loop μ-loop
 loop-less c = omega (arith, some (c .before))
 
 loop-again : tie.Need-loop-again Inv-loop μ-loop
-loop-again c = rw (c .climb-one .ensures) (climbing-step _ _ _ _ _ _ _ _ _ _ _ (c .before .before .before .before .before .pre .0 .long) (some (c .before)) (c .before .before .before .loop .inv))
+loop-again c =
+    let at-loop = c .before .before .before in let start = at-loop .before .before in
+    rw (c .climb-one .ensures) (climbing-step _ _ _ _ _ _ _ _ _ _ _ (start .pre .0 .long) (some (c .before)) (at-loop .loop .inv))
 
 returns : tie.Need-returns Inv-loop μ-loop
 returns c = climbing-end _ _ _ _ _ _ _ _ _ _ _ (c .before .before .before .before .pre .0 .some) (c .if1 .left) (c .before .before .loop .inv)
 
 pub agreement-spec : {M : Type 1} → statement M
-agreement-spec =
-    tie.close
-    (tie.spec
-    Inv-loop
-    μ-loop
-    add-g
-    add-i
-    loop-holds
-    sub-climb-one
-    sub-climb-one-2
-    climb-one-requires
-    sub-g
-    sub-i
-    sub-d
-    loop-less
-    loop-again
-    returns)
+agreement-spec = tie.close
+    (tie.spec Inv-loop μ-loop (λ c. search needs) (λ c. search needs) loop-holds sub-climb-one sub-climb-one-2 climb-one-requires sub-g
+    sub-i sub-d loop-less loop-again returns)

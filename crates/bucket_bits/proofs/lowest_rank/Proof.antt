@@ -17,18 +17,26 @@ Inv-loop bits base storeys tower open₀ d₀ i₀ «open» d i = Down bits base
 abbrev μ-loop : tie.MeasureT-loop
 μ-loop bits base storeys tower open₀ d₀ i₀ «open» d i = storeys - d
 
--- a word of the storeys, and the end of the way
-below : (c : tie.In-loop Inv-loop μ-loop) → c .before .loop .i < wordsOf (c .before .before .before .args .storeys)
-below c = down-some (c .before .before .before .args .bits .now) (c .before .before .before .args .base) (c .before .before .before .args .storeys) (c .before .loop .d) (c .before .loop .i) (c .before .loop .«open») (c .before .loop .inv) (c .loop-test .taken)
+-- places on the way, each from a later one
+abbrev to-start : tie.In-loop Inv-loop μ-loop → tie.Start Inv-loop μ-loop
+to-start c = c .before .before .before
 
-within : (c : tie.In-loop Inv-loop μ-loop) → c .before .loop .d < c .before .before .before .args .storeys
-within c = down-in (c .before .before .before .args .storeys) (c .before .loop .d) (c .before .loop .«open») (c .loop-test .taken)
+-- a word of the storeys, and the end of the way
+below : (c : tie.In-loop Inv-loop μ-loop) → c .before .loop .i < wordsOf (to-start c .args .storeys)
+below c =
+    let start = to-start c in
+    down-some (start .args .bits .now) (start .args .base) (start .args .storeys) (c .before .loop .d) (c .before .loop .i) (c .before .loop .«open») (c .before .loop .inv) (c .loop-test .taken)
+
+within : (c : tie.In-loop Inv-loop μ-loop) → c .before .loop .d < (to-start c) .args .storeys
+within c = down-in (to-start c .args .storeys) (c .before .loop .d) (c .before .loop .«open») (c .loop-test .taken)
 
 small : (c : tie.In-loop Inv-loop μ-loop) → c .before .loop .i < 4294967296
-small c = omega (arith, below c, words-lt (c .before .before .before .args .storeys), c .before .before .before .pre .few)
+small c =
+    let start = to-start c in
+    omega (arith, below c, words-lt (start .args .storeys), start .pre .few)
 
-ends : (c : tie.Else1 Inv-loop μ-loop) → (c .before .before .before .before .args .tower ≤ c .before .before .loop .i) × (c .before .before .loop .i - c .before .before .before .before .args .tower < 64 ^ c .before .before .before .before .args .storeys)
-    × Leads (c .before .before .before .before .args .bits .now) (c .before .before .before .before .args .base) (c .before .before .before .before .args .storeys) true (c .before .before .loop .i - c .before .before .before .before .args .tower)
+ends : (c : tie.Else1 Inv-loop μ-loop) → let start = c .before .before .before .before in (start .args .tower ≤ c .before .before .loop .i) × (c .before .before .loop .i - start .args .tower < 64 ^ start .args .storeys)
+    × Leads (start .args .bits .now) (start .args .base) (start .args .storeys) true (c .before .before .loop .i - start .args .tower)
 ends c = down-end _ _ _ _ _ _ _ (c .before .before .before .before .pre .words) (c .before .before .loop .inv) (not-false (c .before .before .loop .«open») (c .if1 .left)) (c .before .loop-test .left)
 
 loop-holds : tie.Need-loop-holds Inv-loop μ-loop
@@ -48,9 +56,6 @@ mul-i c = omega (arith, small (c .before))
 
 add-i : tie.Need-add-i Inv-loop μ-loop
 add-i c = omega (arith, small (c .before))
-
-lowest-requires : tie.Need-lowest-requires Inv-loop μ-loop
-lowest-requires c κs = search needs
 
 add-i-2 : tie.Need-add-i-2 Inv-loop μ-loop
 add-i-2 c = omega (arith, small (c .before .before), c .lowest .ensures .most)
@@ -77,23 +82,6 @@ returns-2 : tie.Need-returns-2 Inv-loop μ-loop
 returns-2 c = ends c .2
 
 pub lowest-rank-spec : {M : Type 1} → statement M
-lowest-rank-spec =
-    tie.close
-    (tie.spec
-    Inv-loop
-    μ-loop
-    loop-holds
-    add-word
-    mul-word
-    shared-slice-read-word
-    mul-i
-    add-i
-    lowest-requires
-    add-i-2
-    add-d
-    loop-less
-    loop-again
-    returns
-    sub-t17
-    cast-t18
-    returns-2)
+lowest-rank-spec = tie.close
+    (tie.spec Inv-loop μ-loop loop-holds add-word mul-word shared-slice-read-word mul-i add-i (λ c κs. search needs) add-i-2 add-d loop-less
+    loop-again returns sub-t17 cast-t18 returns-2)

@@ -26,9 +26,6 @@ abbrev μ-loop : tie.MeasureT-loop
 lowest : (c : tie.After-slice-known Inv-loop μ-loop) → (0 < c .before .args .tower + c .before .args .rank) × Turning (c .before .args .bits .now) (c .before .args .on) (c .before .args .changes) (c .before .args .base + (c .before .args .tower + c .before .args .rank - 1) / 64) ((c .before .args .tower + c .before .args .rank - 1) % 64)
 lowest c = first-turns (c .before .args .on) (c .before .args .changes) (c .before .args .bits .now) (c .before .args .base) (c .before .args .storeys) (c .before .args .tower) (c .before .args .rank) (c .before .pre .0) (c .before .pre .1 .0) (c .before .pre .1 .1)
 
-add-low : tie.Need-add-low Inv-loop μ-loop
-add-low c = search needs
-
 sub-low : tie.Need-sub-low Inv-loop μ-loop
 sub-low c = lowest c .0
 
@@ -41,18 +38,26 @@ turn-requires c κs = lowest (c .before) .1
 sub-d : tie.Need-sub-d Inv-loop μ-loop
 sub-d c = c .before .before .before .before .before .pre .0 .some
 
--- .. written; the storeys above it
-first : (c : tie.After-slice-known2 Inv-loop μ-loop) → Rising (c .before .before .before .before .before .args .on) (c .before .before .before .before .before .args .bits .now) (cond (c .before .before .before .before .before .args .changes) (edit (c .before .before .before .before .before .args .on) (c .before .before .before .before .before .args .bits .now) (storeysFrom (c .before .before .before .before .before .args .base) (c .before .before .before .before .before .args .storeys)) (c .before .before .before .before .before .args .rank)) (c .before .before .before .before .before .args .bits .now)) (c .before .before .before .before .before .args .base) (c .before .before .before .before .before .args .storeys) (c .before .before .turn .last .0) (c .before .before .turn .result) (c .before .before .before .before .before .args .storeys - 1) ((c .before .before .before .before .before .args .tower + c .before .before .before .before .before .args .rank - 1) / 64)
-first c = rising-first (c .before .before .before .before .before .args .on) (c .before .before .before .before .before .args .changes) (c .before .before .before .before .before .args .bits .now) (c .before .before .before .before .before .args .base) (c .before .before .before .before .before .args .storeys) (c .before .before .before .before .before .args .tower) (c .before .before .before .before .before .args .rank) (c .before .before .before .before .before .pre .0) (c .before .before .before .before .before .pre .1 .0) (c .before .before .before .before .before .pre .1 .1) (c .before .before .turn .last .0) (c .before .before .turn .result) (c .before .before .turn .ensures .0) (c .before .before .turn .ensures .1)
+-- places on the way, each from a later one
+abbrev to-start : tie.After-slice-known2 Inv-loop μ-loop → tie.Start Inv-loop μ-loop
+to-start c = c .before .before .before .before .before
 
-long : (c : tie.After-slice-known2 Inv-loop μ-loop) → c .before .before .before .before .before .args .base + wordsOf (c .before .before .before .before .before .args .storeys - 1) ≤ length (c .before .before .turn .last .0)
-long c = omega (arith, first c .1 .long, c .before .before .before .before .before .pre .0 .long, words-le (c .before .before .before .before .before .args .storeys - 1) (c .before .before .before .before .before .args .storeys) (omega arith))
+-- .. written; the storeys above it
+first : (c : tie.After-slice-known2 Inv-loop μ-loop) → let start = to-start c in Rising (start .args .on) (start .args .bits .now) (cond (start .args .changes) (edit (start .args .on) (start .args .bits .now) (storeysFrom (start .args .base) (start .args .storeys)) (start .args .rank)) (start .args .bits .now)) (start .args .base) (start .args .storeys) (c .before .before .turn .last .0) (c .before .before .turn .result) (start .args .storeys - 1) ((start .args .tower + start .args .rank - 1) / 64)
+first c =
+    let start = to-start c in
+    rising-first (start .args .on) (start .args .changes) (start .args .bits .now) (start .args .base) (start .args .storeys) (start .args .tower) (start .args .rank) (start .pre .0) (start .pre .1 .0) (start .pre .1 .1) (c .before .before .turn .last .0) (c .before .before .turn .result) (c .before .before .turn .ensures .0) (c .before .before .turn .ensures .1)
+
+long : (c : tie.After-slice-known2 Inv-loop μ-loop) → let start = to-start c in start .args .base + wordsOf (start .args .storeys - 1) ≤ length (c .before .before .turn .last .0)
+long c =
+    let start = to-start c in
+    omega (arith, first c .1 .long, start .pre .0 .long, words-le (start .args .storeys - 1) (start .args .storeys) (omega arith))
 
 loop-holds : tie.Need-loop-holds Inv-loop μ-loop
 loop-holds c = rising-from _ _ _ _ _ _ _ _ _ (first c)
 
 -- the number of a bit, and its word
-turns : (c : tie.In-loop Inv-loop μ-loop) → (0 < c .before .loop .i) × Turning (c .before .loop .bits) (c .before .before .before .before .before .before .before .args .on) true (c .before .before .before .before .before .before .before .args .base + (c .before .loop .i - 1) / 64) ((c .before .loop .i - 1) % 64)
+turns : (c : tie.In-loop Inv-loop μ-loop) → let start = c .before .before .before .before .before .before .before in (0 < c .before .loop .i) × Turning (c .before .loop .bits) (start .args .on) true (start .args .base + (c .before .loop .i - 1) / 64) ((c .before .loop .i - 1) % 64)
 turns c = rising-turns _ _ _ _ _ _ (c .before .loop .more) (c .before .loop .d) (c .before .loop .i) (long (c .before .before)) (c .loop-test .taken) (c .before .loop .inv)
 
 left : (c : tie.In-loop Inv-loop μ-loop) → 0 < c .before .loop .d
@@ -74,7 +79,10 @@ loop-less : tie.Need-loop-less Inv-loop μ-loop
 loop-less c = omega (arith, left (c .before .before .before .before))
 
 loop-again : tie.Need-loop-again Inv-loop μ-loop
-loop-again c = rising-step _ _ _ _ _ _ _ _ _ (long (c .before .before .before .before .before .before)) (c .before .before .before .before .loop-test .taken) (c .before .before .before .before .before .loop .inv) _ _ (c .before .before .turn2 .ensures .0) (c .before .before .turn2 .ensures .1)
+loop-again c =
+    let at-loop-test = c .before .before .before .before in let at-loop = at-loop-test .before in
+    let at-slice-known2 = at-loop .before in
+    rising-step _ _ _ _ _ _ _ _ _ (long at-slice-known2) (at-loop-test .loop-test .taken) (at-loop .loop .inv) _ _ (c .before .before .turn2 .ensures .0) (c .before .before .turn2 .ensures .1)
 
 same-length : tie.Need-same-length Inv-loop μ-loop
 same-length c = c .before .loop .inv .1 .long ∙ first (c .before .before) .1 .long
@@ -83,22 +91,6 @@ returns : tie.Need-returns Inv-loop μ-loop
 returns c = rising-end _ _ _ _ _ _ _ _ _ (c .before .loop .inv) (c .loop-test .left) ∙ rising-goal _ _ _ _ _ _ _ _ _ (first (c .before .before))
 
 pub mark-spec : {M : Type 1} → statement M
-mark-spec =
-    tie.close
-    (tie.spec
-    Inv-loop
-    μ-loop
-    add-low
-    sub-low
-    add-turn
-    turn-requires
-    sub-d
-    loop-holds
-    sub-bit
-    add-turn-2
-    turn-requires-2
-    sub-d-2
-    loop-less
-    loop-again
-    same-length
-    returns)
+mark-spec = tie.close
+    (tie.spec Inv-loop μ-loop (λ c. search needs) sub-low add-turn turn-requires sub-d loop-holds sub-bit add-turn-2 turn-requires-2 sub-d-2
+    loop-less loop-again same-length returns)

@@ -17,18 +17,6 @@ abbrev μ-loop : tie.MeasureT-loop
 loop-holds : tie.Need-loop-holds Inv-loop μ-loop
 loop-holds c = (fill-none _ _, omega arith, refl)
 
-mul-bits : tie.Need-mul-bits Inv-loop μ-loop
-mul-bits c = omega arith
-
-slice-write-bits : tie.Need-slice-write-bits Inv-loop μ-loop
-slice-write-bits c = omega arith
-
-add-j : tie.Need-add-j Inv-loop μ-loop
-add-j c = omega arith
-
-loop-less : tie.Need-loop-less Inv-loop μ-loop
-loop-less c = omega arith
-
 loop-again : tie.Need-loop-again Inv-loop μ-loop
 loop-again c = (cc (fill-step (λ j. 0) (c .before .loop .j) (c .before .before .args .bits .now) (omega arith)), omega arith, simp length-set (c .before .loop .inv .2))
 
@@ -39,16 +27,6 @@ returns : tie.Need-returns Inv-loop μ-loop
 returns c = c .before .loop .inv .0 ∙ ap (λ (j : ℕ). fill (λ j. 0) j (c .before .before .args .bits .now)) (omega arith)
 
 pub wipe-spec : {M : Type 1} → statement M
-wipe-spec =
-    tie.close
-    (tie.spec
-    Inv-loop
-    μ-loop
-    loop-holds
-    mul-bits
-    slice-write-bits
-    add-j
-    loop-less
-    loop-again
-    same-length
+wipe-spec = tie.close
+    (tie.spec Inv-loop μ-loop loop-holds (λ c. omega arith) (λ c. omega arith) (λ c. omega arith) (λ c. omega arith) loop-again same-length
     returns)

@@ -7,14 +7,8 @@ use Rattle.bucket_bits.proofs.word_or.Tie as tie
 returns : tie.Need-returns
 returns c = word-known _ _ _ (c .if1 .taken)
 
-mul-result : tie.Need-mul-result
-mul-result c = search needs
-
-shared-slice-read-result : tie.Need-shared-slice-read-result
-shared-slice-read-result c = search needs
-
 returns-2 : tie.Need-returns-2
 returns-2 c = word-read _ _ _ (c .before .if1 .left)
 
 pub word-or-spec : {M : Type 1} → statement M
-word-or-spec = tie.close (tie.spec returns mul-result shared-slice-read-result returns-2)
+word-or-spec = tie.close (tie.spec returns (λ c. search needs) (λ c. search needs) returns-2)

@@ -16,35 +16,8 @@ st7 c = c .before .before .before .before .before .before .before .before .befor
 abbrev st8 : tie.After-struct-known8 → tie.Start
 st8 c = c .before .before .before .before .before .before .before .before .before .before .before .before .before .before
 
-cast-head-at : tie.Need-cast-head-at
-cast-head-at c = search needs
-
-add-head-at : tie.Need-add-head-at
-add-head-at c = search needs
-
-cast-node : tie.Need-cast-node
-cast-node c = search needs
-
-mul-node : tie.Need-mul-node
-mul-node c = search needs
-
-add-node : tie.Need-add-node
-add-node c = search needs
-
-tail-left-requires : tie.Need-tail-left-requires
-tail-left-requires c κs = search needs
-
-link-at-requires : tie.Need-link-at-requires
-link-at-requires c κs = search needs
-
-cast-tail-at : tie.Need-cast-tail-at
-cast-tail-at c = search needs
-
 add-tail-at : tie.Need-add-tail-at
 add-tail-at c = omega (arith, st6 c .pre .node .fits .words, st6 c .pre .node .fits .laid .lists, st6 c .pre .node .fits .laid .pool, st6 c .pre .node .fits .laid .held, st6 c .pre .rank<)
-
-cast-tail-at-2 : tie.Need-cast-tail-at-2
-cast-tail-at-2 c = search needs
 
 add-tail-at-2 : tie.Need-add-tail-at-2
 add-tail-at-2 c = omega (arith, st7 c .pre .node .fits .words, st7 c .pre .node .fits .laid .lists, st7 c .pre .node .fits .laid .pool, st7 c .pre .node .fits .laid .held, st7 c .pre .node .high, st7 c .pre .from<, st7 c .pre .rank<, st7 c .pre .tail≤)
@@ -54,9 +27,6 @@ mul-words c = omega (arith, st7 c .good .0, st7 c .pre .node .fits .words, st7 c
 
 slice-write-words : tie.Need-slice-write-words
 slice-write-words c = omega (arith, st7 c .pre .node .fits .words, st7 c .pre .node .fits .laid .lists, st7 c .pre .node .fits .laid .pool, st7 c .pre .node .fits .laid .held, st7 c .pre .node .high, st7 c .pre .from<, st7 c .pre .rank<, st7 c .pre .tail≤)
-
-cast-words : tie.Need-cast-words
-cast-words c = search needs
 
 add-words : tie.Need-add-words
 add-words c = omega (arith, st8 c .pre .node .fits .words, st8 c .pre .node .fits .laid .lists, st8 c .pre .node .fits .laid .pool, st8 c .pre .node .fits .laid .held, st8 c .pre .node .high, st8 c .pre .from<, st8 c .pre .rank<, st8 c .pre .tail≤, c .before .before .before .before .link-at .ensures .1)
@@ -110,41 +80,13 @@ same-length : tie.Need-same-length
 same-length c = simp length-set
 
 returns : tie.Need-returns
-returns c = swapped-is (st8 c .args .k) (st8 c .args .words .now) (st8 c .args .low) (st8 c .args .e) (st8 c .args .to) _ _ (st8 c .pre) (c .before .before .before .before .before .tail-left .ensures) (c .before .before .before .before .link-at .ensures .0)
+returns c =
+    let at-link-at = c .before .before .before .before in let at-tail-left = at-link-at .before in
+    swapped-is (st8 c .args .k) (st8 c .args .words .now) (st8 c .args .low) (st8 c .args .e) (st8 c .args .to) _ _ (st8 c .pre) (at-tail-left .tail-left .ensures) (at-link-at .link-at .ensures .0)
 
 pub swap-words-spec : {M : Type 1} → statement M
-swap-words-spec =
-    tie.close
-    (tie.spec
-    cast-head-at
-    add-head-at
-    cast-node
-    mul-node
-    add-node
-    tail-left-requires
-    link-at-requires
-    cast-tail-at
-    add-tail-at
-    cast-tail-at-2
-    add-tail-at-2
-    mul-words
-    slice-write-words
-    cast-words
-    add-words
-    mul-words-2
-    slice-write-words-2
-    add-words-2
-    mul-words-3
-    slice-write-words-3
-    add-words-3
-    mul-words-4
-    slice-write-words-4
-    add-words-4
-    mul-words-5
-    slice-write-words-5
-    mul-words-6
-    slice-write-words-6
-    mul-words-7
-    slice-write-words-7
-    same-length
-    returns)
+swap-words-spec = tie.close
+    (tie.spec (λ c. search needs) (λ c. search needs) (λ c. search needs) (λ c. search needs) (λ c. search needs) (λ c κs. search needs)
+    (λ c κs. search needs) (λ c. search needs) add-tail-at (λ c. search needs) add-tail-at-2 mul-words slice-write-words (λ c. search needs)
+    add-words mul-words-2 slice-write-words-2 add-words-2 mul-words-3 slice-write-words-3 add-words-3 mul-words-4 slice-write-words-4
+    add-words-4 mul-words-5 slice-write-words-5 mul-words-6 slice-write-words-6 mul-words-7 slice-write-words-7 same-length returns)

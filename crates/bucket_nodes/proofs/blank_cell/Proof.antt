@@ -10,14 +10,8 @@ returns c = cell-load (c .before .args .n) (c .before .args .link) (c .before .a
 returns-2 : tie.Need-returns-2
 returns-2 c = cell-last _ _ _ (c .before .if1 .left) (c .if2 .taken)
 
-add-result : tie.Need-add-result
-add-result c = search needs
-
-cast-result : tie.Need-cast-result
-cast-result c = search needs
-
 returns-3 : tie.Need-returns-3
 returns-3 c = cell-next _ _ _ (c .before .if1 .left) (c .if2 .left)
 
 pub blank-cell-spec : {M : Type 1} → statement M
-blank-cell-spec = tie.close (tie.spec returns returns-2 add-result cast-result returns-3)
+blank-cell-spec = tie.close (tie.spec returns returns-2 (λ c. search needs) (λ c. search needs) returns-3)

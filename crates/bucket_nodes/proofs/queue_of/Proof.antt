@@ -7,14 +7,8 @@ use borrow.Author.Needs.{needs}
 use Rattle.bucket_nodes.proofs.queue_of.Statement.{statement}
 use Rattle.bucket_nodes.proofs.queue_of.Tie as tie
 
-lay-of-requires : tie.Need-lay-of-requires
-lay-of-requires c κs = search needs
-
 returns : tie.Need-returns
 returns c = c .lay-of .ensures ∙ ap (λ (d : ℕ). queue d (c .before .before .args .n)) (sym (c .before .if1 .taken))
-
-lay-of-requires-2 : tie.Need-lay-of-requires-2
-lay-of-requires-2 c κs = search needs
 
 returns-2 : tie.Need-returns-2
 returns-2 c =
@@ -22,4 +16,4 @@ returns-2 c =
     c .lay-of2 .ensures ∙ ap (λ (d : ℕ). queue d (c .before .before .args .n)) three
 
 pub queue-of-spec : {M : Type 1} → statement M
-queue-of-spec = tie.close (tie.spec lay-of-requires returns lay-of-requires-2 returns-2)
+queue-of-spec = tie.close (tie.spec (λ c κs. search needs) returns (λ c κs. search needs) returns-2)

@@ -22,7 +22,9 @@ loop-holds : tie.Need-loop-holds Inv-loop μ-loop
 loop-holds c = (fill-none _ _, omega arith, refl)
 
 blank-requires : tie.Need-blank-requires Inv-loop μ-loop
-blank-requires c κs = (c .before .before .before .before .pre .0 .laid, (omega arith, c .before .before .before .before .pre .1))
+blank-requires c κs =
+    let start = c .before .before .before .before in
+    (start .pre .0 .laid, (omega arith, start .pre .1))
 
 mul-words : tie.Need-mul-words Inv-loop μ-loop
 mul-words c = omega (arith, c .before .before .before .before .before .pre .0 .words)
@@ -30,34 +32,20 @@ mul-words c = omega (arith, c .before .before .before .before .before .pre .0 .w
 slice-write-words : tie.Need-slice-write-words Inv-loop μ-loop
 slice-write-words c = omega (arith, c .before .before .before .before .before .pre .0 .words, c .before .before .loop .inv .2)
 
-add-j : tie.Need-add-j Inv-loop μ-loop
-add-j c = omega arith
-
-loop-less : tie.Need-loop-less Inv-loop μ-loop
-loop-less c = omega arith
-
 loop-again : tie.Need-loop-again Inv-loop μ-loop
-loop-again c = (cc (fill-step (blankWord (c .before .before .before .before .before .args .k)) (c .before .before .loop .j) (c .before .before .before .before .before .args .words .now) (omega (arith, c .before .before .before .before .before .pre .0 .words))), omega arith, simp length-set (c .before .before .loop .inv .2))
+loop-again c =
+    let start = c .before .before .before .before .before in
+    (cc (fill-step (blankWord (start .args .k)) (c .before .before .loop .j) (start .args .words .now) (omega (arith, start .pre .0 .words))), omega arith, simp length-set (c .before .before .loop .inv .2))
 
 same-length : tie.Need-same-length Inv-loop μ-loop
 same-length c = c .before .loop .inv .2
 
 returns : tie.Need-returns Inv-loop μ-loop
-returns c = c .before .loop .inv .0 ∙ ap (λ (j : ℕ). fill (blankWord (c .before .before .before .before .args .k)) j (c .before .before .before .before .args .words .now)) (omega arith)
+returns c =
+    let start = c .before .before .before .before in
+    c .before .loop .inv .0 ∙ ap (λ (j : ℕ). fill (blankWord (start .args .k)) j (start .args .words .now)) (omega arith)
 
 pub wipe-words-spec : {M : Type 1} → statement M
-wipe-words-spec =
-    tie.close
-    (tie.spec
-    Inv-loop
-    μ-loop
-    add-end
-    loop-holds
-    blank-requires
-    mul-words
-    slice-write-words
-    add-j
-    loop-less
-    loop-again
-    same-length
-    returns)
+wipe-words-spec = tie.close
+    (tie.spec Inv-loop μ-loop add-end loop-holds blank-requires mul-words slice-write-words (λ c. omega arith) (λ c. omega arith) loop-again
+    same-length returns)

@@ -6,21 +6,17 @@ use borrow.Author.Needs.{needs}
 use Rattle.bucket_steps.proofs.join.Statement.{statement}
 use Rattle.bucket_steps.proofs.join.Tie as tie
 
-join-words-requires : tie.Need-join-words-requires
-join-words-requires c κs = search needs
-
 mark-requires : tie.Need-mark-requires
-mark-requires c κs = (tall _ _ _ (c .before .before .before .before .before .before .before .before .before .pre .stands) (omega arith), (omega (arith, c .before .before .before .before .before .before .before .before .before .pre .joinable .rank<, c .before .before .before .before .before .before .before .before .before .pre .stands .laid .ranks), c .before .before .before .before .before .before .before .before .before .pre .marks))
-
-same-length : tie.Need-same-length
-same-length c = search needs
-
-same-length-2 : tie.Need-same-length-2
-same-length-2 c = search needs
+mark-requires c κs =
+    let start = c .before .before .before .before .before .before .before .before .before in
+    (tall _ _ _ (start .pre .stands) (omega arith), (omega (arith, start .pre .joinable .rank<, start .pre .stands .laid .ranks), start .pre .marks))
 
 returns : tie.Need-returns
-returns c = (joined-is (c .before .before .before .before .before .before .before .before .before .before .before .before .args .k) (c .before .before .before .before .before .before .before .before .before .before .before .before .args .bits .now) _ (c .before .before .before .before .before .before .before .before .before .before .before .before .args .e) (c .before .before .before .before .before .before .before .before .before .before .before .before .args .to) (c .before .before .mark .ensures), c .before .before .before .before .before .before .before .join-words .ensures)
+returns c =
+    let at-join-words = c .before .before .before .before .before .before .before in
+    let start = at-join-words .before .before .before .before .before in
+    (joined-is (start .args .k) (start .args .bits .now) _ (start .args .e) (start .args .to) (c .before .before .mark .ensures), at-join-words .join-words .ensures)
 
 pub join-spec : {M : Type 1} → statement M
 join-spec =
-    tie.close (tie.spec join-words-requires mark-requires same-length same-length-2 returns)
+    tie.close (tie.spec (λ c κs. search needs) mark-requires (λ c. search needs) (λ c. search needs) returns)

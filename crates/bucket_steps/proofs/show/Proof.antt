@@ -5,18 +5,15 @@ use Rattle.bucket_steps.proofs.show.Statement.{statement}
 use Rattle.bucket_steps.proofs.show.Tie as tie
 
 mark-requires : tie.Need-mark-requires
-mark-requires c κs = (c .before .before .before .before .pre .tall, (c .before .before .before .before .pre .rank<, c .before .before .before .before .pre .marks))
+mark-requires c κs =
+    let start = c .before .before .before .before in
+    (start .pre .tall, (start .pre .rank<, start .pre .marks))
 
 returns : tie.Need-returns
-returns c = joined-is (c .before .before .before .before .before .before .before .args .k) (c .before .before .before .before .before .before .before .args .bits .now) _ (c .before .before .before .before .before .before .before .args .e) (c .before .before .before .before .before .before .before .args .to) (c .before .before .mark .ensures)
-
-same-length : tie.Need-same-length
-same-length c = search needs
+returns c =
+    let start = c .before .before .before .before .before .before .before in
+    joined-is (start .args .k) (start .args .bits .now) _ (start .args .e) (start .args .to) (c .before .before .mark .ensures)
 
 pub show-spec : {M : Type 1} → statement M
-show-spec =
-    tie.close
-    (tie.spec
-    mark-requires
-    same-length
-    returns)
+show-spec = tie.close
+    (tie.spec mark-requires (λ c. search needs) returns)

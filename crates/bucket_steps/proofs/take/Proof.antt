@@ -6,21 +6,17 @@ use borrow.Author.Needs.{needs}
 use Rattle.bucket_steps.proofs.take.Statement.{statement}
 use Rattle.bucket_steps.proofs.take.Tie as tie
 
-take-words-requires : tie.Need-take-words-requires
-take-words-requires c κs = search needs
-
 mark-requires : tie.Need-mark-requires
-mark-requires c κs = (tall _ _ _ (c .before .before .before .before .before .before .before .before .pre .stands) (omega arith), (omega (arith, c .before .before .before .before .before .before .before .before .pre .takable .rank<, c .before .before .before .before .before .before .before .before .pre .stands .laid .ranks), clears (c .before .before .before .before .before .before .before .before .args .k) (c .before .before .before .before .before .before .before .before .args .bits .now) (c .before .before .before .before .before .before .before .before .args .low) (c .before .before .before .before .before .before .before .before .pre .set)))
-
-same-length : tie.Need-same-length
-same-length c = search needs
-
-same-length-2 : tie.Need-same-length-2
-same-length-2 c = search needs
+mark-requires c κs =
+    let start = c .before .before .before .before .before .before .before .before in
+    (tall _ _ _ (start .pre .stands) (omega arith), (omega (arith, start .pre .takable .rank<, start .pre .stands .laid .ranks), clears (start .args .k) (start .args .bits .now) (start .args .low) (start .pre .set)))
 
 returns : tie.Need-returns
-returns c = (taken-is (c .before .before .before .before .before .before .before .before .before .before .before .args .k) (c .before .before .before .before .before .before .before .before .before .before .before .args .bits .now) _ (c .before .before .before .before .before .before .before .before .before .before .before .args .low) (c .before .before .mark .ensures), c .before .before .before .before .before .before .before .take-words .ensures)
+returns c =
+    let at-take-words = c .before .before .before .before .before .before .before in
+    let start = at-take-words .before .before .before .before in
+    (taken-is (start .args .k) (start .args .bits .now) _ (start .args .low) (c .before .before .mark .ensures), at-take-words .take-words .ensures)
 
 pub take-spec : {M : Type 1} → statement M
 take-spec =
-    tie.close (tie.spec take-words-requires mark-requires same-length same-length-2 returns)
+    tie.close (tie.spec (λ c κs. search needs) mark-requires (λ c. search needs) (λ c. search needs) returns)

@@ -7,7 +7,9 @@ agreement-requires : tie.Need-agreement-requires
 agreement-requires c κs = (c .before .before .pre .0, (c .before .before .pre .1 .0, (c .before .before .pre .1 .1 .0, λ e. c .before .before .pre .1 .1 .1)))
 
 returns : tie.Need-returns
-returns c = agreed-then (c .before .before .before .before .before .args .k) (c .before .before .before .before .before .args .bits .now) (c .before .before .before .before .before .args .low) (c .before .before .before .before .before .args .rank) (c .before .before .before .before .before .args .empty) _ _ (c .before .before .before .before .before .args .held) (c .before .before .agreement .ensures)
+returns c =
+    let start = c .before .before .before .before .before in
+    agreed-then (start .args .k) (start .args .bits .now) (start .args .low) (start .args .rank) (start .args .empty) _ _ (start .args .held) (c .before .before .agreement .ensures)
 
 pub agrees-after-spec : {M : Type 1} → statement M
 agrees-after-spec =

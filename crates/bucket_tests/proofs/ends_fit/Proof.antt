@@ -7,16 +7,19 @@ use Rattle.bucket_tests.proofs.ends_fit.Statement.{statement}
 use Rattle.bucket_tests.proofs.ends_fit.Tie as tie
 
 returns : tie.Need-returns
-returns c = ends-high (c .before .before .before .args .k .nodes) (c .before .before .before .args .head) (c .before .before .before .args .tail) (c .before .before .before .args .next) (nextOf (c .before .before .before .args .k) (c .before .before .before .args .words .now) (c .before .before .before .args .tail)) (c .if1 .taken)
-
-next-of-requires : tie.Need-next-of-requires
-next-of-requires c κs = search needs
+returns c =
+    let start = c .before .before .before in
+    ends-high (start .args .k .nodes) (start .args .head) (start .args .tail) (start .args .next) (nextOf (start .args .k) (start .args .words .now) (start .args .tail)) (c .if1 .taken)
 
 returns-2 : tie.Need-returns-2
-returns-2 c = ends-behind (c .before .before .before .before .before .args .k .nodes) (c .before .before .before .before .before .args .head) (c .before .before .before .before .before .args .tail) (c .before .before .before .before .before .args .next) (nextOf (c .before .before .before .before .before .args .k) (c .before .before .before .before .before .args .words .now) (c .before .before .before .before .before .args .tail)) (c .before .before .if1 .left) (λ z. c .if2 .taken (c .before .next-of .ensures ∙ z))
+returns-2 c =
+    let start = c .before .before .before .before .before in
+    ends-behind (start .args .k .nodes) (start .args .head) (start .args .tail) (start .args .next) (nextOf (start .args .k) (start .args .words .now) (start .args .tail)) (c .before .before .if1 .left) (λ z. c .if2 .taken (c .before .next-of .ensures ∙ z))
 
 returns-3 : tie.Need-returns-3
-returns-3 c = ends-both (c .before .before .before .before .before .args .k .nodes) (c .before .before .before .before .before .args .head) (c .before .before .before .before .before .args .tail) (c .before .before .before .before .before .args .next) (nextOf (c .before .before .before .before .before .args .k) (c .before .before .before .before .before .args .words .now) (c .before .before .before .before .before .args .tail)) (c .before .before .if1 .left) (sym (c .before .next-of .ensures) ∙ c .if2 .left)
+returns-3 c =
+    let start = c .before .before .before .before .before in
+    ends-both (start .args .k .nodes) (start .args .head) (start .args .tail) (start .args .next) (nextOf (start .args .k) (start .args .words .now) (start .args .tail)) (c .before .before .if1 .left) (sym (c .before .next-of .ensures) ∙ c .if2 .left)
 
 pub ends-fit-spec : {M : Type 1} → statement M
-ends-fit-spec = tie.close (tie.spec returns next-of-requires returns-2 returns-3)
+ends-fit-spec = tie.close (tie.spec returns (λ c κs. search needs) returns-2 returns-3)

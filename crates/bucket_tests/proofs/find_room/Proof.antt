@@ -6,42 +6,17 @@ use Rattle.bucket_tests.proofs.find_room.Statement.{statement}
 use Rattle.bucket_tests.proofs.find_room.Tie as tie
 
 returns : tie.Need-returns
-returns c = room-nodeless _ _ _ _ _ _ (c .before .before .before .before .free-link .ensures) (c .before .before .before .next-of .ensures) _ _ (c .no-room .ensures) (c .before .before .node-fits .ensures) (not-true (c .before .before .node-fits .result) (c .before .if1 .taken))
+returns c =
+    let at-next-of = c .before .before .before in let at-free-link = at-next-of .before in
+    room-nodeless _ _ _ _ _ _ (at-free-link .free-link .ensures) (at-next-of .next-of .ensures) _ _ (c .no-room .ensures) (c .before .before .node-fits .ensures) (not-true (c .before .before .node-fits .result) (c .before .if1 .taken))
 
 returns-2 : tie.Need-returns-2
-returns-2 c = room-linked _ _ _ _ _ _ (c .before .before .before .before .before .before .free-link .ensures) (c .before .before .before .before .before .next-of .ensures) _ (c .before .before .before .before .node-fits .ensures) (not-false (c .before .before .before .before .node-fits .result) (c .before .before .before .if1 .left)) _ _ (c .before .before .head-of .ensures) (c .before .tail-of .ensures) _ (c .links-fit .ensures)
-
-free-link-requires : tie.Need-free-link-requires
-free-link-requires c κs = search needs
-
-next-of-requires : tie.Need-next-of-requires
-next-of-requires c κs = search needs
-
-node-fits-requires : tie.Need-node-fits-requires
-node-fits-requires c κs = search needs
-
-no-room-requires : tie.Need-no-room-requires
-no-room-requires c κs = search needs
-
-head-of-requires : tie.Need-head-of-requires
-head-of-requires c κs = search needs
-
-tail-of-requires : tie.Need-tail-of-requires
-tail-of-requires c κs = search needs
-
-links-fit-requires : tie.Need-links-fit-requires
-links-fit-requires c κs = search needs
+returns-2 c =
+    let else1 = c .before .before .before in let at-node-fits = else1 .before in let at-next-of = at-node-fits .before in
+    let at-free-link = at-next-of .before in
+    room-linked _ _ _ _ _ _ (at-free-link .free-link .ensures) (at-next-of .next-of .ensures) _ (at-node-fits .node-fits .ensures) (not-false (at-node-fits .node-fits .result) (else1 .if1 .left)) _ _ (c .before .before .head-of .ensures) (c .before .tail-of .ensures) _ (c .links-fit .ensures)
 
 pub find-room-spec : {M : Type 1} → statement M
-find-room-spec =
-    tie.close
-    (tie.spec
-    free-link-requires
-    next-of-requires
-    node-fits-requires
-    no-room-requires
-    returns
-    head-of-requires
-    tail-of-requires
-    links-fit-requires
-    returns-2)
+find-room-spec = tie.close
+    (tie.spec (λ c κs. search needs) (λ c κs. search needs) (λ c κs. search needs) (λ c κs. search needs) returns (λ c κs. search needs)
+    (λ c κs. search needs) (λ c κs. search needs) returns-2)

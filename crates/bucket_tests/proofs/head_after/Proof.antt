@@ -7,11 +7,10 @@ use Rattle.bucket_tests.proofs.head_after.Tie as tie
 returns : tie.Need-returns
 returns c = head-is _ _ _ (c .before .before .before .pre .0) _ (c .if1 .taken)
 
-head-of-requires : tie.Need-head-of-requires
-head-of-requires c κs = search needs
-
 returns-2 : tie.Need-returns-2
-returns-2 c = head-stays _ _ _ (c .before .before .before .before .pre .0) _ _ (c .before .before .before .before .pre .1) (c .before .if1 .left) (c .head-of .ensures)
+returns-2 c =
+    let start = c .before .before .before .before in
+    head-stays _ _ _ (start .pre .0) _ _ (start .pre .1) (c .before .if1 .left) (c .head-of .ensures)
 
 pub head-after-spec : {M : Type 1} → statement M
-head-after-spec = tie.close (tie.spec returns head-of-requires returns-2)
+head-after-spec = tie.close (tie.spec returns (λ c κs. search needs) returns-2)

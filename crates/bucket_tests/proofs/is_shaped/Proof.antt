@@ -9,17 +9,12 @@ use borrow.Author.Needs.{needs}
 use Rattle.bucket_tests.proofs.is_shaped.Statement.{statement}
 use Rattle.bucket_tests.proofs.is_shaped.Tie as tie
 
-is-deep-requires : tie.Need-is-deep-requires
-is-deep-requires c κs = search needs
-
-add-result : tie.Need-add-result
-add-result c = search needs
-
 returns : tie.Need-returns
 unfolding shapeOk
 returns c =
-    let a = c .before .before .before .before .before .before .before .args in
-    ap (λ (t : Bool). t && leb 1 (a .k .nodes) && leb (a .k .nodes) pool && leb (bitWords (a .k)) (length (a .bits .now)) && ltb (a .k .held) (length (a .words .now))) (c .before .before .before .before .is-deep .ensures)
+    let at-is-deep = c .before .before .before .before in let start = at-is-deep .before .before .before in
+    let a = start .args in
+    ap (λ (t : Bool). t && leb 1 (a .k .nodes) && leb (a .k .nodes) pool && leb (bitWords (a .k)) (length (a .bits .now)) && ltb (a .k .held) (length (a .words .now))) (at-is-deep .is-deep .ensures)
 
 pub is-shaped-spec : {M : Type 1} → statement M
-is-shaped-spec = tie.close (tie.spec is-deep-requires add-result returns)
+is-shaped-spec = tie.close (tie.spec (λ c κs. search needs) (λ c. search needs) returns)

@@ -5,9 +5,6 @@ use borrow.Author.Needs.{needs}
 use Rattle.bucket_tests.proofs.limit_or_damage.Statement.{statement}
 use Rattle.bucket_tests.proofs.limit_or_damage.Tie as tie
 
-is-whole-requires : tie.Need-is-whole-requires
-is-whole-requires c κs = search needs
-
 returns : tie.Need-returns
 returns c = pick-yes _ _ _ (sym (c .before .is-whole .ensures) ∙ c .if1 .taken)
 
@@ -15,4 +12,4 @@ returns-2 : tie.Need-returns-2
 returns-2 c = pick-no _ _ _ (sym (c .before .is-whole .ensures) ∙ c .if1 .left)
 
 pub limit-or-damage-spec : {M : Type 1} → statement M
-limit-or-damage-spec = tie.close (tie.spec is-whole-requires returns returns-2)
+limit-or-damage-spec = tie.close (tie.spec (λ c κs. search needs) returns returns-2)

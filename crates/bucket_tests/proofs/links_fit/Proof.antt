@@ -13,36 +13,27 @@ use Rattle.bucket_tests.proofs.links_fit.Tie as tie
 returns : tie.Need-returns
 returns c = links-empty (c .before .before .args .k .nodes) (c .before .before .args .head) (c .before .before .args .tail) (nextOf (c .before .before .args .k) (c .before .before .args .words .now) (c .before .before .args .tail)) (c .before .before .args .free) (c .before .before .pre .1) (sym (next-zero (c .before .before .args .k) (c .before .before .args .words .now) (c .before .before .args .tail) (c .if1 .taken))) (c .if1 .taken)
 
-names-node-requires : tie.Need-names-node-requires
-names-node-requires c κs = search needs
-
 returns-2 : tie.Need-returns-2
-returns-2 c = links-headless (c .before .before .before .before .args .k .nodes) (c .before .before .before .before .args .head) (c .before .before .before .before .args .tail) (nextOf (c .before .before .before .before .args .k) (c .before .before .before .before .args .words .now) (c .before .before .before .before .args .tail)) (c .before .before .before .before .args .free) (c .before .before .if1 .left) _ (c .before .names-node .ensures) (not-true (c .before .names-node .result) (c .if2 .taken))
-
-names-node-requires-2 : tie.Need-names-node-requires-2
-names-node-requires-2 c κs = search needs
+returns-2 c =
+    let start = c .before .before .before .before in
+    links-headless (start .args .k .nodes) (start .args .head) (start .args .tail) (nextOf (start .args .k) (start .args .words .now) (start .args .tail)) (start .args .free) (c .before .before .if1 .left) _ (c .before .names-node .ensures) (not-true (c .before .names-node .result) (c .if2 .taken))
 
 returns-3 : tie.Need-returns-3
-returns-3 c = links-tailless (c .before .before .before .before .before .before .args .k .nodes) (c .before .before .before .before .before .before .args .head) (c .before .before .before .before .before .before .args .tail) (nextOf (c .before .before .before .before .before .before .args .k) (c .before .before .before .before .before .before .args .words .now) (c .before .before .before .before .before .before .args .tail)) (c .before .before .before .before .before .before .args .free) (c .before .before .before .before .if1 .left) _ (c .before .names-node2 .ensures) (not-true (c .before .names-node2 .result) (c .if3 .taken))
+returns-3 c =
+    let else1 = c .before .before .before .before in let start = else1 .before .before in
+    links-tailless (start .args .k .nodes) (start .args .head) (start .args .tail) (nextOf (start .args .k) (start .args .words .now) (start .args .tail)) (start .args .free) (else1 .if1 .left) _ (c .before .names-node2 .ensures) (not-true (c .before .names-node2 .result) (c .if3 .taken))
 
 returns-4 : tie.Need-returns-4
-returns-4 c = links-taken (c .before .before .before .before .before .before .before .args .k .nodes) (c .before .before .before .before .before .before .before .args .head) (c .before .before .before .before .before .before .before .args .tail) (nextOf (c .before .before .before .before .before .before .before .args .k) (c .before .before .before .before .before .before .before .args .words .now) (c .before .before .before .before .before .before .before .args .tail)) (c .before .before .before .before .before .before .before .args .free) (c .before .before .before .before .before .if1 .left) (c .if4 .taken)
-
-next-of-requires : tie.Need-next-of-requires
-next-of-requires c κs = search needs
+returns-4 c =
+    let else1 = c .before .before .before .before .before in let start = else1 .before .before in
+    links-taken (start .args .k .nodes) (start .args .head) (start .args .tail) (nextOf (start .args .k) (start .args .words .now) (start .args .tail)) (start .args .free) (else1 .if1 .left) (c .if4 .taken)
 
 returns-5 : tie.Need-returns-5
-returns-5 c = ap (λ (x : ℕ). eqb x 0) (c .next-of .ensures) ∙ links-both (c .before .before .before .before .before .before .before .before .args .k .nodes) (c .before .before .before .before .before .before .before .before .args .head) (c .before .before .before .before .before .before .before .before .args .tail) (nextOf (c .before .before .before .before .before .before .before .before .args .k) (c .before .before .before .before .before .before .before .before .args .words .now) (c .before .before .before .before .before .before .before .before .args .tail)) (c .before .before .before .before .before .before .before .before .args .free) (c .before .before .before .before .before .before .if1 .left) _ _ (c .before .before .before .before .before .names-node .ensures) (not-false (c .before .before .before .before .before .names-node .result) (c .before .before .before .before .if2 .left)) (c .before .before .before .names-node2 .ensures) (not-false (c .before .before .before .names-node2 .result) (c .before .before .if3 .left)) (c .before .if4 .left)
+returns-5 c =
+    let at-names-node2 = c .before .before .before in let else2 = at-names-node2 .before in let at-names-node = else2 .before in
+    let else1 = at-names-node .before in let start = else1 .before .before in
+    ap (λ (x : ℕ). eqb x 0) (c .next-of .ensures) ∙ links-both (start .args .k .nodes) (start .args .head) (start .args .tail) (nextOf (start .args .k) (start .args .words .now) (start .args .tail)) (start .args .free) (else1 .if1 .left) _ _ (at-names-node .names-node .ensures) (not-false (at-names-node .names-node .result) (else2 .if2 .left)) (at-names-node2 .names-node2 .ensures) (not-false (at-names-node2 .names-node2 .result) (c .before .before .if3 .left)) (c .before .if4 .left)
 
 pub links-fit-spec : {M : Type 1} → statement M
-links-fit-spec =
-    tie.close
-    (tie.spec
-    returns
-    names-node-requires
-    returns-2
-    names-node-requires-2
-    returns-3
-    returns-4
-    next-of-requires
-    returns-5)
+links-fit-spec = tie.close
+    (tie.spec returns (λ c κs. search needs) returns-2 (λ c κs. search needs) returns-3 returns-4 (λ c κs. search needs) returns-5)

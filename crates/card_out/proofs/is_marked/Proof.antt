@@ -1,19 +1,14 @@
--- `card_out::is_marked` meets its contract. Assumes nothing.
+-- `card_out::is_marked` meets its contract.
 use Rattle.card_out.proofs.Asked.{marked-is, unmarked}
 use borrow.Author.Needs.{needs}
 use Rattle.card_out.proofs.is_marked.Statement.{statement}
 use Rattle.card_out.proofs.is_marked.Tie as tie
-use Rattle.card_out.proofs.is_marked.Reads as reads
-use Rattle.card_out.proofs.is_marked.Lts as lts
 
 returns : tie.Need-returns
 returns c = unmarked _ (c .if1 .taken)
-
-shared-slice-read-result : tie.Need-shared-slice-read-result
-shared-slice-read-result c = search needs
 
 returns-2 : tie.Need-returns-2
 returns-2 c = marked-is _ (c .before .if1 .left)
 
 pub is-marked-spec : {M : Type 1} → statement M
-is-marked-spec = tie.close (tie.spec returns shared-slice-read-result returns-2)
+is-marked-spec = tie.close (tie.spec returns (λ c. search needs) returns-2)

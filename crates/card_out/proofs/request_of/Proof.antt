@@ -1,9 +1,7 @@
--- `card_out::request_of` meets its contract. Assumes nothing.
+-- `card_out::request_of` meets its contract.
 use Rattle.card_out.proofs.Asked.{request-idle, request-pop, request-push, request-replace}
 use Rattle.card_out.proofs.request_of.Statement.{statement}
 use Rattle.card_out.proofs.request_of.Tie as tie
-use Rattle.card_out.proofs.request_of.Reads as reads
-use Rattle.card_out.proofs.request_of.Lts as lts
 
 returns : tie.Need-returns
 returns c = request-push _ _ _ _ (c .if1 .taken)

@@ -1,4 +1,4 @@
--- `card_sizes::bucket_bit_words` meets its contract. Assumes nothing.
+-- `card_sizes::bucket_bit_words` meets its contract.
 use Prim.Native.Nat.{_≤_}
 use borrow.Author.Needs.{needs}
 use Rattle.bucket_model.specs.Layout.{leastStoreys, mostStoreys}
@@ -9,9 +9,6 @@ use Rattle.card_sizes.proofs.bucket_bit_words.Tie as tie
 -- the depth has been tested
 deep : (c : tie.Else1) → (leastStoreys ≤ c .before .before .args .storeys) × (c .before .before .args .storeys ≤ mostStoreys)
 deep c = depths _ 0 _ (c .before .is-deep .ensures) (c .if1 .left)
-
-is-deep-requires : tie.Need-is-deep-requires
-is-deep-requires c κs = search needs
 
 returns : tie.Need-returns
 returns c = bits-none _ 0 _ (c .before .is-deep .ensures) (c .if1 .taken)
@@ -27,4 +24,4 @@ returns-2 c = bits-some _ 0 _ (c .before .before .before .is-deep .ensures) (c .
 
 pub bucket-bit-words-spec : {M : Type 1} → statement M
 bucket-bit-words-spec =
-    tie.close (tie.spec is-deep-requires returns queue-of-requires cast-result returns-2)
+    tie.close (tie.spec (λ c κs. search needs) returns queue-of-requires cast-result returns-2)

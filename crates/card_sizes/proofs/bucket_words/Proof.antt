@@ -1,4 +1,4 @@
--- `card_sizes::bucket_words` meets its contract. Assumes nothing.
+-- `card_sizes::bucket_words` meets its contract.
 use Prim.Native.Nat.{_≤_}
 use borrow.Author.Needs.{needs}
 use Rattle.bucket_model.specs.Layout.{leastStoreys, mostStoreys}
@@ -12,10 +12,9 @@ deep c = depths _ 0 _ (c .before .is-deep .ensures) (c .if1 .left)
 
 -- no more words than this
 few : (c : tie.After-queue-of) → c .queue-of .result .held ≤ 720897
-few c = few-words _ (deep (c .before .before .before) .0) (deep (c .before .before .before) .1) _ _ (c .queue-of .ensures) (c .before .if3 .left)
-
-is-deep-requires : tie.Need-is-deep-requires
-is-deep-requires c κs = search needs
+few c =
+    let else1 = c .before .before .before in
+    few-words _ (deep else1 .0) (deep else1 .1) _ _ (c .queue-of .ensures) (c .before .if3 .left)
 
 returns : tie.Need-returns
 returns c = bucket-undeep _ _ _ (c .before .is-deep .ensures) (c .if1 .taken)
@@ -36,17 +35,10 @@ cast-result : tie.Need-cast-result
 cast-result c = search (needs, few c)
 
 returns-4 : tie.Need-returns-4
-returns-4 c = bucket-some _ _ _ (c .before .before .before .before .is-deep .ensures) (c .before .before .before .if1 .left) (c .before .before .if2 .left) (c .before .if3 .left) _ (c .queue-of .ensures)
+returns-4 c =
+    let else1 = c .before .before .before in let at-is-deep = else1 .before in
+    bucket-some _ _ _ (at-is-deep .is-deep .ensures) (else1 .if1 .left) (c .before .before .if2 .left) (c .before .if3 .left) _ (c .queue-of .ensures)
 
 pub bucket-words-spec : {M : Type 1} → statement M
-bucket-words-spec =
-    tie.close
-    (tie.spec
-    is-deep-requires
-    returns
-    returns-2
-    returns-3
-    queue-of-requires
-    add-result
-    cast-result
-    returns-4)
+bucket-words-spec = tie.close
+    (tie.spec (λ c κs. search needs) returns returns-2 returns-3 queue-of-requires add-result cast-result returns-4)

@@ -1,25 +1,12 @@
--- `card_sizes::cluster_words` meets its contract. Assumes nothing.
+-- `card_sizes::cluster_words` meets its contract.
 use native.Mathlib.Omega.{arith}
-use native.Mathlib.Nat.{mul-le-mul}
 use borrow.Author.Needs.{needs}
 use Rattle.card_sizes.proofs.Cluster.{words-most, words-none, words-some}
 use Rattle.card_sizes.proofs.cluster_words.Statement.{statement}
 use Rattle.card_sizes.proofs.cluster_words.Tie as tie
 
-shape-ok-requires : tie.Need-shape-ok-requires
-shape-ok-requires c κs = search needs
-
 returns : tie.Need-returns
 returns c = words-none _ _ _ (c .before .shape-ok .ensures) (c .if1 .taken)
-
-nodes-requires : tie.Need-nodes-requires
-nodes-requires c κs = search needs
-
-mul-result : tie.Need-mul-result
-mul-result c = search needs
-
-add-result : tie.Need-add-result
-add-result c = search needs
 
 mul-result-2 : tie.Need-mul-result-2
 mul-result-2 c = omega (arith, words-most _ _ _ (c .before .before .shape-ok .ensures) (c .before .if1 .left) _ (c .nodes .ensures))
@@ -32,4 +19,4 @@ returns-2 c = words-some _ _ _ (c .before .before .shape-ok .ensures) (c .before
 
 pub cluster-words-spec : {M : Type 1} → statement M
 cluster-words-spec =
-    tie.close (tie.spec shape-ok-requires returns nodes-requires mul-result add-result mul-result-2 cast-result returns-2)
+    tie.close (tie.spec (λ c κs. search needs) returns (λ c κs. search needs) (λ c. search needs) (λ c. search needs) mul-result-2 cast-result returns-2)

@@ -1,19 +1,8 @@
--- `card_sizes::tree_words` meets its contract. Assumes nothing.
-use native.Mathlib.Omega.{arith}
+-- `card_sizes::tree_words` meets its contract.
 use borrow.Author.Needs.{needs}
 use Rattle.card_sizes.proofs.Sizes.{tree-most, tree-none, tree-order, tree-some}
 use Rattle.card_sizes.proofs.tree_words.Statement.{statement}
 use Rattle.card_sizes.proofs.tree_words.Tie as tie
-use Rattle.card_sizes.proofs.tree_words.Reads as reads
-use Rattle.card_sizes.proofs.tree_words.Lts as lts
-use Rattle.node.proofs.capacity.Reads as capacity-reads
-use Rattle.node.proofs.shape_ok.Reads as shape-ok-reads
-
-mul-shape-ok : tie.Need-mul-shape-ok
-mul-shape-ok c = search needs
-
-shape-ok-requires : tie.Need-shape-ok-requires
-shape-ok-requires c κs = search needs
 
 returns : tie.Need-returns
 returns c = tree-none _ _ _ (c .before .shape-ok .ensures) (c .if1 .taken)
@@ -31,13 +20,5 @@ returns-2 : tie.Need-returns-2
 returns-2 c = tree-some _ _ _ (c .before .before .shape-ok .ensures) (c .before .if1 .left) _ (c .capacity .ensures .0)
 
 pub tree-words-spec : {M : Type 1} → statement M
-tree-words-spec =
-    tie.close
-    (tie.spec
-    mul-shape-ok
-    shape-ok-requires
-    returns
-    capacity-requires
-    mul-result
-    cast-result
-    returns-2)
+tree-words-spec = tie.close
+    (tie.spec (λ c. search needs) (λ c κs. search needs) returns capacity-requires mul-result cast-result returns-2)

@@ -1,4 +1,4 @@
--- `cases::deep_buckets` meets its contract. Assumes nothing.
+-- `cases::deep_buckets` meets its contract.
 use Prim.Native.Nat.{ℕ}
 use mathlib.Core.Path.{sym}
 use lib.ListN.{length-replicate}
@@ -13,11 +13,5 @@ slice-aggregate-bucket-calls c = sym (length-replicate {0} {A = ℕ} 4161 9)
 slice-aggregate-bucket-calls-2 : tie.Need-slice-aggregate-bucket-calls-2
 slice-aggregate-bucket-calls-2 c = sym (length-replicate {0} {A = ℕ} 524299 9)
 
-bucket-calls-requires : tie.Need-bucket-calls-requires
-bucket-calls-requires c κs = search needs
-
-returns : tie.Need-returns
-returns c = search needs
-
 pub deep-buckets-spec : {M : Type 1} → statement M
-deep-buckets-spec = tie.close (tie.spec slice-aggregate-bucket-calls slice-aggregate-bucket-calls-2 bucket-calls-requires returns)
+deep-buckets-spec = tie.close (tie.spec slice-aggregate-bucket-calls slice-aggregate-bucket-calls-2 (λ c κs. search needs) (λ c. search needs))

@@ -1,13 +1,9 @@
--- `cases::say_words` meets its contract. Assumes nothing.
+-- `cases::say_words` meets its contract.
 use Prim.Native.Nat.{_-_, _≤_}
 use lib.ListN.{length}
 use borrow.Author.Needs.{needs}
 use Rattle.cases.proofs.say_words.Statement.{statement}
 use Rattle.cases.proofs.say_words.Tie as tie
-use Rattle.cases.proofs.say_words.Reads as reads
-use Rattle.cases.proofs.say_words.Lts as lts
-use Rattle.cases.proofs.say.Reads as say-reads
-use Rattle.io.proofs.write_all.Reads as write-all-reads
 
 abbrev Inv-loop : tie.InvT-loop
 Inv-loop words i₀ t3 i = i ≤ length words
@@ -15,49 +11,7 @@ Inv-loop words i₀ t3 i = i ≤ length words
 abbrev μ-loop : tie.MeasureT-loop
 μ-loop words i₀ t3 i = length words - i
 
-loop-holds : tie.Need-loop-holds Inv-loop μ-loop
-loop-holds c = search needs
-
-mul-say : tie.Need-mul-say Inv-loop μ-loop
-mul-say c = search needs
-
-shared-slice-read-say : tie.Need-shared-slice-read-say Inv-loop μ-loop
-shared-slice-read-say c = search needs
-
-say-requires : tie.Need-say-requires Inv-loop μ-loop
-say-requires c κs = search needs
-
-add-i : tie.Need-add-i Inv-loop μ-loop
-add-i c = search needs
-
-loop-less : tie.Need-loop-less Inv-loop μ-loop
-loop-less c = search needs
-
-loop-again : tie.Need-loop-again Inv-loop μ-loop
-loop-again c = search needs
-
-slice-aggregate-write-all : tie.Need-slice-aggregate-write-all Inv-loop μ-loop
-slice-aggregate-write-all c = search needs
-
-write-all-requires : tie.Need-write-all-requires Inv-loop μ-loop
-write-all-requires c κs = search needs
-
-returns : tie.Need-returns Inv-loop μ-loop
-returns c = search needs
-
 pub say-words-spec : {M : Type 1} → statement M
-say-words-spec =
-    tie.close
-    (tie.spec
-    Inv-loop
-    μ-loop
-    loop-holds
-    mul-say
-    shared-slice-read-say
-    say-requires
-    add-i
-    loop-less
-    loop-again
-    slice-aggregate-write-all
-    write-all-requires
-    returns)
+say-words-spec = tie.close
+    (tie.spec Inv-loop μ-loop (λ c. search needs) (λ c. search needs) (λ c. search needs) (λ c κs. search needs) (λ c. search needs)
+    (λ c. search needs) (λ c. search needs) (λ c. search needs) (λ c κs. search needs) (λ c. search needs))

@@ -1,4 +1,4 @@
--- `cases::shapes` meets its contract. Assumes nothing.
+-- `cases::shapes` meets its contract.
 use Prim.Native.Nat.{ℕ}
 use mathlib.Core.Path.{sym}
 use lib.ListN.{length-replicate}
@@ -10,11 +10,5 @@ use Rattle.cases.proofs.shapes.Tie as tie
 slice-aggregate-edges : tie.Need-slice-aggregate-edges
 slice-aggregate-edges c = sym (length-replicate {0} {A = ℕ} 1398096 0)
 
-edges-requires : tie.Need-edges-requires
-edges-requires c κs = search needs
-
-returns : tie.Need-returns
-returns c = search needs
-
 pub shapes-spec : {M : Type 1} → statement M
-shapes-spec = tie.close (tie.spec slice-aggregate-edges edges-requires returns)
+shapes-spec = tie.close (tie.spec slice-aggregate-edges (λ c κs. search needs) (λ c. search needs))

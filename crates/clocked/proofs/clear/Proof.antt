@@ -1,18 +1,12 @@
--- `clocked::clear` meets its contract. Assumes nothing.
+-- `clocked::clear` meets its contract.
 use borrow.Author.Needs.{needs}
 use Rattle.clocked.proofs.Public.{clear-shape, shape-yes}
 use Rattle.clocked_steps.proofs.Shaped.{clear-levels, slots-within}
 use Rattle.clocked.proofs.clear.Statement.{statement}
 use Rattle.clocked.proofs.clear.Tie as tie
 
-shape-of-requires : tie.Need-shape-of-requires
-shape-of-requires c κs = search needs
-
 shape-fits-requires : tie.Need-shape-fits-requires
 shape-fits-requires c κs = c .shape-of .ensures .most
-
-left-as-requires : tie.Need-left-as-requires
-left-as-requires c κs = search needs
 
 returns : tie.Need-returns
 returns c =
@@ -29,9 +23,6 @@ clear-shaped-requires c κs =
     slots-within (a .order) (a .levels) (a .store .now) (at-shape .shape-of .result) (at-shape .shape-of .ensures)
     (shape-yes (a .order) (a .levels) (a .store .now) (at-fits .shape-fits .result) (at-fits .shape-fits .ensures _ _ (at-shape .shape-of .ensures)) (at-if1 .if1 .left))
 
-same-length : tie.Need-same-length
-same-length c = search needs
-
 returns-2 : tie.Need-returns-2
 returns-2 c =
     let at-clear = c .before .before in
@@ -44,4 +35,4 @@ returns-2 c =
     _ _ _ (at-clear .clear-shaped .ensures)
 
 pub clear-spec : {M : Type 1} → statement M
-clear-spec = tie.close (tie.spec shape-of-requires shape-fits-requires left-as-requires returns clear-shaped-requires same-length returns-2)
+clear-spec = tie.close (tie.spec (λ c κs. search needs) shape-fits-requires (λ c κs. search needs) returns clear-shaped-requires (λ c. search needs) returns-2)

@@ -1,18 +1,12 @@
--- `clocked::drain` meets its contract. Assumes nothing.
+-- `clocked::drain` meets its contract.
 use Rattle.clocked.proofs.Public.{drain-shape, shape-yes}
 use Rattle.clocked_steps.proofs.Shaped.{drain-levels, shape-below}
 use borrow.Author.Needs.{needs}
 use Rattle.clocked.proofs.drain.Statement.{statement}
 use Rattle.clocked.proofs.drain.Tie as tie
 
-shape-of-requires : tie.Need-shape-of-requires
-shape-of-requires c κs = search needs
-
 shape-fits-requires : tie.Need-shape-fits-requires
 shape-fits-requires c κs = c .shape-of .ensures .most
-
-report-requires : tie.Need-report-requires
-report-requires c κs = search needs
 
 returns : tie.Need-returns
 returns c =
@@ -29,9 +23,6 @@ drain-shaped-requires c κs =
     shape-below (a .order) (a .levels) (a .store .now) (at-shape .shape-of .result) (at-shape .shape-of .ensures)
     (shape-yes (a .order) (a .levels) (a .store .now) (at-fits .shape-fits .result) (at-fits .shape-fits .ensures _ _ (at-shape .shape-of .ensures)) (at-if1 .if1 .left))
 
-same-length : tie.Need-same-length
-same-length c = search needs
-
 returns-2 : tie.Need-returns-2
 returns-2 c =
     let at-drain = c .before .before in
@@ -44,13 +35,5 @@ returns-2 c =
     _ _ _ (at-drain .drain-shaped .ensures)
 
 pub drain-spec : {M : Type 1} → statement M
-drain-spec =
-    tie.close
-    (tie.spec
-    shape-of-requires
-    shape-fits-requires
-    report-requires
-    returns
-    drain-shaped-requires
-    same-length
-    returns-2)
+drain-spec = tie.close
+    (tie.spec (λ c κs. search needs) shape-fits-requires (λ c κs. search needs) returns drain-shaped-requires (λ c. search needs) returns-2)

@@ -1,4 +1,4 @@
--- `clocked_levels::plan_level` meets its contract. Assumes nothing.
+-- `clocked_levels::plan_level` meets its contract.
 use native.Mathlib.Omega.{arith}
 use Rattle.clocked_levels.proofs.Rounds.{level-lacks, level-off, level-on, Numbers, numbers, place-less, plan-in}
 use borrow.Author.Needs.{needs}
@@ -13,9 +13,6 @@ has-node : (c : tie.Else1) → Numbers (Start c .args .order) (Start c .args .at
 has-node c =
     let a = Start c .args in
     numbers (a .order) (a .at .base) (a .at .nodes) (a .at .room) (a .under) (a .s .now) (Start c .pre .0) (a .w) (c .if1 .left)
-
-damaged-requires : tie.Need-damaged-requires
-damaged-requires c κs = search needs
 
 returns : tie.Need-returns
 returns c =
@@ -48,9 +45,6 @@ plan-of-requires c κs =
     let a = Start at-if1 .args in
     plan-in (a .order) (a .at .base) (a .at .nodes) (a .at .room) (a .under) (a .s .now) (Start at-if1 .pre .0) (a .w) (at-if1 .if1 .left)
 
-damaged-requires-2 : tie.Need-damaged-requires-2
-damaged-requires-2 c κs = search needs
-
 returns-2 : tie.Need-returns-2
 returns-2 c =
     let at-if2 = c .before in
@@ -76,19 +70,6 @@ returns-3 c =
     level-on (a .order) (a .at .base) (a .at .nodes) (a .at .room) (a .under) (a .s .now) (Start at-if1 .pre .0) (a .w) (at-if1 .if1 .left) _ _ (at-plan .plan-of .ensures) (at-if2 .if2 .left) (Start at-if1 .pre .1) _ (c .step-of .ensures)
 
 pub plan-level-spec : {M : Type 1} → statement M
-plan-level-spec =
-    tie.close
-    (tie.spec
-    damaged-requires
-    returns
-    mul-first
-    mul-child
-    add-child
-    mul-child-2
-    add-child-2
-    add-plan-of
-    plan-of-requires
-    damaged-requires-2
-    returns-2
-    step-of-requires
-    returns-3)
+plan-level-spec = tie.close
+    (tie.spec (λ c κs. search needs) returns mul-first mul-child add-child mul-child-2 add-child-2 add-plan-of plan-of-requires
+    (λ c κs. search needs) returns-2 step-of-requires returns-3)

@@ -1,11 +1,8 @@
--- `clocked_levels::steps_of` meets its contract. Assumes nothing.
+-- `clocked_levels::steps_of` meets its contract.
 use Rattle.clocked_levels.proofs.Works.{steps-none, steps-one}
 use borrow.Author.Needs.{needs}
 use Rattle.clocked_levels.proofs.steps_of.Statement.{statement}
 use Rattle.clocked_levels.proofs.steps_of.Tie as tie
-
-is-nothing-requires : tie.Need-is-nothing-requires
-is-nothing-requires c κs = search needs
 
 returns : tie.Need-returns
 returns c = steps-none _ _ (c .before .is-nothing .ensures) (c .if1 .taken)
@@ -14,4 +11,4 @@ returns-2 : tie.Need-returns-2
 returns-2 c = steps-one _ _ (c .before .is-nothing .ensures) (c .if1 .left)
 
 pub steps-of-spec : {M : Type 1} → statement M
-steps-of-spec = tie.close (tie.spec is-nothing-requires returns returns-2)
+steps-of-spec = tie.close (tie.spec (λ c κs. search needs) returns returns-2)

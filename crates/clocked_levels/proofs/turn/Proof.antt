@@ -1,4 +1,4 @@
--- `clocked_levels::turn` meets its contract. Assumes nothing.
+-- `clocked_levels::turn` meets its contract.
 use Prim.Native.Nat.{_-_, _≤_}
 use native.Mathlib.Omega.{arith}
 use mathlib.Core.Logic.{⊎-elim}
@@ -23,9 +23,6 @@ step-of-requires c κs =
     let start = c .before in
     omega (arith, root-place (start .args .order) (start .args .below) (start .args .s .now) (start .pre .0) (start .args .g) (start .pre .2), start .pre .0 .lies .few)
 
-steps-of-requires : tie.Need-steps-of-requires Inv-loop μ-loop
-steps-of-requires c κs = search needs
-
 second-level-requires : tie.Need-second-level-requires Inv-loop μ-loop
 second-level-requires c κs = c .before .before .before .before .before .before .pre .0 .lies .order
 
@@ -42,26 +39,17 @@ mul-own c = omega (arith, Start (c .before) .pre .0 .records)
 array-copy-out-own : tie.Need-array-copy-out-own Inv-loop μ-loop
 array-copy-out-own c = omega (arith, Start (c .before) .pre .0 .records)
 
-land-requires : tie.Need-land-requires Inv-loop μ-loop
-land-requires c κs = search needs
-
 mul-records : tie.Need-mul-records Inv-loop μ-loop
 mul-records c = omega (arith, Start (c .before .before .before) .pre .0 .records)
 
 array-set-from-records : tie.Need-array-set-from-records Inv-loop μ-loop
 array-set-from-records c = omega (arith, Start (c .before .before .before) .pre .0 .records)
 
-no-work-requires : tie.Need-no-work-requires Inv-loop μ-loop
-no-work-requires c κs = search needs
-
 next-level-requires : tie.Need-next-level-requires Inv-loop μ-loop
 next-level-requires c κs =
     let in-loop = c .before .before .before in
     let at-loop = in-loop .before in
     (Start at-loop .pre .0 .lies .order, next-small _ _ _ _ _ _ _ _ _ _ _ _ _ _ (going-here _ _ _ _ _ _ _ _ _ _ _ _ _ _ (at-loop .loop .inv .1) (in-loop .loop-test .taken)) .1)
-
-is-idle-requires : tie.Need-is-idle-requires Inv-loop μ-loop
-is-idle-requires c κs = search needs
 
 plan-level-requires : tie.Need-plan-level-requires Inv-loop μ-loop
 plan-level-requires c κs =
@@ -71,12 +59,6 @@ plan-level-requires c κs =
     let in-loop = at-next .before .before .before .before in
     let at-loop = in-loop .before in
     (level-in _ _ _ _ _ _ _ _ _ _ _ _ _ _ (going-here _ _ _ _ _ _ _ _ _ _ _ _ _ _ (at-loop .loop .inv .1) (in-loop .loop-test .taken)) _ (at-next .next-level .ensures .room), sym (at-idle .is-idle .ensures) ∙ not-true _ (at-if1 .if1 .taken))
-
-left-as-requires : tie.Need-left-as-requires Inv-loop μ-loop
-left-as-requires c κs = search needs
-
-same-length : tie.Need-same-length Inv-loop μ-loop
-same-length c = search needs
 
 returns : tie.Need-returns Inv-loop μ-loop
 returns c =
@@ -108,12 +90,6 @@ add-n c =
     let at-loop = in-loop .before in
     omega (arith, in-loop .loop-test .taken, at-loop .loop .inv .1 .few, at-loop .loop .inv .1 .spare, Start at-loop .pre .0 .records)
 
-add-i : tie.Need-add-i Inv-loop μ-loop
-add-i c = search needs
-
-loop-less : tie.Need-loop-less Inv-loop μ-loop
-loop-less c = search needs
-
 loop-again : tie.Need-loop-again Inv-loop μ-loop
 loop-again c =
     let at-idle = c .before in
@@ -137,9 +113,6 @@ write-all-requires c κs =
     let at-loop = c .before .before in
     record { few = omega (arith, at-loop .loop .inv .1 .few, Start at-loop .pre .0 .records); inside = at-loop .loop .inv .1 .inside }
 
-ran-requires : tie.Need-ran-requires Inv-loop μ-loop
-ran-requires c κs = search needs
-
 same-length-2 : tie.Need-same-length-2 Inv-loop μ-loop
 same-length-2 c = c .before .before .before .write-all .kept .0
 
@@ -152,34 +125,8 @@ returns-2 c =
     cycleRun-on _ _ _ (start .pre .0) (start .args .g) (start .pre .2) _ _ _ _ _ _ _ (end-tests _ _ _ _ _ _ _ _ _ _ _ _ _ end) (end-records _ _ _ _ _ _ _ _ _ _ _ _ _ end) (at-write .write-all .ensures ∙ end-words _ _ _ _ _ _ _ _ _ _ _ _ _ end) (c .ran .ensures)
 
 pub turn-spec : {M : Type 1} → statement M
-turn-spec =
-    tie.close
-    (tie.spec
-    Inv-loop
-    μ-loop
-    step-of-requires
-    steps-of-requires
-    second-level-requires
-    loop-holds
-    mul-own
-    array-copy-out-own
-    land-requires
-    mul-records
-    array-set-from-records
-    no-work-requires
-    next-level-requires
-    is-idle-requires
-    plan-level-requires
-    left-as-requires
-    same-length
-    returns
-    mul-writes
-    array-set-from-writes
-    add-n
-    add-i
-    loop-less
-    loop-again
-    write-all-requires
-    ran-requires
-    same-length-2
-    returns-2)
+turn-spec = tie.close
+    (tie.spec Inv-loop μ-loop step-of-requires (λ c κs. search needs) second-level-requires loop-holds mul-own array-copy-out-own
+    (λ c κs. search needs) mul-records array-set-from-records (λ c κs. search needs) next-level-requires (λ c κs. search needs)
+    plan-level-requires (λ c κs. search needs) (λ c. search needs) returns mul-writes array-set-from-writes add-n (λ c. search needs)
+    (λ c. search needs) loop-again write-all-requires (λ c κs. search needs) same-length-2 returns-2)

@@ -1,4 +1,4 @@
--- `clocked_levels::write_all` meets its contract. Assumes nothing.
+-- `clocked_levels::write_all` meets its contract.
 use Prim.Native.Nat.{_-_, _≤_}
 use native.Mathlib.Omega.{arith}
 use mathlib.Core.Path.{_∙_, _≡_, refl}
@@ -25,16 +25,14 @@ array-copy-out-w : tie.Need-array-copy-out-w Inv-loop μ-loop
 array-copy-out-w c = omega (arith, c .before .before .before .pre .few)
 
 write-slot-requires : tie.Need-write-slot-requires Inv-loop μ-loop
-write-slot-requires c κs = omega (arith, c .before .before .before .before .before .before .pre .inside (c .before .before .before .before .loop .i) (omega arith), c .before .before .before .before .loop .inv .1)
-
-add-i : tie.Need-add-i Inv-loop μ-loop
-add-i c = search needs
-
-loop-less : tie.Need-loop-less Inv-loop μ-loop
-loop-less c = search needs
+write-slot-requires c κs =
+    let at-loop = c .before .before .before .before in let start = at-loop .before .before in
+    omega (arith, start .pre .inside (at-loop .loop .i) (omega arith), at-loop .loop .inv .1)
 
 loop-again : tie.Need-loop-again Inv-loop μ-loop
-loop-again c = (omega arith, c .before .before .write-slot .kept .0 ∙ c .before .before .before .before .before .before .before .loop .inv .1, written-next _ _ _ _ _ (c .before .before .before .before .before .before .before .loop .inv .2) (c .before .before .write-slot .ensures))
+loop-again c =
+    let at-loop = c .before .before .before .before .before .before .before in
+    (omega arith, c .before .before .write-slot .kept .0 ∙ at-loop .loop .inv .1, written-next _ _ _ _ _ (at-loop .loop .inv .2) (c .before .before .write-slot .ensures))
 
 same-length : tie.Need-same-length Inv-loop μ-loop
 same-length c = c .before .loop .inv .1
@@ -43,17 +41,6 @@ returns : tie.Need-returns Inv-loop μ-loop
 returns c = let e : c .before .loop .i ≡ c .before .before .before .args .count = omega arith in rw (← e) (c .before .loop .inv .2)
 
 pub write-all-spec : {M : Type 1} → statement M
-write-all-spec =
-    tie.close
-    (tie.spec
-    Inv-loop
-    μ-loop
-    loop-holds
-    mul-w
-    array-copy-out-w
-    write-slot-requires
-    add-i
-    loop-less
-    loop-again
-    same-length
-    returns)
+write-all-spec = tie.close
+    (tie.spec Inv-loop μ-loop loop-holds mul-w array-copy-out-w write-slot-requires (λ c. search needs) (λ c. search needs) loop-again
+    same-length returns)

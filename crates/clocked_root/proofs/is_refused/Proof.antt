@@ -1,18 +1,9 @@
--- `clocked_root::is_refused` meets its contract. Assumes nothing.
+-- `clocked_root::is_refused` meets its contract.
 use mathlib.Core.Path.{ap, sym}
 use borrow.Author.Needs.{needs}
 use Rattle.clocked_model.specs.Calls.{isRefused}
 use Rattle.clocked_root.proofs.is_refused.Statement.{statement}
 use Rattle.clocked_root.proofs.is_refused.Tie as tie
-
-enum-told : tie.Need-enum-told
-enum-told c = search needs
-
-enum-told-2 : tie.Need-enum-told-2
-enum-told-2 c = search needs
-
-enum-told-3 : tie.Need-enum-told-3
-enum-told-3 c = search needs
 
 returns : tie.Need-returns
 unfolding isRefused
@@ -28,4 +19,4 @@ returns-3 c = ap isRefused (sym (c .enum-told3 .given .1))
 
 pub is-refused-spec : {M : Type 1} → statement M
 is-refused-spec =
-    tie.close (tie.spec enum-told enum-told-2 enum-told-3 returns returns-2 returns-3)
+    tie.close (tie.spec (λ c. search needs) (λ c. search needs) (λ c. search needs) returns returns-2 returns-3)

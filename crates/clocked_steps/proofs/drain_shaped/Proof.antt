@@ -1,4 +1,4 @@
--- `clocked_steps::drain_shaped` meets its contract. Assumes nothing.
+-- `clocked_steps::drain_shaped` meets its contract.
 use Prim.Native.Nat.{_-_, _≤_, suc}
 use native.Mathlib.Omega.{arith}
 use mathlib.Core.Path.{_∙_, _≡_, ap, refl}
@@ -27,9 +27,6 @@ is-quiet-requires c κs =
     let start = Start (c .before .before) in
     rooted (start .args .order) (start .args .below) (start .args .store .now) (start .pre .0) .records
 
-report-requires : tie.Need-report-requires Inv-loop μ-loop
-report-requires c κs = search needs
-
 same-length : tie.Need-same-length Inv-loop μ-loop
 same-length c = c .before .before .before .before .before .loop .inv .1
 
@@ -47,12 +44,6 @@ cycle-shaped-requires c κs =
     let start = Start at-loop in
     (ap (shapeOk (start .args .order) (suc (start .args .below))) (at-loop .loop .inv .1) ∙ start .pre .0, start .pre .1)
 
-is-refused-requires : tie.Need-is-refused-requires Inv-loop μ-loop
-is-refused-requires c κs = search needs
-
-report-requires-2 : tie.Need-report-requires-2 Inv-loop μ-loop
-report-requires-2 c κs = search needs
-
 same-length-2 : tie.Need-same-length-2 Inv-loop μ-loop
 same-length-2 c =
     let at-cycle = c .before .before .before .before .before .before in
@@ -69,12 +60,6 @@ returns-2 c =
     let at-loop = in-loop .before in
     drain-runs _ _ _ _ _ (Start at-loop .pre .0) _
     (drain-stops _ _ _ _ refl _ _ _ (at-quiet .is-quiet .ensures) (at-if1 .if1 .left) _ (λ z. omega (arith, in-loop .loop-test .taken)) _ _ _ (at-cycle .cycle-shaped .ensures) _ (at-refused .is-refused .ensures) _ _ _ _ (at-if2 .if2 .taken) (c .report2 .ensures) ∙ at-loop .loop .inv .2)
-
-add-run : tie.Need-add-run Inv-loop μ-loop
-add-run c = search needs
-
-loop-less : tie.Need-loop-less Inv-loop μ-loop
-loop-less c = search needs
 
 loop-again : tie.Need-loop-again Inv-loop μ-loop
 loop-again c =
@@ -94,9 +79,6 @@ is-quiet-requires-2 c κs =
     let start = Start (c .before .before) in
     rooted (start .args .order) (start .args .below) (start .args .store .now) (start .pre .0) .records
 
-report-requires-3 : tie.Need-report-requires-3 Inv-loop μ-loop
-report-requires-3 c κs = search needs
-
 same-length-3 : tie.Need-same-length-3 Inv-loop μ-loop
 same-length-3 c = c .before .before .before .before .loop .inv .1
 
@@ -109,25 +91,7 @@ returns-3 c =
     (drain-spent _ _ _ _ refl _ _ _ (at-quiet .is-quiet2 .ensures) _ _ _ _ _ (omega (arith, after-loop .loop-test .left)) (c .report3 .ensures) ∙ at-loop .loop .inv .2)
 
 pub drain-shaped-spec : {M : Type 1} → statement M
-drain-shaped-spec =
-    tie.close
-    (tie.spec
-    Inv-loop
-    μ-loop
-    loop-holds
-    is-quiet-requires
-    report-requires
-    same-length
-    returns
-    cycle-shaped-requires
-    is-refused-requires
-    report-requires-2
-    same-length-2
-    returns-2
-    add-run
-    loop-less
-    loop-again
-    is-quiet-requires-2
-    report-requires-3
-    same-length-3
-    returns-3)
+drain-shaped-spec = tie.close
+    (tie.spec Inv-loop μ-loop loop-holds is-quiet-requires (λ c κs. search needs) same-length returns cycle-shaped-requires
+    (λ c κs. search needs) (λ c κs. search needs) same-length-2 returns-2 (λ c. search needs) (λ c. search needs) loop-again
+    is-quiet-requires-2 (λ c κs. search needs) same-length-3 returns-3)

@@ -47,15 +47,20 @@ under t c = put-under _ _ _ _ _ (c .before .before .pre .1) (c .if1 .left)
 
 -- the highest place is one of them
 high : (t : ℕ) (c : put-lts.After-high-lead (cs t) (put-at t) put.Post) → c .high-lead .result .place < c .before .before .before .before .args .k
-high t c = high-in (c .before .before .before .before .args .s .now) (c .before .before .before .before .args .at + 2) (c .before .before .before .before .args .k) (c .high-lead .result) (omega (arith, lies t (c .before .before .before .before))) (c .high-lead .ensures)
+high t c =
+    let start = c .before .before .before .before in
+    high-in (start .args .s .now) (start .args .at + 2) (start .args .k) (c .high-lead .result) (omega (arith, lies t start)) (c .high-lead .ensures)
 
 -- where the element goes on, both counts have been tested
 abbrev Goes : ℕ → Type 0
 Goes t = put-lts.Else4 (cs t) (put-at t) put.Post
 
-counts : (t : ℕ) (c : Goes t) → (getD (c .before .before .before .before .before .before .before .before .before .before .before .before .before .before .args .s .now) (c .before .before .before .before .before .before .before .before .before .before .before .before .before .before .args .at) 0 ≤ 5460) × (getD (c .before .before .before .before .before .before .before .before .before .before .before .before .before .before .args .s .now) (c .before .before .before .before .before .before .before .before .before .before .before .before .before .before .args .at + 1) 0 ≤ 5460)
+counts : (t : ℕ) (c : Goes t) → let start = c .before .before .before .before .before .before .before .before .before .before .before .before .before .before in (getD (start .args .s .now) (start .args .at) 0 ≤ 5460) × (getD (start .args .s .now) (start .args .at + 1) 0 ≤ 5460)
 counts t c =
-    put-counts _ (c .before .before .before .before .before .before .before .before .before .before .before .before .before .before .args .left) (c .before .before .before .before .before .before .before .before .before .before .before .before .before .before .pre .1 .node) _ (c .before .before .before .before .before .before .before .before .before .before .before .before .before .before .args .x) _ _ (c .before .before .before .before .before .before .before .before .before .before .before .before .before .before .pre .1 .begins) _ (c .before .before .before .before .before .before .before .before .before .before .high-lead .ensures) (c .before .before .before .before .before .before .before .before .if2 .left) (lies t (c .before .before .before .before .before .before .before .before .before .before .before .before .before .before) .some) _ (c .before .before .before .wide .ensures ∙ c .before .before .before .before .choose-word2 .ensures) (c .before .before .if3 .left) (c .before .before .before .before .before .before .before .before .before .before .before .before .before .before .pre .1 .small)
+    let at-wide = c .before .before .before in let at-choose-word2 = at-wide .before in
+    let else2 = at-choose-word2 .before .before .before .before in let at-high-lead = else2 .before .before in
+    let start = at-high-lead .before .before .before .before in
+    put-counts _ (start .args .left) (start .pre .1 .node) _ (start .args .x) _ _ (start .pre .1 .begins) _ (at-high-lead .high-lead .ensures) (else2 .if2 .left) (lies t start .some) _ (at-wide .wide .ensures ∙ at-choose-word2 .choose-word2 .ensures) (c .before .before .if3 .left) (start .pre .1 .small)
 
 put-put-end-requires : (t : ℕ) → put-lts.Need-put-end-requires (cs t) (put-at t) put.Post
 put-put-end-requires t c κs = lies t (c .before .before .before)
@@ -70,7 +75,9 @@ put-add-high-lead : (t : ℕ) → put-lts.Need-add-high-lead (cs t) (put-at t) p
 put-add-high-lead t c = omega (arith, lies t (c .before .before .before))
 
 put-high-lead-requires : (t : ℕ) → put-lts.Need-high-lead-requires (cs t) (put-at t) put.Post
-put-high-lead-requires t c κs = (omega (arith, lies t (c .before .before .before)), omega (arith, lies t (c .before .before .before)), lies t (c .before .before .before) .few)
+put-high-lead-requires t c κs =
+    let at-3 = c .before .before .before in
+    (omega (arith, lies t at-3), omega (arith, lies t at-3), lies t at-3 .few)
 
 put-put-end-requires-2 : (t : ℕ) → put-lts.Need-put-end-requires-2 (cs t) (put-at t) put.Post
 put-put-end-requires-2 t c κs = lies t (c .before .before .before .before .before .before .before)
@@ -79,7 +86,9 @@ put-same-length-2 : (t : ℕ) → put-lts.Need-same-length-2 (cs t) (put-at t) p
 put-same-length-2 t c = c .before .before .put-end2 .kept .0
 
 put-returns-2 : (t : ℕ) → put-lts.Need-returns-2 (cs t) (put-at t) put.Post
-put-returns-2 t c = λ m e. put-end _ _ m _ _ _ _ e _ (c .before .before .before .before .before .before .high-lead .ensures) (c .before .before .before .before .if2 .taken) _ _ (c .before .before .put-end2 .ensures)
+put-returns-2 t c =
+    let then2 = c .before .before .before .before in let at-high-lead = then2 .before .before in
+    λ m e. put-end _ _ m _ _ _ _ e _ (at-high-lead .high-lead .ensures) (then2 .if2 .taken) _ _ (c .before .before .put-end2 .ensures)
 
 put-mul-l : (t : ℕ) → put-lts.Need-mul-l (cs t) (put-at t) put.Post
 put-mul-l t c = omega (arith, lies t (c .before .before .before .before .before .before))
@@ -109,7 +118,10 @@ put-same-length-3 : (t : ℕ) → put-lts.Need-same-length-3 (cs t) (put-at t) p
 put-same-length-3 t c = refl
 
 put-returns-3 : (t : ℕ) → put-lts.Need-returns-3 (cs t) (put-at t) put.Post
-put-returns-3 t c = λ m e. put-bad _ _ m _ _ _ _ e _ (c .before .before .before .before .before .before .before .before .high-lead .ensures) (c .before .before .before .before .before .before .if2 .left) (lies t (c .before .before .before .before .before .before .before .before .before .before .before .before) .some) _ (c .before .wide .ensures ∙ c .before .before .choose-word2 .ensures) (c .if3 .taken)
+put-returns-3 t c =
+    let else2 = c .before .before .before .before .before .before in let at-high-lead = else2 .before .before in
+    let at-12 = at-high-lead .before .before .before .before in
+    λ m e. put-bad _ _ m _ _ _ _ e _ (at-high-lead .high-lead .ensures) (else2 .if2 .left) (lies t at-12 .some) _ (c .before .wide .ensures ∙ c .before .before .choose-word2 .ensures) (c .if3 .taken)
 
 put-wide-requires-2 : (t : ℕ) → put-lts.Need-wide-requires-2 (cs t) (put-at t) put.Post
 put-wide-requires-2 t c κs = search needs
@@ -118,7 +130,11 @@ put-same-length-4 : (t : ℕ) → put-lts.Need-same-length-4 (cs t) (put-at t) p
 put-same-length-4 t c = refl
 
 put-returns-4 : (t : ℕ) → put-lts.Need-returns-4 (cs t) (put-at t) put.Post
-put-returns-4 t c = λ m e. put-full _ _ m _ _ _ _ e _ (c .before .before .before .before .before .before .before .before .before .before .high-lead .ensures) (c .before .before .before .before .before .before .before .before .if2 .left) (lies t (c .before .before .before .before .before .before .before .before .before .before .before .before .before .before) .some) _ (c .before .before .before .wide .ensures ∙ c .before .before .before .before .choose-word2 .ensures) (c .before .before .if3 .left) (c .before .before .before .before .before .before .before .before .before .before .before .before .if1 .left) _ (c .before .wide2 .ensures ∙ c .before .before .before .before .before .choose-word .ensures) (c .if4 .taken)
+put-returns-4 t c =
+    let at-wide = c .before .before .before in let at-choose-word2 = at-wide .before in
+    let at-choose-word = at-choose-word2 .before in let else2 = at-choose-word .before .before .before in
+    let at-high-lead = else2 .before .before in let else1 = at-high-lead .before .before in let at-14 = else1 .before .before in
+    λ m e. put-full _ _ m _ _ _ _ e _ (at-high-lead .high-lead .ensures) (else2 .if2 .left) (lies t at-14 .some) _ (at-wide .wide .ensures ∙ at-choose-word2 .choose-word2 .ensures) (c .before .before .if3 .left) (else1 .if1 .left) _ (c .before .wide2 .ensures ∙ at-choose-word .choose-word .ensures) (c .if4 .taken)
 
 put-mul-width : (t : ℕ) → put-lts.Need-mul-width (cs t) (put-at t) put.Post
 put-mul-width t c = omega (arith, under t (c .before .before .before .before .before .before .before .before .before .before .before .before))
@@ -142,13 +158,22 @@ put-add-i : (t : ℕ) → put-lts.Need-add-i (cs t) (put-at t) put.Post
 put-add-i t c = omega (arith, lies t (c .before .before .before .before .before .before .before .before .before .before .before .before .before .before .before))
 
 put-mul-i : (t : ℕ) → put-lts.Need-mul-i (cs t) (put-at t) put.Post
-put-mul-i t c = omega (arith, lies t (c .before .before .before .before .before .before .before .before .before .before .before .before .before .before .before .before), high t (c .before .before .before .before .before .before .before .before .before .before .before .before))
+put-mul-i t c =
+    let at-12 = c .before .before .before .before .before .before .before .before .before .before .before .before in
+    let at-16 = at-12 .before .before .before .before in
+    omega (arith, lies t at-16, high t at-12)
 
 put-add-i-2 : (t : ℕ) → put-lts.Need-add-i-2 (cs t) (put-at t) put.Post
-put-add-i-2 t c = omega (arith, lies t (c .before .before .before .before .before .before .before .before .before .before .before .before .before .before .before .before), high t (c .before .before .before .before .before .before .before .before .before .before .before .before))
+put-add-i-2 t c =
+    let at-12 = c .before .before .before .before .before .before .before .before .before .before .before .before in
+    let at-16 = at-12 .before .before .before .before in
+    omega (arith, lies t at-16, high t at-12)
 
 put-elem-at-requires : (t : ℕ) → put-lts.Need-elem-at-requires (cs t) (put-at t) put.Post
-put-elem-at-requires t c κs = omega (arith, lies t (c .before .before .before .before .before .before .before .before .before .before .before .before .before .before .before .before .before), high t (c .before .before .before .before .before .before .before .before .before .before .before .before .before))
+put-elem-at-requires t c κs =
+    let at-13 = c .before .before .before .before .before .before .before .before .before .before .before .before .before in
+    let at-17 = at-13 .before .before .before .before in
+    omega (arith, lies t at-17, high t at-13)
 
 put-keep-of-requires : (t : ℕ) → put-lts.Need-keep-of-requires (cs t) (put-at t) put.Post
 put-keep-of-requires t c κs = search needs
@@ -160,28 +185,55 @@ put-room-under-requires : (t : ℕ) → put-lts.Need-room-under-requires (cs t) 
 put-room-under-requires t c κs = search needs
 
 put-sub-put : (t : ℕ) → put-lts.Need-sub-put (cs t) (put-at t) put.Post
-put-sub-put t c = let h : c .before .before .before .before .before .before .before .before .before .before .before .before .before .before .before .before .before .before .before .before .before .before .args .left ≡ 0 → ⊥ = c .before .before .before .before .before .before .before .before .before .before .before .before .before .before .before .before .before .before .before .before .if1 .left in omega arith
+put-sub-put t c =
+    let else1 = c .before .before .before .before .before .before .before .before .before .before .before .before .before .before .before .before .before .before .before .before in
+    let start = else1 .before .before in
+    let h : start .args .left ≡ 0 → ⊥ = else1 .if1 .left in omega arith
 
 put-put-requires : (t : ℕ) → put-lts.Need-put-requires (cs t) (put-at t) put.Post
-put-put-requires t c κs = (let h : c .before .before .before .before .before .before .before .before .before .before .before .before .before .before .before .before .before .before .before .before .before .before .args .left ≡ 0 → ⊥ = c .before .before .before .before .before .before .before .before .before .before .before .before .before .before .before .before .before .before .before .before .if1 .left in omega (arith, c .before .before .before .before .before .before .before .before .before .before .before .before .before .before .before .before .before .before .before .before .before .before .pre .0), goes-ready _ _ _ _ _ (c .before .before .before .before .before .before .before .before .before .before .before .before .before .before .before .before .before .before .before .before .before .before .pre .1) (c .before .before .before .before .before .before .before .before .before .before .before .before .before .before .before .before .before .before .before .before .if1 .left) (ltb (getD (c .before .before .before .before .before .before .before .before .before .before .before .before .before .before .before .before .before .before .before .before .before .before .args .s .now) (c .before .before .before .before .before .before .before .before .before .before .before .before .before .before .before .before .before .before .before .before .before .before .args .at + 1) 0) (getD (c .before .before .before .before .before .before .before .before .before .before .before .before .before .before .before .before .before .before .before .before .before .before .args .s .now) (c .before .before .before .before .before .before .before .before .before .before .before .before .before .before .before .before .before .before .before .before .before .before .args .at) 0)) _ _ (c .before .before .before .before .before .before .before .choose .ensures) (c .before .room-under .ensures))
+put-put-requires t c κs =
+    let at-choose = c .before .before .before .before .before .before .before in
+    let else1 = at-choose .before .before .before .before .before .before .before .before .before .before .before .before .before in
+    let start = else1 .before .before in
+    (let h : start .args .left ≡ 0 → ⊥ = else1 .if1 .left in omega (arith, start .pre .0), goes-ready _ _ _ _ _ (start .pre .1) (else1 .if1 .left) (ltb (getD (start .args .s .now) (start .args .at + 1) 0) (getD (start .args .s .now) (start .args .at) 0)) _ _ (at-choose .choose .ensures) (c .before .room-under .ensures))
 
 put-same-length-5 : (t : ℕ) → put-lts.Need-same-length-5 (cs t) (put-at t) put.Post
 put-same-length-5 t c = c .before .before .before .put .kept .0
 
 put-returns-5 : (t : ℕ) → put-lts.Need-returns-5 (cs t) (put-at t) put.Post
-put-returns-5 t c = let j = c .before .before .before .before .before .before .before .before .before .before .before .before in λ m e. put-stop _ _ m _ _ _ _ e _ (j .before .before .before .before .before .before .before .before .before .before .high-lead .ensures) (j .before .before .before .before .before .before .before .before .if2 .left) (lies t (j .before .before .before .before .before .before .before .before .before .before .before .before .before .before) .some) _ (j .before .before .before .wide .ensures ∙ j .before .before .before .before .choose-word2 .ensures) (j .before .before .if3 .left) (j .before .before .before .before .before .before .before .before .before .before .before .before .if1 .left) _ (j .before .wide2 .ensures ∙ j .before .before .before .before .before .choose-word .ensures) (j .if4 .left) _ (c .before .before .before .before .before .before .before .before .before .before .before .choose .ensures) _ (c .before .before .before .before .before .room-under .ensures) (λ i. omega (arith, j .before .before .before .before .before .before .before .before .before .before .before .before .before .slice-known .given i)) _ (c .before .before .before .before .before .before .before .before .elem-at .ensures) _ _ (c .before .before .before .before .before .before .before .keep-of .ensures) (c .before .before .before .before .before .before .pass-of .ensures) _ _ (c .before .before .before .put .ensures) (c .if5 .taken)
+put-returns-5 t c =
+    let at-put = c .before .before .before in let at-room-under = at-put .before .before in let at-pass-of = at-room-under .before in
+    let at-keep-of = at-pass-of .before in let at-elem-at = at-keep-of .before in
+    let at-choose = at-elem-at .before .before .before in let at-12 = at-choose .before in
+    let j = at-12 in λ m e. put-stop _ _ m _ _ _ _ e _ (j .before .before .before .before .before .before .before .before .before .before .high-lead .ensures) (j .before .before .before .before .before .before .before .before .if2 .left) (lies t (j .before .before .before .before .before .before .before .before .before .before .before .before .before .before) .some) _ (j .before .before .before .wide .ensures ∙ j .before .before .before .before .choose-word2 .ensures) (j .before .before .if3 .left) (j .before .before .before .before .before .before .before .before .before .before .before .before .if1 .left) _ (j .before .wide2 .ensures ∙ j .before .before .before .before .before .choose-word .ensures) (j .if4 .left) _ (at-choose .choose .ensures) _ (at-room-under .room-under .ensures) (λ i. omega (arith, j .before .before .before .before .before .before .before .before .before .before .before .before .before .slice-known .given i)) _ (at-elem-at .elem-at .ensures) _ _ (at-keep-of .keep-of .ensures) (at-pass-of .pass-of .ensures) _ _ (at-put .put .ensures) (c .if5 .taken)
 
 put-raise-requires : (t : ℕ) → put-lts.Need-raise-requires (cs t) (put-at t) put.Post
-put-raise-requires t c κs = (omega (arith, lies t (c .before .before .before .before .before .before .before .before .before .before .before .before .before .before .before .before .before .before .before .before .before .before .before .before .before .before .before), c .before .before .before .before .put .kept .0), counts t (c .before .before .before .before .before .before .before .before .before .before .before .before .before) .0, counts t (c .before .before .before .before .before .before .before .before .before .before .before .before .before) .1)
+put-raise-requires t c κs =
+    let at-put = c .before .before .before .before in
+    let at-13 = at-put .before .before .before .before .before .before .before .before .before in
+    let at-27 = at-13 .before .before .before .before .before .before .before .before .before .before .before .before .before .before in
+    (omega (arith, lies t at-27, at-put .put .kept .0), counts t at-13 .0, counts t at-13 .1)
 
 put-set-place-requires : (t : ℕ) → put-lts.Need-set-place-requires (cs t) (put-at t) put.Post
-put-set-place-requires t c κs = omega (arith, lies t (c .before .before .before .before .before .before .before .before .before .before .before .before .before .before .before .before .before .before .before .before .before .before .before .before .before .before .before .before .before .before .before), high t (c .before .before .before .before .before .before .before .before .before .before .before .before .before .before .before .before .before .before .before .before .before .before .before .before .before .before .before), c .before .before .before .before .before .before .before .before .put .kept .0, c .before .before .before .raise .kept .0)
+put-set-place-requires t c κs =
+    let at-raise = c .before .before .before in let at-put = at-raise .before .before .before .before .before in
+    let at-27 = at-put .before .before .before .before .before .before .before .before .before .before .before .before .before .before .before .before .before .before .before in
+    let at-31 = at-27 .before .before .before .before in
+    omega (arith, lies t at-31, high t at-27, at-put .put .kept .0, at-raise .raise .kept .0)
 
 put-same-length-6 : (t : ℕ) → put-lts.Need-same-length-6 (cs t) (put-at t) put.Post
-put-same-length-6 t c = c .before .before .set-place .kept .0 ∙ c .before .before .before .before .before .before .raise .kept .0 ∙ c .before .before .before .before .before .before .before .before .before .before .before .put .kept .0
+put-same-length-6 t c =
+    let at-raise = c .before .before .before .before .before .before in
+    let at-put = at-raise .before .before .before .before .before in
+    c .before .before .set-place .kept .0 ∙ at-raise .raise .kept .0 ∙ at-put .put .kept .0
 
 put-returns-6 : (t : ℕ) → put-lts.Need-returns-6 (cs t) (put-at t) put.Post
-put-returns-6 t c = let j = c .before .before .before .before .before .before .before .before .before .before .before .before .before .before .before .before .before .before .before .before in λ m e. put-done _ _ m _ _ _ _ e _ (j .before .before .before .before .before .before .before .before .before .before .high-lead .ensures) (j .before .before .before .before .before .before .before .before .if2 .left) (lies t (j .before .before .before .before .before .before .before .before .before .before .before .before .before .before) .some) _ (j .before .before .before .wide .ensures ∙ j .before .before .before .before .choose-word2 .ensures) (j .before .before .if3 .left) (j .before .before .before .before .before .before .before .before .before .before .before .before .if1 .left) _ (j .before .wide2 .ensures ∙ j .before .before .before .before .before .choose-word .ensures) (j .if4 .left) _ (c .before .before .before .before .before .before .before .before .before .before .before .before .before .before .before .before .before .before .before .choose .ensures) _ (c .before .before .before .before .before .before .before .before .before .before .before .before .before .room-under .ensures) (λ i. omega (arith, j .before .before .before .before .before .before .before .before .before .before .before .before .before .slice-known .given i)) _ (c .before .before .before .before .before .before .before .before .before .before .before .before .before .before .before .before .elem-at .ensures) _ _ (c .before .before .before .before .before .before .before .before .before .before .before .before .before .before .before .keep-of .ensures) (c .before .before .before .before .before .before .before .before .before .before .before .before .before .before .pass-of .ensures) _ _ (c .before .before .before .before .before .before .before .before .before .before .before .put .ensures) (c .before .before .before .before .before .before .before .before .if5 .left) _ _ (c .before .before .before .before .before .before .raise .ensures) (c .before .before .set-place .ensures)
+put-returns-6 t c =
+    let at-raise = c .before .before .before .before .before .before in let else5 = at-raise .before .before in
+    let at-put = else5 .before .before .before in let at-room-under = at-put .before .before in
+    let at-pass-of = at-room-under .before in let at-keep-of = at-pass-of .before in let at-elem-at = at-keep-of .before in
+    let at-choose = at-elem-at .before .before .before in let at-20 = at-choose .before in
+    let j = at-20 in λ m e. put-done _ _ m _ _ _ _ e _ (j .before .before .before .before .before .before .before .before .before .before .high-lead .ensures) (j .before .before .before .before .before .before .before .before .if2 .left) (lies t (j .before .before .before .before .before .before .before .before .before .before .before .before .before .before) .some) _ (j .before .before .before .wide .ensures ∙ j .before .before .before .before .choose-word2 .ensures) (j .before .before .if3 .left) (j .before .before .before .before .before .before .before .before .before .before .before .before .if1 .left) _ (j .before .wide2 .ensures ∙ j .before .before .before .before .before .choose-word .ensures) (j .if4 .left) _ (at-choose .choose .ensures) _ (at-room-under .room-under .ensures) (λ i. omega (arith, j .before .before .before .before .before .before .before .before .before .before .before .before .before .slice-known .given i)) _ (at-elem-at .elem-at .ensures) _ _ (at-keep-of .keep-of .ensures) (at-pass-of .pass-of .ensures) _ _ (at-put .put .ensures) (else5 .if5 .left) _ _ (at-raise .raise .ensures) (c .before .before .set-place .ensures)
 
 pub +put-spec : {M : Type 1} → statement M
 +put-spec = close μ-put λ t. put-lts.spec (cs t)

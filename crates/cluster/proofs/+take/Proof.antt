@@ -45,11 +45,11 @@ under : (t : ℕ) (c : take-lts.Else1 (cs t) (take-at t) take.Post) → Under (c
 under t c = take-under _ _ _ _ _ (c .before .before .pre .1) (c .if1 .left)
 
 -- a choice of two full children, if one was made
-first : (t : ℕ) (c : take-lts.Joined3 (cs t) (take-at t) take.Post) → c .if3 .c .ok ≡ true → ChoiceFrom (c .before .before .before .before .before .before .before .before .args .k) (c .before .before .room-under .result) (c .before .before .before .before .before .before .before .before .args .s .now) (c .before .before .before .before .before .before .before .before .args .at) (c .if3 .c)
+first : (t : ℕ) (c : take-lts.Joined3 (cs t) (take-at t) take.Post) → c .if3 .c .ok ≡ true → let start = c .before .before .before .before .before .before .before .before in ChoiceFrom (start .args .k) (c .before .before .room-under .result) (start .args .s .now) (start .args .at) (c .if3 .c)
 first t c = ⊎-elim (λ w. choice-four _ _ _ _ _ _ (w .0 .taken) (w .6 .ensures) (w .7)) (λ w. choice-none _ _ _ _ _ _ (c .before .no-choice .ensures) (w .1)) (c .if3 .came)
 
 -- .. or else of any
-chosen : (t : ℕ) (c : take-lts.Joined4 (cs t) (take-at t) take.Post) → ChoiceFrom (c .before .before .before .before .before .before .before .before .before .before .args .k) (c .before .before .before .before .room-under .result) (c .before .before .before .before .before .before .before .before .before .before .args .s .now) (c .before .before .before .before .before .before .before .before .before .before .args .at) (c .if4 .c)
+chosen : (t : ℕ) (c : take-lts.Joined4 (cs t) (take-at t) take.Post) → let start = c .before .before .before .before .before .before .before .before .before .before in ChoiceFrom (start .args .k) (c .before .before .before .before .room-under .result) (start .args .s .now) (start .args .at) (c .if4 .c)
 chosen t c = ⊎-elim (λ w. choice-any _ _ _ _ _ _ (w .2 .ensures) (w .3)) (λ w. choice-first _ _ _ _ _ _ (first t (c .before .before)) (w .0 .left) (w .1)) (c .if4 .came)
 
 take-add-i : (t : ℕ) → take-lts.Need-add-i (cs t) (take-at t) take.Post
@@ -62,7 +62,9 @@ take-add-i-2 : (t : ℕ) → take-lts.Need-add-i-2 (cs t) (take-at t) take.Post
 take-add-i-2 t c = omega (arith, lies t (c .before), c .before .pre .1 .place)
 
 take-clear-place-requires : (t : ℕ) → take-lts.Need-clear-place-requires (cs t) (take-at t) take.Post
-take-clear-place-requires t c κs = omega (arith, lies t (c .before .before .before), c .before .before .before .pre .1 .place)
+take-clear-place-requires t c κs =
+    let start = c .before .before .before in
+    omega (arith, lies t start, start .pre .1 .place)
 
 take-same-length : (t : ℕ) → take-lts.Need-same-length (cs t) (take-at t) take.Post
 take-same-length t c = c .before .before .clear-place .kept .0
@@ -74,13 +76,17 @@ take-bare-at-requires : (t : ℕ) → take-lts.Need-bare-at-requires (cs t) (tak
 take-bare-at-requires t c κs = omega (arith, lies t (c .before .before .before))
 
 take-clear-place-requires-2 : (t : ℕ) → take-lts.Need-clear-place-requires-2 (cs t) (take-at t) take.Post
-take-clear-place-requires-2 t c κs = omega (arith, lies t (c .before .before .before .before .before .before), c .before .before .before .before .before .before .pre .1 .place)
+take-clear-place-requires-2 t c κs =
+    let start = c .before .before .before .before .before .before in
+    omega (arith, lies t start, start .pre .1 .place)
 
 take-same-length-2 : (t : ℕ) → take-lts.Need-same-length-2 (cs t) (take-at t) take.Post
 take-same-length-2 t c = c .before .before .clear-place2 .kept .0
 
 take-returns-2 : (t : ℕ) → take-lts.Need-returns-2 (cs t) (take-at t) take.Post
-take-returns-2 t c = λ m e. take-bare _ _ m _ _ _ _ e (c .before .before .before .before .before .before .before .if1 .left) _ (c .before .before .before .before .before .bare-at .ensures) _ (c .before .before .before .before .if2 .taken) (c .before .before .clear-place2 .ensures)
+take-returns-2 t c =
+    let then2 = c .before .before .before .before in let at-bare-at = then2 .before in let else1 = at-bare-at .before .before in
+    λ m e. take-bare _ _ m _ _ _ _ e (else1 .if1 .left) _ (at-bare-at .bare-at .ensures) _ (then2 .if2 .taken) (c .before .before .clear-place2 .ensures)
 
 take-room-under-requires : (t : ℕ) → take-lts.Need-room-under-requires (cs t) (take-at t) take.Post
 take-room-under-requires t c κs = search needs
@@ -101,13 +107,20 @@ take-add-low-four-3 : (t : ℕ) → take-lts.Need-add-low-four-3 (cs t) (take-at
 take-add-low-four-3 t c = omega (arith, under t (c .before .before .before .before .before .before .before .before .before))
 
 take-add-low-four-4 : (t : ℕ) → take-lts.Need-add-low-four-4 (cs t) (take-at t) take.Post
-take-add-low-four-4 t c = omega (arith, under t (c .before .before .before .before .before .before .before .before .before), c .before .before .before .if3 .taken)
+take-add-low-four-4 t c =
+    let then3 = c .before .before .before in let at-9 = then3 .before .before .before .before .before .before in
+    omega (arith, under t at-9, then3 .if3 .taken)
 
 take-low-four-requires-2 : (t : ℕ) → take-lts.Need-low-four-requires-2 (cs t) (take-at t) take.Post
-take-low-four-requires-2 t c κs = omega (arith, under t (c .before .before .before .before .before .before .before .before .before), c .before .before .before .if3 .taken)
+take-low-four-requires-2 t c κs =
+    let then3 = c .before .before .before in let at-9 = then3 .before .before .before .before .before .before in
+    omega (arith, under t at-9, then3 .if3 .taken)
 
 take-choice-full-requires : (t : ℕ) → take-lts.Need-choice-full-requires (cs t) (take-at t) take.Post
-take-choice-full-requires t c κs = scanned _ _ _ _ _ (under t (c .before .before .before .before .before .before .before .before .before .before .before)) (c .before .before .before .before .before .if3 .taken) (c .before .before .before .low-four .ensures) (c .before .low-four2 .ensures)
+take-choice-full-requires t c κs =
+    let at-low-four = c .before .before .before in let then3 = at-low-four .before .before in
+    let at-11 = then3 .before .before .before .before .before .before in
+    scanned _ _ _ _ _ (under t at-11) (then3 .if3 .taken) (at-low-four .low-four .ensures) (c .before .low-four2 .ensures)
 
 take-choice-requires : (t : ℕ) → take-lts.Need-choice-requires (cs t) (take-at t) take.Post
 take-choice-requires t c κs = under t (c .before .before .before .before .before .before .before .before .before)
@@ -134,28 +147,50 @@ take-slice-read-r : (t : ℕ) → take-lts.Need-slice-read-r (cs t) (take-at t) 
 take-slice-read-r t c = omega (arith, lies t (c .before .before .before .before .before .before .before .before .before .before .before .before .before .before))
 
 take-sub-take : (t : ℕ) → take-lts.Need-sub-take (cs t) (take-at t) take.Post
-take-sub-take t c = let h : c .before .before .before .before .before .before .before .before .before .before .before .before .before .before .before .args .left ≡ 0 → ⊥ = c .before .before .before .before .before .before .before .before .before .before .before .before .before .if1 .left in omega arith
+take-sub-take t c =
+    let else1 = c .before .before .before .before .before .before .before .before .before .before .before .before .before in
+    let start = else1 .before .before in
+    let h : start .args .left ≡ 0 → ⊥ = else1 .if1 .left in omega arith
 
 take-take-requires : (t : ℕ) → take-lts.Need-take-requires (cs t) (take-at t) take.Post
-take-take-requires t c κs = (let h : c .before .before .before .before .before .before .before .before .before .before .before .before .before .before .before .args .left ≡ 0 → ⊥ = c .before .before .before .before .before .before .before .before .before .before .before .before .before .if1 .left in omega (arith, c .before .before .before .before .before .before .before .before .before .before .before .before .before .before .before .pre .0), child-ready _ _ _ _ _ (c .before .before .before .before .before .before .before .before .before .before .before .before .before .before .before .pre .1) _ _ (c .before .before .before .before .before .before .before .before .before .before .before .before .before .if1 .left) (chosen t (c .before .before .before .before .before)))
+take-take-requires t c κs =
+    let at-5 = c .before .before .before .before .before in
+    let else1 = at-5 .before .before .before .before .before .before .before .before in let start = else1 .before .before in
+    (let h : start .args .left ≡ 0 → ⊥ = else1 .if1 .left in omega (arith, start .pre .0), child-ready _ _ _ _ _ (start .pre .1) _ _ (else1 .if1 .left) (chosen t at-5))
 
 take-same-length-4 : (t : ℕ) → take-lts.Need-same-length-4 (cs t) (take-at t) take.Post
 take-same-length-4 t c = c .before .before .before .take .kept .0
 
 take-returns-4 : (t : ℕ) → take-lts.Need-returns-4 (cs t) (take-at t) take.Post
-take-returns-4 t c = let j = c .before .before .before .before .before .before .before .before .before in λ m e. take-stop _ _ m _ _ _ _ e (j .before .before .before .before .before .before .before .before .if1 .left) _ (j .before .before .before .before .before .before .bare-at .ensures) (j .before .before .before .before .before .if2 .left) _ (j .before .before .before .before .room-under .ensures) _ (chosen t j) (c .before .before .before .before .before .before .before .if5 .left) _ _ (c .before .before .before .take .ensures) (c .if6 .taken)
+take-returns-4 t c =
+    let at-take = c .before .before .before in let else5 = at-take .before .before .before .before in
+    let at-9 = else5 .before .before in
+    let j = at-9 in λ m e. take-stop _ _ m _ _ _ _ e (j .before .before .before .before .before .before .before .before .if1 .left) _ (j .before .before .before .before .before .before .bare-at .ensures) (j .before .before .before .before .before .if2 .left) _ (j .before .before .before .before .room-under .ensures) _ (chosen t j) (else5 .if5 .left) _ _ (at-take .take .ensures) (c .if6 .taken)
 
 take-sink-requires : (t : ℕ) → take-lts.Need-sink-requires (cs t) (take-at t) take.Post
-take-sink-requires t c κs = omega (arith, lies t (c .before .before .before .before .before .before .before .before .before .before .before .before .before .before .before .before .before .before .before .before), c .before .before .before .before .take .kept .0)
+take-sink-requires t c κs =
+    let at-take = c .before .before .before .before in
+    let at-20 = at-take .before .before .before .before .before .before .before .before .before .before .before .before .before .before .before .before in
+    omega (arith, lies t at-20, at-take .take .kept .0)
 
 take-set-place-requires : (t : ℕ) → take-lts.Need-set-place-requires (cs t) (take-at t) take.Post
-take-set-place-requires t c κs = omega (arith, lies t (c .before .before .before .before .before .before .before .before .before .before .before .before .before .before .before .before .before .before .before .before .before .before .before .before .before), c .before .before .before .before .before .before .before .before .before .before .before .before .before .before .before .before .before .before .before .before .before .before .before .before .before .pre .1 .place, c .before .before .before .before .before .before .before .before .before .take .kept .0, c .before .before .before .before .sink .kept .0)
+take-set-place-requires t c κs =
+    let at-sink = c .before .before .before .before in let at-take = at-sink .before .before .before .before .before in
+    let start = at-take .before .before .before .before .before .before .before .before .before .before .before .before .before .before .before .before in
+    omega (arith, lies t start, start .pre .1 .place, at-take .take .kept .0, at-sink .sink .kept .0)
 
 take-same-length-5 : (t : ℕ) → take-lts.Need-same-length-5 (cs t) (take-at t) take.Post
-take-same-length-5 t c = c .before .before .set-place .kept .0 ∙ c .before .before .before .before .before .before .before .sink .kept .0 ∙ c .before .before .before .before .before .before .before .before .before .before .before .before .take .kept .0
+take-same-length-5 t c =
+    let at-sink = c .before .before .before .before .before .before .before in
+    let at-take = at-sink .before .before .before .before .before in
+    c .before .before .set-place .kept .0 ∙ at-sink .sink .kept .0 ∙ at-take .take .kept .0
 
 take-returns-5 : (t : ℕ) → take-lts.Need-returns-5 (cs t) (take-at t) take.Post
-take-returns-5 t c = let j = c .before .before .before .before .before .before .before .before .before .before .before .before .before .before .before .before .before .before in λ m e. take-done _ _ m _ _ _ _ e (j .before .before .before .before .before .before .before .before .if1 .left) _ (j .before .before .before .before .before .before .bare-at .ensures) (j .before .before .before .before .before .if2 .left) _ (j .before .before .before .before .room-under .ensures) _ (chosen t j) (c .before .before .before .before .before .before .before .before .before .before .before .before .before .before .before .before .if5 .left) _ _ (c .before .before .before .before .before .before .before .before .before .before .before .before .take .ensures) (c .before .before .before .before .before .before .before .before .before .if6 .left) _ _ refl refl _ _ (c .before .before .before .before .before .before .before .sink .ensures) (c .before .before .set-place .ensures)
+take-returns-5 t c =
+    let at-sink = c .before .before .before .before .before .before .before in let else6 = at-sink .before .before in
+    let at-take = else6 .before .before .before in let else5 = at-take .before .before .before .before in
+    let at-18 = else5 .before .before in
+    let j = at-18 in λ m e. take-done _ _ m _ _ _ _ e (j .before .before .before .before .before .before .before .before .if1 .left) _ (j .before .before .before .before .before .before .bare-at .ensures) (j .before .before .before .before .before .if2 .left) _ (j .before .before .before .before .room-under .ensures) _ (chosen t j) (else5 .if5 .left) _ _ (at-take .take .ensures) (else6 .if6 .left) _ _ refl refl _ _ (at-sink .sink .ensures) (c .before .before .set-place .ensures)
 
 pub +take-spec : {M : Type 1} → statement M
 +take-spec = close μ-take λ t. take-lts.spec (cs t)

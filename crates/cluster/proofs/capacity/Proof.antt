@@ -1,16 +1,9 @@
 use Rattle.cluster.proofs.Shapes.{capacity-is}
 use native.Mathlib.Omega.{arith}
-use mathlib.Core.Path.{_≡_, _∙_, ap, refl, sym}
 use native.Mathlib.Nat.{mul-le-mul-right}
 use borrow.Author.Needs.{needs}
 use Rattle.cluster.proofs.capacity.Statement.{statement}
 use Rattle.cluster.proofs.capacity.Tie as tie
-use Rattle.cluster.proofs.capacity.Reads as reads
-use Rattle.cluster.proofs.capacity.Lts as lts
-use Rattle.cluster.proofs.nodes.Reads as nodes-reads
-
-nodes-requires : tie.Need-nodes-requires
-nodes-requires c κs = search needs
 
 mul-result : tie.Need-mul-result
 mul-result c = let h = c .nodes .ensures .within (c .before .pre .1) in omega (arith, h, mul-le-mul-right (c .nodes .result) (c .before .pre .0))
@@ -19,4 +12,4 @@ returns : tie.Need-returns
 returns c = capacity-is _ _ _ (c .before .pre .1) (c .nodes .ensures)
 
 pub capacity-spec : {M : Type 1} → statement M
-capacity-spec = tie.close (tie.spec nodes-requires mul-result returns)
+capacity-spec = tie.close (tie.spec (λ c κs. search needs) mul-result returns)

@@ -3,14 +3,9 @@ use Rattle.cluster.proofs.Shapes.{shift-is, nodes-shift, nodes-many}
 use borrow.Author.Needs.{needs}
 use Rattle.cluster.proofs.nodes.Statement.{statement}
 use Rattle.cluster.proofs.nodes.Tie as tie
-use Rattle.cluster.proofs.nodes.Reads as reads
-use Rattle.cluster.proofs.nodes.Lts as lts
 
 returns : tie.Need-returns
 returns c = nodes-many _ (c .if1 .taken)
-
-shl-power : tie.Need-shl-power
-shl-power c = search needs
 
 sub-result : tie.Need-sub-result
 sub-result c = omega (arith, shift-is (c .before .args .levels) (c .if1 .left))
@@ -19,4 +14,4 @@ returns-2 : tie.Need-returns-2
 returns-2 c = nodes-shift _ _ (c .if1 .left) (shift-is (c .before .args .levels) (c .if1 .left))
 
 pub nodes-spec : {M : Type 1} → statement M
-nodes-spec = tie.close (tie.spec returns shl-power sub-result returns-2)
+nodes-spec = tie.close (tie.spec returns (λ c. search needs) sub-result returns-2)

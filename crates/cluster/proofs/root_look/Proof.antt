@@ -6,11 +6,8 @@ use Rattle.cluster.proofs.Root.{root-seen}
 use Rattle.cluster.proofs.root_look.Statement.{statement}
 use Rattle.cluster.proofs.root_look.Tie as tie
 
-look-requires : tie.Need-look-requires
-look-requires c κs = search needs
-
 returns : tie.Need-returns
 returns c = c .look .ensures ∙ ap lowOnly (root-seen _ _)
 
 pub root-look-spec : {M : Type 1} → statement M
-root-look-spec = tie.close (tie.spec look-requires returns)
+root-look-spec = tie.close (tie.spec (λ c κs. search needs) returns)

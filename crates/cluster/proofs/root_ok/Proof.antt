@@ -5,11 +5,8 @@ use Rattle.cluster.proofs.Root.{root-tested}
 use Rattle.cluster.proofs.root_ok.Statement.{statement}
 use Rattle.cluster.proofs.root_ok.Tie as tie
 
-node-ok-requires : tie.Need-node-ok-requires
-node-ok-requires c κs = search needs
-
 returns : tie.Need-returns
 returns c = c .node-ok .ensures ∙ root-tested _ _ _ _
 
 pub root-ok-spec : {M : Type 1} → statement M
-root-ok-spec = tie.close (tie.spec node-ok-requires returns)
+root-ok-spec = tie.close (tie.spec (λ c κs. search needs) returns)

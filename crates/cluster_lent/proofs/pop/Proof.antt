@@ -1,5 +1,4 @@
 -- `cluster_lent::pop` meets its contract: a walk of its MIR, by hand. It makes the request and hands both slices on to `cycle`; `Faces.antt` has what it shares with the other faces.
--- Assumes nothing.
 use mathlib.Core.Path.{_≡_, refl}
 use Prim.Native.Nat.{ℕ, _<_, _^_}
 use mathlib.Core.List.{List, [], _∷_}
@@ -27,7 +26,6 @@ use denote.Ref.{RefT}
 use denote.Slice.{sliceVal, MutSlice, Room, finally, slice-vals, mut-slice-tells}
 use denote.Signature.{plain}
 use denote.Steps.{owned, nothing}
-use denote.Struct.Laws as LL
 use denote.Enum.Laws as EL
 use denote.Triple.Entry.{onEntry}
 use denote.Triple.Spec.{Meets, tripleOf}

@@ -1,17 +1,8 @@
--- `cluster_lent_steps::stage_of` meets its contract. Assumes nothing.
+-- `cluster_lent_steps::stage_of` meets its contract.
 use Rattle.cluster_lent_steps.proofs.Records.{stage-fill, stage-nothing, stage-put, stage-swap}
 use borrow.Author.Needs.{needs}
 use Rattle.cluster_lent_steps.proofs.stage_of.Statement.{statement}
 use Rattle.cluster_lent_steps.proofs.stage_of.Tie as tie
-use Rattle.cluster_lent_steps.proofs.stage_of.Reads as reads
-use Rattle.cluster_lent_steps.proofs.stage_of.Lts as lts
-use Rattle.cluster_lent_steps.proofs.no_stage.Reads as no-stage-reads
-
-cast-node : tie.Need-cast-node
-cast-node c = search needs
-
-cast-place : tie.Need-cast-place
-cast-place c = search needs
 
 returns : tie.Need-returns
 returns c = stage-put _ (c .if1 .taken)
@@ -22,13 +13,9 @@ returns-2 c = stage-fill _ (c .before .if1 .left) (c .if2 .taken)
 returns-3 : tie.Need-returns-3
 returns-3 c = stage-swap _ (c .before .before .if1 .left) (c .before .if2 .left) (c .if3 .taken)
 
-no-stage-requires : tie.Need-no-stage-requires
-no-stage-requires c κs = search needs
-
 returns-4 : tie.Need-returns-4
 returns-4 c = stage-nothing _ (c .before .before .before .if1 .left) (c .before .before .if2 .left) (c .before .if3 .left) _ (c .no-stage .ensures)
 
 pub stage-of-spec : {M : Type 1} → statement M
-stage-of-spec =
-    tie.close
-    (tie.spec cast-node cast-place returns returns-2 returns-3 no-stage-requires returns-4)
+stage-of-spec = tie.close
+    (tie.spec (λ c. search needs) (λ c. search needs) returns returns-2 returns-3 (λ c κs. search needs) returns-4)

@@ -7,47 +7,6 @@ use Rattle.cluster_nodes.proofs.Fours.{lead-lt, four-choice}
 use borrow.Author.Needs.{needs}
 use Rattle.cluster_nodes.proofs.choice_full.Statement.{statement}
 use Rattle.cluster_nodes.proofs.choice_full.Tie as tie
-use Rattle.cluster_nodes.proofs.choice_full.Reads as reads
-use Rattle.cluster_nodes.proofs.choice_full.Lts as lts
-use Rattle.cluster_nodes.proofs.choose.Reads as choose-reads
-use Rattle.cluster_nodes.proofs.counts_ok.Reads as counts-ok-reads
-use Rattle.cluster_nodes.proofs.elem_at.Reads as elem-at-reads
-
-mul-l : tie.Need-mul-l
-mul-l c = search needs
-
-shared-slice-read-l : tie.Need-shared-slice-read-l
-shared-slice-read-l c = search needs
-
-add-r : tie.Need-add-r
-add-r c = search needs
-
-mul-r : tie.Need-mul-r
-mul-r c = search needs
-
-shared-slice-read-r : tie.Need-shared-slice-read-r
-shared-slice-read-r c = search needs
-
-add-lc : tie.Need-add-lc
-add-lc c = search needs
-
-add-lc-2 : tie.Need-add-lc-2
-add-lc-2 c = search needs
-
-add-rc : tie.Need-add-rc
-add-rc c = search needs
-
-counts-ok-requires : tie.Need-counts-ok-requires
-counts-ok-requires c κs = search needs
-
-counts-ok-requires-2 : tie.Need-counts-ok-requires-2
-counts-ok-requires-2 c κs = search needs
-
-choose-requires : tie.Need-choose-requires
-choose-requires c κs = search needs
-
-choose-requires-2 : tie.Need-choose-requires-2
-choose-requires-2 c κs = search needs
 
 abbrev st : tie.After-choose2 → tie.Start
 st c = c .before .before .before .before .before .before .before .before .before .before .before
@@ -71,26 +30,13 @@ elem-at-requires : tie.Need-elem-at-requires
 elem-at-requires c κs = omega (arith, here c, st c .pre .words)
 
 returns : tie.Need-returns
-returns c = λ t. four-choice _ _ _ _ _ (st (c .before) .pre) (λ i. omega (arith, c .before .before .before .before .before .before .before .before .before .before .before .shared-slice-known .given i)) _ _ (c .before .before .before .before .before .before .before .before .counts-ok .ensures) (c .before .before .before .before .before .before .before .counts-ok2 .ensures) _ _ _ _ refl (c .before .before .choose .ensures) (c .before .choose2 .ensures) (c .elem-at .ensures) t
+returns c =
+    let at-counts-ok2 = c .before .before .before .before .before .before .before in let at-counts-ok = at-counts-ok2 .before in
+    let at-shared-slice-known = at-counts-ok .before .before .before in
+    λ t. four-choice _ _ _ _ _ (st (c .before) .pre) (λ i. omega (arith, at-shared-slice-known .shared-slice-known .given i)) _ _ (at-counts-ok .counts-ok .ensures) (at-counts-ok2 .counts-ok2 .ensures) _ _ _ _ refl (c .before .before .choose .ensures) (c .before .choose2 .ensures) (c .elem-at .ensures) t
 
 pub choice-full-spec : {M : Type 1} → statement M
-choice-full-spec =
-    tie.close
-    (tie.spec
-    mul-l
-    shared-slice-read-l
-    add-r
-    mul-r
-    shared-slice-read-r
-    add-lc
-    add-lc-2
-    add-rc
-    counts-ok-requires
-    counts-ok-requires-2
-    choose-requires
-    choose-requires-2
-    add-elem-at
-    mul-elem-at
-    add-elem-at-2
-    elem-at-requires
-    returns)
+choice-full-spec = tie.close
+    (tie.spec (λ c. search needs) (λ c. search needs) (λ c. search needs) (λ c. search needs) (λ c. search needs) (λ c. search needs)
+    (λ c. search needs) (λ c. search needs) (λ c κs. search needs) (λ c κs. search needs) (λ c κs. search needs) (λ c κs. search needs)
+    add-elem-at mul-elem-at add-elem-at-2 elem-at-requires returns)

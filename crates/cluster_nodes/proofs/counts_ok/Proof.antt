@@ -3,44 +3,12 @@ use Rattle.cluster_nodes.specs.Leaf.{countsOk}
 use borrow.Author.Needs.{needs}
 use Rattle.cluster_nodes.proofs.counts_ok.Statement.{statement}
 use Rattle.cluster_nodes.proofs.counts_ok.Tie as tie
-use Rattle.cluster_nodes.proofs.counts_ok.Reads as reads
-use Rattle.cluster_nodes.proofs.counts_ok.Lts as lts
-use Rattle.cluster_nodes.proofs.wide.Reads as wide-reads
-
-mul-wide : tie.Need-mul-wide
-mul-wide c = search needs
-
-shared-slice-read-wide : tie.Need-shared-slice-read-wide
-shared-slice-read-wide c = search needs
-
-wide-requires : tie.Need-wide-requires
-wide-requires c κs = search needs
-
-add-wide : tie.Need-add-wide
-add-wide c = search needs
-
-mul-wide-2 : tie.Need-mul-wide-2
-mul-wide-2 c = search needs
-
-shared-slice-read-wide-2 : tie.Need-shared-slice-read-wide-2
-shared-slice-read-wide-2 c = search needs
-
-wide-requires-2 : tie.Need-wide-requires-2
-wide-requires-2 c κs = search needs
 
 returns : tie.Need-returns
 unfolding countsOk
 returns c = rw (c .before .before .wide .ensures, c .wide2 .ensures) refl
 
 pub counts-ok-spec : {M : Type 1} → statement M
-counts-ok-spec =
-    tie.close
-    (tie.spec
-    mul-wide
-    shared-slice-read-wide
-    wide-requires
-    add-wide
-    mul-wide-2
-    shared-slice-read-wide-2
-    wide-requires-2
-    returns)
+counts-ok-spec = tie.close
+    (tie.spec (λ c. search needs) (λ c. search needs) (λ c κs. search needs) (λ c. search needs) (λ c. search needs) (λ c. search needs)
+    (λ c κs. search needs) returns)

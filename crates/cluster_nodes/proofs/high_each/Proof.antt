@@ -1,15 +1,12 @@
-use borrow.Author.Needs.{needs}
 use Prim.Native.Nat.{_≤_, _-_, _+_, _*_}
 use native.Mathlib.Omega.{arith}
 use mathlib.Core.Logic.{⊎-elim}
-use mathlib.Core.Path.{_≡_, _∙_, ap, refl}
-use Rattle.cluster_nodes.specs.Full.{fullTo, highTo, ranks, isHigh, bestTo}
+use mathlib.Core.Path.{_≡_, refl}
+use Rattle.cluster_nodes.specs.Full.{fullTo, highTo, ranks, isHigh}
 use borrow.Author.Tests.{le-leb, lt-leb}
 use Rattle.cluster_nodes.proofs.Fulls.{full-first, full-next, high-first, high-end, best-taken, best-stays}
 use Rattle.cluster_nodes.proofs.high_each.Statement.{statement}
 use Rattle.cluster_nodes.proofs.high_each.Tie as tie
-use Rattle.cluster_nodes.proofs.high_each.Reads as reads
-use Rattle.cluster_nodes.proofs.high_each.Lts as lts
 
 abbrev Inv-loop : tie.InvT-loop
 Inv-loop s at n full₀ place₀ best₀ j₀ full place best j = (j ≤ n) × (full ≡ fullTo s at j) × (place ≡ highTo s at j) × (best ≡ ranks s at (highTo s at j))
@@ -17,54 +14,23 @@ Inv-loop s at n full₀ place₀ best₀ j₀ full place best j = (j ≤ n) × (
 abbrev μ-loop : tie.MeasureT-loop
 μ-loop s at n full₀ place₀ best₀ j₀ full place best j = n - j
 
-mul-best : tie.Need-mul-best Inv-loop μ-loop
-mul-best c = omega arith
-
-shared-slice-read-best : tie.Need-shared-slice-read-best Inv-loop μ-loop
-shared-slice-read-best c = omega arith
-
 cast-best : tie.Need-cast-best Inv-loop μ-loop
 cast-best c = omega (arith, c .shared-slice-known .given (c .before .args .at))
 
 loop-holds : tie.Need-loop-holds Inv-loop μ-loop
 loop-holds c = let h = high-first (c .before .args .s .now) (c .before .args .at) _ refl in (omega arith, full-first (c .before .args .s .now) (c .before .args .at), h .0, h .1)
 
-mul-i : tie.Need-mul-i Inv-loop μ-loop
-mul-i c = omega arith
-
-add-i : tie.Need-add-i Inv-loop μ-loop
-add-i c = omega arith
-
-mul-rank : tie.Need-mul-rank Inv-loop μ-loop
-mul-rank c = omega arith
-
-shared-slice-read-rank : tie.Need-shared-slice-read-rank Inv-loop μ-loop
-shared-slice-read-rank c = omega arith
-
 cast-rank : tie.Need-cast-rank Inv-loop μ-loop
 cast-rank c = omega (arith, c .shared-slice-known2 .given (c .before .before .before .before .args .at + c .before .before .loop .j * 4))
 
-add-full : tie.Need-add-full Inv-loop μ-loop
-add-full c = omega arith
-
-mul-full : tie.Need-mul-full Inv-loop μ-loop
-mul-full c = omega arith
-
-shared-slice-read-full : tie.Need-shared-slice-read-full Inv-loop μ-loop
-shared-slice-read-full c = omega arith
-
-add-j : tie.Need-add-j Inv-loop μ-loop
-add-j c = omega arith
-
-loop-less : tie.Need-loop-less Inv-loop μ-loop
-loop-less c = omega arith
-
 loop-again : tie.Need-loop-again Inv-loop μ-loop
-loop-again c = let inv = c .before .before .before .before .loop .inv in
-    let ws = c .before .before .before .before .before .before .args .s .now in
-    let o = c .before .before .before .before .before .before .args .at in
-    let j = c .before .before .before .before .loop .j in
-    let f = full-next ws o j (c .before .before .before .before .loop .full) (inv .1) in
+loop-again c =
+    let at-loop = c .before .before .before .before in let start = at-loop .before .before in
+    let inv = at-loop .loop .inv in
+    let ws = start .args .s .now in
+    let o = start .args .at in
+    let j = at-loop .loop .j in
+    let f = full-next ws o j (at-loop .loop .full) (inv .1) in
     ⊎-elim
     (λ w. let p = best-taken isHigh (ranks ws o) j _ _ _ (inv .2) (inv .3) (refl) (le-leb _ _ (w .0 .taken)) _ _ (w .1) (w .2) in (omega arith, f, p .0, p .1))
     (λ w. let p = best-stays isHigh (ranks ws o) j _ _ _ (inv .2) (inv .3) (refl) (lt-leb _ _ (w .0 .left)) _ _ (w .1) (w .2) in (omega arith, f, p .0, p .1))
@@ -74,24 +40,7 @@ returns : tie.Need-returns Inv-loop μ-loop
 returns c = let inv = c .before .loop .inv in high-end _ _ _ (c .before .loop .j) _ _ _ (omega arith) (inv .1) (inv .2) (inv .3)
 
 pub high-each-spec : {M : Type 1} → statement M
-high-each-spec =
-    tie.close
-    (tie.spec
-    Inv-loop
-    μ-loop
-    mul-best
-    shared-slice-read-best
-    cast-best
-    loop-holds
-    mul-i
-    add-i
-    mul-rank
-    shared-slice-read-rank
-    cast-rank
-    add-full
-    mul-full
-    shared-slice-read-full
-    add-j
-    loop-less
-    loop-again
-    returns)
+high-each-spec = tie.close
+    (tie.spec Inv-loop μ-loop (λ c. omega arith) (λ c. omega arith) cast-best loop-holds (λ c. omega arith) (λ c. omega arith)
+    (λ c. omega arith) (λ c. omega arith) cast-rank (λ c. omega arith) (λ c. omega arith) (λ c. omega arith) (λ c. omega arith)
+    (λ c. omega arith) loop-again returns)

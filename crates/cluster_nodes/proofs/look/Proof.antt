@@ -1,28 +1,17 @@
 use native.Mathlib.Omega.{arith}
-use mathlib.Core.Path.{_≡_, _∙_, ap, sym}
+use mathlib.Core.Path.{_∙_, ap, sym}
 use Rattle.cluster_nodes.specs.declared.Lead.{Lead}
-use Rattle.cluster_nodes.specs.declared.Seen.{Seen}
 use Rattle.cluster_nodes.specs.Seeing.{lowOnly}
 use Rattle.cluster_nodes.proofs.Fulls.{look-full}
 use borrow.Author.Needs.{needs}
 use Rattle.cluster_nodes.proofs.look.Statement.{statement}
 use Rattle.cluster_nodes.proofs.look.Tie as tie
-use Rattle.cluster_nodes.proofs.look.Reads as reads
-use Rattle.cluster_nodes.proofs.look.Lts as lts
-use Rattle.cluster_nodes.proofs.look_each.Reads as look-each-reads
-use Rattle.cluster_nodes.proofs.low_lead.Reads as low-lead-reads
-
-low-lead-requires : tie.Need-low-lead-requires
-low-lead-requires c κs = search needs
 
 returns : tie.Need-returns
 returns c = look-full _ _ (λ i. omega (arith, c .before .before .shared-slice-known .given i)) _ (sym (ap (λ (u : Lead). u .full) (c .before .low-lead .ensures)) ∙ c .if1 .taken) _ (c .before .low-lead .ensures)
-
-look-each-requires : tie.Need-look-each-requires
-look-each-requires c κs = search needs
 
 returns-2 : tie.Need-returns-2
 returns-2 c = ap lowOnly (c .look-each .ensures)
 
 pub look-spec : {M : Type 1} → statement M
-look-spec = tie.close (tie.spec low-lead-requires returns look-each-requires returns-2)
+look-spec = tie.close (tie.spec (λ c κs. search needs) returns (λ c κs. search needs) returns-2)

@@ -1,14 +1,11 @@
 use Rattle.cluster_nodes.proofs.Looks.{look-next, look-first, within-of}
 use native.Mathlib.Omega.{arith}
-use mathlib.Core.Path.{_≡_, _∙_, ap, refl, sym}
+use mathlib.Core.Path.{_≡_, _∙_, ap}
 use Prim.Native.Nat.{_≤_, _-_}
 use Rattle.cluster_nodes.specs.Seeing.{lookTo}
 use borrow.Author.Needs.{needs}
 use Rattle.cluster_nodes.proofs.look_each.Statement.{statement}
 use Rattle.cluster_nodes.proofs.look_each.Tie as tie
-use Rattle.cluster_nodes.proofs.look_each.Reads as reads
-use Rattle.cluster_nodes.proofs.look_each.Lts as lts
-use Rattle.cluster_nodes.proofs.see.Reads as see-reads
 
 abbrev Inv-loop : tie.InvT-loop
 Inv-loop s at n v₀ j₀ v j = (j ≤ n) × (v ≡ lookTo s at j)
@@ -20,20 +17,18 @@ loop-holds : tie.Need-loop-holds Inv-loop μ-loop
 loop-holds c = (omega arith, look-first _ _)
 
 see-requires : tie.Need-see-requires Inv-loop μ-loop
-see-requires c κs = let w = within-of (c .before .before .before .args .s .now) (c .before .before .before .args .at) (c .before .loop .j) (c .before .loop .v) (c .before .loop .inv .1) in (omega arith, omega arith, w .low, w .high, w .count)
-
-add-j : tie.Need-add-j Inv-loop μ-loop
-add-j c = search needs
-
-loop-less : tie.Need-loop-less Inv-loop μ-loop
-loop-less c = omega arith
+see-requires c κs =
+    let start = c .before .before .before in
+    let w = within-of (start .args .s .now) (start .args .at) (c .before .loop .j) (c .before .loop .v) (c .before .loop .inv .1) in (omega arith, omega arith, w .low, w .high, w .count)
 
 loop-again : tie.Need-loop-again Inv-loop μ-loop
 loop-again c = (omega arith, look-next _ _ _ _ _ (c .before .before .loop .inv .1) (c .see .ensures))
 
 returns : tie.Need-returns Inv-loop μ-loop
-returns c = let e : c .before .loop .j ≡ c .before .before .before .args .n = omega arith in c .before .loop .inv .1 ∙ ap (lookTo (c .before .before .before .args .s .now) (c .before .before .before .args .at)) e
+returns c =
+    let start = c .before .before .before in
+    let e : c .before .loop .j ≡ start .args .n = omega arith in c .before .loop .inv .1 ∙ ap (lookTo (start .args .s .now) (start .args .at)) e
 
 pub look-each-spec : {M : Type 1} → statement M
 look-each-spec =
-    tie.close (tie.spec Inv-loop μ-loop loop-holds see-requires add-j loop-less loop-again returns)
+    tie.close (tie.spec Inv-loop μ-loop loop-holds see-requires (λ c. search needs) (λ c. omega arith) loop-again returns)

@@ -1,9 +1,7 @@
 use Rattle.strip.specs.Answers.{key}
-use mathlib.Core.Path.{_≡_, _∙_, ap, refl, sym}
+use mathlib.Core.Path.{refl}
 use Rattle.cluster_nodes.proofs.lower.Statement.{statement}
 use Rattle.cluster_nodes.proofs.lower.Tie as tie
-use Rattle.cluster_nodes.proofs.lower.Reads as reads
-use Rattle.cluster_nodes.proofs.lower.Lts as lts
 
 returns : tie.Need-returns
 unfolding key

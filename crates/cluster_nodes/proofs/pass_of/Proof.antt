@@ -1,10 +1,8 @@
 use Rattle.cluster_nodes.proofs.Looks.{pass-low, pass-high}
 use Rattle.strip.specs.Answers.{key}
-use mathlib.Core.Path.{_≡_, _∙_, ap, refl, sym}
+use mathlib.Core.Path.{refl}
 use Rattle.cluster_nodes.proofs.pass_of.Statement.{statement}
 use Rattle.cluster_nodes.proofs.pass_of.Tie as tie
-use Rattle.cluster_nodes.proofs.pass_of.Reads as reads
-use Rattle.cluster_nodes.proofs.pass_of.Lts as lts
 
 returns : tie.Need-returns
 unfolding key

@@ -4,41 +4,19 @@ use Rattle.cluster_nodes.proofs.Fulls.{peek-full}
 use borrow.Author.Needs.{needs}
 use Rattle.cluster_nodes.proofs.peek.Statement.{statement}
 use Rattle.cluster_nodes.proofs.peek.Tie as tie
-use Rattle.cluster_nodes.proofs.peek.Reads as reads
-use Rattle.cluster_nodes.proofs.peek.Lts as lts
-use Rattle.cluster_nodes.proofs.counts_ok.Reads as counts-ok-reads
-use Rattle.cluster_nodes.proofs.low_lead.Reads as low-lead-reads
-use Rattle.cluster_nodes.proofs.peek_each.Reads as peek-each-reads
 
 returns : tie.Need-returns
 returns c = peek-none _ _ _ _ _ (c .if1 .taken)
 
-add-low-lead : tie.Need-add-low-lead
-add-low-lead c = search needs
-
-low-lead-requires : tie.Need-low-lead-requires
-low-lead-requires c κs = search needs
-
-counts-ok-requires : tie.Need-counts-ok-requires
-counts-ok-requires c κs = search needs
-
 returns-2 : tie.Need-returns-2
-returns-2 c = peek-full _ _ _ _ _ (λ i. omega (arith, c .before .before .before .before .before .shared-slice-known .given i)) (c .before .before .before .before .before .before .pre .some) (c .before .before .before .before .if1 .left) _ (c .before .before .before .low-lead .ensures) (c .before .before .if2 .taken) _ (c .before .counts-ok .ensures)
-
-peek-each-requires : tie.Need-peek-each-requires
-peek-each-requires c κs = search needs
+returns-2 c =
+    let at-low-lead = c .before .before .before in let else1 = at-low-lead .before in let at-shared-slice-known = else1 .before in
+    let start = at-shared-slice-known .before in
+    peek-full _ _ _ _ _ (λ i. omega (arith, at-shared-slice-known .shared-slice-known .given i)) (start .pre .some) (else1 .if1 .left) _ (at-low-lead .low-lead .ensures) (c .before .before .if2 .taken) _ (c .before .counts-ok .ensures)
 
 returns-3 : tie.Need-returns-3
 returns-3 c = peek-some _ _ _ _ _ _ (c .before .before .before .if1 .left) (c .peek-each .ensures)
 
 pub peek-spec : {M : Type 1} → statement M
-peek-spec =
-    tie.close
-    (tie.spec
-    returns
-    add-low-lead
-    low-lead-requires
-    counts-ok-requires
-    returns-2
-    peek-each-requires
-    returns-3)
+peek-spec = tie.close
+    (tie.spec returns (λ c. search needs) (λ c κs. search needs) (λ c κs. search needs) returns-2 (λ c κs. search needs) returns-3)

@@ -3,19 +3,11 @@ use native.Mathlib.Omega.{arith}
 use borrow.Author.Needs.{needs}
 use Rattle.cluster_nodes.proofs.raise.Statement.{statement}
 use Rattle.cluster_nodes.proofs.raise.Tie as tie
-use Rattle.cluster_nodes.proofs.raise.Reads as reads
-use Rattle.cluster_nodes.proofs.raise.Lts as lts
-use Rattle.cluster_nodes.proofs.choose.Reads as choose-reads
-use Rattle.cluster_nodes.proofs.choose_word.Reads as choose-word-reads
-
-choose-requires : tie.Need-choose-requires
-choose-requires c κs = search needs
-
-choose-word-requires : tie.Need-choose-word-requires
-choose-word-requires c κs = search needs
 
 add-s : tie.Need-add-s
-add-s c = omega (arith, word-le (c .before .before .before .args .right) (c .choose-word .result) (c .before .before .before .args .l) (c .before .before .before .args .r) 5460 (c .choose-word .ensures) (c .before .before .before .pre .1) (c .before .before .before .pre .2))
+add-s c =
+    let start = c .before .before .before in
+    omega (arith, word-le (start .args .right) (c .choose-word .result) (start .args .l) (start .args .r) 5460 (c .choose-word .ensures) (start .pre .1) (start .pre .2))
 
 add-s-2 : tie.Need-add-s-2
 add-s-2 c = omega (arith, side-le (c .before .before .before .args .right) (c .before .choose .result) (c .before .choose .ensures))
@@ -26,21 +18,9 @@ mul-s c = omega (arith, side-le (c .before .before .before .args .right) (c .bef
 slice-write-s : tie.Need-slice-write-s
 slice-write-s c = omega (arith, side-le (c .before .before .before .args .right) (c .before .choose .result) (c .before .choose .ensures))
 
-same-length : tie.Need-same-length
-same-length c = search needs
-
 returns : tie.Need-returns
 returns c = raise-is _ _ _ _ _ _ _ (c .before .choose .ensures) (c .choose-word .ensures)
 
 pub raise-spec : {M : Type 1} → statement M
-raise-spec =
-    tie.close
-    (tie.spec
-    choose-requires
-    choose-word-requires
-    add-s
-    add-s-2
-    mul-s
-    slice-write-s
-    same-length
-    returns)
+raise-spec = tie.close
+    (tie.spec (λ c κs. search needs) (λ c κs. search needs) add-s add-s-2 mul-s slice-write-s (λ c. search needs) returns)

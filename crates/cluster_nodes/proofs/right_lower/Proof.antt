@@ -1,10 +1,7 @@
-use borrow.Author.Needs.{needs}
 use mathlib.Core.Path.{refl}
 use Rattle.cluster_nodes.specs.Leaf.{rightRank}
 use Rattle.cluster_nodes.proofs.right_lower.Statement.{statement}
 use Rattle.cluster_nodes.proofs.right_lower.Tie as tie
-use Rattle.cluster_nodes.proofs.right_lower.Reads as reads
-use Rattle.cluster_nodes.proofs.right_lower.Lts as lts
 
 returns : tie.Need-returns
 unfolding rightRank

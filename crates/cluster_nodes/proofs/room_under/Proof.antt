@@ -1,10 +1,8 @@
 use Rattle.cluster_nodes.proofs.Looks.{under-none}
-use mathlib.Core.Path.{_≡_, _∙_, ap, refl, sym}
+use mathlib.Core.Path.{refl}
 use Rattle.cluster_nodes.specs.Leaf.{underOf}
 use Rattle.cluster_nodes.proofs.room_under.Statement.{statement}
 use Rattle.cluster_nodes.proofs.room_under.Tie as tie
-use Rattle.cluster_nodes.proofs.room_under.Reads as reads
-use Rattle.cluster_nodes.proofs.room_under.Lts as lts
 
 returns : tie.Need-returns
 returns c = under-none _ _ (c .if1 .taken)

@@ -5,26 +5,9 @@ use Rattle.cluster_nodes.specs.Full.{turnAt}
 use borrow.Author.Needs.{needs}
 use Rattle.cluster_nodes.proofs.turn_at.Statement.{statement}
 use Rattle.cluster_nodes.proofs.turn_at.Tie as tie
-use Rattle.cluster_nodes.proofs.turn_at.Reads as reads
-use Rattle.cluster_nodes.proofs.turn_at.Lts as lts
-
-mul-rank : tie.Need-mul-rank
-mul-rank c = search needs
-
-shared-slice-read-rank : tie.Need-shared-slice-read-rank
-shared-slice-read-rank c = search needs
 
 cast-rank : tie.Need-cast-rank
 cast-rank c = omega (arith, c .shared-slice-known .given (c .before .args .i))
-
-add-tag : tie.Need-add-tag
-add-tag c = search needs
-
-mul-tag : tie.Need-mul-tag
-mul-tag c = search needs
-
-shared-slice-read-tag : tie.Need-shared-slice-read-tag
-shared-slice-read-tag c = search needs
 
 cast-tag : tie.Need-cast-tag
 cast-tag c = omega (arith, c .shared-slice-known2 .given (c .before .before .args .i + 1))
@@ -40,16 +23,6 @@ unfolding turnAt
 returns c = refl
 
 pub turn-at-spec : {M : Type 1} → statement M
-turn-at-spec =
-    tie.close
-    (tie.spec
-    mul-rank
-    shared-slice-read-rank
-    cast-rank
-    add-tag
-    mul-tag
-    shared-slice-read-tag
-    cast-tag
-    mul-result
-    add-result
-    returns)
+turn-at-spec = tie.close
+    (tie.spec (λ c. search needs) (λ c. search needs) cast-rank (λ c. search needs) (λ c. search needs) (λ c. search needs) cast-tag
+    mul-result add-result returns)

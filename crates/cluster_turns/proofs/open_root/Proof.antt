@@ -3,84 +3,46 @@ use native.Mathlib.Omega.{arith}
 use borrow.Author.Needs.{needs}
 use Rattle.cluster_turns.proofs.open_root.Statement.{statement}
 use Rattle.cluster_turns.proofs.open_root.Tie as tie
-use Rattle.cluster_turns.proofs.open_root.Reads as reads
-use Rattle.cluster_turns.proofs.open_root.Lts as lts
-use Rattle.cluster_nodes.proofs.elem_at.Reads as elem-at-reads
-use Rattle.cluster_nodes.proofs.look.Reads as look-reads
-use Rattle.cluster_nodes.proofs.node_ok.Reads as node-ok-reads
-use Rattle.cluster_nodes.proofs.wide.Reads as wide-reads
 
--- src/lib.rt:48:9
-look-requires : tie.Need-look-requires
-look-requires c κs = search needs
-
--- src/lib.rt:49:30
 mul-elem-at : tie.Need-mul-elem-at
-mul-elem-at c = let h = low-few (c .before .before .before .args .k) (c .before .before .before .args .top) (c .before .before .before .args .s .now) (c .before .before .before .pre) (c .before .look .result) (c .before .look .ensures) in omega (arith, h, c .before .before .before .pre .lies .few)
+mul-elem-at c =
+    let start = c .before .before .before in
+    let h = low-few (start .args .k) (start .args .top) (start .args .s .now) (start .pre) (c .before .look .result) (c .before .look .ensures) in omega (arith, h, start .pre .lies .few)
 
--- src/lib.rt:49:26
 add-elem-at : tie.Need-add-elem-at
-add-elem-at c = let h = low-few (c .before .before .before .args .k) (c .before .before .before .args .top) (c .before .before .before .args .s .now) (c .before .before .before .pre) (c .before .look .result) (c .before .look .ensures) in omega (arith, h, c .before .before .before .pre .lies .few)
+add-elem-at c =
+    let start = c .before .before .before in
+    let h = low-few (start .args .k) (start .args .top) (start .args .s .now) (start .pre) (c .before .look .result) (c .before .look .ensures) in omega (arith, h, start .pre .lies .few)
 
--- src/lib.rt:49:9
 elem-at-requires : tie.Need-elem-at-requires
-elem-at-requires c κs = let h = low-few (c .before .before .before .args .k) (c .before .before .before .args .top) (c .before .before .before .args .s .now) (c .before .before .before .pre) (c .before .look .result) (c .before .look .ensures) in omega (arith, h, c .before .before .before .pre .lies .words)
+elem-at-requires c κs =
+    let start = c .before .before .before in
+    let h = low-few (start .args .k) (start .args .top) (start .args .s .now) (start .pre) (c .before .look .result) (c .before .look .ensures) in omega (arith, h, start .pre .lies .words)
 
--- src/lib.rt:50:20
-sub-node-ok : tie.Need-sub-node-ok
-sub-node-ok c = search needs
-
--- src/lib.rt:50:9
-node-ok-requires : tie.Need-node-ok-requires
-node-ok-requires c κs = search needs
-
--- src/lib.rt:51:9
 returns : tie.Need-returns
-returns c = opened-not _ _ _ (c .before .before .before .before .before .before .pre) _ (c .before .before .before .before .look .ensures) _ (c .before .node-ok .ensures) _ (c .if1 .taken)
+returns c =
+    let at-look = c .before .before .before .before in let start = at-look .before .before in
+    opened-not _ _ _ (start .pre) _ (at-look .look .ensures) _ (c .before .node-ok .ensures) _ (c .if1 .taken)
 
--- src/lib.rt:58:18
-shared-slice-read-wide : tie.Need-shared-slice-read-wide
-shared-slice-read-wide c = search needs
-
--- src/lib.rt:58:9
-wide-requires : tie.Need-wide-requires
-wide-requires c κs = search needs
-
--- src/lib.rt:59:18
-shared-slice-read-wide-2 : tie.Need-shared-slice-read-wide-2
-shared-slice-read-wide-2 c = search needs
-
--- src/lib.rt:59:9
-wide-requires-2 : tie.Need-wide-requires-2
-wide-requires-2 c κs = search needs
-
--- src/lib.rt:62:26
 add-t9 : tie.Need-add-t9
-add-t9 c = let x = left-few (c .before .before .before .before .before .before .before .before .before .before .args .k) (c .before .before .before .before .before .before .before .before .before .before .args .top) (c .before .before .before .before .before .before .before .before .before .before .args .s .now) (c .before .before .before .before .before .before .before .before .before .before .pre) (c .before .before .before .before .before .before .before .before .look .result) (c .before .before .before .before .before .before .before .before .look .ensures) (c .before .before .before .before .before .node-ok .result) (c .before .before .before .before .before .node-ok .ensures) (c .before .before .before .before .if1 .left) in let y = right-few (c .before .before .before .before .before .before .before .before .before .before .args .k) (c .before .before .before .before .before .before .before .before .before .before .args .top) (c .before .before .before .before .before .before .before .before .before .before .args .s .now) (c .before .before .before .before .before .before .before .before .before .before .pre) (c .before .before .before .before .before .before .before .before .look .result) (c .before .before .before .before .before .before .before .before .look .ensures) (c .before .before .before .before .before .node-ok .result) (c .before .before .before .before .before .node-ok .ensures) (c .before .before .before .before .if1 .left) in let z = count-few (c .before .before .before .before .before .before .before .before .before .before .args .k) (c .before .before .before .before .before .before .before .before .before .before .args .top) (c .before .before .before .before .before .before .before .before .before .before .args .s .now) (c .before .before .before .before .before .before .before .before .before .before .pre) (c .before .before .before .before .before .before .before .before .look .result) (c .before .before .before .before .before .before .before .before .look .ensures) in omega (arith, x, y, z, c .before .before .wide .ensures, c .wide2 .ensures)
+add-t9 c =
+    let else1 = c .before .before .before .before in let at-node-ok = else1 .before in
+    let at-look = at-node-ok .before .before .before in let start = at-look .before .before in
+    let x = left-few (start .args .k) (start .args .top) (start .args .s .now) (start .pre) (at-look .look .result) (at-look .look .ensures) (at-node-ok .node-ok .result) (at-node-ok .node-ok .ensures) (else1 .if1 .left) in let y = right-few (start .args .k) (start .args .top) (start .args .s .now) (start .pre) (at-look .look .result) (at-look .look .ensures) (at-node-ok .node-ok .result) (at-node-ok .node-ok .ensures) (else1 .if1 .left) in let z = count-few (start .args .k) (start .args .top) (start .args .s .now) (start .pre) (at-look .look .result) (at-look .look .ensures) in omega (arith, x, y, z, c .before .before .wide .ensures, c .wide2 .ensures)
 
--- src/lib.rt:62:15
 add-t8 : tie.Need-add-t8
-add-t8 c = let x = left-few (c .before .before .before .before .before .before .before .before .before .before .before .args .k) (c .before .before .before .before .before .before .before .before .before .before .before .args .top) (c .before .before .before .before .before .before .before .before .before .before .before .args .s .now) (c .before .before .before .before .before .before .before .before .before .before .before .pre) (c .before .before .before .before .before .before .before .before .before .look .result) (c .before .before .before .before .before .before .before .before .before .look .ensures) (c .before .before .before .before .before .before .node-ok .result) (c .before .before .before .before .before .before .node-ok .ensures) (c .before .before .before .before .before .if1 .left) in let y = right-few (c .before .before .before .before .before .before .before .before .before .before .before .args .k) (c .before .before .before .before .before .before .before .before .before .before .before .args .top) (c .before .before .before .before .before .before .before .before .before .before .before .args .s .now) (c .before .before .before .before .before .before .before .before .before .before .before .pre) (c .before .before .before .before .before .before .before .before .before .look .result) (c .before .before .before .before .before .before .before .before .before .look .ensures) (c .before .before .before .before .before .before .node-ok .result) (c .before .before .before .before .before .before .node-ok .ensures) (c .before .before .before .before .before .if1 .left) in let z = count-few (c .before .before .before .before .before .before .before .before .before .before .before .args .k) (c .before .before .before .before .before .before .before .before .before .before .before .args .top) (c .before .before .before .before .before .before .before .before .before .before .before .args .s .now) (c .before .before .before .before .before .before .before .before .before .before .before .pre) (c .before .before .before .before .before .before .before .before .before .look .result) (c .before .before .before .before .before .before .before .before .before .look .ensures) in omega (arith, x, y, z, c .before .before .before .wide .ensures, c .before .wide2 .ensures, c .before .before .before .before .before .before .before .before .before .before .before .pre .lies .few)
+add-t8 c =
+    let at-wide = c .before .before .before in let else1 = at-wide .before .before in let at-node-ok = else1 .before in
+    let at-look = at-node-ok .before .before .before in let start = at-look .before .before in
+    let x = left-few (start .args .k) (start .args .top) (start .args .s .now) (start .pre) (at-look .look .result) (at-look .look .ensures) (at-node-ok .node-ok .result) (at-node-ok .node-ok .ensures) (else1 .if1 .left) in let y = right-few (start .args .k) (start .args .top) (start .args .s .now) (start .pre) (at-look .look .result) (at-look .look .ensures) (at-node-ok .node-ok .result) (at-node-ok .node-ok .ensures) (else1 .if1 .left) in let z = count-few (start .args .k) (start .args .top) (start .args .s .now) (start .pre) (at-look .look .result) (at-look .look .ensures) in omega (arith, x, y, z, at-wide .wide .ensures, c .before .wide2 .ensures, start .pre .lies .few)
 
--- src/lib.rt:44:1
 returns-2 : tie.Need-returns-2
-returns-2 c = opened _ _ _ (c .before .before .before .before .before .before .before .before .before .before .before .pre) _ (c .before .before .before .before .before .before .before .before .before .look .ensures) _ (c .before .before .before .before .before .before .node-ok .ensures) (c .before .before .before .before .before .if1 .left) _ (c .before .before .before .before .before .before .before .elem-at .ensures) _ _ (c .before .before .before .wide .ensures) (c .before .wide2 .ensures)
+returns-2 c =
+    let at-wide = c .before .before .before in let else1 = at-wide .before .before in let at-node-ok = else1 .before in
+    let at-elem-at = at-node-ok .before in let at-look = at-elem-at .before .before in let start = at-look .before .before in
+    opened _ _ _ (start .pre) _ (at-look .look .ensures) _ (at-node-ok .node-ok .ensures) (else1 .if1 .left) _ (at-elem-at .elem-at .ensures) _ _ (at-wide .wide .ensures) (c .before .wide2 .ensures)
 
 pub open-root-spec : {M : Type 1} → statement M
-open-root-spec =
-    tie.close
-    (tie.spec
-    look-requires
-    mul-elem-at
-    add-elem-at
-    elem-at-requires
-    sub-node-ok
-    node-ok-requires
-    returns
-    shared-slice-read-wide
-    wide-requires
-    shared-slice-read-wide-2
-    wide-requires-2
-    add-t9
-    add-t8
-    returns-2)
+open-root-spec = tie.close
+    (tie.spec (λ c κs. search needs) mul-elem-at add-elem-at elem-at-requires (λ c. search needs) (λ c κs. search needs) returns
+    (λ c. search needs) (λ c κs. search needs) (λ c. search needs) (λ c κs. search needs) add-t9 add-t8 returns-2)

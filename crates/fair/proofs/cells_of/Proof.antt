@@ -5,12 +5,9 @@ use Rattle.fair_model.specs.Ranks.{cells}
 use Rattle.fair.proofs.cells_of.Statement.{statement}
 use Rattle.fair.proofs.cells_of.Tie as tie
 
-add-result : tie.Need-add-result
-add-result c = search needs
-
 returns : tie.Need-returns
 unfolding cells
 returns c = refl
 
 pub cells-of-spec : {M : Type 1} → statement M
-cells-of-spec = tie.close (tie.spec add-result returns)
+cells-of-spec = tie.close (tie.spec (λ c. search needs) returns)

@@ -5,9 +5,6 @@ use Rattle.fair.proofs.Notes.{good-strip, push-bad, push-short, push-sp
 use Rattle.fair.proofs.push.Statement.{statement}
 use Rattle.fair.proofs.push.Tie as tie
 
-strip-ok-requires : tie.Need-strip-ok-requires
-strip-ok-requires c κs = search needs
-
 returns : tie.Need-returns
 returns c =
     let at-strip = c .before in
@@ -20,18 +17,6 @@ returns-2 c =
     let at-strip = at-if1 .before in
     let start = at-strip .before .before .before in
     push-short (at-strip .strip-ok .result) (start .args .flow .0) (start .args .weight .0) (start .args .length .0) (at-strip .strip-ok .ensures) _ _ _ _ _ (at-if1 .if1 .left) (c .if2 .taken)
-
-cast-at : tie.Need-cast-at
-cast-at c = search needs
-
-add-at : tie.Need-add-at
-add-at c = search needs
-
-slice-read-finish-of : tie.Need-slice-read-finish-of
-slice-read-finish-of c = search needs
-
-mul-finish-of : tie.Need-mul-finish-of
-mul-finish-of c = search needs
 
 slice-read-finish-of-2 : tie.Need-slice-read-finish-of-2
 slice-read-finish-of-2 c =
@@ -57,12 +42,6 @@ returns-3 c =
     let start = at-strip .before .before .before in
     push-spent (at-strip .strip-ok .result) (start .args .flow .0) (start .args .weight .0) (start .args .length .0) (at-strip .strip-ok .ensures) _ _ _ _ _ _ (at-if1 .if1 .left) (at-if2 .if2 .left) (at-finish .finish-of .ensures) (c .if3 .taken)
 
-cast-rank : tie.Need-cast-rank
-cast-rank c = search needs
-
-push-requires : tie.Need-push-requires
-push-requires c κs = search needs
-
 note-requires : tie.Need-note-requires
 note-requires c κs =
     let at-if2 = c .before .before .before .before .before .before .before .before .before in
@@ -70,12 +49,6 @@ note-requires c κs =
     let at-strip = at-if1 .before in
     let start = at-strip .before .before .before in
     omega (arith, good-strip (at-strip .strip-ok .result) (start .args .flow .0) (start .args .weight .0) (start .args .length .0) (at-strip .strip-ok .ensures) (at-if1 .if1 .left), at-if2 .if2 .left)
-
-same-length : tie.Need-same-length
-same-length c = search needs
-
-same-length-2 : tie.Need-same-length-2
-same-length-2 c = search needs
 
 returns-4 : tie.Need-returns-4
 returns-4 c =
@@ -90,22 +63,7 @@ returns-4 c =
     push-taken (at-strip .strip-ok .result) (start .args .flow .0) (start .args .weight .0) (start .args .length .0) (at-strip .strip-ok .ensures) _ _ _ _ _ _ _ _ _ _ (at-if1 .if1 .left) (at-if2 .if2 .left) (at-finish .finish-of .ensures) (at-if3 .if3 .left) (at-push .push .ensures) (at-note .note .ensures)
 
 pub push-spec : {M : Type 1} → statement M
-push-spec =
-    tie.close
-    (tie.spec
-    strip-ok-requires
-    returns
-    returns-2
-    cast-at
-    add-at
-    slice-read-finish-of
-    mul-finish-of
-    slice-read-finish-of-2
-    finish-of-requires
-    returns-3
-    cast-rank
-    push-requires
-    note-requires
-    same-length
-    same-length-2
-    returns-4)
+push-spec = tie.close
+    (tie.spec (λ c κs. search needs) returns returns-2 (λ c. search needs) (λ c. search needs) (λ c. search needs) (λ c. search needs)
+    slice-read-finish-of-2 finish-of-requires returns-3 (λ c. search needs) (λ c κs. search needs) note-requires (λ c. search needs)
+    (λ c. search needs) returns-4)

@@ -7,21 +7,9 @@ use Rattle.fair_table.proofs.Steps.{entry, right, stepsFrom}
 use Rattle.fair_table.proofs.step_of.Statement.{statement}
 use Rattle.fair_table.proofs.step_of.Tie as tie
 
-sub-at : tie.Need-sub-at
-sub-at c = search needs
-
-cast-at : tie.Need-cast-at
-cast-at c = search needs
-
-mul-result : tie.Need-mul-result
-mul-result c = search needs
-
-array-read-result : tie.Need-array-read-result
-array-read-result c = search needs
-
 returns : tie.Need-returns
 unfolding stepsFrom right step
 returns c = entry (stepsFrom 1024 1) 1024 (c .args .weight) (search needs) (search needs) refl tt
 
 pub step-of-spec : {M : Type 1} → statement M
-step-of-spec = tie.close (tie.spec sub-at cast-at mul-result array-read-result returns)
+step-of-spec = tie.close (tie.spec (λ c. search needs) (λ c. search needs) (λ c. search needs) (λ c. search needs) returns)

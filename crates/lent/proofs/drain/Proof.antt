@@ -1,8 +1,7 @@
 -- `lent::drain` meets its contract: a walk of its MIR, by hand. All that it knows of what it calls is that each meets its contract.
 -- records is lent as a `&` for the call of `load`, at a lifetime that the walk makes, and comes back; store goes to `drain_read`, and records to `hand_back`, at their own lifetimes, shares and names, for good (`gave-slice`).
 -- What plain data owns is dropped, and made anew where a callee asks it.
--- Assumes nothing.
-use mathlib.Core.Path.{_≡_, refl, _∙_, subst, sym}
+use mathlib.Core.Path.{_≡_, refl, _∙_, subst}
 use mathlib.Core.Bool.{Bool}
 use Prim.Native.Nat.{ℕ, _<_, _^_}
 use mathlib.Core.List.{List, [], _∷_}
@@ -24,7 +23,7 @@ use types.Part.{agg, whole, sub, look-in}
 use types.Run.{look, init, forget, stop, hop, fld, from, load, addr, of-opd, and-then, no-more, assigns, land, returns, enter, alloc1, alloc0, params1, pass1, pass0, free1, free0}
 use types.Tokens.{lft-new, lft-end}
 use sound.WpLaws.{FmC, fmOf, WpFn-mono}
-use denote.RattleType.{RattleType, owns}
+use denote.RattleType.{owns}
 use denote.Laws.{Is, shows}
 use denote.Plain.{uint-makes, uint-vals, uint-tells, bool-vals, bool-tells, bool-makes, nothing-lawful}
 use denote.Builtin.{u32, usize, bool, unit}

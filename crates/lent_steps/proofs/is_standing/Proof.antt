@@ -1,22 +1,8 @@
--- `lent_steps::is_standing` meets its contract. Assumes nothing.
+-- `lent_steps::is_standing` meets its contract.
 use Rattle.lent_steps.proofs.Records.{stands-nothing, stands-put, stands-swap, stands-take}
 use borrow.Author.Needs.{needs}
 use Rattle.lent_steps.proofs.is_standing.Statement.{statement}
 use Rattle.lent_steps.proofs.is_standing.Tie as tie
-use Rattle.lent_steps.proofs.is_standing.Reads as reads
-use Rattle.lent_steps.proofs.is_standing.Lts as lts
-
-enum-told : tie.Need-enum-told
-enum-told c = search needs
-
-enum-told-2 : tie.Need-enum-told-2
-enum-told-2 c = search needs
-
-enum-told-3 : tie.Need-enum-told-3
-enum-told-3 c = search needs
-
-enum-told-4 : tie.Need-enum-told-4
-enum-told-4 c = search needs
 
 returns : tie.Need-returns
 returns c = stands-nothing (c .before .before .args .w) (c .enum-told .given .1)
@@ -31,6 +17,5 @@ returns-4 : tie.Need-returns-4
 returns-4 c = stands-swap (c .before .before .args .w) _ (c .enum-told4 .given .1)
 
 pub is-standing-spec : {M : Type 1} → statement M
-is-standing-spec =
-    tie.close
-    (tie.spec enum-told enum-told-2 enum-told-3 enum-told-4 returns returns-2 returns-3 returns-4)
+is-standing-spec = tie.close
+    (tie.spec (λ c. search needs) (λ c. search needs) (λ c. search needs) (λ c. search needs) returns returns-2 returns-3 returns-4)

@@ -1,13 +1,8 @@
--- `lent_steps::work_of` meets its contract. Assumes nothing.
+-- `lent_steps::work_of` meets its contract.
 use Rattle.lent_steps.proofs.Records.{work-nothing, work-put, work-swap, work-take}
 use borrow.Author.Needs.{needs}
 use Rattle.lent_steps.proofs.work_of.Statement.{statement}
 use Rattle.lent_steps.proofs.work_of.Tie as tie
-use Rattle.lent_steps.proofs.work_of.Reads as reads
-use Rattle.lent_steps.proofs.work_of.Lts as lts
-
-cast-node : tie.Need-cast-node
-cast-node c = search needs
 
 returns : tie.Need-returns
 returns c = work-put _ (c .if1 .taken)
@@ -22,4 +17,4 @@ returns-4 : tie.Need-returns-4
 returns-4 c = work-nothing _ (c .before .before .if1 .left) (c .before .if2 .left) (c .if3 .left)
 
 pub work-of-spec : {M : Type 1} → statement M
-work-of-spec = tie.close (tie.spec cast-node returns returns-2 returns-3 returns-4)
+work-of-spec = tie.close (tie.spec (λ c. search needs) returns returns-2 returns-3 returns-4)

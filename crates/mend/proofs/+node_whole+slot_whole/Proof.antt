@@ -1,4 +1,4 @@
--- `mend::node_whole` and `mend::slot_whole` meet their contracts. Assumes nothing.
+-- `mend::node_whole` and `mend::slot_whole` meet their contracts.
 use Rattle.mend.proofs.Descent.{AtPlace, node-begins, node-ends, node-fits, node-lies, node-none, place-failed, place-passed, slot-in, slot-inside, slot-lies, slot-off, slot-on}
 use native.Mathlib.Omega.{arith}
 use native.Mathlib.Nat.{pos-of-ne-zero}
@@ -82,8 +82,9 @@ node-whole-returns-2 t c = place-failed _ _ _ _ _ _ _ (c .before .before .before
 
 node-whole-add-p : (t : ℕ) → node-whole-lts.Need-add-p (node-calls t) (node-whole-at t) node-whole.Post node-whole-Inv-loop node-whole-μ-loop
 node-whole-add-p t c =
-    let start = c .before .before .before .before .before .before in
-    omega (arith, c .before .before .loop-test .taken, node-fits (start .args .order) (start .args .left) (start .args .node) (start .args .s .now) (start .pre .1) (c .before .before .before .before .if1 .left))
+    let else1 = c .before .before .before .before in let at-6 = else1 .before .before in
+    let start = at-6 in
+    omega (arith, c .before .before .loop-test .taken, node-fits (start .args .order) (start .args .left) (start .args .node) (start .args .s .now) (start .pre .1) (else1 .if1 .left))
 
 node-whole-loop-less : (t : ℕ) → node-whole-lts.Need-loop-less (node-calls t) (node-whole-at t) node-whole.Post node-whole-Inv-loop node-whole-μ-loop
 node-whole-loop-less t c = omega (arith, c .before .before .loop-test .taken)
@@ -102,7 +103,8 @@ slot-whole-returns t c = slot-off _ _ _ _ _ _ (c .before .slot-broken .ensures) 
 
 slot-whole-rank-at-requires : (t : ℕ) → slot-whole-lts.Need-rank-at-requires (slot-calls t) (slot-whole-at t) slot-whole.Post
 slot-whole-rank-at-requires t c κs =
-    omega (arith, slot-inside (c .before .before .before .args .order) (c .before .before .before .args .left) (c .before .before .before .args .p) (c .before .before .before .args .s .now) (c .before .before .before .pre .1) .1)
+    let start = c .before .before .before in
+    omega (arith, slot-inside (start .args .order) (start .args .left) (start .args .p) (start .args .s .now) (start .pre .1) .1)
 
 slot-whole-add-node-whole : (t : ℕ) → slot-whole-lts.Need-add-node-whole (slot-calls t) (slot-whole-at t) slot-whole.Post
 slot-whole-add-node-whole t c =

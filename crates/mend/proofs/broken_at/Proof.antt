@@ -1,11 +1,8 @@
--- `mend::broken_at` meets its contract. Assumes nothing.
+-- `mend::broken_at` meets its contract.
 use Rattle.mend.proofs.Steps.{walk-above, walk-broken, walk-slot}
 use borrow.Author.Needs.{needs}
 use Rattle.mend.proofs.broken_at.Statement.{statement}
 use Rattle.mend.proofs.broken_at.Tie as tie
-
-div-rank-above : tie.Need-div-rank-above
-div-rank-above c = search needs
 
 rank-above-requires : tie.Need-rank-above-requires
 rank-above-requires c κs = walk-above _ _ _ _ (c .before .pre)
@@ -18,4 +15,4 @@ returns c = walk-broken _ _ _ _ _ _ (c .before .rank-above .ensures) (c .slot-br
 
 pub broken-at-spec : {M : Type 1} → statement M
 broken-at-spec =
-    tie.close (tie.spec div-rank-above rank-above-requires slot-broken-requires returns)
+    tie.close (tie.spec (λ c. search needs) rank-above-requires slot-broken-requires returns)

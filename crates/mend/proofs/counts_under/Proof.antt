@@ -1,4 +1,4 @@
--- `mend::counts_under` meets its contract. Assumes nothing.
+-- `mend::counts_under` meets its contract.
 use native.Mathlib.Omega.{arith}
 use Rattle.mend.proofs.Steps.{under-fits, under-in, under-none, under-some}
 use borrow.Author.Needs.{needs}
@@ -9,9 +9,6 @@ returns : tie.Need-returns
 returns c =
     let start = c .before .before in
     under-none (start .args .order) (start .args .under) (start .args .s .now) (start .args .p) (c .if1 .taken)
-
-add-sum-counts : tie.Need-add-sum-counts
-add-sum-counts c = search needs
 
 mul-sum-counts : tie.Need-mul-sum-counts
 mul-sum-counts c =
@@ -28,4 +25,4 @@ returns-2 c =
 
 pub counts-under-spec : {M : Type 1} → statement M
 counts-under-spec =
-    tie.close (tie.spec returns add-sum-counts mul-sum-counts sum-counts-requires returns-2)
+    tie.close (tie.spec returns (λ c. search needs) mul-sum-counts sum-counts-requires returns-2)

@@ -1,4 +1,4 @@
--- `mend::first_broken` meets its contract. Assumes nothing.
+-- `mend::first_broken` meets its contract.
 use Prim.Native.Nat.{_-_, _<_}
 use native.Mathlib.Omega.{arith}
 use mathlib.Core.Logic.{⊎-elim}
@@ -36,10 +36,9 @@ broken-at-requires : tie.Need-broken-at-requires Inv-loop μ-loop Inv-walk μ-wa
 broken-at-requires c κs = slot-in _ _ _ _ _ _ _ _ (c .before .loop .inv) (c .loop-test .taken)
 
 add-p : tie.Need-add-p Inv-loop μ-loop Inv-walk μ-walk
-add-p c = omega (arith, c .before .before .before .loop .inv .sum, c .before .before .before .loop .inv .walked .limit, c .before .before .loop-test .taken)
-
-loop-less : tie.Need-loop-less Inv-loop μ-loop Inv-walk μ-walk
-loop-less c = omega arith
+add-p c =
+    let at-loop = c .before .before .before in
+    omega (arith, at-loop .loop .inv .sum, at-loop .loop .inv .walked .limit, c .before .before .loop-test .taken)
 
 loop-again : tie.Need-loop-again Inv-loop μ-loop Inv-walk μ-walk
 loop-again c = slot-passed _ _ _ _ _ _ _ _ (c .before .before .before .loop .inv) (c .before .before .loop-test .taken) _ (c .before .broken-at .ensures) (c .if1 .left)
@@ -71,25 +70,6 @@ returns-2 c =
     (λ w. ap Broken (w .5) ∙ slot-found _ _ _ _ _ _ _ _ (w .1 .inv) (w .2 .taken) _ (w .3 .ensures) (w .4 .taken)) (c .before .walk-test .came)
 
 pub first-broken-spec : {M : Type 1} → statement M
-first-broken-spec =
-    tie.close
-    (tie.spec
-    Inv-loop
-    μ-loop
-    Inv-walk
-    μ-walk
-    walk-holds
-    mul-end
-    add-end
-    loop-holds
-    broken-at-requires
-    add-p
-    loop-less
-    loop-again
-    mul-nodes
-    sub-left
-    walk-less
-    walk-again
-    returns
-    cast-slot
-    returns-2)
+first-broken-spec = tie.close
+    (tie.spec Inv-loop μ-loop Inv-walk μ-walk walk-holds mul-end add-end loop-holds broken-at-requires add-p (λ c. omega arith) loop-again
+    mul-nodes sub-left walk-less walk-again returns cast-slot returns-2)

@@ -1,4 +1,4 @@
--- `mend::is_blank` meets its contract. Assumes nothing.
+-- `mend::is_blank` meets its contract.
 use mathlib.Core.Path.{refl}
 use Rattle.tree_model.specs.Damage.{isBlank}
 use Rattle.mend.proofs.is_blank.Statement.{statement}

@@ -1,4 +1,4 @@
--- `mend::mend` meets its contract. Assumes nothing.
+-- `mend::mend` meets its contract.
 use Rattle.mend.proofs.Mends.{mend-done, mend-first, mend-second, skipped-small}
 use Rattle.mend.proofs.Shapes.{slots-are, slots-lie}
 use Prim.Native.Nat.{_<_}
@@ -7,28 +7,20 @@ use borrow.Author.Needs.{needs}
 use Rattle.mend.proofs.mend.Statement.{statement}
 use Rattle.mend.proofs.mend.Tie as tie
 
-shape-of-requires : tie.Need-shape-of-requires
-shape-of-requires c κs = search needs
-
-shape-fits-requires : tie.Need-shape-fits-requires
-shape-fits-requires c κs = search needs
-
 returns : tie.Need-returns
 returns c = mend-first _ _ _ _ _ (c .before .shape-fits .ensures _ _ (c .before .before .shape-of .ensures)) (c .if1 .taken)
 
-shape-fits-requires-2 : tie.Need-shape-fits-requires-2
-shape-fits-requires-2 c κs = search needs
-
 returns-2 : tie.Need-returns-2
-returns-2 c = mend-second _ _ _ _ _ (c .before .before .before .shape-fits .ensures _ _ (c .before .before .before .before .shape-of .ensures)) (c .before .before .if1 .left) _ (c .before .shape-fits2 .ensures _ _ (c .before .before .before .before .shape-of .ensures)) (c .if2 .taken)
-
-clear-requires : tie.Need-clear-requires
-clear-requires c κs = search needs
+returns-2 c =
+    let at-shape-fits = c .before .before .before in let at-shape-of = at-shape-fits .before in
+    mend-second _ _ _ _ _ (at-shape-fits .shape-fits .ensures _ _ (at-shape-of .shape-of .ensures)) (c .before .before .if1 .left) _ (c .before .shape-fits2 .ensures _ _ (at-shape-of .shape-of .ensures)) (c .if2 .taken)
 
 mend-slots-requires : tie.Need-mend-slots-requires
 mend-slots-requires c κs =
-    let at-shape = c .before .before .before .before .before .before .before .before .before in
-    slots-lie _ _ _ _ (at-shape .shape-of .ensures) _ (c .before .before .before .before .before .before .before .before .shape-fits .ensures _ _ (at-shape .shape-of .ensures)) (c .before .before .before .before .before .before .before .if1 .left)
+    let else1 = c .before .before .before .before .before .before .before in let at-shape-fits = else1 .before in
+    let at-9 = at-shape-fits .before in
+    let at-shape = at-9 in
+    slots-lie _ _ _ _ (at-shape .shape-of .ensures) _ (at-shape-fits .shape-fits .ensures _ _ (at-shape .shape-of .ensures)) (else1 .if1 .left)
 
 cast-number : tie.Need-cast-number
 cast-number c =
@@ -40,9 +32,6 @@ cast-number c =
     let fits : at-slots .mend-slots .result < 4294967296 =
     skipped-small (a .order) (a .levels) (a .from .now) _ _ (slots-lie (a .order) (a .levels) (a .from .now) (at-shape .shape-of .result) shaped _ first (at-slots .before .before .before .before .before .before .before .before .if1 .left)) (at-slots .mend-slots .ensures .0) in
     omega arith
-
-same-length : tie.Need-same-length
-same-length c = search needs
 
 returns-3 : tie.Need-returns-3
 returns-3 c =
@@ -57,16 +46,6 @@ returns-3 c =
     mend-done _ _ _ _ _ first (at-if1 .if1 .left) _ (at-if2 .before .shape-fits2 .ensures _ _ shaped) (at-if2 .if2 .left) _ slots _ _ (at-slots .before .before .before .before .clear .ensures) _ _ (at-slots .mend-slots .ensures)
 
 pub mend-spec : {M : Type 1} → statement M
-mend-spec =
-    tie.close
-    (tie.spec
-    shape-of-requires
-    shape-fits-requires
-    returns
-    shape-fits-requires-2
-    returns-2
-    clear-requires
-    mend-slots-requires
-    cast-number
-    same-length
-    returns-3)
+mend-spec = tie.close
+    (tie.spec (λ c κs. search needs) (λ c κs. search needs) returns (λ c κs. search needs) returns-2 (λ c κs. search needs)
+    mend-slots-requires cast-number (λ c. search needs) returns-3)

@@ -1,4 +1,4 @@
--- `mend::mend_slot` meets its contract. Assumes nothing.
+-- `mend::mend_slot` meets its contract.
 use Rattle.mend.proofs.Mends.{slot-none, slot-pushes, slot-skips}
 use borrow.Author.Needs.{needs}
 use Rattle.mend.proofs.mend_slot.Statement.{statement}
@@ -7,21 +7,15 @@ use Rattle.mend.proofs.mend_slot.Tie as tie
 returns : tie.Need-returns
 returns c = slot-none _ _ _ _ (c .if1 .taken)
 
-is-untagged-requires : tie.Need-is-untagged-requires
-is-untagged-requires c κs = search needs
-
 returns-2 : tie.Need-returns-2
 returns-2 c = slot-skips _ _ _ _ (c .before .before .before .if1 .left) _ (c .before .is-untagged .ensures) (c .if2 .taken)
 
-push-requires : tie.Need-push-requires
-push-requires c κs = search needs
-
-same-length : tie.Need-same-length
-same-length c = search needs
-
 returns-3 : tie.Need-returns-3
-returns-3 c = slot-pushes _ _ _ _ (c .before .before .before .before .before .before .before .if1 .left) _ (c .before .before .before .before .before .is-untagged .ensures) (c .before .before .before .before .if2 .left) _ _ (c .before .before .push .ensures)
+returns-3 c =
+    let else2 = c .before .before .before .before in let at-is-untagged = else2 .before in
+    let else1 = at-is-untagged .before .before in
+    slot-pushes _ _ _ _ (else1 .if1 .left) _ (at-is-untagged .is-untagged .ensures) (else2 .if2 .left) _ _ (c .before .before .push .ensures)
 
 pub mend-slot-spec : {M : Type 1} → statement M
 mend-slot-spec =
-    tie.close (tie.spec returns is-untagged-requires returns-2 push-requires same-length returns-3)
+    tie.close (tie.spec returns (λ c κs. search needs) returns-2 (λ c κs. search needs) (λ c. search needs) returns-3)

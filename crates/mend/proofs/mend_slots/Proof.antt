@@ -1,4 +1,4 @@
--- `mend::mend_slots` meets its contract. Assumes nothing.
+-- `mend::mend_slots` meets its contract.
 use Prim.Native.Nat.{_-_}
 use native.Mathlib.Omega.{arith}
 use borrow.Author.Needs.{needs}
@@ -19,20 +19,25 @@ loop-holds c = mend-begins _ _ _ _ _
 slot-at-requires : tie.Need-slot-at-requires Inv-loop μ-loop
 slot-at-requires c κs = omega (arith, c .before .before .before .before .pre .words, c .loop-test .taken)
 
-mend-slot-requires : tie.Need-mend-slot-requires Inv-loop μ-loop
-mend-slot-requires c κs = search needs
-
 add-skipped : tie.Need-add-skipped Inv-loop μ-loop
-add-skipped c = omega (arith, c .before .before .before .before .before .before .loop .inv .few, hit-small _ (skips (c .before .before .before .before .slot-at .result)) (c .before .before .mend-slot .ensures .0), c .before .before .before .before .before .before .before .before .before .pre .limit, c .before .before .before .before .before .loop-test .taken)
+add-skipped c =
+    let at-slot-at = c .before .before .before .before in let at-loop-test = at-slot-at .before in
+    let at-loop = at-loop-test .before in let start = at-loop .before .before .before in
+    omega (arith, at-loop .loop .inv .few, hit-small _ (skips (at-slot-at .slot-at .result)) (c .before .before .mend-slot .ensures .0), start .pre .limit, at-loop-test .loop-test .taken)
 
 add-i : tie.Need-add-i Inv-loop μ-loop
-add-i c = omega (arith, c .before .before .before .before .before .before .before .before .before .pre .limit, c .before .before .before .before .before .loop-test .taken)
+add-i c =
+    let at-loop-test = c .before .before .before .before .before in let start = at-loop-test .before .before .before .before in
+    omega (arith, start .pre .limit, at-loop-test .loop-test .taken)
 
 loop-less : tie.Need-loop-less Inv-loop μ-loop
 loop-less c = omega (arith, c .before .before .before .before .before .loop-test .taken)
 
 loop-again : tie.Need-loop-again Inv-loop μ-loop
-loop-again c = mend-goes _ _ _ _ _ _ _ _ (c .before .before .before .before .before .before .loop .inv) (c .before .before .before .before .before .loop-test .taken) _ (c .before .before .before .before .slot-at .ensures) _ _ (c .before .before .mend-slot .ensures) (c .before .before .mend-slot .kept .0)
+loop-again c =
+    let at-slot-at = c .before .before .before .before in let at-loop-test = at-slot-at .before in
+    let at-loop = at-loop-test .before in
+    mend-goes _ _ _ _ _ _ _ _ (at-loop .loop .inv) (at-loop-test .loop-test .taken) _ (at-slot-at .slot-at .ensures) _ _ (c .before .before .mend-slot .ensures) (c .before .before .mend-slot .kept .0)
 
 same-length : tie.Need-same-length Inv-loop μ-loop
 same-length c = c .before .loop .inv .same
@@ -41,17 +46,5 @@ returns : tie.Need-returns Inv-loop μ-loop
 returns c = mend-ends _ _ _ _ _ _ _ _ (c .before .loop .inv) (c .loop-test .left)
 
 pub mend-slots-spec : {M : Type 1} → statement M
-mend-slots-spec =
-    tie.close
-    (tie.spec
-    Inv-loop
-    μ-loop
-    loop-holds
-    slot-at-requires
-    mend-slot-requires
-    add-skipped
-    add-i
-    loop-less
-    loop-again
-    same-length
-    returns)
+mend-slots-spec = tie.close
+    (tie.spec Inv-loop μ-loop loop-holds slot-at-requires (λ c κs. search needs) add-skipped add-i loop-less loop-again same-length returns)

@@ -1,4 +1,4 @@
--- `mend::rank_above` meets its contract. Assumes nothing.
+-- `mend::rank_above` meets its contract.
 use Rattle.mend.proofs.Steps.{rank-none, rank-some}
 use borrow.Author.Needs.{needs}
 use Rattle.mend.proofs.rank_above.Statement.{statement}
@@ -7,14 +7,8 @@ use Rattle.mend.proofs.rank_above.Tie as tie
 returns : tie.Need-returns
 returns c = rank-none _ _ (c .if1 .taken)
 
-sub-rank-at : tie.Need-sub-rank-at
-sub-rank-at c = search needs
-
-rank-at-requires : tie.Need-rank-at-requires
-rank-at-requires c κs = search needs
-
 returns-2 : tie.Need-returns-2
 returns-2 c = rank-some _ _ _ (c .before .if1 .left) (c .rank-at .ensures)
 
 pub rank-above-spec : {M : Type 1} → statement M
-rank-above-spec = tie.close (tie.spec returns sub-rank-at rank-at-requires returns-2)
+rank-above-spec = tie.close (tie.spec returns (λ c. search needs) (λ c κs. search needs) returns-2)

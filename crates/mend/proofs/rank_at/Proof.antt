@@ -1,15 +1,12 @@
--- `mend::rank_at` meets its contract. Assumes nothing.
+-- `mend::rank_at` meets its contract.
 use mathlib.Core.Path.{ap}
 use Rattle.tree_model.specs.declared.Slot.{Slot}
 use borrow.Author.Needs.{needs}
 use Rattle.mend.proofs.rank_at.Statement.{statement}
 use Rattle.mend.proofs.rank_at.Tie as tie
 
-slot-at-requires : tie.Need-slot-at-requires
-slot-at-requires c κs = search needs
-
 returns : tie.Need-returns
 returns c = ap (λ (s : Slot). s .element .rank .0) (c .before .before .slot-at .ensures)
 
 pub rank-at-spec : {M : Type 1} → statement M
-rank-at-spec = tie.close (tie.spec slot-at-requires returns)
+rank-at-spec = tie.close (tie.spec (λ c κs. search needs) returns)

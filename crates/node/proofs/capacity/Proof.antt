@@ -1,4 +1,4 @@
--- `node::capacity` meets its contract. Assumes nothing.
+-- `node::capacity` meets its contract.
 use Prim.Native.Nat.{_*_, _+_, _-_, _≤_, ℕ}
 use native.Mathlib.Nat.{mul-le-mul-right}
 use native.Mathlib.Omega.{arith}
@@ -29,14 +29,10 @@ add-slots c = omega (arith, leb-true (c .before .before .loop .slots) slotLimit 
 mul-slots : tie.Need-mul-slots Inv-loop μ-loop
 mul-slots c = omega (arith, leb-true (c .before .before .loop .slots) slotLimit (c .if1 .taken), mul-le-mul-right (c .before .before .loop .slots + 1) (c .before .before .before .pre .1))
 
-add-i : tie.Need-add-i Inv-loop μ-loop
-add-i c = search needs
-
-loop-less : tie.Need-loop-less Inv-loop μ-loop
-loop-less c = search needs
-
 loop-again : tie.Need-loop-again Inv-loop μ-loop
-loop-again c = (omega arith, ap (λ (n : ℕ). c .before .before .before .args .order * (n + 1)) (c .before .before .loop .inv .1) ∙ room-next (c .before .before .before .args .order) (c .before .before .loop .i), counted-next _ _ _ (c .before .before .loop .inv .2) (leb-true (c .before .before .loop .slots) slotLimit (c .if1 .taken)))
+loop-again c =
+    let start = c .before .before .before in
+    (omega arith, ap (λ (n : ℕ). start .args .order * (n + 1)) (c .before .before .loop .inv .1) ∙ room-next (start .args .order) (c .before .before .loop .i), counted-next _ _ _ (c .before .before .loop .inv .2) (leb-true (c .before .before .loop .slots) slotLimit (c .if1 .taken)))
 
 returns : tie.Need-returns Inv-loop μ-loop
 returns c = (capacity-above _ _ (c .before .before .loop .i) _ (c .before .before .before .pre .0) (c .before .before .loop .inv .0) (leb-false (c .before .before .loop .slots) slotLimit (c .if1 .left)) (c .before .before .loop .inv .1), counted-above _ _ (c .before .before .loop .i) _ (c .before .before .loop .inv .0) (leb-false (c .before .before .loop .slots) slotLimit (c .if1 .left)) (c .before .before .loop .inv .2))
@@ -45,16 +41,5 @@ returns-2 : tie.Need-returns-2 Inv-loop μ-loop
 returns-2 c = (capacity-end _ _ _ _ (omega arith) (c .before .loop .inv .1), c .before .loop .inv .2 ∙ ap (slotsCounted (c .before .before .args .order)) (omega arith))
 
 pub capacity-spec : {M : Type 1} → statement M
-capacity-spec =
-    tie.close
-    (tie.spec
-    Inv-loop
-    μ-loop
-    loop-holds
-    add-slots
-    mul-slots
-    add-i
-    loop-less
-    loop-again
-    returns
-    returns-2)
+capacity-spec = tie.close
+    (tie.spec Inv-loop μ-loop loop-holds add-slots mul-slots (λ c. search needs) (λ c. search needs) loop-again returns returns-2)

@@ -1,4 +1,4 @@
--- `node::order_ok` meets its contract. Assumes nothing.
+-- `node::order_ok` meets its contract.
 use mathlib.Core.Path.{refl}
 use Rattle.tree_model.specs.Calls.{orderOk}
 use Rattle.node.proofs.order_ok.Statement.{statement}

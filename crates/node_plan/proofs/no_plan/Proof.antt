@@ -1,4 +1,4 @@
--- `node_plan::no_plan` meets its contract. Assumes nothing.
+-- `node_plan::no_plan` meets its contract.
 use mathlib.Core.Path.{refl}
 use mathlib.Core.Path.{ap}
 use Rattle.tree_model.specs.Node.{move}
@@ -7,15 +7,9 @@ use Rattle.strip.specs.declared.Element.{Element}
 use borrow.Author.Needs.{needs}
 use Rattle.node_plan.proofs.no_plan.Statement.{statement}
 use Rattle.node_plan.proofs.no_plan.Tie as tie
-use Rattle.node_plan.proofs.no_plan.Reads as reads
-use Rattle.node_plan.proofs.no_plan.Lts as lts
-use Rattle.strip.proofs.no_element.Reads as no-element-reads
-
-no-element-requires : tie.Need-no-element-requires
-no-element-requires c κs = search needs
 
 returns : tie.Need-returns
 returns c = (refl, ap (λ (e : Element). move (c .before .args .order) e 0 Nothing) (c .no-element .ensures))
 
 pub no-plan-spec : {M : Type 1} → statement M
-no-plan-spec = tie.close (tie.spec no-element-requires returns)
+no-plan-spec = tie.close (tie.spec (λ c κs. search needs) returns)

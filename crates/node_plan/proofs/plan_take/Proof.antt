@@ -1,4 +1,4 @@
--- `node_plan::plan_take` meets its contract. Assumes nothing.
+-- `node_plan::plan_take` meets its contract.
 use native.Mathlib.Omega.{arith}
 use borrow.Author.Tests.{not-false}
 use mathlib.Core.Bool.{true≢false}
@@ -7,21 +7,11 @@ use Rattle.node_plan.proofs.Planning.{chosen-low, lift-last, lift-off, 
 use borrow.Author.Needs.{needs}
 use Rattle.node_plan.proofs.plan_take.Statement.{statement}
 use Rattle.node_plan.proofs.plan_take.Tie as tie
-use Rattle.node_plan.proofs.plan_take.Reads as reads
-use Rattle.node_plan.proofs.plan_take.Lts as lts
-use Rattle.node_plan.proofs.choose_low.Reads as choose-low-reads
-use Rattle.node_plan.proofs.no_plan.Reads as no-plan-reads
-use Rattle.node_plan.proofs.planned.Reads as planned-reads
-use Rattle.strip.proofs.no_element.Reads as no-element-reads
-
-no-element-requires : tie.Need-no-element-requires
-no-element-requires c κs = search needs
-
-planned-requires : tie.Need-planned-requires
-planned-requires c κs = search needs
 
 returns : tie.Need-returns
-returns c = (lift-last (c .before .before .before .before .args .room) (c .before .before .before .before .args .place) _ _ (c .before .before .if1 .taken) _ (c .planned .ensures .0), λ z. take-last (c .before .before .before .before .args .room) (c .before .before .before .before .args .place) _ _ (c .before .before .if1 .taken) _ _ (c .before .no-element .ensures) (c .planned .ensures .1))
+returns c =
+    let start = c .before .before .before .before in
+    (lift-last (start .args .room) (start .args .place) _ _ (c .before .before .if1 .taken) _ (c .planned .ensures .0), λ z. take-last (start .args .room) (start .args .place) _ _ (c .before .before .if1 .taken) _ _ (c .before .no-element .ensures) (c .planned .ensures .1))
 
 mul-choose-low : tie.Need-mul-choose-low
 mul-choose-low c = omega (arith, c .before .before .pre .0 (c .if1 .left) .words)
@@ -32,33 +22,18 @@ add-choose-low c = omega (arith, c .before .before .pre .0 (c .if1 .left) .words
 choose-low-requires : tie.Need-choose-low-requires
 choose-low-requires c κs = (c .before .before .pre .0 (c .if1 .left), c .before .before .pre .1, c .before .before .pre .2)
 
-no-plan-requires : tie.Need-no-plan-requires
-no-plan-requires c κs = search needs
-
 returns-2 : tie.Need-returns-2
-returns-2 c = (lift-off (c .before .before .before .before .before .before .args .room) (c .before .before .before .before .before .before .args .place) _ _ (c .before .before .before .before .if1 .left) _ (c .before .before .before .choose-low .ensures .0) _ (c .before .if2 .taken) (c .no-plan .ensures .0), λ z. absurd (true≢false (sym z ∙ c .no-plan .ensures .0)))
-
-sub-planned : tie.Need-sub-planned
-sub-planned c = search needs
-
-planned-requires-2 : tie.Need-planned-requires-2
-planned-requires-2 c κs = search needs
+returns-2 c =
+    let at-choose-low = c .before .before .before in let else1 = at-choose-low .before in let start = else1 .before .before in
+    (lift-off (start .args .room) (start .args .place) _ _ (else1 .if1 .left) _ (at-choose-low .choose-low .ensures .0) _ (c .before .if2 .taken) (c .no-plan .ensures .0), λ z. absurd (true≢false (sym z ∙ c .no-plan .ensures .0)))
 
 returns-3 : tie.Need-returns-3
-returns-3 c = (lift-on (c .before .before .before .before .before .before .before .before .args .room) (c .before .before .before .before .before .before .before .before .args .place) _ _ (c .before .before .before .before .before .before .if1 .left) _ (c .before .before .before .before .before .choose-low .ensures .0) _ (c .before .before .before .if2 .left) (c .planned2 .ensures .0), λ z. take-lifted (c .before .before .before .before .before .before .before .before .args .room) (c .before .before .before .before .before .before .before .before .args .place) _ _ (c .before .before .before .before .before .before .if1 .left) _ (c .before .before .before .before .before .choose-low .ensures .0) _ (chosen-low _ _ _ _ _ (c .before .before .before .before .before .choose-low .ensures .1 (not-false _ (c .before .before .before .if2 .left)))) _ (c .planned2 .ensures .1))
+returns-3 c =
+    let else2 = c .before .before .before in let at-choose-low = else2 .before .before in let else1 = at-choose-low .before in
+    let start = else1 .before .before in
+    (lift-on (start .args .room) (start .args .place) _ _ (else1 .if1 .left) _ (at-choose-low .choose-low .ensures .0) _ (else2 .if2 .left) (c .planned2 .ensures .0), λ z. take-lifted (start .args .room) (start .args .place) _ _ (else1 .if1 .left) _ (at-choose-low .choose-low .ensures .0) _ (chosen-low _ _ _ _ _ (at-choose-low .choose-low .ensures .1 (not-false _ (else2 .if2 .left)))) _ (c .planned2 .ensures .1))
 
 pub plan-take-spec : {M : Type 1} → statement M
-plan-take-spec =
-    tie.close
-    (tie.spec
-    no-element-requires
-    planned-requires
-    returns
-    mul-choose-low
-    add-choose-low
-    choose-low-requires
-    no-plan-requires
-    returns-2
-    sub-planned
-    planned-requires-2
-    returns-3)
+plan-take-spec = tie.close
+    (tie.spec (λ c κs. search needs) (λ c κs. search needs) returns mul-choose-low add-choose-low choose-low-requires (λ c κs. search needs)
+    returns-2 (λ c. search needs) (λ c κs. search needs) returns-3)

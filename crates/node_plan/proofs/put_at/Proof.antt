@@ -1,20 +1,9 @@
--- `node_plan::put_at` meets its contract. Assumes nothing.
+-- `node_plan::put_at` meets its contract.
 use Rattle.node_plan.proofs.Planning.{put-planned, put-planned-off}
 use borrow.Author.Tests.{not-false}
 use borrow.Author.Needs.{needs}
 use Rattle.node_plan.proofs.put_at.Statement.{statement}
 use Rattle.node_plan.proofs.put_at.Tie as tie
-use Rattle.node_plan.proofs.put_at.Reads as reads
-use Rattle.node_plan.proofs.put_at.Lts as lts
-use Rattle.node_plan.proofs.choose_least.Reads as choose-least-reads
-use Rattle.node_plan.proofs.no_plan.Reads as no-plan-reads
-use Rattle.node_plan.proofs.plan_put.Reads as plan-put-reads
-
-choose-least-requires : tie.Need-choose-least-requires
-choose-least-requires c κs = search needs
-
-no-plan-requires : tie.Need-no-plan-requires
-no-plan-requires c κs = search needs
 
 returns : tie.Need-returns
 returns c = λ under first. put-planned-off _ _ first _ under _ _ _ (c .before .before .before .choose-least .ensures .0) _ _ (c .before .if1 .taken) (c .no-plan .ensures .0)
@@ -23,8 +12,10 @@ plan-put-requires : tie.Need-plan-put-requires
 plan-put-requires c κs = c .before .before .before .choose-least .ensures .1 .1 (not-false _ (c .before .if1 .left))
 
 returns-2 : tie.Need-returns-2
-returns-2 c = λ under first. put-planned _ _ first _ under _ _ _ (c .before .before .before .before .choose-least .ensures .0) _ _ _ _ (c .before .before .if1 .left) (c .before .before .before .before .choose-least .ensures .1 .0) (c .plan-put .ensures .0) (c .plan-put .ensures .1)
+returns-2 c =
+    let at-choose-least = c .before .before .before .before in
+    λ under first. put-planned _ _ first _ under _ _ _ (at-choose-least .choose-least .ensures .0) _ _ _ _ (c .before .before .if1 .left) (at-choose-least .choose-least .ensures .1 .0) (c .plan-put .ensures .0) (c .plan-put .ensures .1)
 
 pub put-at-spec : {M : Type 1} → statement M
 put-at-spec =
-    tie.close (tie.spec choose-least-requires no-plan-requires returns plan-put-requires returns-2)
+    tie.close (tie.spec (λ c κs. search needs) (λ c κs. search needs) returns plan-put-requires returns-2)

@@ -1,4 +1,4 @@
--- `node_scan::first_filled` meets its contract. Assumes nothing.
+-- `node_scan::first_filled` meets its contract.
 use Prim.Native.Nat.{_-_, _≤_}
 use native.Mathlib.Nat.{not-suc-le-zero}
 use native.Mathlib.Omega.{arith}
@@ -16,20 +16,8 @@ abbrev μ-loop : tie.MeasureT-loop
 loop-holds : tie.Need-loop-holds Inv-loop μ-loop
 loop-holds c = (omega arith, λ a h. absurd (not-suc-le-zero h))
 
-add-slot-at : tie.Need-add-slot-at Inv-loop μ-loop
-add-slot-at c = search needs
-
-slot-at-requires : tie.Need-slot-at-requires Inv-loop μ-loop
-slot-at-requires c κs = search needs
-
 returns : tie.Need-returns Inv-loop μ-loop
 returns c = filled-here _ _ _ _ _ (search needs) (c .before .before .before .before .loop .inv .1) (c .before .before .slot-at .ensures) (c .if1 .taken)
-
-add-j : tie.Need-add-j Inv-loop μ-loop
-add-j c = search needs
-
-loop-less : tie.Need-loop-less Inv-loop μ-loop
-loop-less c = search needs
 
 loop-again : tie.Need-loop-again Inv-loop μ-loop
 loop-again c = (omega arith, filled-next _ _ _ _ _ (search needs) (c .before .before .before .before .loop .inv .1) (c .before .before .slot-at .ensures) (c .if1 .left))
@@ -39,4 +27,4 @@ returns-2 c = filled-none _ _ _ _ (omega arith) (c .before .loop .inv .1)
 
 pub first-filled-spec : {M : Type 1} → statement M
 first-filled-spec =
-    tie.close (tie.spec Inv-loop μ-loop loop-holds add-slot-at slot-at-requires returns add-j loop-less loop-again returns-2)
+    tie.close (tie.spec Inv-loop μ-loop loop-holds (λ c. search needs) (λ c κs. search needs) returns (λ c. search needs) (λ c. search needs) loop-again returns-2)

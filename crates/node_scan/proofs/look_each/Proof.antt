@@ -1,4 +1,4 @@
--- `node_scan::look_each` meets its contract. Assumes nothing.
+-- `node_scan::look_each` meets its contract.
 use Prim.Native.Nat.{_-_, _≤_}
 use native.Mathlib.Omega.{arith}
 use mathlib.Core.Logic.{⊎-elim}
@@ -22,30 +22,13 @@ loop-holds : tie.Need-loop-holds Inv-loop μ-loop
 unfolding everyTo
 loop-holds c = (omega arith, refl, sofar-start _ _ _)
 
-add-slot-at : tie.Need-add-slot-at Inv-loop μ-loop
-add-slot-at c = search needs
-
-slot-at-requires : tie.Need-slot-at-requires Inv-loop μ-loop
-slot-at-requires c κs = search needs
-
-slot-ok-requires : tie.Need-slot-ok-requires Inv-loop μ-loop
-slot-ok-requires c κs = search needs
-
-turn-or-requires : tie.Need-turn-or-requires Inv-loop μ-loop
-turn-or-requires c κs = search needs
-
-add-j : tie.Need-add-j Inv-loop μ-loop
-add-j c = search needs
-
-loop-less : tie.Need-loop-less Inv-loop μ-loop
-loop-less c = search needs
-
 loop-again : tie.Need-loop-again Inv-loop μ-loop
 loop-again c =
-    let at-loop = c .before .before .before .before .before .before in
+    let at-slot-at = c .before .before .before in let at-6 = at-slot-at .before .before .before in
+    let at-loop = at-6 in
     let inv = at-loop .loop .inv in
-    let read = c .before .before .before .slot-at .ensures in
-    let known = c .before .before .before .slot-at .ok in
+    let read = at-slot-at .slot-at .ensures in
+    let known = at-slot-at .slot-at .ok in
     let turn = c .before .turn-or .ensures in
     let ok = every-next _ _ _ _ _ _ _ _ (search needs) (inv .1) read (c .before .before .slot-ok .ensures) in
     ⊎-elim
@@ -63,18 +46,6 @@ returns-2 : tie.Need-returns-2 Inv-loop μ-loop
 returns-2 c = let inv = c .before .loop .inv in each-looked _ _ _ _ _ _ _ _ (omega arith) (inv .1) (inv .2)
 
 pub look-each-spec : {M : Type 1} → statement M
-look-each-spec =
-    tie.close
-    (tie.spec
-    Inv-loop
-    μ-loop
-    loop-holds
-    add-slot-at
-    slot-at-requires
-    slot-ok-requires
-    turn-or-requires
-    add-j
-    loop-less
-    loop-again
-    returns
-    returns-2)
+look-each-spec = tie.close
+    (tie.spec Inv-loop μ-loop loop-holds (λ c. search needs) (λ c κs. search needs) (λ c κs. search needs) (λ c κs. search needs)
+    (λ c. search needs) (λ c. search needs) loop-again returns returns-2)

@@ -1,4 +1,4 @@
--- `node_scan::look_four` meets its contract. Assumes nothing.
+-- `node_scan::look_four` meets its contract.
 use native.Mathlib.Omega.{arith}
 use mathlib.Core.Bool.{_&&_}
 use mathlib.Core.List.{List}
@@ -13,54 +13,11 @@ use Rattle.node_scan.proofs.Leads.{four-led, four-none, four-ok, IsWord
 use Rattle.node_scan.proofs.look_four.Statement.{statement}
 use Rattle.node_scan.proofs.look_four.Tie as tie
 
-slot-at-requires : tie.Need-slot-at-requires
-slot-at-requires c κs = search needs
-
-add-slot-at : tie.Need-add-slot-at
-add-slot-at c = search needs
-
-slot-at-requires-2 : tie.Need-slot-at-requires-2
-slot-at-requires-2 c κs = search needs
-
-add-slot-at-2 : tie.Need-add-slot-at-2
-add-slot-at-2 c = search needs
-
-slot-at-requires-3 : tie.Need-slot-at-requires-3
-slot-at-requires-3 c κs = search needs
-
-add-slot-at-3 : tie.Need-add-slot-at-3
-add-slot-at-3 c = search needs
-
-slot-at-requires-4 : tie.Need-slot-at-requires-4
-slot-at-requires-4 c κs = search needs
-
-slot-ok-requires : tie.Need-slot-ok-requires
-slot-ok-requires c κs = search needs
-
-slot-ok-requires-2 : tie.Need-slot-ok-requires-2
-slot-ok-requires-2 c κs = search needs
-
-slot-ok-requires-3 : tie.Need-slot-ok-requires-3
-slot-ok-requires-3 c κs = search needs
-
-slot-ok-requires-4 : tie.Need-slot-ok-requires-4
-slot-ok-requires-4 c κs = search needs
-
-turn-or-requires : tie.Need-turn-or-requires
-turn-or-requires c κs = search needs
-
-turn-or-requires-2 : tie.Need-turn-or-requires-2
-turn-or-requires-2 c κs = search needs
-
-turn-or-requires-3 : tie.Need-turn-or-requires-3
-turn-or-requires-3 c κs = search needs
-
-turn-or-requires-4 : tie.Need-turn-or-requires-4
-turn-or-requires-4 c κs = search needs
-
 -- the node, once its slots are read
 abbrev read : tie.After-slot-at4 → List Slot
-read c = nodeOf 4 (now (c .before .before .before .before .before .args .s)) (c .before .before .before .before .before .args .at)
+read c =
+    let start = c .before .before .before .before .before in
+    nodeOf 4 (now (start .args .s)) (start .args .at)
 
 -- rank and tag that were read are words
 small : (c : tie.After-slot-at) → IsWords (c .slot-at .result .element)
@@ -77,16 +34,24 @@ small4 c = (omega (arith, c .slot-at4 .ok), omega (arith, c .slot-at4 .ok))
 
 -- each slot leads its own place
 lead : (c : tie.After-turn-or) → Leads (read (c .before .before .before .before .before)) 0 1 0 (c .turn-or .result)
-lead c = one-leads _ _ 0 (c .before .before .before .before .before .before .before .before .before .before .args .at) _ _ (omega arith) (omega arith) (c .before .before .before .before .before .before .before .before .slot-at .ensures) (c .turn-or .ensures) (small (c .before .before .before .before .before .before .before .before))
+lead c =
+    let at-slot-at = c .before .before .before .before .before .before .before .before in let start = at-slot-at .before .before in
+    one-leads _ _ 0 (start .args .at) _ _ (omega arith) (omega arith) (at-slot-at .slot-at .ensures) (c .turn-or .ensures) (small at-slot-at)
 
 lead2 : (c : tie.After-turn-or2) → Leads (read (c .before .before .before .before .before .before)) 1 2 1 (c .turn-or2 .result)
-lead2 c = one-leads _ _ 1 _ _ _ (omega arith) refl (c .before .before .before .before .before .before .before .before .slot-at2 .ensures) (c .turn-or2 .ensures) (small2 (c .before .before .before .before .before .before .before .before))
+lead2 c =
+    let at-slot-at2 = c .before .before .before .before .before .before .before .before in
+    one-leads _ _ 1 _ _ _ (omega arith) refl (at-slot-at2 .slot-at2 .ensures) (c .turn-or2 .ensures) (small2 at-slot-at2)
 
 lead3 : (c : tie.After-turn-or3) → Leads (read (c .before .before .before .before .before .before .before .before)) 2 3 2 (c .turn-or3 .result)
-lead3 c = one-leads _ _ 2 _ _ _ (omega arith) refl (c .before .before .before .before .before .before .before .before .before .slot-at3 .ensures) (c .turn-or3 .ensures) (small3 (c .before .before .before .before .before .before .before .before .before))
+lead3 c =
+    let at-slot-at3 = c .before .before .before .before .before .before .before .before .before in
+    one-leads _ _ 2 _ _ _ (omega arith) refl (at-slot-at3 .slot-at3 .ensures) (c .turn-or3 .ensures) (small3 at-slot-at3)
 
 lead4 : (c : tie.After-turn-or4) → Leads (read (c .before .before .before .before .before .before .before .before .before)) 3 4 3 (c .turn-or4 .result)
-lead4 c = one-leads _ _ 3 _ _ _ (omega arith) refl (c .before .before .before .before .before .before .before .before .before .slot-at4 .ensures) (c .turn-or4 .ensures) (small4 (c .before .before .before .before .before .before .before .before .before))
+lead4 c =
+    let at-slot-at4 = c .before .before .before .before .before .before .before .before .before in
+    one-leads _ _ 3 _ _ _ (omega arith) refl (at-slot-at4 .slot-at4 .ensures) (c .turn-or4 .ensures) (small4 at-slot-at4)
 
 -- two pairs
 left : (c : tie.Joined1) → Leads (read (c .before .before .before .before .before .before .before)) 0 2 (c .if1 .best) (c .if1 .low)
@@ -103,12 +68,15 @@ right c =
 -- then the winners
 won : (c : tie.Joined3) → Leads (read (c .before .before .before .before .before .before .before .before .before .before .before)) 0 4 (c .if3 .best) (c .if3 .low)
 won c =
-    ⊎-elim (λ w. right-leads _ 0 2 4 _ _ _ _ (left (c .before .before .before .before)) (right (c .before)) _ _ (w .0 .taken) (w .1) (w .2))
-    (λ w. left-leads _ 0 2 4 _ _ _ _ (left (c .before .before .before .before)) (right (c .before)) _ _ (w .0 .left) (w .1) (w .2)) (c .if3 .came)
+    let joined1 = c .before .before .before .before in
+    ⊎-elim (λ w. right-leads _ 0 2 4 _ _ _ _ (left joined1) (right (c .before)) _ _ (w .0 .taken) (w .1) (w .2))
+    (λ w. left-leads _ 0 2 4 _ _ _ _ (left joined1) (right (c .before)) _ _ (w .0 .left) (w .1) (w .2)) (c .if3 .came)
 
-whole : (c : tie.After-slot-ok4) → (((c .before .before .before .slot-ok .result && c .before .before .slot-ok2 .result) && c .before .slot-ok3 .result) && c .slot-ok4 .result) ≡ nodeOk (c .before .before .before .before .before .before .before .before .before .args .room) (read (c .before .before .before .before))
+whole : (c : tie.After-slot-ok4) → let at-slot-ok = c .before .before .before in let at-4 = at-slot-ok .before in let start = at-4 .before .before .before .before .before in (((at-slot-ok .slot-ok .result && c .before .before .slot-ok2 .result) && c .before .slot-ok3 .result) && c .slot-ok4 .result) ≡ nodeOk (start .args .room) (read at-4)
 whole c =
-    four-ok _ _ _ _ _ _ _ (c .before .before .before .before .before .before .before .slot-at .ensures) (c .before .before .before .before .before .before .slot-at2 .ensures) (c .before .before .before .before .before .slot-at3 .ensures) (c .before .before .before .before .slot-at4 .ensures) _ _ _ _ (c .before .before .before .slot-ok .ensures) (c .before .before .slot-ok2 .ensures) (c .before .slot-ok3 .ensures) (c .slot-ok4 .ensures)
+    let at-slot-ok = c .before .before .before in let at-slot-at4 = at-slot-ok .before in let at-slot-at3 = at-slot-at4 .before in
+    let at-slot-at2 = at-slot-at3 .before in let at-slot-at = at-slot-at2 .before in
+    four-ok _ _ _ _ _ _ _ (at-slot-at .slot-at .ensures) (at-slot-at2 .slot-at2 .ensures) (at-slot-at3 .slot-at3 .ensures) (at-slot-at4 .slot-at4 .ensures) _ _ _ _ (at-slot-ok .slot-ok .ensures) (c .before .before .slot-ok2 .ensures) (c .before .slot-ok3 .ensures) (c .slot-ok4 .ensures)
 
 returns : tie.Need-returns
 returns c = (whole (c .before .before .before .before .before .before .before .before), four-none _ _ _ _ (won (c .before)) (c .if4 .taken))
@@ -117,23 +85,7 @@ returns-2 : tie.Need-returns-2
 returns-2 c = (whole (c .before .before .before .before .before .before .before .before), four-led _ _ _ _ (won (c .before)) (c .if4 .left))
 
 pub look-four-spec : {M : Type 1} → statement M
-look-four-spec =
-    tie.close
-    (tie.spec
-    slot-at-requires
-    add-slot-at
-    slot-at-requires-2
-    add-slot-at-2
-    slot-at-requires-3
-    add-slot-at-3
-    slot-at-requires-4
-    slot-ok-requires
-    slot-ok-requires-2
-    slot-ok-requires-3
-    slot-ok-requires-4
-    turn-or-requires
-    turn-or-requires-2
-    turn-or-requires-3
-    turn-or-requires-4
-    returns
-    returns-2)
+look-four-spec = tie.close
+    (tie.spec (λ c κs. search needs) (λ c. search needs) (λ c κs. search needs) (λ c. search needs) (λ c κs. search needs)
+    (λ c. search needs) (λ c κs. search needs) (λ c κs. search needs) (λ c κs. search needs) (λ c κs. search needs) (λ c κs. search needs)
+    (λ c κs. search needs) (λ c κs. search needs) (λ c κs. search needs) (λ c κs. search needs) returns returns-2)

@@ -1,4 +1,4 @@
--- `node_scan::look_least` meets its contract. Assumes nothing.
+-- `node_scan::look_least` meets its contract.
 use Prim.Native.Nat.{_-_, _≤_}
 use native.Mathlib.Omega.{arith}
 use mathlib.Core.Logic.{⊎-elim}
@@ -22,29 +22,12 @@ loop-holds : tie.Need-loop-holds Inv-loop μ-loop
 unfolding everyTo scanLeast fewest
 loop-holds c = search needs
 
-add-slot-at : tie.Need-add-slot-at Inv-loop μ-loop
-add-slot-at c = search needs
-
-slot-at-requires : tie.Need-slot-at-requires Inv-loop μ-loop
-slot-at-requires c κs = search needs
-
-slot-ok-requires : tie.Need-slot-ok-requires Inv-loop μ-loop
-slot-ok-requires c κs = search needs
-
-cast-c : tie.Need-cast-c Inv-loop μ-loop
-cast-c c = search needs
-
-add-j : tie.Need-add-j Inv-loop μ-loop
-add-j c = search needs
-
-loop-less : tie.Need-loop-less Inv-loop μ-loop
-loop-less c = search needs
-
 loop-again : tie.Need-loop-again Inv-loop μ-loop
 loop-again c =
-    let at-loop = c .before .before .before .before .before .before in
+    let at-slot-at = c .before .before .before in let at-6 = at-slot-at .before .before .before in
+    let at-loop = at-6 in
     let inv = at-loop .loop .inv in
-    let read = c .before .before .before .slot-at .ensures in
+    let read = at-slot-at .slot-at .ensures in
     let ok = every-next _ _ _ _ _ _ _ _ (search needs) (inv .1) read (c .before .before .slot-ok .ensures) in
     ⊎-elim
     (λ w. let p = few-taken _ _ _ _ _ _ _ (search needs) (search needs) (inv .2) (inv .3) read (w .0 .taken) _ _ (w .1) (w .2) in (omega arith, ok, p .0, p .1))
@@ -61,18 +44,6 @@ returns-2 : tie.Need-returns-2 Inv-loop μ-loop
 returns-2 c = let inv = c .before .loop .inv in least-looked _ _ _ _ _ _ _ (omega arith) (inv .1) (omega arith) (inv .2)
 
 pub look-least-spec : {M : Type 1} → statement M
-look-least-spec =
-    tie.close
-    (tie.spec
-    Inv-loop
-    μ-loop
-    loop-holds
-    add-slot-at
-    slot-at-requires
-    slot-ok-requires
-    cast-c
-    add-j
-    loop-less
-    loop-again
-    returns
-    returns-2)
+look-least-spec = tie.close
+    (tie.spec Inv-loop μ-loop loop-holds (λ c. search needs) (λ c κs. search needs) (λ c κs. search needs) (λ c. search needs)
+    (λ c. search needs) (λ c. search needs) loop-again returns returns-2)

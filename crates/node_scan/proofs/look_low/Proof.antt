@@ -1,14 +1,8 @@
--- `node_scan::look_low` meets its contract. Assumes nothing.
+-- `node_scan::look_low` meets its contract.
 use borrow.Author.Needs.{needs}
 use Rattle.node_scan.proofs.Leads.{low-found-first, low-found-here}
 use Rattle.node_scan.proofs.look_low.Statement.{statement}
 use Rattle.node_scan.proofs.look_low.Tie as tie
-
-look-turns-requires : tie.Need-look-turns-requires
-look-turns-requires c κs = search needs
-
-first-filled-requires : tie.Need-first-filled-requires
-first-filled-requires c κs = search needs
 
 returns : tie.Need-returns
 returns c = (c .before .before .look-turns .ensures .0, low-found-first _ _ _ _ (c .before .before .look-turns .ensures .1 .0) _ (c .before .if1 .taken) (c .first-filled .ensures))
@@ -17,4 +11,4 @@ returns-2 : tie.Need-returns-2
 returns-2 c = (c .before .look-turns .ensures .0, low-found-here _ _ _ _ (c .before .look-turns .ensures .1 .0) (c .before .look-turns .ensures .1 .1) (c .if1 .left))
 
 pub look-low-spec : {M : Type 1} → statement M
-look-low-spec = tie.close (tie.spec look-turns-requires first-filled-requires returns returns-2)
+look-low-spec = tie.close (tie.spec (λ c κs. search needs) (λ c κs. search needs) returns returns-2)

@@ -1,4 +1,4 @@
--- `node_scan::look_turns` meets its contract. Assumes nothing.
+-- `node_scan::look_turns` meets its contract.
 use borrow.Author.Needs.{needs}
 use Rattle.node_scan.proofs.Leads.{four-asked, four-told}
 use Rattle.node_scan.proofs.look_turns.Statement.{statement}
@@ -10,11 +10,8 @@ look-four-requires c κs = four-asked _ _ _ _ (c .if1 .taken) (search needs) (se
 returns : tie.Need-returns
 returns c = four-told _ _ _ _ _ (c .before .if1 .taken) (c .look-four .ensures)
 
-look-each-requires : tie.Need-look-each-requires
-look-each-requires c κs = search needs
-
 returns-2 : tie.Need-returns-2
 returns-2 c = c .look-each .ensures
 
 pub look-turns-spec : {M : Type 1} → statement M
-look-turns-spec = tie.close (tie.spec look-four-requires returns look-each-requires returns-2)
+look-turns-spec = tie.close (tie.spec look-four-requires returns (λ c κs. search needs) returns-2)

@@ -1,4 +1,4 @@
--- `node_scan::sum_counts` meets its contract. Assumes nothing.
+-- `node_scan::sum_counts` meets its contract.
 use Prim.Native.Nat.{_*_, _-_, _≤_}
 use native.Mathlib.Omega.{arith}
 use mathlib.Core.Path.{_≡_}
@@ -18,24 +18,6 @@ loop-holds : tie.Need-loop-holds Inv-loop μ-loop
 unfolding sumCountsTo
 loop-holds c = search needs
 
-add-slot-at : tie.Need-add-slot-at Inv-loop μ-loop
-add-slot-at c = search needs
-
-slot-at-requires : tie.Need-slot-at-requires Inv-loop μ-loop
-slot-at-requires c κs = search needs
-
-cast-sum : tie.Need-cast-sum Inv-loop μ-loop
-cast-sum c = search needs
-
-add-sum : tie.Need-add-sum Inv-loop μ-loop
-add-sum c = search needs
-
-add-j : tie.Need-add-j Inv-loop μ-loop
-add-j c = search needs
-
-loop-less : tie.Need-loop-less Inv-loop μ-loop
-loop-less c = search needs
-
 loop-again : tie.Need-loop-again Inv-loop μ-loop
 loop-again c = (omega arith, omega arith, sum-next _ _ _ _ _ _ (search needs) (c .before .before .before .loop .inv .2) (c .before .slot-at .ensures))
 
@@ -43,17 +25,6 @@ returns : tie.Need-returns Inv-loop μ-loop
 returns c = sum-end _ _ _ _ _ (omega arith) (c .before .loop .inv .2)
 
 pub sum-counts-spec : {M : Type 1} → statement M
-sum-counts-spec =
-    tie.close
-    (tie.spec
-    Inv-loop
-    μ-loop
-    loop-holds
-    add-slot-at
-    slot-at-requires
-    cast-sum
-    add-sum
-    add-j
-    loop-less
-    loop-again
-    returns)
+sum-counts-spec = tie.close
+    (tie.spec Inv-loop μ-loop loop-holds (λ c. search needs) (λ c κs. search needs) (λ c. search needs) (λ c. search needs)
+    (λ c. search needs) (λ c. search needs) loop-again returns)

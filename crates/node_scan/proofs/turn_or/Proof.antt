@@ -1,4 +1,4 @@
--- `node_scan::turn_or` meets its contract. Assumes nothing.
+-- `node_scan::turn_or` meets its contract.
 use borrow.Author.Needs.{needs}
 use borrow.Author.Tests.{eq-eqb, ne-eqb}
 use Rattle.node_scan.specs.Scan.{turnOr}
@@ -10,21 +10,11 @@ returns : tie.Need-returns
 unfolding turnOr isEmpty
 returns c = rw (eq-eqb (c .before .before .args .a .count) 0 (c .if1 .taken))
 
-cast-high : tie.Need-cast-high
-cast-high c = search needs
-
-cast-low : tie.Need-cast-low
-cast-low c = search needs
-
-mul-result : tie.Need-mul-result
-mul-result c = search needs
-
-add-result : tie.Need-add-result
-add-result c = search needs
-
 returns-2 : tie.Need-returns-2
 unfolding turnOr isEmpty
-returns-2 c = rw (ne-eqb (c .before .before .before .before .before .before .before .args .a .count) 0 (c .before .before .before .before .before .if1 .left))
+returns-2 c =
+    let else1 = c .before .before .before .before .before in let start = else1 .before .before in
+    rw (ne-eqb (start .args .a .count) 0 (else1 .if1 .left))
 
 pub turn-or-spec : {M : Type 1} → statement M
-turn-or-spec = tie.close (tie.spec returns cast-high cast-low mul-result add-result returns-2)
+turn-or-spec = tie.close (tie.spec returns (λ c. search needs) (λ c. search needs) (λ c. search needs) (λ c. search needs) returns-2)

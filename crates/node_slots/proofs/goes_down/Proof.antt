@@ -1,12 +1,9 @@
--- `node_slots::goes_down` meets its contract. Assumes nothing.
+-- `node_slots::goes_down` meets its contract.
 use mathlib.Core.Path.{_∙_, sym}
 use Rattle.tree_model.specs.Node.{pass}
 use borrow.Author.Needs.{needs}
 use Rattle.node_slots.proofs.goes_down.Statement.{statement}
 use Rattle.node_slots.proofs.goes_down.Tie as tie
-
-lower-requires : tie.Need-lower-requires
-lower-requires c κs = search needs
 
 returns : tie.Need-returns
 unfolding pass
@@ -17,4 +14,4 @@ unfolding pass
 returns-2 c = rw (← sym (c .if1 .left) ∙ c .before .lower .ensures)
 
 pub goes-down-spec : {M : Type 1} → statement M
-goes-down-spec = tie.close (tie.spec lower-requires returns returns-2)
+goes-down-spec = tie.close (tie.spec (λ c κs. search needs) returns returns-2)

@@ -1,4 +1,4 @@
--- `node_slots::lower` meets its contract. Assumes nothing.
+-- `node_slots::lower` meets its contract.
 use borrow.Author.Needs.{needs}
 use Rattle.strip.specs.Answers.{key}
 use Rattle.node_slots.proofs.lower.Statement.{statement}

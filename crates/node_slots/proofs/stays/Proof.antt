@@ -1,12 +1,9 @@
--- `node_slots::stays` meets its contract. Assumes nothing.
+-- `node_slots::stays` meets its contract.
 use mathlib.Core.Path.{_∙_, sym}
 use Rattle.tree_model.specs.Node.{keep}
 use borrow.Author.Needs.{needs}
 use Rattle.node_slots.proofs.stays.Statement.{statement}
 use Rattle.node_slots.proofs.stays.Tie as tie
-
-lower-requires : tie.Need-lower-requires
-lower-requires c κs = search needs
 
 returns : tie.Need-returns
 unfolding keep
@@ -17,4 +14,4 @@ unfolding keep
 returns-2 c = rw (← sym (c .if1 .left) ∙ c .before .lower .ensures)
 
 pub stays-spec : {M : Type 1} → statement M
-stays-spec = tie.close (tie.spec lower-requires returns returns-2)
+stays-spec = tie.close (tie.spec (λ c κs. search needs) returns returns-2)

@@ -1,4 +1,4 @@
--- `node_slots::write_slot` meets its contract. Assumes nothing.
+-- `node_slots::write_slot` meets its contract.
 use native.Mathlib.Omega.{arith}
 use lib.ListN.{length-set}
 use borrow.Author.Needs.{needs}
@@ -6,64 +6,21 @@ use Rattle.tree_model.specs.Words.{write}
 use Rattle.node_slots.proofs.write_slot.Statement.{statement}
 use Rattle.node_slots.proofs.write_slot.Tie as tie
 
-mul-at : tie.Need-mul-at
-mul-at c = search needs
-
-mul-s : tie.Need-mul-s
-mul-s c = search needs
-
-slice-write-s : tie.Need-slice-write-s
-slice-write-s c = search needs
-
-add-s : tie.Need-add-s
-add-s c = search needs
-
-mul-s-2 : tie.Need-mul-s-2
-mul-s-2 c = search needs
-
 slice-write-s-2 : tie.Need-slice-write-s-2
 slice-write-s-2 c = simp length-set (omega arith)
-
-add-s-2 : tie.Need-add-s-2
-add-s-2 c = search needs
-
-mul-s-3 : tie.Need-mul-s-3
-mul-s-3 c = search needs
 
 slice-write-s-3 : tie.Need-slice-write-s-3
 slice-write-s-3 c = simp length-set (omega arith)
 
-add-s-3 : tie.Need-add-s-3
-add-s-3 c = search needs
-
-mul-s-4 : tie.Need-mul-s-4
-mul-s-4 c = search needs
-
 slice-write-s-4 : tie.Need-slice-write-s-4
 slice-write-s-4 c = simp length-set (omega arith)
-
-same-length : tie.Need-same-length
-same-length c = search needs
 
 returns : tie.Need-returns
 unfolding write
 returns c = search needs
 
 pub write-slot-spec : {M : Type 1} → statement M
-write-slot-spec =
-    tie.close
-    (tie.spec
-    mul-at
-    mul-s
-    slice-write-s
-    add-s
-    mul-s-2
-    slice-write-s-2
-    add-s-2
-    mul-s-3
-    slice-write-s-3
-    add-s-3
-    mul-s-4
-    slice-write-s-4
-    same-length
+write-slot-spec = tie.close
+    (tie.spec (λ c. search needs) (λ c. search needs) (λ c. search needs) (λ c. search needs) (λ c. search needs) slice-write-s-2
+    (λ c. search needs) (λ c. search needs) slice-write-s-3 (λ c. search needs) (λ c. search needs) slice-write-s-4 (λ c. search needs)
     returns)

@@ -1,4 +1,4 @@
--- `play::main` meets its contract. Assumes nothing.
+-- `play::main` meets its contract.
 use Prim.Native.Nat.{_-_, _<_, ℕ}
 use native.Mathlib.Omega.{arith}
 use mathlib.Core.Path.{_∙_, _≡_, sym}
@@ -7,10 +7,6 @@ use borrow.Author.Needs.{needs}
 use Rattle.trace_model.specs.Play.{outBytes, pieceBytes, programLots}
 use Rattle.play.proofs.main.Statement.{statement}
 use Rattle.play.proofs.main.Tie as tie
-use Rattle.play.proofs.main.Reads as reads
-use Rattle.play.proofs.main.Lts as lts
-use Rattle.play.proofs.begin.Reads as begin-reads
-use Rattle.play.proofs.piece.Reads as piece-reads
 
 fewer : (n : ℕ) → 0 < n → n - 1 < n
 fewer n h = omega arith
@@ -31,14 +27,8 @@ slice-aggregate-begin c = sym (length-replicate {A = ℕ} _ 0)
 slice-aggregate-begin-2 : tie.Need-slice-aggregate-begin-2 Inv-loop μ-loop
 slice-aggregate-begin-2 c = sym (length-replicate {A = ℕ} _ 0)
 
-begin-requires : tie.Need-begin-requires Inv-loop μ-loop
-begin-requires c κs = search needs
-
 loop-holds : tie.Need-loop-holds Inv-loop μ-loop
 loop-holds c = (sized 16376 _ (c .before .before .begin .kept .0), length-replicate {A = ℕ} _ 0, sized 393216 _ (c .before .before .begin .kept .1 .0))
-
-returns : tie.Need-returns Inv-loop μ-loop
-returns c = search needs
 
 slice-aggregate-piece : tie.Need-slice-aggregate-piece Inv-loop μ-loop
 slice-aggregate-piece c = sym (c .before .before .before .before .loop .inv .0)
@@ -50,7 +40,9 @@ slice-aggregate-piece-3 : tie.Need-slice-aggregate-piece-3 Inv-loop μ-loop
 slice-aggregate-piece-3 c = sym (c .before .before .before .before .before .before .loop .inv .2)
 
 piece-requires : tie.Need-piece-requires Inv-loop μ-loop
-piece-requires c κs = (c .before .before .before .before .before .before .loop .inv .1, c .before .before .before .before .before .before .loop .inv .2)
+piece-requires c κs =
+    let at-loop = c .before .before .before .before .before .before in
+    (at-loop .loop .inv .1, at-loop .loop .inv .2)
 
 sub-left : tie.Need-sub-left Inv-loop μ-loop
 sub-left c = c .before .before .before .before .before .before .before .before .before .loop-test .taken
@@ -59,27 +51,11 @@ loop-less : tie.Need-loop-less Inv-loop μ-loop
 loop-less c = fewer _ (c .before .before .before .before .before .before .before .before .before .loop-test .taken)
 
 loop-again : tie.Need-loop-again Inv-loop μ-loop
-loop-again c = (c .before .before .before .piece .kept .0 ∙ c .before .before .before .before .before .before .before .before .before .before .loop .inv .0, c .before .before .before .piece .kept .1 .1 .0 ∙ c .before .before .before .before .before .before .before .before .before .before .loop .inv .1, c .before .before .before .piece .kept .1 .1 .1 .0 ∙ c .before .before .before .before .before .before .before .before .before .before .loop .inv .2)
-
-returns-2 : tie.Need-returns-2 Inv-loop μ-loop
-returns-2 c = search needs
+loop-again c =
+    let at-piece = c .before .before .before in let at-loop = at-piece .before .before .before .before .before .before .before in
+    (at-piece .piece .kept .0 ∙ at-loop .loop .inv .0, at-piece .piece .kept .1 .1 .0 ∙ at-loop .loop .inv .1, at-piece .piece .kept .1 .1 .1 .0 ∙ at-loop .loop .inv .2)
 
 pub main-spec : {M : Type 1} → statement M
-main-spec =
-    tie.close
-    (tie.spec
-    Inv-loop
-    μ-loop
-    slice-aggregate-begin
-    slice-aggregate-begin-2
-    begin-requires
-    loop-holds
-    returns
-    slice-aggregate-piece
-    slice-aggregate-piece-2
-    slice-aggregate-piece-3
-    piece-requires
-    sub-left
-    loop-less
-    loop-again
-    returns-2)
+main-spec = tie.close
+    (tie.spec Inv-loop μ-loop slice-aggregate-begin slice-aggregate-begin-2 (λ c κs. search needs) loop-holds (λ c. search needs)
+    slice-aggregate-piece slice-aggregate-piece-2 slice-aggregate-piece-3 piece-requires sub-left loop-less loop-again (λ c. search needs))

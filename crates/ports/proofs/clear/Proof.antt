@@ -5,22 +5,29 @@ use Prim.Native.Nat.{ℕ, _≤_}
 use lib.ListN.{length}
 use borrow.Author.Tests.{not-true, not-false}
 use Rattle.ports_model.specs.Checks.{isShaped, limitsOk}
-use Rattle.ports_model.specs.Causes.{Shaped, Fair}
-use Rattle.ports_model.proofs.Facts.{shape-means, limits-mean}
+use Rattle.ports_model.specs.Causes.{Shaped}
+use Rattle.ports_model.proofs.Facts.{shape-means}
 use Rattle.ports.proofs.Blanks.{first-numbers, first-long, first-wiping}
 use Rattle.ports.proofs.Returns.{clear-bad, clear-unfair, clear-done}
 use borrow.Author.Needs.{needs}
 use Rattle.ports.proofs.clear.Statement.{statement}
 use Rattle.ports.proofs.clear.Tie as tie
 
+-- places on the way, each from a later one
+abbrev to-start : tie.Else1 → tie.Start
+to-start c = c .before .before .before .before .before .before .before
+
+abbrev to-else1 : tie.Else2 → tie.Else1
+to-else1 c = c .before .before
+
 -- what has been tested so far
-ok : (c : tie.Else1) → isShaped (c .before .before .before .before .before .before .before .args .s) (c .before .before .before .before .before .before .before .args .bits .now) (c .before .before .before .before .before .before .before .args .words .now) ≡ true
+ok : (c : tie.Else1) → let start = to-start c in isShaped (start .args .s) (start .args .bits .now) (start .args .words .now) ≡ true
 ok c = sym (c .before .is-shaped .ensures) ∙ not-false (c .before .is-shaped .result) (c .if1 .left)
 
-shape : (c : tie.Else1) → Shaped (c .before .before .before .before .before .before .before .args .s) (c .before .before .before .before .before .before .before .args .bits .now) (c .before .before .before .before .before .before .before .args .words .now)
+shape : (c : tie.Else1) → let start = to-start c in Shaped (start .args .s) (start .args .bits .now) (start .args .words .now)
 shape c = shape-means _ _ _ .says (ok c)
 
-fair : (c : tie.Else2) → limitsOk (c .before .before .before .before .before .before .before .before .before .args .s) (c .before .before .before .before .before .before .before .before .before .args .limits .now) ≡ true
+fair : (c : tie.Else2) → let start = to-start (to-else1 c) in limitsOk (start .args .s) (start .args .limits .now) ≡ true
 fair c = sym (c .before .limits-fit .ensures) ∙ not-false (c .before .limits-fit .result) (c .if2 .left)
 
 returns : tie.Need-returns
@@ -39,55 +46,24 @@ bit-words-requires : tie.Need-bit-words-requires
 bit-words-requires c κs = first-numbers _ _ _ (shape (c .before .before .before .before))
 
 wipe-requires : tie.Need-wipe-requires
-wipe-requires c κs = subst (λ (n : ℕ). n ≤ length (c .before .before .before .before .before .before .before .before .before .before .before .before .args .bits .now)) (sym (c .bit-words .ensures .0)) (shape (c .before .before .before .before .before) .bits)
+wipe-requires c κs =
+    let else1 = c .before .before .before .before .before in let start = to-start else1 in
+    subst (λ (n : ℕ). n ≤ length (start .args .bits .now)) (sym (c .bit-words .ensures .0)) (shape else1 .bits)
 
 wipe-words-requires : tie.Need-wipe-words-requires
-wipe-words-requires c κs = (first-wiping _ _ _ (shape (c .before .before .before .before .before .before .before .before .before .before)) _ (c .before .before .before .before .before .before .before .seat-of .ensures) _ (fair (c .before .before .before .before .before .before .before .before)), first-long _ _ _ (shape (c .before .before .before .before .before .before .before .before .before .before)) _ (c .before .before .before .before .before .before .before .seat-of .ensures))
+wipe-words-requires c κs =
+    let at-seat-of = c .before .before .before .before .before .before .before in let else2 = at-seat-of .before in
+    let else1 = to-else1 else2 in
+    (first-wiping _ _ _ (shape else1) _ (at-seat-of .seat-of .ensures) _ (fair else2), first-long _ _ _ (shape else1) _ (at-seat-of .seat-of .ensures))
 
 returns-3 : tie.Need-returns-3
-returns-3 c = clear-done _ _ _ _ (ok (c .before .before .before .before .before .before .before .before .before .before .before .before .before)) (fair (c .before .before .before .before .before .before .before .before .before .before .before)) _ (c .before .before .before .before .before .before .before .before .before .before .seat-of .ensures) _ (c .before .before .before .before .before .before .before .before .bit-words .ensures .0) _ _ (c .before .before .before .before .before .before .before .wipe .ensures) (c .before .before .wipe-words .ensures)
-
-is-shaped-requires : tie.Need-is-shaped-requires
-is-shaped-requires c κs = search needs
-
-same-length : tie.Need-same-length
-same-length c = search needs
-
-same-length-2 : tie.Need-same-length-2
-same-length-2 c = search needs
-
-same-length-3 : tie.Need-same-length-3
-same-length-3 c = search needs
-
-same-length-4 : tie.Need-same-length-4
-same-length-4 c = search needs
-
-cast-wipe-words : tie.Need-cast-wipe-words
-cast-wipe-words c = search needs
-
-same-length-5 : tie.Need-same-length-5
-same-length-5 c = search needs
-
-same-length-6 : tie.Need-same-length-6
-same-length-6 c = search needs
+returns-3 c =
+    let at-wipe = c .before .before .before .before .before .before .before in let at-bit-words = at-wipe .before in
+    let at-seat-of = at-bit-words .before .before in let else2 = at-seat-of .before in let else1 = to-else1 else2 in
+    clear-done _ _ _ _ (ok else1) (fair else2) _ (at-seat-of .seat-of .ensures) _ (at-bit-words .bit-words .ensures .0) _ _ (at-wipe .wipe .ensures) (c .before .before .wipe-words .ensures)
 
 pub clear-spec : {M : Type 1} → statement M
-clear-spec =
-    tie.close
-    (tie.spec
-    is-shaped-requires
-    same-length
-    same-length-2
-    returns
-    limits-fit-requires
-    same-length-3
-    same-length-4
-    returns-2
-    seat-of-requires
-    bit-words-requires
-    wipe-requires
-    cast-wipe-words
-    wipe-words-requires
-    same-length-5
-    same-length-6
-    returns-3)
+clear-spec = tie.close
+    (tie.spec (λ c κs. search needs) (λ c. search needs) (λ c. search needs) returns limits-fit-requires (λ c. search needs)
+    (λ c. search needs) returns-2 seat-of-requires bit-words-requires wipe-requires (λ c. search needs) wipe-words-requires
+    (λ c. search needs) (λ c. search needs) returns-3)

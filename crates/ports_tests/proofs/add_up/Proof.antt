@@ -19,12 +19,6 @@ loop-holds c = (omega arith, sums-none _ _)
 add-requires : tie.Need-add-requires Inv-loop μ-loop
 add-requires c κs = (omega arith, omega arith, c .before .loop .inv .1)
 
-add-p : tie.Need-add-p Inv-loop μ-loop
-add-p c = omega arith
-
-loop-less : tie.Need-loop-less Inv-loop μ-loop
-loop-less c = omega arith
-
 loop-again : tie.Need-loop-again Inv-loop μ-loop
 loop-again c = (omega arith, c .add .ensures)
 
@@ -35,14 +29,5 @@ returns c =
     subst (λ (p : ℕ). Summed (a .words .now) (a .free) p (c .before .loop .t)) e (c .before .loop .inv .1)
 
 pub add-up-spec : {M : Type 1} → statement M
-add-up-spec =
-    tie.close
-    (tie.spec
-    Inv-loop
-    μ-loop
-    loop-holds
-    add-requires
-    add-p
-    loop-less
-    loop-again
-    returns)
+add-up-spec = tie.close
+    (tie.spec Inv-loop μ-loop loop-holds add-requires (λ c. omega arith) (λ c. omega arith) loop-again returns)

@@ -9,19 +9,15 @@ seat-of-requires : tie.Need-seat-of-requires
 seat-of-requires c κs = (c .pre, c .pre .some)
 
 mul-result : tie.Need-mul-result
-mul-result c = omega (arith, seat-small (c .before .before .before .args .s) (c .before .before .seat-of .result) (c .before .before .before .pre) (c .before .before .seat-of .ensures))
+mul-result c =
+    let start = c .before .before .before in
+    omega (arith, seat-small (start .args .s) (c .before .before .seat-of .result) (start .pre) (c .before .before .seat-of .ensures))
 
 returns : tie.Need-returns
-returns c = (tall-is (c .before .before .before .args .s) (c .before .before .seat-of .result) (c .before .before .seat-of .ensures), seat-small (c .before .before .before .args .s) (c .before .before .seat-of .result) (c .before .before .before .pre) (c .before .before .seat-of .ensures) .0)
-
-cast-ports : tie.Need-cast-ports
-cast-ports c = search needs
+returns c =
+    let start = c .before .before .before in
+    (tall-is (start .args .s) (c .before .before .seat-of .result) (c .before .before .seat-of .ensures), seat-small (start .args .s) (c .before .before .seat-of .result) (start .pre) (c .before .before .seat-of .ensures) .0)
 
 pub bit-words-spec : {M : Type 1} → statement M
-bit-words-spec =
-    tie.close
-    (tie.spec
-    seat-of-requires
-    cast-ports
-    mul-result
-    returns)
+bit-words-spec = tie.close
+    (tie.spec seat-of-requires (λ c. search needs) mul-result returns)

@@ -8,16 +8,6 @@ use Rattle.ports_tests.proofs.has_some.Tie as tie
 returns : tie.Need-returns
 returns c = λ i. c .before .is-whole .ensures i && not (eqb (c .held-count .ensures i) 0)
 
-is-whole-requires : tie.Need-is-whole-requires
-is-whole-requires c κs = search needs
-
-held-count-requires : tie.Need-held-count-requires
-held-count-requires c κs = search needs
-
 pub has-some-spec : {M : Type 1} → statement M
-has-some-spec =
-    tie.close
-    (tie.spec
-    is-whole-requires
-    held-count-requires
-    returns)
+has-some-spec = tie.close
+    (tie.spec (λ c κs. search needs) (λ c κs. search needs) returns)

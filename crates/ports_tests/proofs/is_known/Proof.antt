@@ -7,14 +7,10 @@ use Rattle.ports_tests.proofs.is_known.Statement.{statement}
 use Rattle.ports_tests.proofs.is_known.Tie as tie
 
 returns : tie.Need-returns
-returns c = ap (λ (t : Bool). t && ltb (c .before .before .before .before .args .port) (c .before .before .before .before .args .s .ports)) (c .before .is-shaped .ensures)
-
-is-shaped-requires : tie.Need-is-shaped-requires
-is-shaped-requires c κs = search needs
+returns c =
+    let start = c .before .before .before .before in
+    ap (λ (t : Bool). t && ltb (start .args .port) (start .args .s .ports)) (c .before .is-shaped .ensures)
 
 pub is-known-spec : {M : Type 1} → statement M
-is-known-spec =
-    tie.close
-    (tie.spec
-    is-shaped-requires
-    returns)
+is-known-spec = tie.close
+    (tie.spec (λ c κs. search needs) returns)

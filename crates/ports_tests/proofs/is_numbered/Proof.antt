@@ -10,15 +10,10 @@ use Rattle.ports_tests.proofs.is_numbered.Tie as tie
 
 returns : tie.Need-returns
 returns c =
-    let s = c .before .before .before .before .before .args .s in
-    ap (λ (t : Bool). t && leb 1 (s .nodes) && leb (s .nodes) pool && leb 1 (s .ports) && leb (s .ports) mostPorts) (c .before .before .before .before .is-deep .ensures)
-
-is-deep-requires : tie.Need-is-deep-requires
-is-deep-requires c κs = search needs
+    let at-is-deep = c .before .before .before .before in let start = at-is-deep .before in
+    let s = start .args .s in
+    ap (λ (t : Bool). t && leb 1 (s .nodes) && leb (s .nodes) pool && leb 1 (s .ports) && leb (s .ports) mostPorts) (at-is-deep .is-deep .ensures)
 
 pub is-numbered-spec : {M : Type 1} → statement M
-is-numbered-spec =
-    tie.close
-    (tie.spec
-    is-deep-requires
-    returns)
+is-numbered-spec = tie.close
+    (tie.spec (λ c κs. search needs) returns)

@@ -12,28 +12,10 @@ shared-slice-read-whole c = top-in _ _ _ (c .before .before .before .before .bef
 
 returns : tie.Need-returns
 returns c =
-    let a = c .before .before .before .before .before .before .args in
-    c .whole .ensures ∙ (λ i. wholeOk (a .t .kept) (a .t .claimed) (a .t .used) (c .before .before .before .free-link .ensures i) (word (a .bits .now) (a .k .bits)) (c .before .before .held-count .ensures i) (a .k .nodes))
-
-free-link-requires : tie.Need-free-link-requires
-free-link-requires c κs = search needs
-
-held-count-requires : tie.Need-held-count-requires
-held-count-requires c κs = search needs
-
-mul-whole : tie.Need-mul-whole
-mul-whole c = search needs
-
-whole-requires : tie.Need-whole-requires
-whole-requires c κs = search needs
+    let at-free-link = c .before .before .before in let start = at-free-link .before .before .before in
+    let a = start .args in
+    c .whole .ensures ∙ (λ i. wholeOk (a .t .kept) (a .t .claimed) (a .t .used) (at-free-link .free-link .ensures i) (word (a .bits .now) (a .k .bits)) (c .before .before .held-count .ensures i) (a .k .nodes))
 
 pub is-whole-spec : {M : Type 1} → statement M
-is-whole-spec =
-    tie.close
-    (tie.spec
-    free-link-requires
-    held-count-requires
-    mul-whole
-    shared-slice-read-whole
-    whole-requires
-    returns)
+is-whole-spec = tie.close
+    (tie.spec (λ c κs. search needs) (λ c κs. search needs) (λ c. search needs) shared-slice-read-whole (λ c κs. search needs) returns)

@@ -11,13 +11,6 @@ returns c = pick-yes _ _ _ (sym (c .before .is-whole .ensures) ∙ c .if1 .taken
 returns-2 : tie.Need-returns-2
 returns-2 c = pick-no _ _ _ (sym (c .before .is-whole .ensures) ∙ c .if1 .left)
 
-is-whole-requires : tie.Need-is-whole-requires
-is-whole-requires c κs = search needs
-
 pub limit-or-damage-spec : {M : Type 1} → statement M
-limit-or-damage-spec =
-    tie.close
-    (tie.spec
-    is-whole-requires
-    returns
-    returns-2)
+limit-or-damage-spec = tie.close
+    (tie.spec (λ c κs. search needs) returns returns-2)

@@ -11,13 +11,6 @@ returns c = pick-yes _ _ _ (sym (c .before .is-shaped .ensures) ∙ c .if1 .take
 returns-2 : tie.Need-returns-2
 returns-2 c = pick-no _ _ _ (sym (c .before .is-shaped .ensures) ∙ c .if1 .left)
 
-is-shaped-requires : tie.Need-is-shaped-requires
-is-shaped-requires c κs = search needs
-
 pub shape-or-port-spec : {M : Type 1} → statement M
-shape-or-port-spec =
-    tie.close
-    (tie.spec
-    is-shaped-requires
-    returns
-    returns-2)
+shape-or-port-spec = tie.close
+    (tie.spec (λ c κs. search needs) returns returns-2)

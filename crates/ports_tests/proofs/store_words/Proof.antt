@@ -9,27 +9,15 @@ seat-of-requires : tie.Need-seat-of-requires
 seat-of-requires c κs = (c .pre, c .pre .some)
 
 add-result-2 : tie.Need-add-result-2
-add-result-2 c = omega (arith, c .before .before .before .pre .few, seat-small (c .before .before .before .args .s) (c .before .before .seat-of .result) (c .before .before .before .pre) (c .before .before .seat-of .ensures))
+add-result-2 c =
+    let start = c .before .before .before in
+    omega (arith, start .pre .few, seat-small (start .args .s) (c .before .before .seat-of .result) (start .pre) (c .before .before .seat-of .ensures))
 
 returns : tie.Need-returns
-returns c = (long-is (c .before .before .before .args .s) (c .before .before .seat-of .result) (c .before .before .seat-of .ensures), omega (arith, c .before .before .before .pre .few, seat-small (c .before .before .before .args .s) (c .before .before .seat-of .result) (c .before .before .before .pre) (c .before .before .seat-of .ensures)))
-
-cast-ports : tie.Need-cast-ports
-cast-ports c = search needs
-
-mul-result : tie.Need-mul-result
-mul-result c = search needs
-
-add-result : tie.Need-add-result
-add-result c = search needs
+returns c =
+    let start = c .before .before .before in
+    (long-is (start .args .s) (c .before .before .seat-of .result) (c .before .before .seat-of .ensures), omega (arith, start .pre .few, seat-small (start .args .s) (c .before .before .seat-of .result) (start .pre) (c .before .before .seat-of .ensures)))
 
 pub store-words-spec : {M : Type 1} → statement M
-store-words-spec =
-    tie.close
-    (tie.spec
-    seat-of-requires
-    cast-ports
-    mul-result
-    add-result
-    add-result-2
-    returns)
+store-words-spec = tie.close
+    (tie.spec seat-of-requires (λ c. search needs) (λ c. search needs) (λ c. search needs) add-result-2 returns)

@@ -3,8 +3,6 @@ use borrow.Author.Needs.{needs}
 use Rattle.strip.specs.Answers.{blank}
 use Rattle.strip.proofs.no_element.Statement.{statement}
 use Rattle.strip.proofs.no_element.Tie as tie
-use Rattle.strip.proofs.no_element.Reads as reads
-use Rattle.strip.proofs.no_element.Lts as lts
 
 returns : tie.Need-returns
 unfolding blank

@@ -1,5 +1,5 @@
--- `text::put_digits` meets its contract. Assumes nothing.
-use Prim.Native.Nat.{_+_, _-_, _/_, _<_, ℕ}
+-- `text::put_digits` meets its contract.
+use Prim.Native.Nat.{_-_, _/_, _<_, ℕ}
 use native.Mathlib.Omega.{arith}
 use mathlib.Core.Path.{_≡_}
 use borrow.Author.Needs.{needs}
@@ -66,7 +66,9 @@ put-digits-sub-put-digits : (t : ℕ) → put-digits-lts.Need-sub-put-digits (cs
 put-digits-sub-put-digits t c = let h : c .before .before .before .before .args .left ≡ 0 → ⊥ = c .before .before .if1 .left in omega arith
 
 put-digits-put-digits-requires : (t : ℕ) → put-digits-lts.Need-put-digits-requires (cs t) (put-digits-at t) put-digits.Post
-put-digits-put-digits-requires t c κs = (let h : c .before .before .before .before .args .left ≡ 0 → ⊥ = c .before .before .if1 .left in omega (arith, c .before .before .before .before .pre .0), let h : c .before .before .before .before .args .left ≡ 0 → ⊥ = c .before .before .if1 .left in omega arith)
+put-digits-put-digits-requires t c κs =
+    let start = c .before .before .before .before in
+    (let h : start .args .left ≡ 0 → ⊥ = c .before .before .if1 .left in omega (arith, start .pre .0), let h : start .args .left ≡ 0 → ⊥ = c .before .before .if1 .left in omega arith)
 
 put-digits-add-out-2 : (t : ℕ) → put-digits-lts.Need-add-out-2 (cs t) (put-digits-at t) put-digits.Post
 put-digits-add-out-2 t c = search needs
@@ -75,16 +77,22 @@ put-digits-cast-out-2 : (t : ℕ) → put-digits-lts.Need-cast-out-2 (cs t) (put
 put-digits-cast-out-2 t c = search needs
 
 put-digits-slice-write-out-2 : (t : ℕ) → put-digits-lts.Need-slice-write-out-2 (cs t) (put-digits-at t) put-digits.Post
-put-digits-slice-write-out-2 t c = let h : c .before .before .before .before .before .before .before .args .left ≡ 0 → ⊥ = c .before .before .before .before .before .if1 .left in omega (arith, c .before .before .put-digits .ensures .0, decimal-short (c .before .before .before .before .before .before .before .args .left - 1) (c .before .before .before .before .before .before .before .args .n / 10), c .before .before .put-digits .kept .0, c .before .before .before .before .before .before .before .pre .1)
+put-digits-slice-write-out-2 t c =
+    let else1 = c .before .before .before .before .before in let start = else1 .before .before in
+    let h : start .args .left ≡ 0 → ⊥ = else1 .if1 .left in omega (arith, c .before .before .put-digits .ensures .0, decimal-short (start .args .left - 1) (start .args .n / 10), c .before .before .put-digits .kept .0, start .pre .1)
 
 put-digits-add-result-2 : (t : ℕ) → put-digits-lts.Need-add-result-2 (cs t) (put-digits-at t) put-digits.Post
-put-digits-add-result-2 t c = let h : c .before .before .before .before .before .before .before .args .left ≡ 0 → ⊥ = c .before .before .before .before .before .if1 .left in omega (arith, c .before .before .put-digits .ensures .0, decimal-short (c .before .before .before .before .before .before .before .args .left - 1) (c .before .before .before .before .before .before .before .args .n / 10), c .before .before .put-digits .kept .0, c .before .before .before .before .before .before .before .pre .1)
+put-digits-add-result-2 t c =
+    let else1 = c .before .before .before .before .before in let start = else1 .before .before in
+    let h : start .args .left ≡ 0 → ⊥ = else1 .if1 .left in omega (arith, c .before .before .put-digits .ensures .0, decimal-short (start .args .left - 1) (start .args .n / 10), c .before .before .put-digits .kept .0, start .pre .1)
 
 put-digits-same-length-2 : (t : ℕ) → put-digits-lts.Need-same-length-2 (cs t) (put-digits-at t) put-digits.Post
 put-digits-same-length-2 t c = search needs
 
 put-digits-returns-3 : (t : ℕ) → put-digits-lts.Need-returns-3 (cs t) (put-digits-at t) put-digits.Post
-put-digits-returns-3 t c = digits-more _ _ _ _ _ _ (c .before .before .before .before .before .if1 .left) (c .before .before .before .before .if2 .left) (c .before .before .put-digits .ensures .0) (c .before .before .put-digits .ensures .1)
+put-digits-returns-3 t c =
+    let else2 = c .before .before .before .before in let else1 = else2 .before in
+    digits-more _ _ _ _ _ _ (else1 .if1 .left) (else2 .if2 .left) (c .before .before .put-digits .ensures .0) (c .before .before .put-digits .ensures .1)
 
 pub +put-digits-spec : {M : Type 1} → statement M
 +put-digits-spec = close μ-put-digits λ t. put-digits-lts.spec (cs t) (put-digits-at t)

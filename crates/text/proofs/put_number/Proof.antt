@@ -1,23 +1,14 @@
--- `text::put_number` meets its contract. Assumes nothing.
+-- `text::put_number` meets its contract.
 use native.Mathlib.Omega.{arith}
 use borrow.Author.Needs.{needs}
 use Rattle.text.proofs.Laws.{decimal-short}
 use Rattle.text.specs.Text.{decimal}
 use Rattle.text.proofs.put_number.Statement.{statement}
 use Rattle.text.proofs.put_number.Tie as tie
-use Rattle.text.proofs.put_number.Reads as reads
-use Rattle.text.proofs.put_number.Lts as lts
-use Rattle.text.proofs.put_digits.Reads as put-digits-reads
-
-put-digits-requires : tie.Need-put-digits-requires
-put-digits-requires c κs = search needs
-
-same-length : tie.Need-same-length
-same-length c = search needs
 
 returns : tie.Need-returns
 unfolding decimal
 returns c = (c .before .before .put-digits .ensures .0, omega (arith, c .before .before .put-digits .ensures .0, decimal-short 20 (c .before .before .before .before .before .args .n)), c .before .before .put-digits .ensures .1)
 
 pub put-number-spec : {M : Type 1} → statement M
-put-number-spec = tie.close (tie.spec put-digits-requires same-length returns)
+put-number-spec = tie.close (tie.spec (λ c κs. search needs) (λ c. search needs) returns)

@@ -1,9 +1,7 @@
--- `trace_records::headed` meets its contract. Assumes nothing.
+-- `trace_records::headed` meets its contract.
 use Rattle.trace_records.proofs.Read.{headed-one, headed-other, headed-two}
 use Rattle.trace_records.proofs.headed.Statement.{statement}
 use Rattle.trace_records.proofs.headed.Tie as tie
-use Rattle.trace_records.proofs.headed.Reads as reads
-use Rattle.trace_records.proofs.headed.Lts as lts
 
 returns : tie.Need-returns
 returns c = headed-one _ _ _ (c .if1 .taken)

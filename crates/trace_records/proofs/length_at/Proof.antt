@@ -1,4 +1,4 @@
--- `trace_records::length_at` meets its contract. Assumes nothing.
+-- `trace_records::length_at` meets its contract.
 use native.Mathlib.Omega.{arith}
 use mathlib.Core.Path.{_∙_, ap, sym}
 use borrow.Author.Needs.{needs}
@@ -6,15 +6,6 @@ use Rattle.trace_model.specs.Format.{lengthAt, recordBytes}
 use Rattle.trace_model.specs.declared.Version.{Version}
 use Rattle.trace_records.proofs.length_at.Statement.{statement}
 use Rattle.trace_records.proofs.length_at.Tie as tie
-use Rattle.trace_records.proofs.length_at.Reads as reads
-use Rattle.trace_records.proofs.length_at.Lts as lts
-use Rattle.trace_records.proofs.number_at.Reads as number-at-reads
-
-enum-told : tie.Need-enum-told
-enum-told c = search needs
-
-enum-told-2 : tie.Need-enum-told-2
-enum-told-2 c = search needs
 
 add-number-at : tie.Need-add-number-at
 add-number-at c = omega (arith, ap recordBytes (c .enum-told2 .given .1))
@@ -24,19 +15,16 @@ number-at-requires c κs = omega (arith, ap recordBytes (c .enum-told2 .given .1
 
 returns : tie.Need-returns
 unfolding lengthAt
-returns c = sym (ap (λ (v : Version). lengthAt v (c .before .before .before .args .bytes .now) (c .before .before .before .args .at)) (c .enum-told .given .1))
+returns c =
+    let start = c .before .before .before in
+    sym (ap (λ (v : Version). lengthAt v (start .args .bytes .now) (start .args .at)) (c .enum-told .given .1))
 
 returns-2 : tie.Need-returns-2
 unfolding lengthAt
-returns-2 c = c .number-at .ensures ∙ sym (ap (λ (v : Version). lengthAt v (c .before .before .before .before .args .bytes .now) (c .before .before .before .before .args .at)) (c .before .enum-told2 .given .1))
+returns-2 c =
+    let start = c .before .before .before .before in
+    c .number-at .ensures ∙ sym (ap (λ (v : Version). lengthAt v (start .args .bytes .now) (start .args .at)) (c .before .enum-told2 .given .1))
 
 pub length-at-spec : {M : Type 1} → statement M
-length-at-spec =
-    tie.close
-    (tie.spec
-    enum-told
-    enum-told-2
-    add-number-at
-    number-at-requires
-    returns
-    returns-2)
+length-at-spec = tie.close
+    (tie.spec (λ c. search needs) (λ c. search needs) add-number-at number-at-requires returns returns-2)

@@ -1,8 +1,6 @@
--- `trace_records::only_blank` meets its contract. Assumes nothing.
+-- `trace_records::only_blank` meets its contract.
 use Rattle.trace_records.proofs.only_blank.Statement.{statement}
 use Rattle.trace_records.proofs.only_blank.Tie as tie
-use Rattle.trace_records.proofs.only_blank.Reads as reads
-use Rattle.trace_records.proofs.only_blank.Lts as lts
 
 returns : tie.Need-returns
 returns c = rw (c .if1 .taken)

@@ -1,17 +1,8 @@
--- `trace_records::record_of` meets its contract. Assumes nothing.
+-- `trace_records::record_of` meets its contract.
 use borrow.Author.Needs.{needs}
 use Rattle.trace_records.proofs.Read.{entry-idle, entry-other, entry-pop, entry-push, entry-replace}
 use Rattle.trace_records.proofs.record_of.Statement.{statement}
 use Rattle.trace_records.proofs.record_of.Tie as tie
-use Rattle.trace_records.proofs.record_of.Reads as reads
-use Rattle.trace_records.proofs.record_of.Lts as lts
-use Rattle.trace_records.proofs.only_blank.Reads as only-blank-reads
-
-only-blank-requires : tie.Need-only-blank-requires
-only-blank-requires c κs = search needs
-
-only-blank-requires-2 : tie.Need-only-blank-requires-2
-only-blank-requires-2 c κs = search needs
 
 returns : tie.Need-returns
 returns c = entry-idle _ _ _ (c .before .match .keys1) (c .only-blank .ensures)
@@ -29,13 +20,5 @@ returns-5 : tie.Need-returns-5
 returns-5 c = entry-other _ _ (search needs)
 
 pub record-of-spec : {M : Type 1} → statement M
-record-of-spec =
-    tie.close
-    (tie.spec
-    only-blank-requires
-    only-blank-requires-2
-    returns
-    returns-2
-    returns-3
-    returns-4
-    returns-5)
+record-of-spec = tie.close
+    (tie.spec (λ c κs. search needs) (λ c κs. search needs) returns returns-2 returns-3 returns-4 returns-5)

@@ -1,4 +1,4 @@
--- `trace_records::shape_taken` meets its contract. Assumes nothing.
+-- `trace_records::shape_taken` meets its contract.
 use mathlib.Core.Path.{_∙_, sym}
 use borrow.Author.Needs.{needs}
 use borrow.Author.Tests.{not-false}
@@ -6,13 +6,6 @@ use Rattle.node.proofs.Steps.{order-range}
 use Rattle.trace_records.proofs.Read.{shape-off, shape-on}
 use Rattle.trace_records.proofs.shape_taken.Statement.{statement}
 use Rattle.trace_records.proofs.shape_taken.Tie as tie
-use Rattle.trace_records.proofs.shape_taken.Reads as reads
-use Rattle.trace_records.proofs.shape_taken.Lts as lts
-use Rattle.node.proofs.capacity.Reads as capacity-reads
-use Rattle.node.proofs.order_ok.Reads as order-ok-reads
-
-order-ok-requires : tie.Need-order-ok-requires
-order-ok-requires c κs = search needs
 
 returns : tie.Need-returns
 returns c = shape-off _ _ _ (c .before .order-ok .ensures) (c .if1 .taken)
@@ -24,4 +17,4 @@ returns-2 : tie.Need-returns-2
 returns-2 c = shape-on _ _ _ _ (c .before .before .order-ok .ensures) (c .before .if1 .left) (c .capacity .ensures .0)
 
 pub shape-taken-spec : {M : Type 1} → statement M
-shape-taken-spec = tie.close (tie.spec order-ok-requires returns capacity-requires returns-2)
+shape-taken-spec = tie.close (tie.spec (λ c κs. search needs) returns capacity-requires returns-2)

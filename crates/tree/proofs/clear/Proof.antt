@@ -1,12 +1,9 @@
--- `tree::clear` meets its contract. Assumes nothing.
+-- `tree::clear` meets its contract.
 use native.Mathlib.Omega.{arith}
 use borrow.Author.Needs.{needs}
 use Rattle.tree.proofs.Calls.{clear-done, clear-fits, clear-shape, shape-few}
 use Rattle.tree.proofs.clear.Statement.{statement}
 use Rattle.tree.proofs.clear.Tie as tie
-
-shape-ok-requires : tie.Need-shape-ok-requires
-shape-ok-requires c κs = search needs
 
 returns : tie.Need-returns
 returns c =
@@ -34,9 +31,6 @@ zero-words-requires c κs =
     let start = at-shape .before .before in
     clear-fits (start .args .order) (start .args .levels) (start .args .store .now) _ (at-shape .shape-ok .ensures) (at-if1 .if1 .left) _ (c .capacity .ensures .0) .0
 
-same-length : tie.Need-same-length
-same-length c = search needs
-
 returns-2 : tie.Need-returns-2
 returns-2 c =
     let at-zero-words = c .before .before in
@@ -46,4 +40,4 @@ returns-2 c =
     clear-done _ _ _ _ (at-shape .shape-ok .ensures) (at-if1 .if1 .left) _ (at-cap .capacity .ensures .0) _ (at-zero-words .zero-words .ensures)
 
 pub clear-spec : {M : Type 1} → statement M
-clear-spec = tie.close (tie.spec shape-ok-requires returns capacity-requires mul-zero-words zero-words-requires same-length returns-2)
+clear-spec = tie.close (tie.spec (λ c κs. search needs) returns capacity-requires mul-zero-words zero-words-requires (λ c. search needs) returns-2)

@@ -1,4 +1,4 @@
--- `tree::pop` meets its contract. Assumes nothing.
+-- `tree::pop` meets its contract.
 use native.Mathlib.Omega.{arith}
 use borrow.Author.Needs.{needs}
 use Rattle.tree.proofs.Calls.{called-damaged, called-shape, Fit, fit, Opened, opened, pop-broken, pop-done, pop-none, root-stands, shape-few, shape-here}
@@ -22,32 +22,29 @@ opening c =
     let looked = c .before .before .before .look-low .ensures in
     opened (fitting (at-count c)) _ _ (looked .0) (looked .1 .0) (c .before .if2 .left) (c .if3 .left) (looked .1 .1)
 
-shape-ok-requires : tie.Need-shape-ok-requires
-shape-ok-requires c κs = search needs
-
 returns : tie.Need-returns
 returns c = called-shape _ _ _ _ _ (c .before .shape-ok .ensures) (c .if1 .taken)
 
 sub-capacity : tie.Need-sub-capacity
-sub-capacity c = omega (arith, shape-here (c .before .before .before .args .order) (c .before .before .before .args .levels) (c .before .before .before .args .store .now) _ (c .before .shape-ok .ensures) (c .if1 .left))
+sub-capacity c =
+    let start′ = c .before .before .before in
+    omega (arith, shape-here (start′ .args .order) (start′ .args .levels) (start′ .args .store .now) _ (c .before .shape-ok .ensures) (c .if1 .left))
 
 capacity-requires : tie.Need-capacity-requires
-capacity-requires c κs = shape-few (c .before .before .before .args .order) (c .before .before .before .args .levels) (c .before .before .before .args .store .now) _ (c .before .shape-ok .ensures) (c .if1 .left)
+capacity-requires c κs =
+    let start′ = c .before .before .before in
+    shape-few (start′ .args .order) (start′ .args .levels) (start′ .args .store .now) _ (c .before .shape-ok .ensures) (c .if1 .left)
 
 look-low-requires : tie.Need-look-low-requires
 look-low-requires c κs = look-in (root-stands (fitting (c .before)))
 
-same-length : tie.Need-same-length
-same-length c = search needs
-
 returns-2 : tie.Need-returns-2
 returns-2 c = called-damaged (fitting (c .before .before .before .before)) _ _ (c .before .before .look-low .ensures .0) (c .if2 .taken)
 
-same-length-2 : tie.Need-same-length-2
-same-length-2 c = search needs
-
 returns-3 : tie.Need-returns-3
-returns-3 c = pop-none (fitting (c .before .before .before .before .before)) _ _ (c .before .before .before .look-low .ensures .0) (c .before .before .before .look-low .ensures .1 .0) (c .before .if2 .left) (c .if3 .taken)
+returns-3 c =
+    let at-look-low = c .before .before .before in let at-capacity = at-look-low .before .before in
+    pop-none (fitting at-capacity) _ _ (at-look-low .look-low .ensures .0) (at-look-low .look-low .ensures .1 .0) (c .before .if2 .left) (c .if3 .taken)
 
 slot-at-requires : tie.Need-slot-at-requires
 slot-at-requires c κs = omega (arith, numbers (root-stands (fitting (c .before .before .before .before .before .before))), opening (c .before))
@@ -55,17 +52,17 @@ slot-at-requires c κs = omega (arith, numbers (root-stands (fitting (c .before 
 take-requires : tie.Need-take-requires
 take-requires c κs = opening (c .before .before .before .before) .looked
 
-same-length-3 : tie.Need-same-length-3
-same-length-3 c = search needs
-
 returns-4 : tie.Need-returns-4
-returns-4 c = pop-broken (opening (c .before .before .before .before .before .before .before .before)) _ (c .before .before .before .before .before .before .slot-at .ensures) _ _ (c .before .before .before .take .ensures) (c .if4 .taken)
-
-same-length-4 : tie.Need-same-length-4
-same-length-4 c = search needs
+returns-4 c =
+    let at-take = c .before .before .before in let at-slot-at = at-take .before .before .before in
+    let else3 = at-slot-at .before .before in
+    pop-broken (opening else3) _ (at-slot-at .slot-at .ensures) _ _ (at-take .take .ensures) (c .if4 .taken)
 
 returns-5 : tie.Need-returns-5
-returns-5 c = pop-done (opening (c .before .before .before .before .before .before .before .before)) _ (c .before .before .before .before .before .before .slot-at .ensures) _ _ (c .before .before .before .take .ensures) (c .if4 .left)
+returns-5 c =
+    let at-take = c .before .before .before in let at-slot-at = at-take .before .before .before in
+    let else3 = at-slot-at .before .before in
+    pop-done (opening else3) _ (at-slot-at .slot-at .ensures) _ _ (at-take .take .ensures) (c .if4 .left)
 
 pub pop-spec : {M : Type 1} → statement M
-pop-spec = tie.close (tie.spec shape-ok-requires returns sub-capacity capacity-requires look-low-requires same-length returns-2 same-length-2 returns-3 slot-at-requires take-requires same-length-3 returns-4 same-length-4 returns-5)
+pop-spec = tie.close (tie.spec (λ c κs. search needs) returns sub-capacity capacity-requires look-low-requires (λ c. search needs) returns-2 (λ c. search needs) returns-3 slot-at-requires take-requires (λ c. search needs) returns-4 (λ c. search needs) returns-5)

@@ -1,4 +1,4 @@
--- `tree::replace` meets its contract. Assumes nothing.
+-- `tree::replace` meets its contract.
 use native.Mathlib.Omega.{arith}
 use mathlib.Core.Bool.{false}
 use mathlib.Core.Path.{_∙_, _≡_, sym}
@@ -14,7 +14,9 @@ abbrev start : tie.After-capacity → tie.Start
 start c = c .before .before .before .before .before .before
 
 has : (c : tie.After-capacity) → untagged (start c .args .x) ≡ false
-has c = sym (c .before .before .before .before .is-untagged .ensures) ∙ c .before .before .before .if1 .left
+has c =
+    let else1 = c .before .before .before in let at-is-untagged = else1 .before in
+    sym (at-is-untagged .is-untagged .ensures) ∙ else1 .if1 .left
 
 fitting : (c : tie.After-capacity) → Fit (start c .args .order) (start c .args .levels) (c .capacity .result) (start c .args .store .now)
 fitting c = fit _ _ _ _ (c .before .before .shape-ok .ensures) (c .before .if2 .left) _ (c .capacity .ensures .0)
@@ -28,44 +30,34 @@ opening c =
     let looked = c .before .before .before .look-low .ensures in
     opened (fitting (at-count c)) _ _ (looked .0) (looked .1 .0) (c .before .if3 .left) (c .if4 .left) (looked .1 .1)
 
-is-untagged-requires : tie.Need-is-untagged-requires
-is-untagged-requires c κs = search needs
-
-bar-requires : tie.Need-bar-requires
-bar-requires c κs = search needs
-
-same-length : tie.Need-same-length
-same-length c = search needs
-
 returns : tie.Need-returns
-returns c = c .bar .ensures (c .before .before .before .before .before .args .x) (sym (c .before .before .before .is-untagged .ensures) ∙ c .before .before .if1 .taken) .1
-
-shape-ok-requires : tie.Need-shape-ok-requires
-shape-ok-requires c κs = search needs
+returns c =
+    let at-is-untagged = c .before .before .before in let start′ = at-is-untagged .before .before in
+    c .bar .ensures (start′ .args .x) (sym (at-is-untagged .is-untagged .ensures) ∙ c .before .before .if1 .taken) .1
 
 returns-2 : tie.Need-returns-2
 returns-2 c = called-shape _ _ _ _ _ (c .before .shape-ok .ensures) (c .if2 .taken)
 
 sub-capacity : tie.Need-sub-capacity
-sub-capacity c = omega (arith, shape-here (c .before .before .before .before .before .args .order) (c .before .before .before .before .before .args .levels) (c .before .before .before .before .before .args .store .now) _ (c .before .shape-ok .ensures) (c .if2 .left))
+sub-capacity c =
+    let start′ = c .before .before .before .before .before in
+    omega (arith, shape-here (start′ .args .order) (start′ .args .levels) (start′ .args .store .now) _ (c .before .shape-ok .ensures) (c .if2 .left))
 
 capacity-requires : tie.Need-capacity-requires
-capacity-requires c κs = shape-few (c .before .before .before .before .before .args .order) (c .before .before .before .before .before .args .levels) (c .before .before .before .before .before .args .store .now) _ (c .before .shape-ok .ensures) (c .if2 .left)
+capacity-requires c κs =
+    let start′ = c .before .before .before .before .before in
+    shape-few (start′ .args .order) (start′ .args .levels) (start′ .args .store .now) _ (c .before .shape-ok .ensures) (c .if2 .left)
 
 look-low-requires : tie.Need-look-low-requires
 look-low-requires c κs = look-in (root-stands (fitting (c .before)))
 
-same-length-2 : tie.Need-same-length-2
-same-length-2 c = search needs
-
 returns-3 : tie.Need-returns-3
 returns-3 c = called-damaged (fitting (c .before .before .before .before)) _ _ (c .before .before .look-low .ensures .0) (c .if3 .taken)
 
-same-length-3 : tie.Need-same-length-3
-same-length-3 c = search needs
-
 returns-4 : tie.Need-returns-4
-returns-4 c = replace-none (fitting (c .before .before .before .before .before)) _ _ (c .before .before .before .look-low .ensures .0) (c .before .before .before .look-low .ensures .1 .0) (c .before .if3 .left) (start (c .before .before .before .before .before) .args .x) (has (c .before .before .before .before .before)) (c .if4 .taken)
+returns-4 c =
+    let at-look-low = c .before .before .before in let at-capacity = at-look-low .before .before in
+    replace-none (fitting at-capacity) _ _ (at-look-low .look-low .ensures .0) (at-look-low .look-low .ensures .1 .0) (c .before .if3 .left) (start at-capacity .args .x) (has at-capacity) (c .if4 .taken)
 
 slot-at-requires : tie.Need-slot-at-requires
 slot-at-requires c κs = omega (arith, numbers (root-stands (fitting (c .before .before .before .before .before .before))), opening (c .before))
@@ -73,17 +65,17 @@ slot-at-requires c κs = omega (arith, numbers (root-stands (fitting (c .before 
 swap-requires : tie.Need-swap-requires
 swap-requires c κs = opening (c .before .before .before .before) .looked
 
-same-length-4 : tie.Need-same-length-4
-same-length-4 c = search needs
-
 returns-5 : tie.Need-returns-5
-returns-5 c = replace-broken (opening (c .before .before .before .before .before .before .before .before)) _ (c .before .before .before .before .before .before .slot-at .ensures) (start (at-count (c .before .before .before .before .before .before .before .before)) .args .x) (has (at-count (c .before .before .before .before .before .before .before .before))) _ _ (c .before .before .before .swap .ensures) (c .if5 .taken)
-
-same-length-5 : tie.Need-same-length-5
-same-length-5 c = search needs
+returns-5 c =
+    let at-swap = c .before .before .before in let at-slot-at = at-swap .before .before .before in
+    let else4 = at-slot-at .before .before in
+    replace-broken (opening else4) _ (at-slot-at .slot-at .ensures) (start (at-count else4) .args .x) (has (at-count else4)) _ _ (at-swap .swap .ensures) (c .if5 .taken)
 
 returns-6 : tie.Need-returns-6
-returns-6 c = replace-done (opening (c .before .before .before .before .before .before .before .before)) _ (c .before .before .before .before .before .before .slot-at .ensures) (start (at-count (c .before .before .before .before .before .before .before .before)) .args .x) (has (at-count (c .before .before .before .before .before .before .before .before))) _ _ (c .before .before .before .swap .ensures) (c .if5 .left)
+returns-6 c =
+    let at-swap = c .before .before .before in let at-slot-at = at-swap .before .before .before in
+    let else4 = at-slot-at .before .before in
+    replace-done (opening else4) _ (at-slot-at .slot-at .ensures) (start (at-count else4) .args .x) (has (at-count else4)) _ _ (at-swap .swap .ensures) (c .if5 .left)
 
 pub replace-spec : {M : Type 1} → statement M
-replace-spec = tie.close (tie.spec is-untagged-requires bar-requires same-length returns shape-ok-requires returns-2 sub-capacity capacity-requires look-low-requires same-length-2 returns-3 same-length-3 returns-4 slot-at-requires swap-requires same-length-4 returns-5 same-length-5 returns-6)
+replace-spec = tie.close (tie.spec (λ c κs. search needs) (λ c κs. search needs) (λ c. search needs) returns (λ c κs. search needs) returns-2 sub-capacity capacity-requires look-low-requires (λ c. search needs) returns-3 (λ c. search needs) returns-4 slot-at-requires swap-requires (λ c. search needs) returns-5 (λ c. search needs) returns-6)

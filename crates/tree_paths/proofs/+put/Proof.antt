@@ -1,4 +1,4 @@
--- `tree_paths::put` meets its contract. Assumes nothing.
+-- `tree_paths::put` meets its contract.
 use native.Mathlib.Omega.{arith}
 use mathlib.Core.Path.{_∙_}
 use borrow.Author.Needs.{needs}
@@ -53,7 +53,10 @@ returns t c =
     put-off (start .pre .1) (start .args .x) _ _ (at-look .look-least .ensures .0) (at-look .look-least .ensures .1 .0) (at-look .look-least .ensures .1 .1) _ (at-slot .slot-at .ensures) (c .if1 .taken)
 
 write-slot-requires : (t : ℕ) → put-lts.Need-write-slot-requires (cs t) (put-at t) put.Post
-write-slot-requires t c κs = omega (arith, numbers (c .before .before .before .before .before .before .before .before .before .before .pre .1), c .before .before .before .before .before .before .before .look-least .ensures .1 .1)
+write-slot-requires t c κs =
+    let at-look-least = c .before .before .before .before .before .before .before in
+    let start = at-look-least .before .before .before in
+    omega (arith, numbers (start .pre .1), at-look-least .look-least .ensures .1 .1)
 
 same-length-2 : (t : ℕ) → put-lts.Need-same-length-2 (cs t) (put-at t) put.Post
 same-length-2 t c = c .before .before .write-slot .kept .0
@@ -75,7 +78,10 @@ stays-requires : (t : ℕ) → put-lts.Need-stays-requires (cs t) (put-at t) put
 stays-requires t c κs = search needs
 
 add-below : (t : ℕ) → put-lts.Need-add-below (cs t) (put-at t) put.Post
-add-below t c = omega (arith, numbers (c .before .before .before .before .before .before .before .before .before .before .before .before .pre .1), c .before .before .before .before .before .before .before .before .before .look-least .ensures .1 .1)
+add-below t c =
+    let at-look-least = c .before .before .before .before .before .before .before .before .before in
+    let start = at-look-least .before .before .before in
+    omega (arith, numbers (start .pre .1), at-look-least .look-least .ensures .1 .1)
 
 mul-below : (t : ℕ) → put-lts.Need-mul-below (cs t) (put-at t) put.Post
 mul-below t c =

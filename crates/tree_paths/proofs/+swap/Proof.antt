@@ -1,4 +1,4 @@
--- `tree_paths::swap` meets its contract. Assumes nothing.
+-- `tree_paths::swap` meets its contract.
 use native.Mathlib.Omega.{arith}
 use mathlib.Core.Path.{_∙_}
 use borrow.Author.Needs.{needs}
@@ -52,10 +52,14 @@ returns t c =
     swap-last (start .pre .1) _ (at-slot .slot-at .ensures) (at-if1 .if1 .taken) _ _ (at-wrote .write-slot .ensures)
 
 add-below : (t : ℕ) → swap-lts.Need-add-below (cs t) (swap-at t) swap.Post
-add-below t c = omega (arith, numbers (c .before .before .before .before .pre .1 .stands), c .before .before .before .before .pre .1 .inside)
+add-below t c =
+    let start = c .before .before .before .before in
+    omega (arith, numbers (start .pre .1 .stands), start .pre .1 .inside)
 
 mul-below : (t : ℕ) → swap-lts.Need-mul-below (cs t) (swap-at t) swap.Post
-mul-below t c = omega (arith, below-small (c .before .before .before .before .pre .1 .stands) (c .before .before .before .before .args .j) (c .before .before .before .before .pre .1 .inside))
+mul-below t c =
+    let start = c .before .before .before .before in
+    omega (arith, below-small (start .pre .1 .stands) (start .args .j) (start .pre .1 .inside))
 
 sub-under : (t : ℕ) → swap-lts.Need-sub-under (cs t) (swap-at t) swap.Post
 sub-under t c = lift-cap (c .before .before .before .before .pre .1) _ (c .before .slot-at .ensures) (c .if1 .left)

@@ -1,4 +1,4 @@
--- `tree_paths::take` meets its contract. Assumes nothing.
+-- `tree_paths::take` meets its contract.
 use native.Mathlib.Omega.{arith}
 use mathlib.Core.Path.{_∙_}
 use borrow.Author.Needs.{needs}
@@ -56,10 +56,14 @@ returns t c =
     take-last (start .pre .1) _ (at-slot .slot-at .ensures) (at-if1 .if1 .taken) _ _ (at-none .no-element .ensures) (at-wrote .write-slot .ensures)
 
 add-below : (t : ℕ) → take-lts.Need-add-below (cs t) (take-at t) take.Post
-add-below t c = omega (arith, numbers (c .before .before .before .before .pre .1 .stands), c .before .before .before .before .pre .1 .inside)
+add-below t c =
+    let start = c .before .before .before .before in
+    omega (arith, numbers (start .pre .1 .stands), start .pre .1 .inside)
 
 mul-below : (t : ℕ) → take-lts.Need-mul-below (cs t) (take-at t) take.Post
-mul-below t c = omega (arith, below-small (c .before .before .before .before .pre .1 .stands) (c .before .before .before .before .args .j) (c .before .before .before .before .pre .1 .inside))
+mul-below t c =
+    let start = c .before .before .before .before in
+    omega (arith, below-small (start .pre .1 .stands) (start .args .j) (start .pre .1 .inside))
 
 sub-under : (t : ℕ) → take-lts.Need-sub-under (cs t) (take-at t) take.Post
 sub-under t c = lift-cap (c .before .before .before .before .pre .1) _ (c .before .slot-at .ensures) (c .if1 .left)

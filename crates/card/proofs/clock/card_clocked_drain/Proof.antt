@@ -1,8 +1,7 @@
 -- `card::clock::card_clocked_drain` meets its contract: a walk of its MIR, by hand. All that it knows of what it calls is that each meets its contract.
 -- records is lent as a `&` for the call of `load`, at a lifetime that the walk makes, and comes back; the slices of words go to `drain_told`, and records to `hand_back`, at their own lifetimes, shares and names, for good (`gave-slice`).
 -- What plain data owns is dropped, and made anew where a callee asks it.
--- Assumes nothing.
-use mathlib.Core.Path.{_≡_, refl, _∙_, ap, subst, sym}
+use mathlib.Core.Path.{_≡_, refl, _∙_, ap, subst}
 use Prim.Native.Nat.{ℕ, _<_, _^_}
 use native.Mathlib.Omega.{arith}
 use mathlib.Core.List.{List, [], _∷_}

@@ -12,28 +12,11 @@ returns c = count-short _ _ (c .if1 .taken)
 
 returns-2 : tie.Need-returns-2
 returns-2 c =
-    let a = c .before .before .before .before .before .before .before .before .before .before .args in
-    count-told _ _ _ _ _ (c .before .before .before .before .before .before .if1 .left) (c .before .before .before .before .held .ensures ∙ ap (λ (s : Shape). heldCount s (a .port) (a .bits .now) (a .words .now)) (c .before .before .before .before .before .shape-of .ensures)) (c .before .before .tell-count .ensures)
-
-shape-of-requires : tie.Need-shape-of-requires
-shape-of-requires c κs = search needs
-
-held-requires : tie.Need-held-requires
-held-requires c κs = search needs
-
-tell-count-requires : tie.Need-tell-count-requires
-tell-count-requires c κs = search needs
-
-same-length : tie.Need-same-length
-same-length c = search needs
+    let at-held = c .before .before .before .before in let at-shape-of = at-held .before in let else1 = at-shape-of .before in
+    let start = else1 .before .before .before .before in
+    let a = start .args in
+    count-told _ _ _ _ _ (else1 .if1 .left) (at-held .held .ensures ∙ ap (λ (s : Shape). heldCount s (a .port) (a .bits .now) (a .words .now)) (at-shape-of .shape-of .ensures)) (c .before .before .tell-count .ensures)
 
 pub card-ports-held-spec : {M : Type 1} → statement M
-card-ports-held-spec =
-    tie.close
-    (tie.spec
-    returns
-    shape-of-requires
-    held-requires
-    tell-count-requires
-    same-length
-    returns-2)
+card-ports-held-spec = tie.close
+    (tie.spec returns (λ c κs. search needs) (λ c κs. search needs) (λ c κs. search needs) (λ c. search needs) returns-2)

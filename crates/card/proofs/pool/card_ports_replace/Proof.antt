@@ -13,36 +13,13 @@ returns c = bucket-short _ _ _ _ (c .if1 .taken)
 
 returns-2 : tie.Need-returns-2
 returns-2 c =
-    let a = c .before .before .before .before .before .before .before .before .before .before .before .before .before .before .before .before .args in
-    bucket-told _ _ _ _ _ _ _ _ _ (c .before .before .before .before .before .before .before .before .before .before .before .before .if1 .left) (at-shape (λ (s : Shape). replaced s (a .port) (a .bits .now) (a .words .now) (element (a .rank) (a .tag) (a .length))) _ _ _ (c .before .before .before .before .before .before .before .before .before .before .before .shape-of .ensures) (c .before .before .before .before .before .before .before .before .replace .ensures)) (c .before .before .tell .ensures)
-
-shape-of-requires : tie.Need-shape-of-requires
-shape-of-requires c κs = search needs
-
-replace-requires : tie.Need-replace-requires
-replace-requires c κs = search needs
-
-tell-requires : tie.Need-tell-requires
-tell-requires c κs = search needs
-
-same-length : tie.Need-same-length
-same-length c = search needs
-
-same-length-2 : tie.Need-same-length-2
-same-length-2 c = search needs
-
-same-length-3 : tie.Need-same-length-3
-same-length-3 c = search needs
+    let at-replace = c .before .before .before .before .before .before .before .before in
+    let at-shape-of = at-replace .before .before .before in let else1 = at-shape-of .before in
+    let start = else1 .before .before .before .before in
+    let a = start .args in
+    bucket-told _ _ _ _ _ _ _ _ _ (else1 .if1 .left) (at-shape (λ (s : Shape). replaced s (a .port) (a .bits .now) (a .words .now) (element (a .rank) (a .tag) (a .length))) _ _ _ (at-shape-of .shape-of .ensures) (at-replace .replace .ensures)) (c .before .before .tell .ensures)
 
 pub card-ports-replace-spec : {M : Type 1} → statement M
-card-ports-replace-spec =
-    tie.close
-    (tie.spec
-    returns
-    shape-of-requires
-    replace-requires
-    tell-requires
-    same-length
-    same-length-2
-    same-length-3
-    returns-2)
+card-ports-replace-spec = tie.close
+    (tie.spec returns (λ c κs. search needs) (λ c κs. search needs) (λ c κs. search needs) (λ c. search needs) (λ c. search needs)
+    (λ c. search needs) returns-2)

@@ -2,8 +2,7 @@
 -- The words go to `cycle_told`, and records to `hand_back`, at their own lifetimes, shares and names, for good (`gave-slice`).
 -- Before them records is lent to `load` as a `&` for a new lifetime that ends with the call, and is then as it was (`Shared.antt`).
 -- What plain data owns is dropped, and made anew where a callee asks it.
--- Assumes nothing.
-use mathlib.Core.Path.{_≡_, refl, _∙_, ap, subst, sym}
+use mathlib.Core.Path.{_≡_, refl, _∙_, ap, subst}
 use Prim.Native.Nat.{ℕ, _<_, _^_}
 use native.Mathlib.Omega.{arith}
 use mathlib.Core.List.{List, [], _∷_}

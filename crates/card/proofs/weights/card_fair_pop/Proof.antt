@@ -1,4 +1,4 @@
--- `card::weights::card_fair_pop` meets its contract. Assumes nothing.
+-- `card::weights::card_fair_pop` meets its contract.
 use Rattle.card.proofs.Fair.{fair-short, fair-told}
 use borrow.Author.Needs.{needs}
 use Rattle.card.proofs.weights.card_fair_pop.Statement.{statement}
@@ -7,21 +7,6 @@ use Rattle.card.proofs.weights.card_fair_pop.Tie as tie
 returns : tie.Need-returns
 returns c = fair-short _ _ _ _ (c .if1 .taken)
 
-pop-requires : tie.Need-pop-requires
-pop-requires c κs = search needs
-
-tell-served-requires : tie.Need-tell-served-requires
-tell-served-requires c κs = search needs
-
-same-length : tie.Need-same-length
-same-length c = search needs
-
-same-length-2 : tie.Need-same-length-2
-same-length-2 c = search needs
-
-same-length-3 : tie.Need-same-length-3
-same-length-3 c = search needs
-
 returns-2 : tie.Need-returns-2
 returns-2 c =
     let at-tell = c .before .before in
@@ -29,6 +14,5 @@ returns-2 c =
     fair-told _ _ _ _ _ _ _ _ _ (at-pop .before .before .before .if1 .left) (at-pop .pop .ensures) (at-tell .tell-served .ensures)
 
 pub card-fair-pop-spec : {M : Type 1} → statement M
-card-fair-pop-spec =
-    tie.close
-    (tie.spec returns pop-requires tell-served-requires same-length same-length-2 same-length-3 returns-2)
+card-fair-pop-spec = tie.close
+    (tie.spec returns (λ c κs. search needs) (λ c κs. search needs) (λ c. search needs) (λ c. search needs) (λ c. search needs) returns-2)

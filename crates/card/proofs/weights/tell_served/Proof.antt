@@ -1,32 +1,16 @@
--- `card::weights::tell_served` meets its contract. Assumes nothing.
+-- `card::weights::tell_served` meets its contract.
 use native.Mathlib.Omega.{arith}
 use lib.ListN.{length-set}
 use borrow.Author.Needs.{needs}
 use Rattle.card.proofs.weights.tell_served.Statement.{statement}
 use Rattle.card.proofs.weights.tell_served.Tie as tie
 
-given-requires : tie.Need-given-requires
-given-requires c κs = search needs
-
-slice-write-out : tie.Need-slice-write-out
-slice-write-out c = search needs
-
 slice-write-out-2 : tie.Need-slice-write-out-2
 slice-write-out-2 c = simp length-set (omega arith)
-
-slice-write-out-3 : tie.Need-slice-write-out-3
-slice-write-out-3 c = search needs
-
-number-requires : tie.Need-number-requires
-number-requires c κs = search needs
-
-same-length : tie.Need-same-length
-same-length c = search needs
 
 returns : tie.Need-returns
 returns c = (c .number .ensures, rw (c .before .given .ensures))
 
 pub tell-served-spec : {M : Type 1} → statement M
-tell-served-spec =
-    tie.close
-    (tie.spec given-requires slice-write-out slice-write-out-2 slice-write-out-3 number-requires same-length returns)
+tell-served-spec = tie.close
+    (tie.spec (λ c κs. search needs) (λ c. search needs) slice-write-out-2 (λ c. search needs) (λ c κs. search needs) (λ c. search needs) returns)

@@ -1,21 +1,9 @@
--- `clocked_levels::records::is_nothing` meets its contract. Assumes nothing.
+-- `clocked_levels::records::is_nothing` meets its contract.
 use mathlib.Core.Path.{ap, sym}
 use borrow.Author.Needs.{needs}
 use Rattle.tree_model.specs.Node.{isNothing}
 use Rattle.clocked_levels.proofs.records.is_nothing.Statement.{statement}
 use Rattle.clocked_levels.proofs.records.is_nothing.Tie as tie
-
-enum-told : tie.Need-enum-told
-enum-told c = search needs
-
-enum-told-2 : tie.Need-enum-told-2
-enum-told-2 c = search needs
-
-enum-told-3 : tie.Need-enum-told-3
-enum-told-3 c = search needs
-
-enum-told-4 : tie.Need-enum-told-4
-enum-told-4 c = search needs
 
 returns : tie.Need-returns
 unfolding isNothing
@@ -34,6 +22,5 @@ unfolding isNothing
 returns-4 c = ap isNothing (sym (c .enum-told4 .given .1))
 
 pub is-nothing-spec : {M : Type 1} → statement M
-is-nothing-spec =
-    tie.close
-    (tie.spec enum-told enum-told-2 enum-told-3 enum-told-4 returns returns-2 returns-3 returns-4)
+is-nothing-spec = tie.close
+    (tie.spec (λ c. search needs) (λ c. search needs) (λ c. search needs) (λ c. search needs) returns returns-2 returns-3 returns-4)

@@ -1,14 +1,8 @@
--- `clocked_levels::records::work_at` meets its contract. Assumes nothing.
+-- `clocked_levels::records::work_at` meets its contract.
 use borrow.Author.Needs.{needs}
 use Rattle.clocked_levels.proofs.Works.{work-nothing, work-some}
 use Rattle.clocked_levels.proofs.records.work_at.Statement.{statement}
 use Rattle.clocked_levels.proofs.records.work_at.Tie as tie
-
-is-nothing-requires : tie.Need-is-nothing-requires
-is-nothing-requires c κs = search needs
-
-no-work-requires : tie.Need-no-work-requires
-no-work-requires c κs = search needs
 
 returns : tie.Need-returns
 returns c = work-nothing _ _ _ _ (c .before .before .is-nothing .ensures) (c .before .if1 .taken) (c .no-work .ensures)
@@ -17,4 +11,4 @@ returns-2 : tie.Need-returns-2
 returns-2 c = work-some _ _ _ (c .before .is-nothing .ensures) (c .if1 .left)
 
 pub work-at-spec : {M : Type 1} → statement M
-work-at-spec = tie.close (tie.spec is-nothing-requires no-work-requires returns returns-2)
+work-at-spec = tie.close (tie.spec (λ c κs. search needs) (λ c κs. search needs) returns returns-2)
