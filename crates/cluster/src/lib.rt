@@ -2,7 +2,7 @@
 // Its children are nodes 2m + 1 and 2m + 2. Every node of a path is tested on the way down and written on the way back.
 ghost use mathlib.Core.Path.{_≡_};
 ghost use mathlib.Core.List.{_++_};
-ghost use Prim.Native.Nat.{ℕ, _+_, _*_, _<_, _≤_};
+ghost use Prim.Native.Nat.{_+_, _*_, _<_, _≤_};
 ghost use lib.ListN.{length, drop, replicate};
 ghost use Rattle.cluster_model.specs.Words.{width};
 ghost use Rattle.cluster_model.specs.Heap.{room};

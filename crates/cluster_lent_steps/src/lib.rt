@@ -2,7 +2,6 @@
 // and what is written.
 ghost use mathlib.Core.Path.{_≡_};
 ghost use mathlib.Core.Bool.{false};
-ghost use Prim.Native.Nat.{_<_};
 ghost use lib.Dec.{leb};
 ghost use Rattle.cluster_clock_model.specs.Stage.{noStage};
 ghost use Rattle.cluster_lent_steps.specs.Lent.{stageOf, bareRecord, ladenRecord, recordOf};

@@ -3,7 +3,7 @@
 ghost use mathlib.Core.Path.{_≡_};
 ghost use Prim.Native.Nat.{_≤_};
 ghost use lib.ListN.{length};
-ghost use Rattle.cluster_clock_model.specs.Calls.{quiet, stageCount};
+ghost use Rattle.cluster_clock_model.specs.Calls.{stageCount};
 ghost use Rattle.cluster_clock_model.specs.Stage.{pass};
 ghost use Rattle.cluster_clock_model.specs.Test.{stagesOk};
 ghost use Rattle.cluster_model.specs.Heap.{room};

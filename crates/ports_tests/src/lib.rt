@@ -11,7 +11,7 @@ use strip::Refusal;
 ghost use mathlib.Core.Path.{_≡_};
 ghost use mathlib.Core.Bool.{cond, not, _&&_};
 ghost use Prim.Native.Nat.{_+_, _*_, _≤_, _<_, max};
-ghost use lib.Dec.{leb, ltb, eqb};
+ghost use lib.Dec.{ltb, eqb};
 ghost use lib.ListN.{length};
 ghost use Rattle.strip.specs.declared.Refusal.the-variants.{BadShape, BadPort, Damaged};
 ghost use Rattle.bucket_model.specs.Layout.{word};
