@@ -188,18 +188,19 @@ fn resident(process: u32) -> u64 {
 }
 
 /// Ten million records go through in constant memory (a million where an emulator runs them): what the tool has behind the last is
-/// what it had behind the first hundred thousand. The trace comes through a pipe, so the tool has read all of it but what the pipe
-/// holds. Every 64th record is work.
+/// what it had behind the first hundred thousand, within a mebibyte; an emulator's own memory grows by pages of two where it meets new
+/// code, so there within three such pages, half of what the records would take if they were kept. The trace comes through a pipe, so the
+/// tool has read all of it but what the pipe holds. Every 64th record is work.
 #[test]
 fn ten_million_records_in_constant_memory() {
     let own = env!("CARGO_BIN_EXE_logic");
-    let (mut command, records) = match std::env::var("RUNNER") {
+    let (mut command, records, slack) = match std::env::var("RUNNER") {
         Ok(runner) if !runner.is_empty() => {
             let mut command = Command::new(runner);
             command.arg(own);
-            (command, 1_000_000)
+            (command, 1_000_000, 3 * 2048)
         }
-        _ => (Command::new(own), 10_000_000),
+        _ => (Command::new(own), 10_000_000, 1024),
     };
     let mut child = command.args(["wave", "-"]).stdin(Stdio::piped()).stdout(Stdio::null()).spawn().unwrap();
     let mut to = child.stdin.take().unwrap();
@@ -225,5 +226,5 @@ fn ten_million_records_in_constant_memory() {
     let last = resident(child.id());
     drop(to);
     assert!(child.wait().unwrap().success());
-    assert!(last <= first + 1024, "{first} KiB behind 100,000 records, {last} KiB behind {records}");
+    assert!(last <= first + slack, "{first} KiB behind 100,000 records, {last} KiB behind {records}");
 }
