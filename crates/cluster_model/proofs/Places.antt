@@ -1,6 +1,6 @@
 -- The laws of counting over places, and of the three choices of a place. What comes after goes by these laws alone.
 use Prim.Native.Nat.{ℕ, zero, suc, _+_, _≤_, _<_}
-use native.Mathlib.Nat.{not-suc-le-zero, le-of-suc-le-suc, lt-of-not-le, le-of-lt}
+use native.Mathlib.Nat.{not-suc-le-zero, le-of-suc-le-suc, le-of-lt}
 use native.Mathlib.Omega.{arith}
 use mathlib.Core.Path.{_≡_, refl, ap, subst}
 use mathlib.Core.Bool.{Bool, true, false, cond}
@@ -154,10 +154,6 @@ unfolding free seek freeHere inside
 no-free [] h = refl
 no-free (gap ∷ ps) h = absurd (not-suc-le-zero h)
 no-free (has e ∷ ps) h = omega (arith, no-free ps (le-of-suc-le-suc h))
-
--- some are below r and none below q
-pub under-between : (r q : ℕ) (ps : List Place) → 0 < inside (under r) ps → inside (under q) ps ≡ 0 → q < r
-under-between r q ps h z = lt-of-not-le λ l. omega (arith, inside-under r q l ps)
 
 -- ---- the lowest: none leaves before it, so none has a lower rank
 pub record IsLow (ps : List Place) (j : ℕ) (e : Element) : Type 0 where

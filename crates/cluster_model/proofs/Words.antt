@@ -9,7 +9,7 @@ use lib.Dec.{eqb}
 use lib.ListN.{length, set, length-set}
 use lib.Seq.{getD-set-same, getD-set-other}
 use Rattle.strip.specs.Answers.{element}
-use Rattle.cluster_model.specs.Node.{Place, gap, has, Node, store}
+use Rattle.cluster_model.specs.Node.{Place, gap, has, Node}
 use Rattle.cluster_model.proofs.Levels.{Levels}
 use Rattle.cluster_model.specs.Words.{word, rowOf, placeBy, placeOf, width, nodeOf, markOf, rankIn, tagIn, lengthIn, writePlace, Only}
 
@@ -135,33 +135,6 @@ node-local K ws ws′ b h =
     let r : word ws′ (b + 1) ≡ word ws (b + 1) = h (b + 1) (omega arith) (omega arith) in
     let p : rowOf placeOf 4 K ws′ (b + 2) ≡ rowOf placeOf 4 K ws (b + 2) = row-local placeOf 4 place-local K ws ws′ (b + 2) (λ i g g′. h i (omega arith) (omega arith)) in
     λ i. record { left = l i; right = r i; places = p i }
-
-pub node-store : (K : ℕ) (ws : List ℕ) (b j : ℕ) (p : Place) → j < K → b + width K ≤ length ws → nodeOf K (writePlace ws (b + 2 + j * 4) p) b ≡ store j p (nodeOf K ws b)
-unfolding nodeOf
-node-store K ws b j p h fits =
-    let ws′ : List ℕ = writePlace ws (b + 2 + j * 4) p in
-    let only = write-only ws (b + 2 + j * 4) p in
-    let l : word ws′ b ≡ word ws b = only b (inl (omega arith)) in
-    let r : word ws′ (b + 1) ≡ word ws (b + 1) = only (b + 1) (inl (omega arith)) in
-    let q : rowOf placeOf 4 K ws′ (b + 2) ≡ set (rowOf placeOf 4 K ws (b + 2)) j p = row-write placeOf 4 place-local K j (b + 2) ws ws′ p h (write-place ws (b + 2 + j * 4) p (omega arith)) only in
-    λ i. record { left = l i; right = r i; places = q i }
-
-pub node-left : (K : ℕ) (ws : List ℕ) (b v : ℕ) → b < length ws → nodeOf K (set ws b v) b ≡ record { left = v; right = nodeOf K ws b .right; places = nodeOf K ws b .places }
-unfolding nodeOf
-node-left K ws b v h =
-    let other : (i : ℕ) → b < i → word (set ws b v) i ≡ word ws i = λ i g. getD-set-other ws b i v 0 (λ e. omega arith) in
-    let l : word (set ws b v) b ≡ v = getD-set-same ws b v 0 h in
-    let r : word (set ws b v) (b + 1) ≡ word ws (b + 1) = other (b + 1) (omega arith) in
-    let q : rowOf placeOf 4 K (set ws b v) (b + 2) ≡ rowOf placeOf 4 K ws (b + 2) = row-local placeOf 4 place-local K ws (set ws b v) (b + 2) (λ i g g′. other i (omega arith)) in
-    λ i. record { left = l i; right = r i; places = q i }
-
-pub node-right : (K : ℕ) (ws : List ℕ) (b v : ℕ) → b + 1 < length ws → nodeOf K (set ws (b + 1) v) b ≡ record { left = nodeOf K ws b .left; right = v; places = nodeOf K ws b .places }
-unfolding nodeOf
-node-right K ws b v h =
-    let l : word (set ws (b + 1) v) b ≡ word ws b = getD-set-other ws (b + 1) b v 0 (λ e. omega arith) in
-    let r : word (set ws (b + 1) v) (b + 1) ≡ v = getD-set-same ws (b + 1) v 0 h in
-    let q : rowOf placeOf 4 K (set ws (b + 1) v) (b + 2) ≡ rowOf placeOf 4 K ws (b + 2) = row-local placeOf 4 place-local K ws (set ws (b + 1) v) (b + 2) (λ i g g′. getD-set-other ws (b + 1) i v 0 (λ e. omega arith)) in
-    λ i. record { left = l i; right = r i; places = q i }
 
 -- ---- levels
 pub levels-after : (K k : ℕ) (ws ws′ : List ℕ) (b c : ℕ) → ((i : ℕ) → b ≤ i → word ws′ i ≡ word ws i) → levelsOf K k ws′ b c ≡ levelsOf K k ws b c

@@ -85,12 +85,6 @@ low-lt ws o zero h = absurd (not-suc-le-zero {n = 0} (omega arith))
 low-lt ws o (suc j) h = let v : Seen = lookTo ws o j in
     let b = either (lowerThan (placeOf ws (o + j * 4)) (placeOf ws (o + v .low * 4))) j (v .low) j (omega arith) (within ws o j .low) in omega (arith, b)
 
-pub high-lt : (ws : List ℕ) (o n : ℕ) → 0 < n → lookTo ws o n .high < n
-unfolding lookTo seeOne
-high-lt ws o zero h = absurd (not-suc-le-zero {n = 0} (omega arith))
-high-lt ws o (suc j) h = let v : Seen = lookTo ws o j in
-    let b = either (highAs (placeOf ws (o + j * 4)) (placeOf ws (o + v .high * 4))) j (v .high) j (omega arith) (within ws o j .high) in omega (arith, b)
-
 -- ---- tests
 pub ok-is : (K limit : ℕ) (ws : List ℕ) (o : ℕ) (v : Seen) (bare : Bool) (l r : ℕ) → bare ≡ (eqb (word ws o) 0 && eqb (word ws (o + 1)) 0) → l ≡ word ws o → r ≡ word ws (o + 1)
     → (v .neat && (leb l limit && (leb r limit && (bare || leb K (v .count))))) ≡ okBy K limit ws o v

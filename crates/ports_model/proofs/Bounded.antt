@@ -44,9 +44,6 @@ joined-held k w e to l =
     same v (k .held) (word w (k .held) + 1) (omega (arith, length-set v (k .held) (word w (k .held) + 1), joined-length k w e to))
 
 module _ (s : Shape) (p : ℕ) (b w : List ℕ) where
-  pub bounds-of : Whole s p b w → Bounds s w
-  bounds-of h = record { ceilings = h .ceilings; claims = h .claims }
-
   -- port p holds one less, as many, or one more where there is room
   abbrev Fits : ℕ → Type 0
   Fits n = (n ≤ word w (heldAt s p)) ⊎ ((n ≡ word w (heldAt s p) + 1) × Room s p w)

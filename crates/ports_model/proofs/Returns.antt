@@ -74,10 +74,6 @@ module _ (s : Shape) (p : ℕ) (b w : List ℕ) where
 
       -- ---- pop
 
-      pub pop-torn : isWhole s p b w ≡ false → refused Damaged b w ≡ popped s p b w
-      unfolding popped
-      pop-torn j = simp (h, lt-ltb _ _ p<, j)
-
       module _ (j : isWhole s p b w ≡ true) where
         pub pop-none : word w (heldAt s p) ≡ 0 → refused Empty b w ≡ popped s p b w
         unfolding popped
@@ -105,10 +101,6 @@ module _ (s : Shape) (p : ℕ) (b w : List ℕ) where
           push-untagged t = simp (h, lt-ltb _ _ p<, lt-ltb _ _ l, t)
 
           module _ (t : untagged x ≡ false) where
-            pub push-torn : isWhole s p b w ≡ false → refused Damaged b w ≡ pushed s p b w x
-            unfolding pushed
-            push-torn j = simp (h, lt-ltb _ _ p<, lt-ltb _ _ l, t, j)
-
             module _ (j : isWhole s p b w ≡ true) where
               pub push-full : hasRoom s p w ≡ false → refused Full b w ≡ pushed s p b w x
               unfolding pushed
@@ -136,10 +128,6 @@ module _ (s : Shape) (p : ℕ) (b w : List ℕ) where
           replace-untagged t = simp (h, lt-ltb _ _ p<, lt-ltb _ _ l, t)
 
           module _ (t : untagged x ≡ false) where
-            pub replace-torn : isWhole s p b w ≡ false → refused Damaged b w ≡ replaced s p b w x
-            unfolding replaced
-            replace-torn j = simp (h, lt-ltb _ _ p<, lt-ltb _ _ l, t, j)
-
             module _ (j : isWhole s p b w ≡ true) where
               pub replace-none : word w (heldAt s p) ≡ 0 → refused Empty b w ≡ replaced s p b w x
               unfolding replaced

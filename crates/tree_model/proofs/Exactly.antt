@@ -327,9 +327,6 @@ module _ (m levels : ℕ) (ws : List ℕ) where
   pub exactly-clear : Exactly said left (cleared m levels ws) (clearRefusals m levels ws)
   exactly-clear = by-shape _ _ cleared-bad (λ s sh. climb-fine said left _ (λ r q. zero-told r (ap said (sym (cleared-fine s)) ∙ q)))
 
-pub same-unknown : {a b : Refusal} → _≡_ {A = Count} (Unknown a) (Unknown b) → a ≡ b
-same-unknown {a} {b} e = cc
-
 -- ---- KIND: of a call that is not refused a push and an idle request answer done, a pop and a replace an element
 pub comes-kind : (c : ℕ) (nd : List Slot) (r : Request) (g : Ruling) → Comes c nd r g → numberOf (g .answer) ≡ 0 → Kind r (g .answer)
 comes-kind c nd r g idles e = refl

@@ -28,7 +28,7 @@ slice-aggregate-begin-2 : tie.Need-slice-aggregate-begin-2 Inv-loop μ-loop
 slice-aggregate-begin-2 c = sym (length-replicate {A = ℕ} _ 0)
 
 loop-holds : tie.Need-loop-holds Inv-loop μ-loop
-loop-holds c = (sized 16376 _ (c .before .before .begin .kept .0), length-replicate {A = ℕ} _ 0, sized 393216 _ (c .before .before .begin .kept .1 .0))
+loop-holds c = (sized 16376 _ (c .before .before .begin .kept .0), length-replicate {A = ℕ} _ 0, sized (outBytes programLots) _ (c .before .before .begin .kept .1 .0))
 
 slice-aggregate-piece : tie.Need-slice-aggregate-piece Inv-loop μ-loop
 slice-aggregate-piece c = sym (c .before .before .before .before .loop .inv .0)
