@@ -11,6 +11,8 @@ ghost use Rattle.cluster_nodes.specs.Seeing.{lowOnly};
 ghost use Rattle.cluster_nodes.specs.Leaf.{elemAt, okBy, lookNode, placeIn, Here, Lies};
 ghost use Rattle.cluster.specs.Down.{went, putEnd, TakeReady, PutReady, TakeMeets, SwapMeets, PutMeets};
 ghost use Rattle.cluster.specs.Coded.{nodesOf, Nodes, heldBy, pushDown, replaceDown, Bars};
+use cluster_nodes::FOUR_LEFT;
+use cluster_nodes::FOUR_RIGHT;
 use cluster_nodes::Seen;
 use cluster_nodes::bare_at;
 use cluster_nodes::choice;
@@ -62,8 +64,8 @@ fn take(s: &mut [u32], k: usize, left: usize, at: usize, limit: usize, place: us
     // place by place
     let mut c = no_choice();
     if k == 4 {
-        let p = low_four(s, at + at + 20);
-        let q = low_four(s, at + at + 38);
+        let p = low_four(s, at + at + FOUR_LEFT);
+        let q = low_four(s, at + at + FOUR_RIGHT);
         c = choice_full(s, below, at, p, q);
     }
     if !c.ok {
@@ -109,8 +111,8 @@ fn swap(
     let below = room_under(k, limit);
     let mut c = no_choice();
     if k == 4 {
-        let p = low_four(s, at + at + 20);
-        let q = low_four(s, at + at + 38);
+        let p = low_four(s, at + at + FOUR_LEFT);
+        let q = low_four(s, at + at + FOUR_RIGHT);
         c = choice_full(s, below, at, p, q);
     }
     if !c.ok {

@@ -26,6 +26,13 @@ pub struct Seen {
     pub high: usize,
 }
 
+// The words of a node of four places: two counts, and four words a place. The places of its children begin so far behind twice its own word.
+pub const FOUR_WORDS: usize = 18;
+
+pub const FOUR_LEFT: usize = FOUR_WORDS + 2;
+
+pub const FOUR_RIGHT: usize = FOUR_LEFT + FOUR_WORDS;
+
 // A scan that takes every place for occupied: whether all marks are 1, the best place and the number that it is the best by.
 pub struct Lead {
     pub full: bool,
@@ -442,8 +449,8 @@ pub fn choice_full(s: &[u32], limit: usize, at: usize, p: Lead, q: Lead) -> Chos
 {
     let l = s[at];
     let r = s[at + 1];
-    let lc = at + at + 18;
-    let rc = lc + 18;
+    let lc = at + at + FOUR_WORDS;
+    let rc = lc + FOUR_WORDS;
     let fine = counts_ok(s, limit, lc);
     let sound = counts_ok(s, limit, rc);
     let ok = p.full & (q.full & ((l != 0) & ((r != 0) & (fine & sound))));
