@@ -3,17 +3,15 @@
 use Prim.Native.Nat.{suc, zero, ℕ}
 use native.Mathlib.Nat.{not-suc-le-zero}
 use mathlib.Core.List.{[], List, map}
-use mathlib.Core.Path.{_∙_, _≡_, subst, sym}
+use mathlib.Core.Path.{_∙_, _≡_, sym}
 use lib.ListN.{length}
 use Rattle.agreement.proofs.Ranks.{ranks-plain, same-empty}
 use Rattle.agreement.specs.Plain.{plain, Taken}
 use Rattle.cluster_model.proofs.Exactly as heap-exactly
 use Rattle.cluster_model.proofs.Promises as heap
-use Rattle.cluster_model.proofs.Replace as heap-replace
 use Rattle.cluster_model.specs.Calls as heap-calls
 use Rattle.cluster_model.specs.Promise as heap-says
 use Rattle.promise.specs.Queue.{answers}
-use Rattle.promise.specs.Served.{Least, least-same}
 use Rattle.strip.specs.Answers.{numberOf, rankOf}
 use Rattle.strip.specs.declared.Answer.{Answer}
 use Rattle.strip.specs.declared.Element.{Element}
@@ -21,29 +19,18 @@ use Rattle.strip.specs.declared.Request.{Request}
 use Rattle.strip.specs.declared.Request.the-variants.{Pop, Replace}
 use Rattle.tree_model.proofs.Exactly as tree-exactly
 use Rattle.tree_model.proofs.Promises as tree
-use Rattle.tree_model.proofs.Replace as tree-replace
-use Rattle.tree_model.proofs.Serve.{answered}
 use Rattle.tree_model.specs.Calls.{called}
 use Rattle.tree_model.specs.Damage.{room}
 use Rattle.tree_model.specs.Promise as tree-says
-use Rattle.tree_model.specs.Serve.{holding, ruled}
-use Rattle.tree_model.specs.Words.{levelsOf}
-
--- the tree gives the least of every kept store
-tree-least : (m k : ℕ) (r : Request) (ws : List ℕ) → tree.Kept m k ws → Least (tree-says.storedCount (room m (suc k)) ws) r (called m (suc k) r ws .answer)
-tree-least m k r ws kept =
-    subst (λ (a : Answer). Least (tree-says.storedCount (room m (suc k)) ws) r a) (sym (tree.kept-answer m k ws kept r))
-    (least-same (holding m k (levelsOf m (suc k) ws 0 1)) (tree-says.storedCount (room m (suc k)) ws) (λ f. sym (tree.stored-holding m k ws f)) r
-    (ruled m k r (levelsOf m (suc k) ws 0 1) .answer) (answered m k (tree-exactly.order-pos (kept .shape)) (levelsOf m (suc k) ws 0 1) (kept .store) r .least))
 
 -- both answer a replace that they take as a pop
 tree-pop : (m k : ℕ) (x : Element) (ws : List ℕ) → tree.Kept m k ws → numberOf (called m (suc k) (Replace x) ws .answer) ≡ 0
     → called m (suc k) (Replace x) ws .answer ≡ called m (suc k) Pop ws .answer
-tree-pop m k x ws kept e = tree-replace.kept-replaces m k x (λ u. tree-exactly.barred m (suc k) (Replace x) ws u e) ws kept .answer
+tree-pop m k x ws kept e = tree.kept-replaces m k ws kept x (λ u. tree-exactly.barred m (suc k) (Replace x) ws u e) .answer
 
 pub heap-pop : (K k : ℕ) (x : Element) (ws : List ℕ) → heap.Kept K k ws → numberOf (heap-calls.called K (suc k) (Replace x) ws .answer) ≡ 0
     → heap-calls.called K (suc k) (Replace x) ws .answer ≡ heap-calls.called K (suc k) Pop ws .answer
-heap-pop K k x ws kept e = heap-replace.kept-replaces K k x (λ u. heap-exactly.barred K (suc k) (Replace x) ws u e) ws kept .answer
+heap-pop K k x ws kept e = heap.kept-replaces K k x (λ u. heap-exactly.barred K (suc k) (Replace x) ws u e) ws kept .answer
 
 module _ (rs : List Request) where
   -- what the tree of this order answers from a cleared store, and what the heap of K places a node does
@@ -56,13 +43,13 @@ module _ (rs : List Request) where
   pub tree-plain : (m levels : ℕ) (ws : List ℕ) → tree-says.Shape m levels (length ws) → Taken (treeSaid m levels ws) → map rankOf (treeSaid m levels ws) ≡ answers plain rs []
   tree-plain m zero ws sh t = absurd (not-suc-le-zero (sh .some))
   tree-plain m (suc k) ws sh t =
-      ranks-plain (tree-says.treeQueue m (suc k)) (tree.Kept m k) (tree.called-kept m k) (tree-says.storedCount (room m (suc k))) (tree.call-sum m k) (tree-least m k) (tree-pop m k)
+      ranks-plain (tree-says.treeQueue m (suc k)) (tree.Kept m k) (tree.called-kept m k) (tree-says.storedCount (room m (suc k))) (tree.call-sum m k) (λ r ws kept. tree.kept-least m k ws kept r) (tree-pop m k)
       (λ r ws. tree-exactly.kind m (suc k) r ws) rs (tree-says.start m (suc k) ws) [] (tree.start-kept m k ws sh) (same-empty _ _ _ _ _ _ _ _ _ (tree.start-empty m k ws sh)) t
 
   pub heap-plain : (K levels : ℕ) (ws : List ℕ) → heap-says.Shape K levels (length ws) → Taken (heapSaid K levels ws) → map rankOf (heapSaid K levels ws) ≡ answers plain rs []
   heap-plain K zero ws sh t = absurd (not-suc-le-zero (sh .some))
   heap-plain K (suc k) ws sh t =
-      ranks-plain (heap-says.clusterQueue K (suc k)) (heap.Kept K k) (heap.called-kept K k) (heap-says.storedCount K (suc k)) (heap.call-sum K k) (λ r ws kept. heap.kept-least K k ws kept r) (heap-pop K k)
+      ranks-plain (heap-says.clusterQueue K (suc k)) (heap.Kept K k) (heap.called-kept K k) (heap-says.storedCount K (suc k)) (heap.call-sum K k) (heap.kept-least K k) (heap-pop K k)
       (λ r ws. heap-exactly.kind K (suc k) r ws) rs (heap-says.start K (suc k) ws) [] (heap.start-kept K k ws sh) (same-empty _ _ _ _ _ _ _ _ _ (heap.start-empty K k ws sh)) t
 
   -- AGREEMENT

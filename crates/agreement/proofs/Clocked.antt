@@ -91,7 +91,7 @@ module _ (K k : ℕ) where
 -- ---- one at a time
 heap-number : (K k : ℕ) (r : Request) (ws : List ℕ) → heap.Kept K k ws → numberOf (heap-says.clusterQueue K (suc k) r ws .said) ≡ numberFor (room K (suc k)) r (heap-says.storedCount K (suc k) ws always)
 heap-number K k r ws kept =
-    ap numberOf (heap.kept-answer K k ws kept r) ∙ rule-number (room K (suc k)) r (heldIn K (suc k) ws) (lowElem (nodeIn K ws 0 .places))
+    ap numberOf (heap.kept-answer K k r ws kept) ∙ rule-number (room K (suc k)) r (heldIn K (suc k) ws) (lowElem (nodeIn K ws 0 .places))
     ∙ ap (numberFor (room K (suc k)) r) (heap.kept-held K k ws kept ∙ sym (stored-many K (suc k) ws always))
 
 -- what is answered: the number, and the rank
@@ -115,7 +115,7 @@ module _ (rs : List Request) where
   pub heap-plainly : (K levels : ℕ) (ws : List ℕ) → Shape K levels (length ws) → map numberRank (heapSaid rs K levels ws) ≡ answers (plainly (room K levels)) rs []
   heap-plainly K zero ws sh = absurd (not-suc-le-zero (sh .some))
   heap-plainly K (suc k) ws sh =
-      ranks-plainly (heap-says.clusterQueue K (suc k)) (heap.Kept K k) (heap.called-kept K k) (heap-says.storedCount K (suc k)) (heap.call-sum K k) (λ r ws kept. heap.kept-least K k ws kept r) (heap-pop K k)
+      ranks-plainly (heap-says.clusterQueue K (suc k)) (heap.Kept K k) (heap.called-kept K k) (heap-says.storedCount K (suc k)) (heap.call-sum K k) (heap.kept-least K k) (heap-pop K k)
       (λ r ws. heap-exactly.kind K (suc k) r ws) (room K (suc k)) (heap-number K k) rs (heap-says.start K (suc k) ws) [] (heap.start-kept K k ws sh)
       (whole-empty _ _ _ _ _ _ _ _ _ _ _ (heap.start-empty K k ws sh))
 

@@ -9,7 +9,7 @@ use lib.Dec.{ltb}
 use lib.ListN.{getD, length, set}
 use borrow.Author.Tests.{ltb-true, not-false}
 use Rattle.clocked_model.proofs.Clock.{step-gap}
-use Rattle.clocked_model.proofs.OneStep.{last-ends}
+use Rattle.clocked_model.proofs.Ends.{last-ends}
 use Rattle.clocked_model.specs.Calls.{pending, popsOrReplaces, ruleMarked}
 use Rattle.clocked_model.specs.Cycle.{cycleLevels, cycleOk, cycleWorks, quiet, Works}
 use Rattle.clocked_model.specs.Lost.{carried, carries, strikes, struck}

@@ -1,35 +1,40 @@
 -- Every refusal of a cycle is given exactly for its cause, and leaves behind what the table says.
-use Prim.Native.Nat.{_≤_, pred, suc, zero, ℕ}
-use native.Mathlib.Omega.{arith}
-use mathlib.Core.Bool.{_&&_, Bool, cond, false, false≢true, not, true, true≢false}
+use Prim.Native.Nat.{pred, suc, zero, ℕ}
+use mathlib.Core.Bool.{_&&_, Bool, false, false≢true, not, true, true≢false}
 use mathlib.Core.List.{List}
-use mathlib.Core.Logic.{_⊎_, inl, inr}
-use mathlib.Core.Path.{_∙_, _≡_, ap, refl, subst, sym}
+use mathlib.Core.Path.{_∙_, _≡_, ap, refl, sym}
 use lib.ListN.{length}
 use Rattle.clocked_model.proofs.Step.{idle-ruling}
+use Rattle.clocked_model.proofs.Turn.{cycle-length}
 use Rattle.clocked_model.specs.Calls.{allLevels, askedOk, asks, CycleOutcome, cycleOutcome, cycleWork, ruleMarked, ruleNow, isRefused, marks, popsOrReplaces, stepsOk, cycled, cycleRun}
 use Rattle.clocked_model.specs.Cycle.{cycleOk, Works}
-use Rattle.clocked_model.specs.Promise.{Asks, CycleDamage, cycleLeft, cycleRefusals, hasRun, PopsOrReplaces, runsIdle, WorksDamaged}
+use Rattle.clocked_model.specs.Promise.{Asks, clock, clockedQueue, CycleDamage, cycleLeft, cycleRefusals, hasRun, Machine, machine, PopsOrReplaces, runsIdle, WorksDamaged}
 use Rattle.clocked_model.specs.declared.State.{State}
 use Rattle.laws.specs.Fails.{Fails, fails-and, fails-or, fails-true}
-use Rattle.laws.specs.Ladder.{climb-by, climb-stop, Exactly, Ladder, left-behind, stop}
-use Rattle.laws.specs.Ladder as ladder
-use Rattle.laws.specs.Means.{Iff}
-use Rattle.laws.specs.Tests.{and-left, and-right, and-true, cond-both}
-use Rattle.promise.specs.Queue.{leaves}
-use Rattle.promise.specs.Refused.{IsPush, limits, refusal-told, Untagged, zero-told}
+use Rattle.laws.specs.Ladder.{Exactly, left-behind, rung, stop}
+use Rattle.laws.specs.Means.{Iff, Means, means-and, means-by}
+use Rattle.laws.specs.Tests.{and-left, and-right, and-true}
+use Rattle.promise.specs.Queue.{step, Step}
+use Rattle.promise.proofs.Calls.{grants-kind, grants-zero, last-all, last-ladder, last-tags, last-told}
+use Rattle.promise.proofs.Clock as clocks
+use Rattle.promise.proofs.Clock.{Ticks}
+use Rattle.promise.proofs.Drains.{exactly-as}
+use Rattle.promise.specs.Calls as calls
+use Rattle.promise.specs.Calls.{left, Outcome}
+use Rattle.promise.specs.Clock.{cycleLeft as clock-left, cycling}
+use Rattle.promise.specs.Refused.{IsPush, zero-told}
 use Rattle.promise.specs.Served.{Kind}
+use Rattle.promise.specs.Table.{bars, decided-either, decided-same, ends, needs}
 use Rattle.promise.specs.Tagged.{Barred}
 use Rattle.strip.specs.Answers.{numberOf, refusalNumber}
 use Rattle.strip.specs.declared.Answer.{Answer}
 use Rattle.strip.specs.declared.Answer.the-variants.{Done, Out, Refused}
 use Rattle.strip.specs.declared.Refusal.{Refusal}
-use Rattle.strip.specs.declared.Refusal.the-variants.{BadShape, Damaged, Empty, Full, NoTag, TooSoon}
+use Rattle.strip.specs.declared.Refusal.the-variants.{BadShape, Damaged, TooSoon}
 use Rattle.strip.specs.declared.Request.{Request}
 use Rattle.strip.specs.declared.Request.the-variants.{Idle, Pop, Push, Replace}
-use Rattle.tree_model.proofs.Exactly.{comes-barred, comes-kind, is-shape, limits-exactly, node-fails, root-limit, shape-is, work-fails}
-use Rattle.tree_model.proofs.Rules.{comes}
-use Rattle.tree_model.specs.Calls.{rootOf, rootOk, Ruling, ruling, shapeOk, ruleAt}
+use Rattle.tree_model.proofs.Exactly.{node-fails, root-limit, shape-is, shape-means, work-fails}
+use Rattle.tree_model.specs.Calls.{rootOf, rootOk, rule, Ruling, ruling, shapeOk}
 use Rattle.tree_model.specs.Damage.{workOk, room}
 use Rattle.tree_model.specs.Levels.{Levels, top, work}
 use Rattle.tree_model.specs.Node.{isNothing, sumCounts}
@@ -56,19 +61,15 @@ zero-ran Done e = refl
 zero-ran (Out x) e = refl
 zero-ran (Refused n) e = absurd (zero-told n (sym e))
 
-pops-so : (r : Request) → popsOrReplaces r ≡ true → PopsOrReplaces r
+pops-mean : (r : Request) → Means (popsOrReplaces r) (PopsOrReplaces r)
 unfolding popsOrReplaces
-pops-so Idle e = absurd (false≢true e)
-pops-so (Push x) e = absurd (false≢true e)
-pops-so Pop e = tt
-pops-so (Replace x) e = tt
+pops-mean Idle = record { says = λ e. absurd (false≢true e); holds = λ d. absurd d }
+pops-mean (Push x) = record { says = λ e. absurd (false≢true e); holds = λ d. absurd d }
+pops-mean Pop = record { says = λ e. tt; holds = λ d. refl }
+pops-mean (Replace x) = record { says = λ e. tt; holds = λ d. refl }
 
-so-pops : (r : Request) → PopsOrReplaces r → popsOrReplaces r ≡ true
-unfolding popsOrReplaces
-so-pops Idle d = absurd d
-so-pops (Push x) d = absurd d
-so-pops Pop d = refl
-so-pops (Replace x) d = refl
+soon-means : (mark : Bool) (r : Request) → Means (mark && popsOrReplaces r) (PopsOrReplaces r × (mark ≡ true))
+soon-means mark r = means-by (means-and (record { says = λ e. e; holds = λ e. e }) (pops-mean r)) (λ p. (p .1, p .0)) (λ p. (p .1, p .0))
 
 module _ (m levels : ℕ) (r : Request) (s : State) (ws : List ℕ) where
   abbrev g : Ruling
@@ -93,12 +94,10 @@ module _ (m levels : ℕ) (r : Request) (s : State) (ws : List ℕ) where
   -- what is so of a cycle refused for the shape or for damage, and of one that ran, is so of the cycle
   pub cycled-either : (P : CycleOutcome → Type 0) → P (cycleOutcome (Refused BadShape) ws s) → P (cycleOutcome (Refused Damaged) ws s)
       → (shapeOk m levels (length ws) ≡ true → sound ≡ true → P (cycleRun m levels r g s ws)) → P (cycled m levels r s ws)
-  cycled-either P bad damaged workOk = go (shapeOk m levels (length ws)) refl sound refl
-    where
-      go : (a : Bool) → shapeOk m levels (length ws) ≡ a → (b : Bool) → sound ≡ b → P (cycled m levels r s ws)
-      go false e b f = subst P (sym (cycled-bad e)) bad
-      go true e false f = subst P (sym (cycled-damaged e f)) damaged
-      go true e true f = subst P (sym (cycled-fine e f)) (workOk e f)
+  unfolding cycled
+  cycled-either P bad damaged done =
+      decided-either (λ n. cycleOutcome (Refused n) ws s) P (needs BadShape (shapeOk m levels (length ws)) (Shape m levels (length ws)) (bars Damaged sound (CycleDamage m levels r s ws) ends))
+      (cycleRun m levels r g s ws) (bad, (damaged, tt)) (λ c. done (c .0) (c .1 .0))
 
   pub damage-fails : Fails sound (CycleDamage m levels r s ws)
   damage-fails =
@@ -139,118 +138,99 @@ pub root-unread : (m levels : ℕ) (ws : List ℕ) → askedOk m levels Idle ws 
 unfolding asks
 root-unread m levels ws = refl
 
--- .. and leaves what its steps do
-pub idle-cycleRun : (m levels : ℕ) (o : Op) (s : State) (ws : List ℕ) → shapeOk m levels (length ws) ≡ true → stepsOk m levels o s ws ≡ true
-    → cycled m levels Idle s ws ≡ cycleRun m levels Idle (ruling Done Nothing) s ws
-idle-cycleRun m levels o s ws e f =
-    let i : ruleNow m levels Idle s ws ≡ ruling Done Nothing = idle-ruling (s .mark) (room m levels) (rootOf m ws) in
-    cycled-fine m levels Idle s ws e
-    (and-true (askedOk m levels Idle ws) (stepsOk m levels (ruleNow m levels Idle s ws .op) s ws) (root-unread m levels ws)
-    (ap (λ (g : Ruling). stepsOk m levels (g .op) s ws) i ∙ steps-none m levels o s ws f))
-    ∙ ap (λ (g : Ruling). cycleRun m levels Idle g s ws) i
+-- a cycle that runs keeps the slice's length
+pub run-length : (m levels : ℕ) (r : Request) (g : Ruling) (s : State) (ws : List ℕ) → length (cycleRun m levels r g s ws .words) ≡ length ws
+unfolding cycleRun
+run-length m levels r g s ws = cycle-length m (allLevels levels) _ 0 1 ws
 
 -- the mark that a cycle leaves
 cycleRun-mark : (m levels : ℕ) (r : Request) (g : Ruling) (s : State) (ws : List ℕ) → cycleRun m levels r g s ws .state .mark ≡ marks r (g .answer)
 unfolding cycleRun
 cycleRun-mark m levels r g s ws = refl
 
--- what a refusal of the rule leaves
-cycleRun-refused : (m levels : ℕ) (r : Request) (s : State) (ws : List ℕ) (n : Refusal) → runsIdle n ≡ true → (o : Op) → shapeOk m levels (length ws) ≡ true → stepsOk m levels o s ws ≡ true
-    → cycleRun m levels r (ruling (Refused n) Nothing) s ws ≡ cycleLeft m levels s ws n
-unfolding cycleRun leaves
-cycleRun-refused m levels r s ws n i o e f = rw i (rw (idle-cycleRun m levels o s ws e f) (λ j. cycleOutcome (Refused n) (idly .words) (record { records = idly .state .records; mark = same-mark j })))
-  where
-    idly : CycleOutcome
-    idly = cycleRun m levels Idle (ruling Done Nothing) s ws
+-- ---- this machine is a clock
+not-soon : (mark : Bool) → (mark && popsOrReplaces Idle) ≡ false
+unfolding popsOrReplaces
+not-soon true = refl
+not-soon false = refl
 
-    same-mark : cycleRun m levels r (ruling (Refused n) Nothing) s ws .state .mark ≡ idly .state .mark
-    same-mark = cycleRun-mark m levels r (ruling (Refused n) Nothing) s ws ∙ refused-mark r n ∙ sym (cycleRun-mark m levels Idle (ruling Done Nothing) s ws ∙ idle-mark Done)
+push-asks : (r : Request) → IsPush r → asks r ≡ true
+unfolding asks
+push-asks Idle p = absurd p
+push-asks (Push x) p = refl
+push-asks Pop p = absurd p
+push-asks (Replace x) p = absurd p
+
+module _ (m levels : ℕ) where
+  abbrev asStep : CycleOutcome → Step Answer Machine
+  asStep c = step (c .answer) (machine (c .state) (c .words))
+
+  abbrev pub shown : Outcome Machine → CycleOutcome
+  shown o = cycleOutcome (o .answer) (o .words .words) (o .words .state)
+
+  -- a refused request has no work and leaves the mark off
+  refused-as : (r : Request) (x : Machine) (n : Refusal) → asStep (cycleRun m levels r (ruling (Refused n) Nothing) (x .state) (x .words)) ≡ step (Refused n) (clock m levels .moves Idle x)
+  unfolding cycleRun
+  refused-as r x n =
+      let o = cycleRun m levels r (ruling (Refused n) Nothing) (x .state) (x .words) in
+      let e : marks r (Refused n) ≡ marks Idle Done = refused-mark r n ∙ sym (idle-mark Done) in
+      λ i. step (Refused n) (machine (record { records = o .state .records; mark = e i }) (o .words))
+
+  -- its cycle is the clock's
+  pub same : (r : Request) (x : Machine) → clockedQueue m levels r x ≡ cycling (clock m levels) r x
+  unfolding cycled cycleRun ruleMarked rule
+  same r x =
+      decided-same asStep (λ (o : Outcome Machine). step (o .answer) (o .words)) (λ n. cycleOutcome (Refused n) (x .words) (x .state)) (left x)
+      (needs BadShape (shapeOk m levels (length (x .words))) (Unit {0}) (bars Damaged (sound m levels r (x .state) (x .words)) (Unit {0}) ends)) _ _ (λ n. refl)
+      (decided-same (λ (g : Ruling). asStep (cycleRun m levels r g (x .state) (x .words))) (λ (g : calls.Ruling Request). step (g .answer) (clock m levels .moves (g .op) x))
+      (λ n. ruling (Refused n) Nothing) (λ n. calls.ruling (Refused n) Idle) (clock m levels .late r x) _ _ (refused-as r x) refl)
+
+  pub timed : Ticks (clock m levels)
+  timed =
+      record {
+        shape = λ x. shape-means m levels (length (x .words));
+        torn = λ r x. damage-fails m levels r (x .state) (x .words);
+        late = λ r x e f. (
+          soon-means (x .state .mark) r,
+          λ n. last-told r _ _ (λ p. root-limit m levels (x .words) (shape-is m levels (length (x .words)) e .some) (rw (push-asks r p) at (and-left (askedOk m levels r (x .words)) _ f))),
+        );
+        shut = refl;
+        jammed = refl;
+        idles = λ r x. (refl, last-all (λ n. runsIdle n ≡ true) refl refl refl r _ _);
+        free = λ x. (not-soon (x .state .mark), (refl, tt));
+        calm = λ r x f.
+            and-true (askedOk m levels Idle (x .words)) _ (root-unread m levels (x .words))
+            (ap (λ (g : Ruling). stepsOk m levels (g .op) (x .state) (x .words)) (idle-ruling (x .state .mark) (room m levels) (rootOf m (x .words)))
+            ∙ steps-none m levels _ (x .state) (x .words) (and-right (askedOk m levels r (x .words)) _ f));
+        rest = λ x. refl;
+        zero = λ r x. grants-zero r _;
+        stays = λ r x. ap (shapeOk m levels) (run-length m levels r _ (x .state) (x .words));
+      }
+
+abbrev pub said : CycleOutcome → ℕ
+said c = numberOf (c .answer)
 
 -- EXACTLY: a cycle gives each refusal for its cause and for that cause only, and leaves behind what the table says
 module _ (m levels : ℕ) (r : Request) (s : State) (ws : List ℕ) where
-  abbrev pub said : CycleOutcome → ℕ
-  said c = numberOf (c .answer)
-
-  abbrev left : Refusal → CycleOutcome
-  left = cycleLeft m levels s ws
-
-  abbrev last : Ladder Refusal
-  last = stop NoTag (Untagged r) (limits r (sumCounts (rootOf m ws)) (room m levels) ladder.fine)
-
-  push-asks : IsPush r → asks r ≡ true
-  unfolding asks
-  push-asks p = go r p
-    where
-      go : (r : Request) → IsPush r → asks r ≡ true
-      go Idle p = absurd p
-      go (Push x) p = refl
-      go Pop p = absurd p
-      go (Replace x) p = absurd p
-
-  module _ (e : shapeOk m levels (length ws) ≡ true) (f : sound m levels r s ws ≡ true) where
-    steps : stepsOk m levels (ruleNow m levels r s ws .op) s ws ≡ true
-    steps = and-right (askedOk m levels r ws) _ f
-
-    refused-as : (n : Refusal) → runsIdle n ≡ true → cycleRun m levels r (ruling (Refused n) Nothing) s ws ≡ left n
-    refused-as n i = cycleRun-refused m levels r s ws n i _ e steps
-
-    root-most : IsPush r → sumCounts (rootOf m ws) ≤ room m levels
-    root-most p = root-limit m levels ws (shape-is m levels (length ws) e .some) (rw (push-asks p) at (and-left (askedOk m levels r ws) _ f))
-
-    -- 3, then 7, then 5 or 6
-    ruleMarked-exactly : Exactly said left (cycleRun m levels r (ruleNow m levels r s ws) s ws) (stop TooSoon (PopsOrReplaces r × (s .mark ≡ true)) last)
-    unfolding ruleMarked cycleRun
-    ruleMarked-exactly = climb-stop said left refusal-told TooSoon _ _ last (go (s .mark) refl (popsOrReplaces r) refl)
-      where
-        plain : Exactly said left (cycleRun m levels r (ruleAt m levels r ws) s ws) last
-        plain = limits-exactly (λ (c : CycleOutcome). c .answer) left (λ x. refl) (λ g. cycleRun m levels r g s ws) (λ g. refl) (refused-as NoTag refl) (refused-as Full refl) (refused-as Empty refl) (room m levels) r (rootOf m ws) root-most
-
-        go : (b : Bool) → s .mark ≡ b → (t : Bool) → popsOrReplaces r ≡ t
-            → ((PopsOrReplaces r × (s .mark ≡ true) → ⊥) × Exactly said left (cycleRun m levels r (cond (b && t) (ruling (Refused TooSoon) Nothing) (ruleAt m levels r ws)) s ws) last)
-            ⊎ ((PopsOrReplaces r × (s .mark ≡ true)) × (cycleRun m levels r (cond (b && t) (ruling (Refused TooSoon) Nothing) (ruleAt m levels r ws)) s ws ≡ left TooSoon))
-        go true x true y = inr ((pops-so r y, x), refused-as TooSoon refl)
-        go true x false y = inl ((λ d. true≢false (sym (so-pops r (d .0)) ∙ y)), plain)
-        go false x t y = inl ((λ d. true≢false (sym (d .1) ∙ x)), plain)
-
-  pub exactly-cycle : Exactly said left (cycled m levels r s ws) (cycleRefusals m levels r s ws)
-  exactly-cycle = climb-by said left refusal-told BadShape _ _ _ (shape-by (shapeOk m levels (length ws)) refl)
-    where
-      damage-by : shapeOk m levels (length ws) ≡ true → (b : Bool) → sound m levels r s ws ≡ b
-          → ((CycleDamage m levels r s ws → ⊥) × Exactly said left (cycled m levels r s ws) (stop TooSoon (PopsOrReplaces r × (s .mark ≡ true)) last))
-          ⊎ (CycleDamage m levels r s ws × (cycled m levels r s ws ≡ left Damaged))
-      damage-by e true f =
-          inl (sound-no-damage m levels r s ws f, subst (λ (c : CycleOutcome). Exactly said left c (stop TooSoon (PopsOrReplaces r × (s .mark ≡ true)) last)) (sym (cycled-fine m levels r s ws e f)) (ruleMarked-exactly e f))
-      damage-by e false f = inr (damage-fails m levels r s ws .found f, cycled-damaged m levels r s ws e f)
-
-      shape-by : (a : Bool) → shapeOk m levels (length ws) ≡ a
-          → (Shape m levels (length ws) × Exactly said left (cycled m levels r s ws) (stop Damaged (CycleDamage m levels r s ws) (stop TooSoon (PopsOrReplaces r × (s .mark ≡ true)) last)))
-          ⊎ ((Shape m levels (length ws) → ⊥) × (cycled m levels r s ws ≡ left BadShape))
-      shape-by true e = inl (shape-is m levels (length ws) e, climb-stop said left refusal-told Damaged _ _ _ (damage-by e (sound m levels r s ws) refl))
-      shape-by false e = inr ((λ sh. true≢false (sym (is-shape m levels (length ws) sh) ∙ e)), cycled-bad m levels r s ws e)
+  pub exactly-cycle : Exactly said (cycleLeft m levels s ws) (cycled m levels r s ws) (cycleRefusals m levels r s ws)
+  exactly-cycle =
+      last-ladder
+      (λ l. Exactly said (cycleLeft m levels s ws) (cycled m levels r s ws) (rung BadShape (Shape m levels (length ws)) (stop Damaged (CycleDamage m levels r s ws) (stop TooSoon (PopsOrReplaces r × (s .mark ≡ true)) l)))) r
+      (sumCounts (rootOf m ws)) (room m levels)
+      (exactly-as (λ (o : Outcome Machine). numberOf (o .answer)) (clock-left (clock m levels) (clockedQueue m levels) (machine s ws)) (shown m levels) said (λ o. refl) _ _
+      (clocks.exactly-cycle (clock m levels) (clockedQueue m levels) (same m levels) (timed m levels) r (machine s ws)))
 
   -- LEFT BEHIND: 1 and 2 everything, mark and records too; 3, 5, 6 and 7 "cycle runs as idle"
-  pub stands : (n : Refusal) → said (cycled m levels r s ws) ≡ refusalNumber n → cycled m levels r s ws ≡ left n
-  stands = left-behind said left exactly-cycle
+  pub stands : (n : Refusal) → said (cycled m levels r s ws) ≡ refusalNumber n → cycled m levels r s ws ≡ cycleLeft m levels s ws n
+  stands = left-behind said (cycleLeft m levels s ws) exactly-cycle
 
--- ---- KIND: of a cycle that is not refused a push and an idle request answer done, a pop and a replace an element
-ruleMarked-kind : (mark : Bool) (r : Request) (g : Ruling) → (numberOf (g .answer) ≡ 0 → Kind r (g .answer)) → numberOf (ruleMarked mark r g .answer) ≡ 0 → Kind r (ruleMarked mark r g .answer)
-unfolding ruleMarked
-ruleMarked-kind mark r g k =
-    cond-both (λ (g : Ruling). numberOf (g .answer) ≡ 0 → Kind r (g .answer)) (mark && popsOrReplaces r) (ruling (Refused TooSoon) Nothing) g (λ t e. absurd (omega arith)) (λ t. k)
+  -- KIND: of a cycle that is not refused a push and an idle request answer done, a pop and a replace an element
+  pub kind : numberOf (cycled m levels r s ws .answer) ≡ 0 → Kind r (cycled m levels r s ws .answer)
+  kind = clocks.kind (clock m levels) (clockedQueue m levels) (same m levels) (λ r x. grants-kind r _) r (machine s ws)
 
-pub kind : (m levels : ℕ) (r : Request) (s : State) (ws : List ℕ) → numberOf (cycled m levels r s ws .answer) ≡ 0 → Kind r (cycled m levels r s ws .answer)
-unfolding cycleRun
-kind m levels r s ws =
-    cycled-either m levels r s ws (λ c. numberOf (c .answer) ≡ 0 → Kind r (c .answer)) (λ e. absurd (omega arith)) (λ e. absurd (omega arith))
-    (λ e f. ruleMarked-kind (s .mark) r (ruleAt m levels r ws) (comes-kind (room m levels) (rootOf m ws) r _ (comes (room m levels) r (rootOf m ws))))
-
--- ---- BARRED: an element without a tag is never let in, whatever stands in the machine
-pub barred : (m levels : ℕ) (r : Request) (s : State) (ws : List ℕ) → Barred r (cycled m levels r s ws .answer)
-unfolding cycleRun ruleMarked
-barred m levels r s ws =
-    cycled-either m levels r s ws (λ c. Barred r (c .answer)) (λ u e. omega arith) (λ u e. omega arith)
-    (λ e f. cond-both (λ (g : Ruling). Barred r (g .answer)) (s .mark && popsOrReplaces r) (ruling (Refused TooSoon) Nothing) (ruleAt m levels r ws) (λ t u e. omega arith)
-    (λ t. comes-barred (room m levels) (rootOf m ws) r _ (comes (room m levels) r (rootOf m ws))))
+  -- BARRED: an element without a tag is never let in, whatever stands in the machine
+  pub barred : Barred r (cycled m levels r s ws .answer)
+  barred = clocks.barred (clock m levels) (clockedQueue m levels) (same m levels) (timed m levels) r (machine s ws) (λ u d. last-tags r _ _ u (d .1))
 
 -- ---- MARK: rows 1 and 2 aside, it is on exactly if an operation was asked for and not refused
 accepts-mean : (a : Answer) → Iff (not (isRefused a) ≡ true) (Unit {0} × (numberOf a ≡ 0))

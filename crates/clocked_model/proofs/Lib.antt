@@ -4,8 +4,8 @@ pub mod Turn
 pub mod Step
 pub mod Demand
 pub mod Exactly
-pub mod Draining
 pub mod Drain
+pub mod Ends
 pub mod Promises
 pub mod Cases
 pub mod OneStep

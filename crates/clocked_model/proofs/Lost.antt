@@ -2,28 +2,35 @@
 use Prim.Native.Nat.{_+_, _≤_, suc, zero, ℕ}
 use native.Mathlib.Nat.{not-suc-le-zero}
 use native.Mathlib.Omega.{arith}
-use mathlib.Core.Bool.{Bool, false, not}
-use mathlib.Core.List.{[], _∷_, List, map}
+use mathlib.Core.Bool.{_&&_, Bool, cond, false, not, true}
+use mathlib.Core.List.{List, map}
 use mathlib.Core.Path.{_∙_, _≡_, ap, ap₂, refl, subst, sym}
 use lib.ListN.{length}
 use Rattle.clocked_model.proofs.Balance.{at-rest-none, balance, carried-is, carriedBy, gives-work, ruled-sums, Serves, slots-are, slotSum, struck-is, struck-there, struckBy}
-use Rattle.clocked_model.proofs.Demand.{fresh-quiet, idles-in-step, start-in-step}
-use Rattle.clocked_model.proofs.Drain.{drain-state}
-use Rattle.clocked_model.proofs.Step.{in-step, InStep, spaced-whole, steps-fine, ticks, words-then, works-then}
-use Rattle.clocked_model.specs.Calls.{CycleOutcome, cycleRun, cycleWork, drains, fresh, pending, recordCount, ruleNow}
+use Rattle.clocked_model.proofs.Demand.{fresh-quiet, idles-done, idles-in-step, settled-words, start-in-step}
+use Rattle.clocked_model.proofs.Drain.{drains-as}
+use Rattle.clocked_model.proofs.Exactly.{same, timed}
+use Rattle.clocked_model.proofs.Step.{in-step, InStep, root-fine, same-shape, spaced-whole, step-answer, steps-fine, ticks, words-then, works-then}
+use Rattle.clocked_model.specs.Calls.{askedOk, CycleOutcome, cycleRun, cycleWork, DrainOutcome, fresh, popsOrReplaces, pending, recordCount, ruleNow}
 use Rattle.clocked_model.specs.Cycle.{cycleOk, cycleWorks}
-use Rattle.clocked_model.specs.Lost.{asked, Call, callAnswers, carried, carries, cycle, drain, inSlots, machineQueue, NothingLost, ranCalls, remaining, strikes, struck}
-use Rattle.clocked_model.specs.Promise.{clearedMachine, clockedQueue, idles, Machine, machine}
+use Rattle.clocked_model.specs.Lost.{asked, Call, callAnswers, carried, carries, inSlots, machineQueue, NothingLost, ranCalls, remaining, strikes, struck}
+use Rattle.clocked_model.specs.Promise.{clearedMachine, clock, clockedQueue, idles, Machine, machine, oneByOne}
 use Rattle.clocked_model.specs.Records.{worksOf}
-use Rattle.laws.specs.Tests.{and-right}
-use Rattle.promise.specs.Queue.{answers, leaves, leaves-keep}
-use Rattle.promise.specs.Served.{allBrought, allGiven, brought, given, triple}
+use Rattle.laws.specs.Tests.{and-right, and-true}
+use Rattle.promise.proofs.Clock as clocks
+use Rattle.promise.proofs.Clock.{Bag, IsClock, Lowest}
+use Rattle.promise.proofs.Kept.{none-least}
+use Rattle.promise.specs.Clock.{calls, cycle, drain}
+use Rattle.promise.specs.Queue.{step}
+use Rattle.promise.specs.Served.{allBrought, allGiven, brought, given, Least, least-same, triple}
+use Rattle.strip.specs.declared.Answer.the-variants.{Refused}
 use Rattle.strip.specs.declared.Element.{Element}
+use Rattle.strip.specs.declared.Refusal.the-variants.{TooSoon}
 use Rattle.strip.specs.declared.Request.the-variants.{Idle}
 use Rattle.strip.specs.declared.Request.{Request}
 use Rattle.tree_model.proofs.Nothing.{op-work}
-use Rattle.tree_model.proofs.Promises.{root-node, start-empty}
-use Rattle.tree_model.specs.Calls.{rootOf, Ruling}
+use Rattle.tree_model.proofs.Promises.{kept-least, root-node, start-empty}
+use Rattle.tree_model.specs.Calls.{called, outcome, rootOf, Ruling, shapeOk}
 use Rattle.tree_model.specs.Damage.{workOk, room}
 use Rattle.tree_model.specs.Levels.{idle, Levels, top}
 use Rattle.tree_model.specs.Promise.{Shape, storedCount}
@@ -100,61 +107,76 @@ module _ (m k : ℕ) where
               (in-step-there (clockedQueue m (suc k) r x .next) _ (in-step m k _ _ vs i r) f),
         )))
 
-  -- ---- cycles and drains
-  -- what keeps the calls going: some tree beside is in step
-  abbrev Going : Machine → Type 0
-  Going x = (vs : List ℕ) × InStep m k (x .state) (x .words) vs
+-- with nothing pending, what remains is what is stored
+pub at-rest-remains : (m levels : ℕ) (x : Machine) → 1 ≤ levels → pending m levels (x .state) ≡ false → (f : Element → Bool) → remaining m levels x f ≡ storedCount (room m levels) (x .words) f
+at-rest-remains m zero x some e f = absurd (not-suc-le-zero some)
+at-rest-remains m (suc k) x some e f = omega (arith, at-rest-none f m k x e .0, at-rest-none f m k x e .1)
 
-  idles-sum : (n : ℕ) (x : Machine) (vs : List ℕ) → InStep m k (x .state) (x .words) vs → (f : Element → Bool)
-      → remaining m (suc k) (idles m (suc k) n (x .state) (x .words)) f ≡ remaining m (suc k) x f
-  unfolding leaves
-  idles-sum zero x vs i f = refl
-  idles-sum (suc n) x vs i f = idles-sum n (clockedQueue m (suc k) Idle x .next) _ (in-step m k _ _ vs i Idle) f ∙ omega (arith, cycle-sum x vs i Idle f)
+-- ---- it is a clock: what every cycle keeps is that some tree beside is in step
+abbrev pub Going : (m k : ℕ) → Machine → Type 0
+Going m k x = (vs : List ℕ) × InStep m k (x .state) (x .words) vs
 
-  -- a drain is so many idle cycles
-  drain-is : (b : ℕ) (x : Machine) → machineQueue m (suc k) (drain b) x .next ≡ idles m (suc k) (drains m (suc k) b (x .state) (x .words) .cycles) (x .state) (x .words)
-  drain-is b x = let e = drain-state m (suc k) b (x .state) (x .words) in λ i. machine (e .1 i) (e .0 i)
+module _ (m k : ℕ) where
+  shaped : (x : Machine) → Going m k x → shapeOk m (suc k) (length (x .words)) ≡ true
+  shaped x g = same-shape m k _ _ (g .0) (g .1)
 
-  going-on : (c : Call) (x : Machine) → Going x → Going (machineQueue m (suc k) c x .next)
-  going-on (cycle r) x (vs, i) = (_, in-step m k _ _ vs i r)
-  going-on (drain b) x (vs, i) = subst Going (sym (drain-is b x)) (vs, idles-in-step m k (drains m (suc k) b (x .state) (x .words) .cycles) _ _ vs i)
+  sounds : (r : Request) (x : Machine) → Going m k x → clock m (suc k) .soundOk r x ≡ true
+  sounds r x g = and-true (askedOk m (suc k) r (x .words)) _ (root-fine m k _ _ (g .0) (g .1) r) (steps-fine m k _ _ (g .0) (g .1) r)
 
-  call-sum : (c : Call) (x : Machine) → Going x → (f : Element → Bool)
-      → remaining m (suc k) (machineQueue m (suc k) c x .next) f + given (asked c) (machineQueue m (suc k) c x .said) f
-      ≡ remaining m (suc k) x f + brought (asked c) (machineQueue m (suc k) c x .said) f
-  call-sum (cycle r) x (vs, i) f = cycle-sum x vs i r f
-  call-sum (drain b) x (vs, i) f = omega (arith, ap (λ (y : Machine). remaining m (suc k) y f) (drain-is b x), idles-sum (drains m (suc k) b (x .state) (x .words) .cycles) x vs i f)
+  pub is-clock : IsClock (clock m (suc k)) (Going m k)
+  is-clock = clocks.is-clock-by (clock m (suc k)) (clockedQueue m (suc k)) (same m (suc k)) (timed m (suc k)) (Going m k) shaped sounds (λ r x g. (_, in-step m k _ _ (g .0) (g .1) r))
 
-  calls-sum : (cs : List Call) (x : Machine) → Going x → (f : Element → Bool)
-      → remaining m (suc k) (leaves (machineQueue m (suc k)) cs x) f + allGiven (map asked cs) (answers (machineQueue m (suc k)) cs x) f
-      ≡ remaining m (suc k) x f + allBrought (map asked cs) (answers (machineQueue m (suc k)) cs x) f
-  unfolding leaves answers allGiven allBrought
-  calls-sum [] x go f = refl
-  calls-sum (c ∷ cs) x go f = omega (arith, call-sum c x go f, calls-sum cs (machineQueue m (suc k) c x .next) (going-on c x go) f)
+  pub bag : Bag (clock m (suc k)) (Going m k) (λ r. r) (remaining m (suc k))
+  bag = clocks.bag-by (clock m (suc k)) (clockedQueue m (suc k)) (same m (suc k)) (timed m (suc k)) (Going m k) shaped sounds (λ r. r) (remaining m (suc k)) refl (λ r x g f. cycle-sum m k x (g .0) (g .1) r f)
+
+  pub idles-sum : (n : ℕ) (x : Machine) → Going m k x → (f : Element → Bool) → remaining m (suc k) (idles m (suc k) n (x .state) (x .words)) f ≡ remaining m (suc k) x f
+  idles-sum = clocks.idles-sum (clock m (suc k)) (clockedQueue m (suc k)) (same m (suc k)) (Going m k) is-clock (λ r. r) (remaining m (suc k)) bag
+
+  pub settles : (x : Machine) → Going m k x → pending m (suc k) (idles m (suc k) k (x .state) (x .words) .state) ≡ false
+  settles x g = idles-done m k _ _ (g .0) (g .1)
+
+  -- what remains is what the tree beside stores
+  pub remains-beside : (x : Machine) (vs : List ℕ) → InStep m k (x .state) (x .words) vs → (f : Element → Bool) → remaining m (suc k) x f ≡ storedCount (room m (suc k)) vs f
+  remains-beside x vs i f =
+      sym (idles-sum k x (vs, i) f) ∙ at-rest-remains m (suc k) (idles m (suc k) k (x .state) (x .words)) (omega arith) (settles x (vs, i)) f
+      ∙ ap (λ (w : List ℕ). storedCount (room m (suc k)) w f) (settled-words m k _ _ vs (idles-in-step m k k _ _ vs i) (settles x (vs, i)))
+
+  -- so that what a cycle gives is the least of it
+  beside-least : (r : Request) (x : Machine) (vs : List ℕ) → InStep m k (x .state) (x .words) vs → Least (remaining m (suc k) x) r (clockedQueue m (suc k) r x .said)
+  unfolding oneByOne
+  beside-least r x vs i =
+      least-same (storedCount (room m (suc k)) vs) (remaining m (suc k) x) (λ f. sym (remains-beside x vs i f)) r _
+      (subst (Least (storedCount (room m (suc k)) vs) r) (sym (step-answer m k _ _ vs i r)) (go (x .state .mark && popsOrReplaces r)))
+    where
+      go : (t : Bool) → Least (storedCount (room m (suc k)) vs) r (cond t (outcome (Refused TooSoon) vs) (called m (suc k) r vs) .answer)
+      go true = none-least r TooSoon (storedCount (room m (suc k)) vs)
+      go false = kept-least m k vs (i .kept) r
+
+  pub lowest : Lowest (clock m (suc k)) (Going m k) (λ r. r) (remaining m (suc k))
+  lowest = clocks.lowest-by (clock m (suc k)) (clockedQueue m (suc k)) (same m (suc k)) (timed m (suc k)) (Going m k) shaped sounds (λ r. r) (remaining m (suc k)) (λ r x g. beside-least r x (g .0) (g .1))
+
+  -- cycles and drains are the clock's
+  alike : (c : Call) (x : Machine) → machineQueue m (suc k) c x ≡ calls (clock m (suc k)) (clockedQueue m (suc k)) c x
+  alike (cycle r) x = refl
+  alike (drain b) x = ap (λ (d : DrainOutcome). step (d .answer) (machine (d .state) (d .words))) (drains-as m (suc k) b (x .state) (x .words))
+
+pub start-remains : (m k : ℕ) (ws : List ℕ) → Shape m (suc k) (length ws) → (f : Element → Bool) → remaining m (suc k) (clearedMachine m (suc k) ws) f ≡ 0
+unfolding fresh
+start-remains m k ws sh f = omega (arith, start-empty m k ws sh f, at-rest-none f m k (clearedMachine m (suc k) ws) (ap not (fresh-quiet k recordCount 0)) .0)
 
 -- NOTHING LOST. Any order and number of levels that pass the shape, any words to start with, any list of cycles and drains from the cleared machine
 module _ (m : ℕ) (ws : List ℕ) (cs : List Call) where
-  start-remains : (k : ℕ) → Shape m (suc k) (length ws) → (f : Element → Bool) → remaining m (suc k) (clearedMachine m (suc k) ws) f ≡ 0
-  unfolding fresh
-  start-remains k sh f =
-      omega (arith, start-empty m k ws sh f, at-rest-none f m k (clearedMachine m (suc k) ws) (ap not (fresh-quiet k recordCount 0)) .0)
-
   pub nothing-lost : (levels : ℕ) → Shape m levels (length ws) → NothingLost m levels (ranCalls m levels cs ws) (map asked cs) (callAnswers m levels cs ws)
   nothing-lost zero sh = absurd (not-suc-le-zero (sh .some))
   nothing-lost (suc k) sh =
       let go : Going m k (clearedMachine m (suc k) ws) = (_, start-in-step m k ws sh) in
-      let i : Going m k (ranCalls m (suc k) cs ws) = leaves-keep (machineQueue m (suc k)) (Going m k) (going-on m k) cs _ go in
+      let i : Going m k (ranCalls m (suc k) cs ws) = clocks.calls-kept (clock m (suc k)) (clockedQueue m (suc k)) (same m (suc k)) (Going m k) (is-clock m k) (machineQueue m (suc k)) (alike m k) cs _ go in
       record {
         there = λ f. in-step-there m k (ranCalls m (suc k) cs ws) (i .0) (i .1) f;
-        remains = λ f. omega (arith, calls-sum m k cs (clearedMachine m (suc k) ws) go f, start-remains k sh f);
+        remains = clocks.nothing-lost (clock m (suc k)) (clockedQueue m (suc k)) (same m (suc k)) (Going m k) (is-clock m k) (machineQueue m (suc k)) (alike m k) (λ r. r) (remaining m (suc k)) (bag m k) _ go (start-remains m k ws sh) cs;
       }
 
   -- .. so each triple as often
   pub each-remains : (levels : ℕ) → Shape m levels (length ws) → (e : Element)
       → remaining m levels (ranCalls m levels cs ws) (triple e) + allGiven (map asked cs) (callAnswers m levels cs ws) (triple e) ≡ allBrought (map asked cs) (callAnswers m levels cs ws) (triple e)
   each-remains levels sh e = nothing-lost levels sh .remains (triple e)
-
--- with nothing pending, what remains is what is stored
-pub at-rest-remains : (m levels : ℕ) (x : Machine) → 1 ≤ levels → pending m levels (x .state) ≡ false → (f : Element → Bool) → remaining m levels x f ≡ storedCount (room m levels) (x .words) f
-at-rest-remains m zero x some e f = absurd (not-suc-le-zero some)
-at-rest-remains m (suc k) x some e f = omega (arith, at-rest-none f m k x e .0, at-rest-none f m k x e .1)

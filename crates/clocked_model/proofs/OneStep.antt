@@ -4,13 +4,11 @@ use Prim.Native.Nat.{_*_, _+_, _<_, _^_, _≤_, pred, suc, zero, ℕ}
 use native.Mathlib.Nat.{add-zero, not-suc-le-zero, pow-suc, zero-add}
 use native.Mathlib.Omega.{arith}
 use native.Mathlib.Decide.{ℕ-discrete}
-use mathlib.Core.Bool.{_&&_, _||_, Bool, false, true, true≢false}
+use mathlib.Core.Bool.{true}
 use mathlib.Core.List.{[], _∷_, List}
 use mathlib.Core.Path.{_∙_, _≡_, ap, ap₂, refl, subst, sym}
-use lib.Dec.{ltb}
 use lib.ListN.{getD, length, length-set, set}
 use lib.Seq.{getD-set-other, getD-set-same}
-use borrow.Author.Tests.{lt-leb}
 use Rattle.clocked_model.proofs.Demand.{ran-in-step}
 use Rattle.clocked_model.proofs.Exactly.{no-damage-sound, sound-no-damage, cycled-fine}
 use Rattle.clocked_model.proofs.Promises.{shape-kept, undamaged}
@@ -21,33 +19,26 @@ use Rattle.clocked_model.specs.Cycle.{cycleLevels, cycleOk, cycleWords, 
 use Rattle.clocked_model.specs.Promise.{clockedQueue, CycleDamage, firstSlot, flight, leaveBelow, levelNow, levelWork, Machine, OneStep, ran, Recorded}
 use Rattle.clocked_model.specs.Records.{landed, recordAt, recordsAfter, worksOf}
 use Rattle.clocked_model.specs.declared.State.{State}
-use Rattle.laws.specs.Lists.{All}
-use Rattle.laws.specs.Snoc.{all-map-both}
 use Rattle.laws.specs.Tests.{and-left, and-right, and-true}
 use Rattle.promise.specs.Queue.{leaves, Step}
 use Rattle.strip.specs.declared.Answer.{Answer}
-use Rattle.strip.specs.declared.Element.{Element}
 use Rattle.strip.specs.declared.Request.{Request}
-use Rattle.tree_model.proofs.Choice.{every-all, none-empty}
-use Rattle.tree_model.proofs.Exactly.{is-shape, order-pos, room-fails, slot-limit}
-use Rattle.tree_model.proofs.Nothing.{is-none, op-work, step-none, work-none}
-use Rattle.tree_model.proofs.Place.{above-one}
-use Rattle.tree_model.proofs.Rules.{put-rule, swap-rule, take-rule}
+use Rattle.tree_model.proofs.Exactly.{is-shape, order-pos}
+use Rattle.tree_model.proofs.Nothing.{step-none}
 use Rattle.tree_model.proofs.Agreement.{place-of}
 use Rattle.tree_model.proofs.Slice.{level-wide, lies}
 use Rattle.tree_model.proofs.Words.{size-room}
 use Rattle.tree_model.specs.Calls.{Ruling}
-use Rattle.tree_model.specs.Damage.{workOk, hasRoom, hasSome, nodeOk, readOk, room, slotOk, stepOk}
+use Rattle.tree_model.specs.Damage.{workOk}
 use Rattle.tree_model.specs.Levels.{idle, Level, levelMove, Levels, stepLevel, stepWork, top, work}
-use Rattle.tree_model.specs.Node.{firstEmpty, isNothing, lowest, opMove, slotAt, vacant}
+use Rattle.tree_model.specs.Node.{slotAt, vacant}
 use Rattle.tree_model.specs.Promise.{levelAt, Shape, fourWords}
-use Rattle.tree_model.specs.Rules.{clears, ends, exchanges, goes, passes, Puts, receives, stays, Swaps, Takes}
 use Rattle.tree_model.specs.Words.{levelOf, levelsOf, restWords, size, under}
 use Rattle.tree_model.specs.declared.Move.{Move}
-use Rattle.tree_model.specs.declared.Op.{Op}
-use Rattle.tree_model.specs.declared.Op.the-variants.{Nothing, Put, Swap, Take}
+use Rattle.tree_model.specs.declared.Op.the-variants.{Nothing}
 use Rattle.tree_model.specs.declared.Slot.{Slot}
 use Rattle.tree_model.specs.declared.Work.{Work}
+use Rattle.clocked_model.proofs.Ends.{last-ends}
 
 -- ---- level by level
 top-at : (k : ℕ) (ls : Levels k) → top k ls ≡ levelAt k ls 0
@@ -78,51 +69,6 @@ module _ (m : ℕ) where
   unfolding cycleOk levelAt workAt top
   cycle-last zero p ls e = and-left (workOk m 0 (p .0) (ls .0) []) _ e
   cycle-last (suc k) p ls e = cycle-last k (p .1) (ls .1) (and-right (workOk m (suc k) (p .0) (ls .0) (top (suc k) (ls .1))) _ e)
-
--- ---- the last level leaves nothing
-slots-ok : (nd : List Slot) → nodeOk 0 nd ≡ true → All (λ u. slotOk 0 u ≡ true) nd
-unfolding nodeOk
-slots-ok nd e = every-all (slotOk 0) nd e
-
-none-above : (nd : List Slot) → nodeOk 0 nd ≡ true → 1 < slotAt nd (lowest nd) .count → ⊥
-unfolding room
-none-above nd ok h = not-suc-le-zero (above-one 0 0 nd ok (lt-leb (slotAt nd (lowest nd) .count) 1 h) .0)
-
-rest-last : (o : Op) (nd : List Slot) (b : ℕ → Element) → readOk o 0 nd ≡ true → opMove o nd b .rest ≡ Nothing
-unfolding opMove readOk room
-rest-last Nothing nd b ok = refl
-rest-last (Put x) nd b ok = go _ (put-rule x nd)
-  where
-    full : length nd ≤ firstEmpty nd → ⊥
-    full h =
-        true≢false (sym (and-right (nodeOk 0 nd) (hasRoom 0 nd) ok)
-        ∙ room-fails 0 nd .shown (all-map-both (λ u. slotOk 0 u ≡ true) (λ u. 0 < u .count) _ (λ u p q. omega (arith, slot-limit 0 u p)) nd (slots-ok nd (and-left (nodeOk 0 nd) (hasRoom 0 nd) ok)) (none-empty nd h)))
-
-    go : (v : Move) → Puts x nd v → v .rest ≡ Nothing
-    go v (ends h) = refl
-    go v (exchanges h l) = absurd (full h)
-    go v (passes h l) = absurd (full h)
-rest-last Take nd b ok = go _ (take-rule nd b)
-  where
-    go : (v : Move) → Takes nd b v → v .rest ≡ Nothing
-    go v (clears h) = refl
-    go v (receives h) = absurd (none-above nd (and-left (nodeOk 0 nd) (hasSome nd) ok) h)
-rest-last (Swap x) nd b ok = go _ (swap-rule x nd b)
-  where
-    go : (v : Move) → Swaps x nd b v → v .rest ≡ Nothing
-    go v (stays h) = refl
-    go v (goes h l) = absurd (none-above nd (and-left (nodeOk 0 nd) (hasSome nd) ok) h)
-
-pub last-ends : (m : ℕ) (w : Work) (l below : Level) → workOk m 0 w l below ≡ true → stepWork m w l below .op ≡ Nothing
-unfolding workOk stepOk room stepWork levelMove
-last-ends m w l below f = go (isNothing (w .op)) refl f
-  where
-    go : (t : Bool) → isNothing (w .op) ≡ t → (t || (ltb (w .node) (length l) && stepOk m 0 (w .op) (getD l (w .node) []) (λ j. getD below (w .node * m + j) []))) ≡ true
-        → stepWork m w l below .op ≡ Nothing
-    go true e f = ap (λ (v : Work). v .op) (work-none m w l below (is-none (w .op) e))
-    go false e f =
-        op-work _ _ ∙ rest-last (w .op) (getD l (w .node) []) _
-        (and-left (readOk (w .op) 0 (getD l (w .node) [])) _ (and-right (ltb (w .node) (length l)) _ f))
 
 -- ---- one slot of a level
 step-slot : (m : ℕ) (w : Work) (l below : Level) (n j : ℕ) → n < length l → (n ≡ w .node → j ≡ levelMove m (w .op) (w .node) l below .place → ⊥)

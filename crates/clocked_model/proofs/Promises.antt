@@ -3,38 +3,37 @@
 use Prim.Native.Nat.{_+_, _≤_, pred, suc, zero, ℕ}
 use native.Mathlib.Nat.{not-suc-le-zero}
 use native.Mathlib.Omega.{arith}
-use mathlib.Core.Bool.{Bool, _&&_, cond, false, not, true, true≢false}
+use mathlib.Core.Bool.{Bool, _&&_, cond, false, not, true}
 use mathlib.Core.List.{[], _∷_, List}
-use mathlib.Core.Logic.{_⊎_, inl, inr, ⊎-elim}
+use mathlib.Core.Logic.{_⊎_, inl, inr}
 use mathlib.Core.Path.{_∙_, _≡_, ap, refl, subst, sym}
 use lib.ListN.{length}
-use Rattle.clocked_model.proofs.Demand.{demand-answers, demand-idles, demand-store, fresh-mark, fresh-quiet, idles-in-step, ran-in-step}
-use Rattle.clocked_model.proofs.Drain.{done, drain-ends, drain-left, drain-needed, drain-spent, drain-state, End, jammed}
-use Rattle.clocked_model.proofs.Draining.{less-not}
-use Rattle.clocked_model.proofs.Exactly.{barred, refused-mark, sound-no-damage}
-use Rattle.clocked_model.proofs.Step.{one-by-one-is, one-by-one-kept, root-fine, same-root, step-answer, steps-fine}
-use Rattle.clocked_model.specs.Calls.{askedOk, clockedCleared, cycleOutcome, DrainOutcome, drains, fresh, ruleMarked, marks, pending, popsOrReplaces, recordCount, clearedMachine, cycled}
-use Rattle.clocked_model.specs.Promise.{oneByOne, oneByOneQueue, oneByOneWords, callsOf, clockedQueue, cycleAnswers, CycleDamage, idles, Pinned, ran}
+use Rattle.clocked_model.proofs.Demand.{demand-idles, demand-store, fresh-mark, fresh-quiet, ran-in-step, start-in-step}
+use Rattle.clocked_model.proofs.Drain.{drain-state, drains-as, good, waiting}
+use Rattle.clocked_model.proofs.Lost.{at-rest-remains, bag, Going, idles-sum, is-clock, lowest, settles, start-remains}
+use Rattle.clocked_model.proofs.Exactly.{barred, refused-mark, same}
+use Rattle.clocked_model.proofs.Step.{same-root}
+use Rattle.clocked_model.specs.Calls.{clockedCleared, cycleOutcome, DrainOutcome, drains, fresh, marks, pending, popsOrReplaces, recordCount, clearedMachine, cycled}
+use Rattle.clocked_model.specs.Promise.{callsOf, clock, clockedQueue, cycleAnswers, CycleDamage, idles, Machine, oneByOne, oneByOneWords, Pinned, ran}
 use Rattle.clocked_model.specs.declared.State.{State}
 use Rattle.laws.specs.Means.{means-off}
-use Rattle.laws.specs.Tests.{and-true, cond-both}
 use Rattle.promise.specs.Queue.{leaves, pins}
-use Rattle.promise.specs.Served.{all-sum, allBrought, allGiven, always, brought, given, Holds, Least, same, triple}
+use Rattle.promise.proofs.Calls.{last-all}
+use Rattle.promise.proofs.Clock as clocks
+use Rattle.promise.specs.Drains.{Drained, drainsBy}
+use Rattle.clocked_model.specs.Lost.{remaining}
+use Rattle.promise.specs.Served.{allBrought, allGiven, always, Holds, Least, least-same, same as same-pair, triple}
 use Rattle.promise.specs.Tagged.{Tagged, tagged-by}
-use Rattle.strip.specs.Answers.{countNumber, countOf, numberOf}
+use Rattle.strip.specs.Answers.{countNumber, countOf, numberOf, refusalNumber}
 use Rattle.strip.specs.declared.Answer.{Answer}
 use Rattle.strip.specs.declared.Answer.the-variants.{Done, Refused}
 use Rattle.strip.specs.declared.Element.{Element}
 use Rattle.strip.specs.declared.Refusal.the-variants.{BadShape, TooSoon}
 use Rattle.strip.specs.declared.Request.{Request}
-use Rattle.strip.specs.declared.Request.the-variants.{Idle, Pop, Push, Replace}
-use Rattle.tree_model.proofs.Promises.{Kept}
-use Rattle.tree_model.proofs.Exactly.{comes-number, is-shape, shape-means}
-use Rattle.tree_model.proofs.Rules.{comes}
+use Rattle.tree_model.proofs.Exactly.{is-shape, shape-means}
 use Rattle.tree_model.proofs.Slice.{clear-zeroes}
-use Rattle.tree_model.specs.Calls.{called, cleared, heldCount, outcome, Outcome, rootOf, Ruling, ruling}
+use Rattle.tree_model.specs.Calls.{called, cleared, heldCount, outcome, Outcome}
 use Rattle.tree_model.specs.Damage.{room}
-use Rattle.tree_model.specs.declared.Op.the-variants.{Nothing}
 use Rattle.tree_model.specs.Promise.{after, Shape, start, storedCount, treeQueue}
 use Rattle.tree_model.proofs.Promises as tree
 
@@ -53,34 +52,6 @@ module _ (m levels : ℕ) where
           ≡ leaves (treeQueue m levels) (cond t (callsOf m levels rs false vs) (r ∷ callsOf m levels rs (marks r (now t .answer)) (now t .words))) vs
       go true ih = ap (λ (b : Bool). oneByOneWords m levels rs b vs) (refused-mark r TooSoon) ∙ ih false vs
       go false ih = ih (marks r (called m levels r vs .answer)) (called m levels r vs .words)
-
--- one that is too soon brings nothing in and gives nothing out
-soon-sum : (r : Request) (n : ℕ) (f : Element → Bool) → n + given r (Refused TooSoon) f ≡ n + brought r (Refused TooSoon) f
-soon-sum Idle n f = refl
-soon-sum (Push x) n f = refl
-soon-sum Pop n f = refl
-soon-sum (Replace x) n f = refl
-
-soon-least : (held : (Element → Bool) → ℕ) (r : Request) → Least held r (Refused TooSoon)
-soon-least held Idle = tt
-soon-least held (Push x) = tt
-soon-least held Pop = λ e. absurd (omega arith)
-soon-least held (Replace x) = λ e. absurd (omega arith)
-
--- the tree beside keeps a sound store, and holds what goes in and has not come out
-module _ (m k : ℕ) where
-  one-by-one-sum : (r : Request) (b : Bool × List ℕ) → Kept m k (b .1) → (f : Element → Bool)
-      → storedCount (room m (suc k)) (oneByOneQueue m (suc k) r b .next .1) f + given r (oneByOneQueue m (suc k) r b .said) f
-      ≡ storedCount (room m (suc k)) (b .1) f + brought r (oneByOneQueue m (suc k) r b .said) f
-  unfolding oneByOne
-  one-by-one-sum r b kept f = go (b .0 && popsOrReplaces r)
-    where
-      now : Bool → Outcome
-      now t = cond t (outcome (Refused TooSoon) (b .1)) (called m (suc k) r (b .1))
-
-      go : (t : Bool) → storedCount (room m (suc k)) (now t .words) f + given r (now t .answer) f ≡ storedCount (room m (suc k)) (b .1) f + brought r (now t .answer) f
-      go true = soon-sum r (storedCount (room m (suc k)) (b .1) f) f
-      go false = tree.call-sum m k r (b .1) kept f
 
 -- ---- CLEAR: "A cleared machine has none pending and the mark off"; its words are those of the tree's clear
 pub clear-fresh : (m levels : ℕ) (ws : List ℕ) → Shape m levels (length ws)
@@ -118,24 +89,25 @@ module _ (m : ℕ) (ws : List ℕ) (rs : List Request) where
   pub idled : (levels : ℕ) → Shape m levels (length ws) → (n : ℕ) → Idled levels n → at-rest-after levels n ≡ after m levels (calls levels) ws
   idled levels sh n e = demand-store m ws rs levels sh n e ∙ calls-words m levels rs false (start m levels ws)
 
+  going : (k : ℕ) → Shape m (suc k) (length ws) → Going m k (ran m (suc k) rs ws)
+  going k sh = (_, ran-in-step m ws rs k sh)
+
+  -- what remains is then what is stored
+  rested : (k : ℕ) → Shape m (suc k) (length ws) → (n : ℕ) → Idled (suc k) n → (f : Element → Bool) → remaining m (suc k) (ran m (suc k) rs ws) f ≡ storedCount (room m (suc k)) (at-rest-after (suc k) n) f
+  rested k sh n e f = sym (idles-sum m k n (ran m (suc k) rs ws) (going k sh) f) ∙ at-rest-remains m (suc k) (idles m (suc k) n (ran m (suc k) rs ws .state) (ran m (suc k) rs ws .words)) (sh .some) e f
+
   -- UNDAMAGED: no cycle is refused for damage, and none for the shape
   pub undamaged : (levels : ℕ) → Shape m levels (length ws) → (r : Request) → CycleDamage m levels r (ran m levels rs ws .state) (ran m levels rs ws .words) → ⊥
   undamaged zero sh r = absurd (not-suc-le-zero (sh .some))
-  undamaged (suc k) sh r =
-      let i = ran-in-step m ws rs k sh in
-      sound-no-damage m (suc k) r _ _ (and-true (askedOk m (suc k) r (ran m (suc k) rs ws .words)) _ (root-fine m k _ _ _ i r) (steps-fine m k _ _ _ i r))
+  undamaged (suc k) sh r = clocks.kept-undamaged (clock m (suc k)) (clockedQueue m (suc k)) (same m (suc k)) (Going m k) (is-clock m k) r (ran m (suc k) rs ws) (going k sh)
 
   -- .. so that only 0, 3, 5, 6 and 7 are answered
   pub numbers : (levels : ℕ) → Shape m levels (length ws) → (r : Request)
       → let n = numberOf (cycled m levels r (ran m levels rs ws .state) (ran m levels rs ws .words) .answer) in (n ≡ 0) ⊎ (n ≡ 3) ⊎ (n ≡ 5) ⊎ (n ≡ 6) ⊎ (n ≡ 7)
-  unfolding ruleMarked
   numbers zero sh r = absurd (not-suc-le-zero (sh .some))
   numbers (suc k) sh r =
-      let i = ran-in-step m ws rs k sh in
-      let vs : List ℕ = oneByOneWords m (suc k) rs false (start m (suc k) ws) in
-      rw (step-answer m k _ _ _ i r, one-by-one-is m k vs (i .kept) (ran m (suc k) rs ws .state .mark) r)
-      (cond-both (λ (g : Ruling). let n = numberOf (g .answer) in (n ≡ 0) ⊎ (n ≡ 3) ⊎ (n ≡ 5) ⊎ (n ≡ 6) ⊎ (n ≡ 7)) (ran m (suc k) rs ws .state .mark && popsOrReplaces r) (ruling (Refused TooSoon) Nothing) _ (λ t. inr (inl refl))
-      (λ t. ⊎-elim inl (λ e. inr (inr e)) (comes-number (room m (suc k)) (rootOf m vs) r _ (comes (room m (suc k)) r (rootOf m vs)))))
+      clocks.kept-numbers (clock m (suc k)) (clockedQueue m (suc k)) (same m (suc k)) (Going m k) (is-clock m k) r (ran m (suc k) rs ws) (going k sh) (λ n. (n ≡ 0) ⊎ (n ≡ 3) ⊎ (n ≡ 5) ⊎ (n ≡ 6) ⊎ (n ≡ 7)) (inl refl)
+      (inr (inl refl), last-all (λ x. let n = refusalNumber x in (n ≡ 0) ⊎ (n ≡ 3) ⊎ (n ≡ 5) ⊎ (n ≡ 6) ⊎ (n ≡ 7)) (inr (inr (inr (inr refl)))) (inr (inr (inl refl))) (inr (inr (inr (inl refl)))) r _ _)
 
   pub shape-kept : (levels : ℕ) → Shape m levels (length ws) → Shape m levels (length (ran m levels rs ws .words))
   shape-kept zero sh = absurd (not-suc-le-zero (sh .some))
@@ -147,18 +119,16 @@ module _ (m : ℕ) (ws : List ℕ) (rs : List Request) where
   pub holds : (levels : ℕ) → Shape m levels (length ws) → (n : ℕ) → Idled levels n → Holds (storedCount (room m levels) (at-rest-after levels n)) rs (cycleAnswers m levels rs ws)
   holds zero sh n e f = absurd (not-suc-le-zero (sh .some))
   holds (suc k) sh n e f =
-      rw (demand-store m ws rs (suc k) sh n e, demand-answers m ws rs (suc k) sh)
-      (omega (
+      omega (
         arith,
-        all-sum (oneByOneQueue m (suc k)) (λ b. Kept m k (b .1)) (λ r b kept. one-by-one-kept m k (b .1) kept (b .0) r) (λ b. storedCount (room m (suc k)) (b .1)) (one-by-one-sum m k) rs (false, start m (suc k) ws)
-            (tree.start-kept m k ws sh) f,
-        tree.start-empty m k ws sh f,
-      ))
+        rested k sh n e f,
+        clocks.all-held (clock m (suc k)) (clockedQueue m (suc k)) (same m (suc k)) (Going m k) (is-clock m k) (remaining m (suc k)) (bag m k) _ (_, start-in-step m k ws sh) (start-remains m k ws sh) rs f,
+      )
 
   -- .. so each pair as often
   pub pairs : (levels : ℕ) → Shape m levels (length ws) → (n : ℕ) → Idled levels n → (e : Element)
-      → storedCount (room m levels) (at-rest-after levels n) (same e) + allGiven rs (cycleAnswers m levels rs ws) (same e) ≡ allBrought rs (cycleAnswers m levels rs ws) (same e)
-  pairs levels sh n q e = holds levels sh n q (same e)
+      → storedCount (room m levels) (at-rest-after levels n) (same-pair e) + allGiven rs (cycleAnswers m levels rs ws) (same-pair e) ≡ allBrought rs (cycleAnswers m levels rs ws) (same-pair e)
+  pairs levels sh n q e = holds levels sh n q (same-pair e)
 
   -- .. and each triple of rank, tag and length
   pub triples : (levels : ℕ) → Shape m levels (length ws) → (n : ℕ) → Idled levels n → (e : Element)
@@ -173,18 +143,10 @@ module _ (m : ℕ) (ws : List ℕ) (rs : List Request) where
   -- LEAST: what a cycle gives out, of a pop or a replace, has the lowest rank of all that the store held before it, once idled
   pub least : (levels : ℕ) → Shape m levels (length ws) → (n : ℕ) → Idled levels n
       → (r : Request) → Least (storedCount (room m levels) (at-rest-after levels n)) r (cycled m levels r (ran m levels rs ws .state) (ran m levels rs ws .words) .answer)
-  unfolding oneByOne
   least zero sh n e r = absurd (not-suc-le-zero (sh .some))
   least (suc k) sh n e r =
-      let i = ran-in-step m ws rs k sh in
-      rw (idled (suc k) sh n e, step-answer m k _ _ _ i r, calls-words m (suc k) rs false (start m (suc k) ws)) (go (ran m (suc k) rs ws .state .mark && popsOrReplaces r))
-    where
-      vs : List ℕ
-      vs = after m (suc k) (calls (suc k)) ws
-
-      go : (t : Bool) → Least (storedCount (room m (suc k)) vs) r (cond t (outcome (Refused TooSoon) vs) (called m (suc k) r vs) .answer)
-      go true = soon-least (storedCount (room m (suc k)) vs) r
-      go false = tree.least m ws (calls (suc k)) (suc k) sh r
+      least-same (remaining m (suc k) (ran m (suc k) rs ws)) (storedCount (room m (suc k)) (at-rest-after (suc k) n)) (rested k sh n e) r _
+      (clocks.cycle-least (clock m (suc k)) (clockedQueue m (suc k)) (same m (suc k)) (Going m k) (is-clock m k) (λ r. r) (remaining m (suc k)) (lowest m k) r (ran m (suc k) rs ws) (going k sh))
 
   -- the call held answers, once idled, how many are stored
   pub held-says : (levels : ℕ) → Shape m levels (length ws) → (n : ℕ) → Idled levels n
@@ -208,6 +170,23 @@ module _ (m : ℕ) (ws : List ℕ) (rs : List Request) where
 
 -- ---- DRAINED: after any list of cycles a drain with a budget of levels - 1 or more is not refused, runs at most levels - 1 cycles, leaves
 -- no work, and leaves the words of the one-at-a-time tree beside it
+module _ (m : ℕ) (ws : List ℕ) (rs : List Request) (budget : ℕ) where
+  -- the clock's own drain
+  abbrev by-clock : ℕ → Drained Machine
+  by-clock levels = drainsBy (clockedQueue m levels) (waiting m levels) (good m levels (ran m levels rs ws)) budget (ran m levels rs ws)
+
+  -- .. is done, within levels - 1 cycles, and leaves no work
+  comes-to : (levels : ℕ) → Shape m levels (length ws) → pred levels ≤ budget
+      → (numberOf (by-clock levels .answer) ≡ 0) × (by-clock levels .cycles ≤ pred levels) × (by-clock levels .left ≡ false) × Idled m ws rs levels (by-clock levels .cycles)
+  comes-to zero sh enough = absurd (not-suc-le-zero (sh .some))
+  comes-to (suc k) sh enough =
+      let go = going m ws rs k sh in (
+        clocks.drained-fine (clock m (suc k)) (clockedQueue m (suc k)) (same m (suc k)) (Going m k) (is-clock m k) k (settles m k) (ran m (suc k) rs ws) go budget enough,
+        clocks.drained-few (clock m (suc k)) (clockedQueue m (suc k)) (same m (suc k)) (Going m k) (is-clock m k) k (settles m k) (ran m (suc k) rs ws) go budget enough,
+        clocks.drained-left (clock m (suc k)) (clockedQueue m (suc k)) (same m (suc k)) (Going m k) (is-clock m k) k (settles m k) (ran m (suc k) rs ws) go budget enough,
+        clocks.drained-rest (clock m (suc k)) (clockedQueue m (suc k)) (same m (suc k)) (Going m k) (is-clock m k) k (settles m k) (ran m (suc k) rs ws) go budget enough,
+      )
+
 module _ (m : ℕ) (ws : List ℕ) (rs : List Request) (levels : ℕ) (sh : Shape m levels (length ws)) (budget : ℕ) (enough : pred levels ≤ budget) where
   abbrev s : State
   s = ran m levels rs ws .state
@@ -218,48 +197,20 @@ module _ (m : ℕ) (ws : List ℕ) (rs : List Request) (levels : ℕ) (sh : Shap
   abbrev d : DrainOutcome
   d = drains m levels budget s vs
 
-  shape : Shape m levels (length vs)
-  shape = shape-kept m ws rs levels sh
-
-  idle-undamaged : (n : ℕ) → CycleDamage m levels Idle (idles m levels n s vs .state) (idles m levels n s vs .words) → ⊥
-  idle-undamaged n = go levels sh
-    where
-      go : (levels : ℕ) → Shape m levels (length ws)
-          → CycleDamage m levels Idle (idles m levels n (ran m levels rs ws .state) (ran m levels rs ws .words) .state) (idles m levels n (ran m levels rs ws .state) (ran m levels rs ws .words) .words)
-          → ⊥
-      go zero sh = absurd (not-suc-le-zero (sh .some))
-      go (suc k) sh =
-          let i = idles-in-step m k n _ _ _ (ran-in-step m ws rs k sh) in
-          sound-no-damage m (suc k) Idle _ _
-          (and-true (askedOk m (suc k) Idle (idles m (suc k) n (ran m (suc k) rs ws .state) (ran m (suc k) rs ws .words) .words)) _ (root-fine m k _ _ _ i Idle) (steps-fine m k _ _ _ i Idle))
-
   pub drained-fine : numberOf (d .answer) ≡ 0
-  drained-fine = go (drain-ends m levels budget s vs shape)
-    where
-      go : End m levels budget (d .cycles) s vs d → numberOf (d .answer) ≡ 0
-      go (done a l) = ap numberOf a
-      go (jammed a l j) = absurd (idle-undamaged (d .cycles) (j .damage))
+  drained-fine = rw (drains-as m levels budget s vs) (comes-to m ws rs budget levels sh enough .0)
 
   pub drained-few : d .cycles ≤ pred levels
-  drained-few = less-not (λ h. true≢false (sym (drain-needed m levels budget s vs (pred levels) h) ∙ demand-idles m ws rs levels sh))
+  drained-few = rw (drains-as m levels budget s vs) (comes-to m ws rs budget levels sh enough .1)
 
   pub drained-left : d .left ≡ false
-  drained-left = go (d .left) refl
-    where
-      left-is : d .left ≡ pending m levels (idles m levels (d .cycles) s vs .state)
-      left-is = drain-left m levels budget s vs shape ∙ ap (pending m levels) (drain-state m levels budget s vs .1)
+  drained-left = rw (drains-as m levels budget s vs) (comes-to m ws rs budget levels sh enough .2)
 
-      go : (b : Bool) → d .left ≡ b → b ≡ false
-      go false e = refl
-      go true e =
-          let all : d .cycles ≡ pred levels = omega (arith, drain-spent m levels budget s vs shape drained-fine e, drained-few) in
-          sym e ∙ left-is ∙ ap (λ (n : ℕ). pending m levels (idles m levels n s vs .state)) all ∙ demand-idles m ws rs levels sh
+  at-rest : Idled m ws rs levels (d .cycles)
+  at-rest = rw (drains-as m levels budget s vs) (comes-to m ws rs budget levels sh enough .3)
 
   pub drained-words : d .words ≡ oneByOneWords m levels rs false (start m levels ws)
-  drained-words =
-      drain-state m levels budget s vs .0
-      ∙ demand-store m ws rs levels sh (d .cycles)
-      (ap (pending m levels) (sym (drain-state m levels budget s vs .1)) ∙ sym (drain-left m levels budget s vs shape) ∙ drained-left)
+  drained-words = drain-state m levels budget s vs .0 ∙ demand-store m ws rs levels sh (d .cycles) at-rest
 
 -- PINNED: every public call, for all inputs
 pub pinned : (m levels : ℕ) (s : State) (ws : List ℕ) → Pinned m levels s ws

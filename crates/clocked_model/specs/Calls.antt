@@ -7,7 +7,7 @@ use Rattle.clocked_model.specs.Cycle.{cycleOk, cycleWords, quiet, Works}
 use Rattle.clocked_model.specs.Records.{recordsAfter, worksOf}
 use Rattle.clocked_model.specs.declared.State.{State}
 use Rattle.strip.specs.declared.Answer.{Answer}
-use Rattle.strip.specs.declared.Answer.the-variants.{Done, Out, Refused}
+use Rattle.strip.specs.declared.Answer.the-variants.{Done, Refused}
 use Rattle.strip.specs.declared.Refusal.the-variants.{BadShape, Damaged, TooSoon}
 use Rattle.strip.specs.declared.Request.{Request}
 use Rattle.strip.specs.declared.Request.the-variants.{Idle, Pop, Push, Replace}
@@ -17,6 +17,7 @@ use Rattle.tree_model.specs.Levels.{idle, work}
 use Rattle.tree_model.specs.Words.{levelsOf, restWords, under, wipe}
 use Rattle.tree_model.specs.declared.Op.{Op}
 use Rattle.tree_model.specs.declared.Op.the-variants.{Nothing}
+unfoldable pub use Rattle.promise.specs.Drains.{isRefused}
 
 -- ---- the request
 -- is an operation asked for?
@@ -35,11 +36,6 @@ popsOrReplaces (Replace x) = true
 -- "too soon: clocked pop or replace with the mark on"; any other request comes to what it would at rest
 unfoldable pub ruleMarked : Bool → Request → Ruling → Ruling
 ruleMarked mark r g = cond (mark && popsOrReplaces r) (ruling (Refused TooSoon) Nothing) g
-
-unfoldable pub isRefused : Answer → Bool
-isRefused Done = false
-isRefused (Out e) = false
-isRefused (Refused n) = true
 
 -- the mark: "was the last cycle's operation answered without refusal?"
 unfoldable pub marks : Request → Answer → Bool

@@ -8,12 +8,12 @@ use Rattle.clocked_model.specs.Calls.{drains, fromTwo}
 use Rattle.clocked_model.specs.Promise.{clearedMachine, clockedQueue, levelNow, Machine, machine}
 use Rattle.clocked_model.specs.Records.{recordAt}
 use Rattle.laws.specs.Sums.{sumTo}
+use Rattle.promise.specs.Clock.{Call as CallOf, cycle, drain, sees}
 use Rattle.promise.specs.Queue.{answers, leaves, step, Step}
 use Rattle.promise.specs.Served.{hit, Holds}
 use Rattle.strip.specs.declared.Answer.{Answer}
 use Rattle.strip.specs.declared.Element.{Element}
 use Rattle.strip.specs.declared.Request.{Request}
-use Rattle.strip.specs.declared.Request.the-variants.{Idle}
 use Rattle.tree_model.specs.Damage.{room}
 use Rattle.tree_model.specs.Node.{low}
 use Rattle.tree_model.specs.Promise.{storedCount}
@@ -65,14 +65,12 @@ module _ (m levels : ℕ) where
     pub remains : Holds (remaining x) rs said
 
 -- ---- the calls between two clearings: a cycle with any request, a drain with any budget
-pub data Call : Type 0 where
-  cycle : Request → Call
-  drain : ℕ → Call
+abbrev pub Call : Type 0
+Call = CallOf Request
 
 -- what a call asks for: a drain is idle cycles
 abbrev pub asked : Call → Request
-asked (cycle r) = r
-asked (drain b) = Idle
+asked c = sees (λ r. r) c
 
 module _ (m levels : ℕ) where
   abbrev pub machineQueue : Call → Machine → Step Answer Machine

@@ -4,14 +4,16 @@ use mathlib.Core.Bool.{_&&_, Bool, cond, false, not, true}
 use mathlib.Core.List.{[], _∷_, List}
 use mathlib.Core.Logic.{_⊎_}
 use mathlib.Core.Path.{_≡_}
-use lib.Dec.{leb}
 use lib.ListN.{getD, length, replicate}
-use Rattle.clocked_model.specs.Calls.{allLevels, clockedCleared, cycleOutcome, CycleOutcome, cycleWork, drainOutcome, DrainOutcome, drains, fresh, fromTwo, ruleNow, marks, pending, popsOrReplaces, cycled}
+use Rattle.clocked_model.specs.Calls.{allLevels, askedOk, clockedCleared, cycleOutcome, CycleOutcome, cycleRun, cycleWork, drainOutcome, DrainOutcome, drains, fresh, fromTwo, ruleNow, marks, pending, popsOrReplaces, cycled, stepsOk}
 use Rattle.clocked_model.specs.Cycle.{Works}
 use Rattle.clocked_model.specs.Records.{recordAt, worksOf}
 use Rattle.clocked_model.specs.declared.State.{State}
 use Rattle.laws.specs.Ladder.{fine, Ladder, rung, stop}
 use Rattle.laws.specs.Sums.{sumTo}
+use Rattle.promise.specs.Calls.{grants, lastTable}
+use Rattle.promise.specs.Clock.{Clock}
+use Rattle.promise.specs.Table.{stops}
 use Rattle.promise.specs.Queue.{answers, leaves, Pins, step, Step}
 use Rattle.promise.specs.Refused.{limits, Untagged}
 use Rattle.promise.specs.Served.{hit}
@@ -23,14 +25,16 @@ use Rattle.strip.specs.declared.Refusal.{Refusal}
 use Rattle.strip.specs.declared.Refusal.the-variants.{BadPort, BadRank, BadShape, Damaged, Empty, Full, NoTag, TooSoon}
 use Rattle.strip.specs.declared.Request.{Request}
 use Rattle.strip.specs.declared.Request.the-variants.{Idle, Pop, Push, Replace}
-use Rattle.tree_model.specs.Calls.{called, heldCount, outcome, Outcome, rootOf}
+use Rattle.tree_model.specs.Calls.{called, heldCount, opOf, outcome, Outcome, rootOf, rootOk, ruling, shapeOk}
 use Rattle.tree_model.specs.Damage.{room}
 use Rattle.tree_model.specs.Levels.{idle, Level, Levels, stepLevel, stepWork, top, work}
-use Rattle.tree_model.specs.Node.{sumCounts}
+use Rattle.tree_model.specs.Node.{low, sumCounts}
 use Rattle.tree_model.specs.Promise.{Agree, levelAt, NodeDamaged, Shape, Some, start, storedCount, fourWords, WorkDamaged}
-use Rattle.tree_model.specs.Words.{levelsOf}
+use Rattle.tree_model.specs.Words.{levelsOf, wipe}
 use Rattle.tree_model.specs.declared.Op.the-variants.{Nothing}
 use Rattle.tree_model.specs.declared.Work.{Work}
+use Rattle.promise.specs.Drains.{Stuck}
+pub use Rattle.promise.specs.Drains.{capped, isBadShape}
 
 -- ---- the clocked tree as a queue: a list of cycles, each handed the words and the state that the one before left
 pub record Machine : Type 0 where
@@ -112,15 +116,6 @@ CycleDamage m levels r s ws =
     (Asks r × NodeDamaged (room m (pred levels)) (rootOf m ws))
     ⊎ WorksDamaged m (allLevels levels) (cycleWork m levels (ruleNow m levels r s ws .op) s) (levelsOf m (allLevels levels) ws 0 1)
 
--- the table, in order: "Order for the tree: 1, 2, 3, then 5 or 6", and 7 "after 3 in the clocked tree". 4 is the bucket queue's
-abbrev pub cycleRefusals : ℕ → ℕ → Request → State → List ℕ → Ladder Refusal
-cycleRefusals m levels r s ws =
-    rung BadShape (Shape m levels (length ws))
-    (stop Damaged (CycleDamage m levels r s ws)
-    (stop TooSoon (PopsOrReplaces r × (s .mark ≡ true))
-    (stop NoTag (Untagged r)
-    (limits r (sumCounts (rootOf m ws)) (room m levels) fine))))
-
 -- column "Left behind": after 1 and 2 "everything, mark and records too"; after the others the "cycle runs as idle", after 7 too: "a clocked refusal
 -- counts as an idle cycle"
 abbrev pub runsIdle : Refusal → Bool
@@ -132,6 +127,36 @@ runsIdle Full = true
 runsIdle Empty = true
 runsIdle NoTag = true
 runsIdle BadPort = true
+
+-- ---- what this tree brings to a clock
+abbrev pub clock : ℕ → ℕ → Clock Request Machine
+clock m levels =
+    record {
+      wants = λ r. r;
+      call = λ r. r;
+      shapeOk = λ x. shapeOk m levels (length (x .words));
+      Shape = λ x. Shape m levels (length (x .words));
+      soundOk = λ r x. askedOk m levels r (x .words) && stepsOk m levels (ruleNow m levels r (x .state) (x .words) .op) (x .state) (x .words);
+      Torn = λ r x. CycleDamage m levels r (x .state) (x .words);
+      late = λ r x. stops TooSoon (x .state .mark && popsOrReplaces r) (PopsOrReplaces r × (x .state .mark ≡ true)) (lastTable r (sumCounts (rootOf m (x .words))) (room m levels));
+      runsIdle = runsIdle;
+      gives = λ r x. grants r (low (rootOf m (x .words)));
+      moves = λ r x. let o = cycleRun m levels r (ruling (grants r (low (rootOf m (x .words)))) (opOf r)) (x .state) (x .words) in machine (o .state) (o .words);
+      rootOk = λ x. rootOk m levels (x .words);
+      RootTorn = λ x. NodeDamaged (room m (pred levels)) (rootOf m (x .words));
+      held = λ x. sumCounts (rootOf m (x .words));
+      wipe = λ x. machine fresh (wipe (room m levels) (x .words));
+      pending = λ x. pending m levels (x .state);
+    }
+
+-- the table, in order: "Order for the tree: 1, 2, 3, then 5 or 6", and 7 "after 3 in the clocked tree". 4 is the bucket queue's
+abbrev pub cycleRefusals : ℕ → ℕ → Request → State → List ℕ → Ladder Refusal
+cycleRefusals m levels r s ws =
+    rung BadShape (Shape m levels (length ws))
+    (stop Damaged (CycleDamage m levels r s ws)
+    (stop TooSoon (PopsOrReplaces r × (s .mark ≡ true))
+    (stop NoTag (Untagged r)
+    (limits r (sumCounts (rootOf m ws)) (room m levels) fine))))
 
 -- .. so that a cycle with this answer has run
 abbrev pub hasRun : Answer → Bool
@@ -145,33 +170,18 @@ cycleLeft m levels s ws n =
     cycleOutcome (Refused n) (x .words) (x .state)
 
 -- a refused drain: within the budget and with work pending all along, so many idle cycles run and the next meets damage
-pub record Jams (m levels budget cycles : ℕ) (s : State) (ws : List ℕ) : Type 0 where
-  pub within : cycles < budget
-  pub waits : (j : ℕ) → j ≤ cycles → pending m levels (idles m levels j s ws .state) ≡ true
-  pub damage : CycleDamage m levels Idle (idles m levels cycles s ws .state) (idles m levels cycles s ws .words)
+abbrev pub Jams : ℕ → ℕ → ℕ → ℕ → State → List ℕ → Type 0
+Jams m levels budget cycles s ws =
+    Stuck (clockedQueue m levels) (λ x. pending m levels (x .state)) (λ x. CycleDamage m levels Idle (x .state) (x .words)) budget cycles (machine s ws)
 
 abbrev pub drainRefusals : ℕ → ℕ → ℕ → State → List ℕ → Ladder Refusal
 drainRefusals m levels budget s ws = rung BadShape (Shape m levels (length ws)) (stop Damaged ((n : ℕ) × Jams m levels budget n s ws) fine)
 
 -- "Drain stops at 2 and reports the cycles already run, work left; at 1 it reports 0 and no work left"
-abbrev pub isBadShape : Refusal → Bool
-isBadShape BadShape = true
-isBadShape Damaged = false
-isBadShape TooSoon = false
-isBadShape BadRank = false
-isBadShape Full = false
-isBadShape Empty = false
-isBadShape NoTag = false
-isBadShape BadPort = false
-
 abbrev pub drainLeft : ℕ → ℕ → ℕ → State → List ℕ → Refusal → DrainOutcome
 drainLeft m levels cycles s ws n =
     let ran = cond (isBadShape n) 0 cycles in
     drainOutcome (Refused n) ran (not (isBadShape n)) (idles m levels ran s ws .words) (idles m levels ran s ws .state)
-
--- a number capped by the budget
-abbrev pub capped : ℕ → ℕ → ℕ
-capped budget n = cond (leb n budget) n budget
 
 -- ---- one step: what a cycle with no damage does to the levels and the records, by what stood at its start. The topmost level is 0
 module _ (m levels : ℕ) where

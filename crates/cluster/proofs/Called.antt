@@ -18,7 +18,7 @@ use Rattle.cluster_model.specs.Node.{inside, low, lowElem, Node, nothingBelow, 
 use Rattle.cluster_model.specs.Heap.{room}
 use Rattle.cluster_model.specs.Words.{word, width, nodeOf}
 use Rattle.cluster_model.specs.Way.{extent, nodeIn, neatTo, nodeOk, strict, wayOk, runWords}
-use Rattle.cluster_model.specs.Calls.{called, carriedOut, heldCount, outcome, rootHeld, rule, shapeOk}
+use Rattle.cluster_model.specs.Calls.{called, heldCount, outcome, rootHeld, rule, shapeOk}
 use Rattle.cluster_model.proofs.Exactly.{root-limit}
 use Rattle.cluster_model.proofs.Pass.{node-count}
 use Rattle.cluster_nodes.specs.Leaf.{lookNode}
@@ -54,7 +54,7 @@ less-one : (k : ℕ) → suc k - 1 ≡ k
 less-one k = omega arith
 
 pub pop-is : (K k : ℕ) (ws : List ℕ) → popDown K (suc k) ws ≡ called K (suc k) Pop ws
-unfolding popDown openedTo called carriedOut rule
+unfolding popDown openedTo called rule
 pop-is K k ws = go (shapeOk K (suc k) (length ws)) refl (nodeOk K (room K k) ws 0) refl (eqb (rootHeld (nodeIn K ws 0)) 0) refl
   where
     go : (a : Bool) → shapeOk K (suc k) (length ws) ≡ a → (b : Bool) → nodeOk K (room K k) ws 0 ≡ b → (c : Bool) → eqb (rootHeld (nodeIn K ws 0)) 0 ≡ c → popDown K (suc k) ws ≡ called K (suc k) Pop ws
@@ -71,7 +71,7 @@ pop-is K k ws = go (shapeOk K (suc k) (length ws)) refl (nodeOk K (room K k) ws 
         last false = refl
 
 pub replace-is : (K k : ℕ) (x : Element) (ws : List ℕ) → untagged x ≡ false → replaceDown K (suc k) x ws ≡ called K (suc k) (Replace x) ws
-unfolding replaceDown openedTo called carriedOut rule
+unfolding replaceDown openedTo called rule
 replace-is K k x ws tag = go (shapeOk K (suc k) (length ws)) refl (nodeOk K (room K k) ws 0) refl (eqb (rootHeld (nodeIn K ws 0)) 0) refl
   where
     go : (a : Bool) → shapeOk K (suc k) (length ws) ≡ a → (b : Bool) → nodeOk K (room K k) ws 0 ≡ b → (c : Bool) → eqb (rootHeld (nodeIn K ws 0)) 0 ≡ c → replaceDown K (suc k) x ws ≡ called K (suc k) (Replace x) ws
@@ -96,7 +96,7 @@ room-left h c l = go (eqb h c) refl
     go false e = let ne : h ≡ c → ⊥ = eqb-false h c e in lt-ltb h c (omega arith)
 
 pub push-is : (K k : ℕ) (x : Element) (ws : List ℕ) → untagged x ≡ false → pushDown K (suc k) x ws ≡ called K (suc k) (Push x) ws
-unfolding pushDown openedTo called carriedOut rule
+unfolding pushDown openedTo called rule
 push-is K k x ws tag = go (shapeOk K (suc k) (length ws)) refl (nodeOk K (room K k) ws 0) refl (eqb (rootHeld (nodeIn K ws 0)) (room K (suc k))) refl
   where
     go : (a : Bool) → shapeOk K (suc k) (length ws) ≡ a → (b : Bool) → nodeOk K (room K k) ws 0 ≡ b → (c : Bool) → eqb (rootHeld (nodeIn K ws 0)) (room K (suc k)) ≡ c

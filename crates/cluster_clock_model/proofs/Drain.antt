@@ -1,33 +1,32 @@
 -- A drain is so many idle cycles. Each leaves one more record of nothing, from the top, so that levels less one are enough.
 use Prim.Native.Nat.{_+_, _<_, _≤_, pred, suc, zero, ℕ}
-use native.Mathlib.Nat.{add-zero, not-suc-le-zero, zero-add}
+use native.Mathlib.Nat.{not-suc-le-zero}
 use native.Mathlib.Omega.{arith}
-use mathlib.Core.Bool.{Bool, cond, false, not, true, true≢false}
+use mathlib.Core.Bool.{Bool, cond, false, not, true}
 use mathlib.Core.List.{List}
-use mathlib.Core.Logic.{_⊎_, inl, inr}
+use mathlib.Core.Logic.{_⊎_, inl}
 use mathlib.Core.Path.{_∙_, _≡_, ap, refl, subst, sym}
-use lib.ListN.{length, length-set, replicate, set}
+use lib.ListN.{length, length-set, set}
 use lib.Seq.{getD-set-same}
-use Rattle.clocked_model.proofs.Draining.{Close, close-count, close-ends, close-free, close-kind, close-needed, close-ran, close-spent, close-state, close-stops, close-within, Closes, closes, done, drainBy, drained, Drained, less-not, stopped, Stuck}
-use Rattle.clocked_model.specs.Calls.{isRefused}
-use Rattle.clocked_model.specs.Promise.{capped}
-use Rattle.cluster_clock_model.proofs.Exactly.{damage-fails, idle-run, sound, turned-bad, turned-damaged, turned-length}
+use Rattle.cluster_clock_model.proofs.Exactly.{same, ticks}
 use Rattle.cluster_clock_model.proofs.Seen.{pass-others, pass-records, set-later}
 use Rattle.cluster_clock_model.specs.declared.Due.{Due}
 use Rattle.cluster_clock_model.specs.declared.Due.the-variants.{Nothing}
 use Rattle.cluster_clock_model.specs.declared.Stage.{Stage}
-use Rattle.cluster_clock_model.specs.Calls.{drainFrom, drainOutcome, DrainOutcome, drains, isNothing, pending, quiet, turned, turnOutcome, TurnOutcome, turnRun}
-use Rattle.cluster_clock_model.specs.Promise.{drainLeft, drainRefusals, idles, Jams, Machine, machine, TurnDamage, turnQueue}
+use Rattle.cluster_clock_model.specs.Calls.{drainFrom, drainOutcome, DrainOutcome, drains, isNothing, pending, quiet, turned, TurnOutcome, turnRun}
+use Rattle.cluster_clock_model.specs.Promise.{clock, drainLeft, drainRefusals, idles, Jams, Machine, machine, TurnDamage, turnQueue}
 use Rattle.cluster_clock_model.specs.Stage.{begins, below, filled, handed, levelStage, levelWords, loaded, noStage, pass, stageAt, work, Work}
-use Rattle.cluster_model.specs.Calls.{ruling, shapeOk}
+use Rattle.cluster_model.specs.Calls.{shapeOk}
 use Rattle.cluster_model.specs.Node.{begin, low, none, Op}
 use Rattle.cluster_model.specs.Promise.{Shape}
 use Rattle.cluster_model.specs.Way.{nodeIn}
-use Rattle.cluster_model.proofs.Damages.{is-shape, shape-is}
-use Rattle.laws.specs.Ladder.{climb-by, climb-fine, climb-stop, Exactly, fine, left-behind, stop}
+use Rattle.laws.specs.Ladder.{Exactly, left-behind}
+use Rattle.laws.specs.Means.{Means}
 use Rattle.laws.specs.Tests.{and-true}
-use Rattle.promise.specs.Queue.{leaves, leaves-keep, Step, step}
-use Rattle.promise.specs.Refused.{refusal-told, zero-told}
+use Rattle.promise.proofs.Clock as clocks
+use Rattle.promise.proofs.Drains as drain
+use Rattle.promise.specs.Drains.{behind, capped, Close, drainBy, drained, Drained, drainsBy, isRefused}
+use Rattle.promise.specs.Queue.{Step, step}
 use Rattle.strip.specs.Answers.{numberOf, refusalNumber}
 use Rattle.strip.specs.declared.Answer.{Answer}
 use Rattle.strip.specs.declared.Answer.the-variants.{Done, Refused}
@@ -38,24 +37,35 @@ use Rattle.strip.specs.declared.Request.the-variants.{Idle}
 
 -- ---- this machine's drain is the drain of any machine
 module _ (K levels : ℕ) where
-  abbrev queue : Request → Machine → Step Answer Machine
+  abbrev pub queue : Request → Machine → Step Answer Machine
   queue = turnQueue K levels
 
-  abbrev waiting : Machine → Bool
+  abbrev pub waiting : Machine → Bool
   waiting x = pending K levels (x .records)
 
-  abbrev Jam : Machine → Type 0
+  abbrev pub Jam : Machine → Type 0
   Jam x = TurnDamage K levels Idle (x .records) (x .words)
 
-  abbrev Good : Machine → Type 0
-  Good x = shapeOk K levels (length (x .words)) ≡ true
+  abbrev pub good : Machine → Bool
+  good x = shapeOk K levels (length (x .words))
 
-  abbrev shown : Drained Machine → DrainOutcome
+  abbrev Fits : Machine → Type 0
+  Fits x = Shape K levels (length (x .words))
+
+  means : (x : Machine) → Means (good x) (Fits x)
+  means = ticks K levels .shape
+
+  keeps : (r : Request) (x : Machine) → good (queue r x .next) ≡ good x
+  keeps = clocks.ticking (clock K levels) queue (same K levels) (ticks K levels)
+
+  idling : (x : Machine) → good x ≡ true → (queue Idle x .said ≡ Done) ⊎ ((queue Idle x ≡ step (Refused Damaged) x) × Jam x)
+  idling = clocks.idling (clock K levels) queue (same K levels) (ticks K levels)
+
+  jams : (x : Machine) → good x ≡ true → Jam x → numberOf (queue Idle x .said) ≡ 0 → ⊥
+  jams = clocks.jams (clock K levels) queue (same K levels) (ticks K levels)
+
+  abbrev pub shown : Drained Machine → DrainOutcome
   shown d = drainOutcome (d .answer) (d .cycles) (d .left) (d .state .words) (d .state .records)
-
-  -- how a drain with the budget b of the machine x ends
-  abbrev pub Ended : ℕ → Machine → DrainOutcome → Type 0
-  Ended b x d = Close queue waiting Jam b (d .cycles) x (drained (d .answer) (d .cycles) (d .left) (machine (d .records) (d .words)))
 
   drain-as : (b n : ℕ) (rs : List Stage) (ws : List ℕ) → drainFrom K levels b n rs ws ≡ shown (drainBy queue waiting b n (machine rs ws))
   unfolding drainFrom drainBy
@@ -72,135 +82,80 @@ module _ (K levels : ℕ) where
       go true false ih = ih
       go false q ih = refl
 
-  idle-good : (x : Machine) → Good x → Good (queue Idle x .next)
-  idle-good x e = ap (shapeOk K levels) (turned-length K levels Idle (x .records) (x .words)) ∙ e
-
-  -- an idle cycle of a good shape runs, or meets damage and leaves everything
-  idling : (x : Machine) → Good x → (queue Idle x .said ≡ Done) ⊎ ((queue Idle x ≡ step (Refused Damaged) x) × Jam x)
-  unfolding turnRun
-  idling x e = go (sound K levels Idle (x .records) (x .words)) refl
-    where
-      go : (b : Bool) → sound K levels Idle (x .records) (x .words) ≡ b → (queue Idle x .said ≡ Done) ⊎ ((queue Idle x ≡ step (Refused Damaged) x) × Jam x)
-      go true f = inl (ap (λ (o : TurnOutcome). o .answer) (idle-run K levels (x .records) (x .words) e f))
-      go false f =
-          inr (ap (λ (o : TurnOutcome). step (o .answer) (machine (o .records) (o .words))) (turned-damaged K levels Idle (x .records) (x .words) e f), damage-fails K levels Idle (x .records) (x .words) .found f)
-
-  jam-refused : (x : Machine) → Good x → Jam x → numberOf (queue Idle x .said) ≡ 0 → ⊥
-  jam-refused x e d z =
-      zero-told Damaged (sym z ∙ ap (λ (o : TurnOutcome). numberOf (o .answer)) (turned-damaged K levels Idle (x .records) (x .words) e (damage-fails K levels Idle (x .records) (x .words) .shown d)))
+  -- how a drain with the budget b of the machine x ends
+  abbrev pub Ended : ℕ → Machine → DrainOutcome → Type 0
+  Ended b x d = Close queue waiting Jam b (d .cycles) x (drained (d .answer) (d .cycles) (d .left) (machine (d .records) (d .words)))
 
   module _ (b : ℕ) (rs : List Stage) (ws : List ℕ) where
     abbrev x : Machine
     x = machine rs ws
 
-    abbrev ran : Drained Machine
-    ran = drainBy queue waiting b 0 x
+    abbrev d : DrainOutcome
+    d = drains K levels b rs ws
+
+    pub drains-as : d ≡ shown (drainsBy queue waiting (good x) b x)
+    unfolding drains
+    drains-as = go (good x)
+      where
+        go : (t : Bool) → cond t (drainFrom K levels b 0 rs ws) (drainOutcome (Refused BadShape) 0 false ws rs) ≡ shown (drainsBy queue waiting t b x)
+        go true = drain-as b 0 rs ws
+        go false = refl
 
     pub drain-bad : shapeOk K levels (length ws) ≡ false → drains K levels b rs ws ≡ drainOutcome (Refused BadShape) 0 false ws rs
     unfolding drains
     drain-bad e = rw e
 
-    drain-good : shapeOk K levels (length ws) ≡ true → drains K levels b rs ws ≡ shown ran
-    unfolding drains
-    drain-good e = rw e (drain-as b 0 rs ws)
-
-    ended : shapeOk K levels (length ws) ≡ true → Closes queue waiting Jam b 0 x ran
-    ended e = closes queue waiting Jam Good idle-good idling b 0 x e
-
-    by-shape : (P : DrainOutcome → Type 0) → P (drainOutcome (Refused BadShape) 0 false ws rs) → (Closes queue waiting Jam b 0 x ran → P (shown ran)) → P (drains K levels b rs ws)
-    by-shape P bad good = go (shapeOk K levels (length ws)) refl
-      where
-        go : (t : Bool) → shapeOk K levels (length ws) ≡ t → P (drains K levels b rs ws)
-        go true e = subst P (sym (drain-good e)) (good (ended e))
-        go false e = subst P (sym (drain-bad e)) bad
-
     -- DRAIN-STATE: "The state left is that of exactly so many idle cycles", whatever is drained
     pub drain-state : (drains K levels b rs ws .words ≡ idles K levels (drains K levels b rs ws .cycles) x .words) × (drains K levels b rs ws .records ≡ idles K levels (drains K levels b rs ws .cycles) x .records)
-    unfolding leaves
-    drain-state =
-        by-shape (λ d. (d .words ≡ idles K levels (d .cycles) x .words) × (d .records ≡ idles K levels (d .cycles) x .records)) (refl, refl)
-        (λ c. (ap (λ (y : Machine). y .words) (close-state queue waiting Jam b x ran c), ap (λ (y : Machine). y .records) (close-state queue waiting Jam b x ran c)))
+    drain-state = let e = drain.drain-state queue waiting Jam good Fits means keeps idling jams b x in rw drains-as (ap (λ (y : Machine). y .words) e, ap (λ (y : Machine). y .records) e)
 
     -- DRAIN-NEEDED: "none is run once nothing is pending", and none past the budget
     pub drain-needed : (j : ℕ) → j < drains K levels b rs ws .cycles → pending K levels (idles K levels j x .records) ≡ true
-    drain-needed = by-shape (λ d. (j : ℕ) → j < d .cycles → pending K levels (idles K levels j x .records) ≡ true) (λ j h. absurd (not-suc-le-zero h)) (close-needed queue waiting Jam b x ran)
+    drain-needed = rw drains-as (drain.drain-needed queue waiting Jam good Fits means keeps idling jams b x)
 
     pub drain-within : drains K levels b rs ws .cycles ≤ b
-    drain-within = by-shape (λ d. d .cycles ≤ b) (omega arith) (close-within queue waiting Jam b x ran)
+    drain-within = rw drains-as (drain.drain-within queue waiting Jam good Fits means keeps idling jams b x)
 
     -- DRAIN-RAN: each of the cycles reported ran unrefused
     pub drain-ran : (j : ℕ) → j < drains K levels b rs ws .cycles → numberOf (turned K levels Idle (idles K levels j x .records) (idles K levels j x .words) .answer) ≡ 0
-    drain-ran =
-        by-shape (λ d. (j : ℕ) → j < d .cycles → numberOf (turned K levels Idle (idles K levels j x .records) (idles K levels j x .words) .answer) ≡ 0) (λ j h. absurd (not-suc-le-zero h)) (close-ran queue waiting Jam b x ran)
+    drain-ran = rw drains-as (drain.drain-ran queue waiting Jam good Fits means keeps idling jams b x)
 
     -- KIND: a drain that is not refused is done
     pub drain-kind : numberOf (drains K levels b rs ws .answer) ≡ 0 → drains K levels b rs ws .answer ≡ Done
-    drain-kind = by-shape (λ d. numberOf (d .answer) ≡ 0 → d .answer ≡ Done) (λ e. absurd (zero-told BadShape (sym e))) (close-kind queue waiting Jam b x ran)
-
-    as-jams : (n : ℕ) → Stuck queue waiting Jam b n x → Jams K levels b n x
-    as-jams n j = record { within = j .within; waits = j .waits; damage = j .damage }
-
-    as-stuck : (n : ℕ) → Jams K levels b n x → Stuck queue waiting Jam b n x
-    as-stuck n j = record { within = j .within; waits = j .waits; damage = j .damage }
+    drain-kind = rw drains-as (drain.drain-kind queue waiting Jam good Fits means keeps idling jams b x)
 
     -- DRAIN-STOPS: the cycle after exactly so many idle cycles is the one that meets damage
     pub drain-stops : numberOf (drains K levels b rs ws .answer) ≡ 2 → Jams K levels b (drains K levels b rs ws .cycles) x
-    drain-stops = by-shape (λ d. numberOf (d .answer) ≡ 2 → Jams K levels b (d .cycles) x) (λ e. absurd (omega arith)) (λ c e. as-jams (ran .cycles) (close-stops queue waiting Jam b x ran c e))
+    drain-stops = rw drains-as (drain.drain-stops queue waiting Jam good Fits means keeps idling jams b x)
 
     module _ (sh : Shape K levels (length ws)) where
-      ok : shapeOk K levels (length ws) ≡ true
-      ok = is-shape K levels (length ws) sh
-
       -- "whether work is left"
       pub drain-left : drains K levels b rs ws .left ≡ pending K levels (drains K levels b rs ws .records)
-      drain-left = rw (drain-good ok) (ended ok .left)
+      drain-left = rw drains-as (drain.drain-left queue waiting Jam good Fits means keeps idling jams b x sh)
 
       -- with work left and no damage the budget is spent
       pub drain-spent : numberOf (drains K levels b rs ws .answer) ≡ 0 → drains K levels b rs ws .left ≡ true → drains K levels b rs ws .cycles ≡ b
-      drain-spent = rw (drain-good ok) (close-spent queue waiting Jam b x ran (ended ok))
+      drain-spent = rw drains-as (drain.drain-spent queue waiting Jam good Fits means keeps idling jams b x sh)
 
       -- DRAIN-EXACT: where no cycle is refused and n idle cycles are those until nothing is pending, the count is n capped by the budget
       pub drain-exact : numberOf (drains K levels b rs ws .answer) ≡ 0 → (n : ℕ) → pending K levels (idles K levels n x .records) ≡ false
           → ((j : ℕ) → j < n → pending K levels (idles K levels j x .records) ≡ true) → drains K levels b rs ws .cycles ≡ capped b n
-      drain-exact = rw (drain-good ok) (close-count queue waiting Jam b x ran (ended ok))
+      drain-exact = rw drains-as (drain.drain-count queue waiting Jam good Fits means keeps idling jams b x sh)
 
       -- DRAIN-ENDS: done, with no work left or the budget spent; or stopped at 2 with work left, where the cycle after exactly so many meets damage
       pub drain-ends : Ended b x (drains K levels b rs ws)
-      drain-ends = rw (drain-good ok) (close-ends queue waiting Jam b x ran (ended ok))
+      drain-ends = rw drains-as (drain.drain-ends queue waiting Jam good Fits means keeps idling jams b x sh)
 
-    -- ---- EXACTLY: a drain is refused for the shape, or where an idle cycle within the budget meets damage, and leaves behind what the rule says
-    abbrev says : DrainOutcome → ℕ
-    says d = numberOf (d .answer)
-
-    abbrev behind : Refusal → DrainOutcome
-    behind = drainLeft K levels (drains K levels b rs ws .cycles) rs ws
-
-    idles-good : (n : ℕ) → Good x → Good (idles K levels n x)
-    idles-good n = leaves-keep queue Good (λ r y e. ap (shapeOk K levels) (turned-length K levels r (y .records) (y .words)) ∙ e) (replicate n Idle) x
-
-    pub exactly-drain : Exactly says behind (drains K levels b rs ws) (drainRefusals K levels b rs ws)
-    unfolding leaves
-    exactly-drain = climb-by says behind refusal-told BadShape _ _ _ (go (shapeOk K levels (length ws)) refl)
-      where
-        free : (e : Good x) → ran .answer ≡ Done → (ran .left ≡ true → ran .cycles ≡ b) → (n : ℕ) × Jams K levels b n x → ⊥
-        free e a l (n, j) = close-free queue waiting Jam b x ran (ended e) (λ i d. jam-refused (idles K levels i x) (idles-good i e) d) a l n (as-stuck n j)
-
-        by-end : (e : Good x) → Close queue waiting Jam b (ran .cycles) x ran → (((n : ℕ) × Jams K levels b n x → ⊥) × Exactly says behind (drains K levels b rs ws) fine) ⊎ (((n : ℕ) × Jams K levels b n x) × (drains K levels b rs ws ≡ behind Damaged))
-        by-end e (done a l) = inl (free e a l, climb-fine says behind _ (λ r q. zero-told r (sym (ap numberOf a) ∙ sym (ap says (drain-good e)) ∙ q)))
-        by-end e (stopped a l j) =
-            let st = drain-state in
-            let n : drains K levels b rs ws .answer ≡ Refused Damaged = ap (λ (d : DrainOutcome). d .answer) (drain-good e) ∙ a in
-            let m : drains K levels b rs ws .left ≡ true = ap (λ (d : DrainOutcome). d .left) (drain-good e) ∙ l in
-            inr ((ran .cycles, as-jams (ran .cycles) j), λ i. record { answer = n i; cycles = drains K levels b rs ws .cycles; left = m i; words = st .0 i; records = st .1 i })
-
-        go : (t : Bool) → shapeOk K levels (length ws) ≡ t
-            → (Shape K levels (length ws) × Exactly says behind (drains K levels b rs ws) (stop Damaged ((n : ℕ) × Jams K levels b n x) fine)) ⊎ ((Shape K levels (length ws) → ⊥) × (drains K levels b rs ws ≡ behind BadShape))
-        go true e = inl (shape-is K levels (length ws) e, climb-stop says behind refusal-told Damaged _ _ fine (by-end e (close-ends queue waiting Jam b x ran (ended e))))
-        go false e = inr ((λ sh. true≢false (sym (is-shape K levels (length ws) sh) ∙ e)), drain-bad e)
+    -- EXACTLY: a drain is refused for the shape, or where an idle cycle within the budget meets damage, and leaves behind what the rule says
+    pub exactly-drain : Exactly (λ (d : DrainOutcome). numberOf (d .answer)) (drainLeft K levels (drains K levels b rs ws .cycles) rs ws) (drains K levels b rs ws) (drainRefusals K levels b rs ws)
+    exactly-drain =
+        rw drains-as
+        (drain.exactly-as (λ (d : Drained Machine). numberOf (d .answer)) (behind queue (drainsBy queue waiting (good x) b x .cycles) x) shown (λ d. numberOf (d .answer)) (λ d. refl) (drainsBy queue waiting (good x) b x) _
+        (drain.exactly-drain queue waiting Jam good Fits means keeps idling jams b x))
 
     -- "Drain stops at 2 and reports the cycles already run, work left; at 1 it reports 0 and no work left"
-    pub drain-refused : (n : Refusal) → numberOf (drains K levels b rs ws .answer) ≡ refusalNumber n → drains K levels b rs ws ≡ behind n
-    drain-refused = left-behind says behind exactly-drain
+    pub drain-refused : (n : Refusal) → numberOf (drains K levels b rs ws .answer) ≡ refusalNumber n → drains K levels b rs ws ≡ drainLeft K levels (drains K levels b rs ws .cycles) rs ws n
+    drain-refused = left-behind _ _ exactly-drain
 
 -- ---- each idle cycle leaves one more record of nothing, from the top
 -- the first j of k records from record i on are nothing
@@ -260,41 +215,34 @@ lead-quiet (suc j) (suc k) i rs h l = and-true _ _ (ap isNothing (l .0)) (lead-q
 
 module _ (K levels : ℕ) where
   -- an idle cycle that is not refused has run
-  idle-ran : (x : Machine) → numberOf (turned K levels Idle (x .records) (x .words) .answer) ≡ 0 → turned K levels Idle (x .records) (x .words) ≡ turnRun K levels (ruling Done none) (x .records) (x .words)
-  idle-ran x z = go (shapeOk K levels (length (x .words))) refl (sound K levels Idle (x .records) (x .words)) refl
-    where
-      refused : (n : Refusal) → turned K levels Idle (x .records) (x .words) ≡ turnOutcome (Refused n) (x .words) (x .records) → ⊥
-      refused n e = zero-told n (sym z ∙ ap (λ (c : TurnOutcome). numberOf (c .answer)) e)
-
-      go : (a : Bool) → shapeOk K levels (length (x .words)) ≡ a → (b : Bool) → sound K levels Idle (x .records) (x .words) ≡ b → turned K levels Idle (x .records) (x .words) ≡ turnRun K levels (ruling Done none) (x .records) (x .words)
-      go false e b f = absurd (refused BadShape (turned-bad K levels Idle (x .records) (x .words) e))
-      go true e false f = absurd (refused Damaged (turned-damaged K levels Idle (x .records) (x .words) e f))
-      go true e true f = idle-run K levels (x .records) (x .words) e f
+  idle-ran : (x : Machine) → numberOf (turned K levels Idle (x .records) (x .words) .answer) ≡ 0 → turnQueue K levels Idle x ≡ step Done (clock K levels .moves Idle x)
+  idle-ran = clocks.idle-ran (clock K levels) (turnQueue K levels) (same K levels) (ticks K levels)
 
   lead-next : (j : ℕ) (x : Machine) → numberOf (turned K levels Idle (x .records) (x .words) .answer) ≡ 0 → pred levels ≤ length (x .records) → Lead j (pred levels) 0 (x .records)
       → (pred levels ≤ length (turned K levels Idle (x .records) (x .words) .records)) × Lead (suc j) (pred levels) 0 (turned K levels Idle (x .records) (x .words) .records)
   unfolding turnRun
   lead-next j x z len l =
-      rw (idle-ran x z) (
+      subst (λ (s : Step Answer Machine). (pred levels ≤ length (s .next .records)) × Lead (suc j) (pred levels) 0 (s .next .records)) (sym (idle-ran x z)) (
         subst (λ (n : ℕ). pred levels ≤ n) (sym (pass-records K (pred levels) 0 (work none 0) 0 (x .records) (x .words))) len,
         pass-lead K j (pred levels) 0 (work none 0) 0 (x .records) (x .words) refl (omega arith) l,
       )
 
-  lead-along : (j i : ℕ) (x : Machine) → pred levels ≤ length (x .records) → Lead i (pred levels) 0 (x .records)
-      → ((t : ℕ) → t < j → numberOf (turned K levels Idle (idles K levels t x .records) (idles K levels t x .words) .answer) ≡ 0) → Lead (i + j) (pred levels) 0 (idles K levels j x .records)
-  unfolding leaves
-  lead-along zero i x len h ran = rw add-zero h
-  lead-along (suc j) i x len h ran =
-      let n = lead-next i x (ran 0 (omega arith)) len h in
-      let at : i + suc j ≡ suc i + j = omega arith in
-      rw at (lead-along j (suc i) (turnQueue K levels Idle x .next) (n .0) (n .1) (λ t l. ran (suc t) (omega arith)))
-
   -- levels less one idle cycles that are not refused leave nothing pending
+  abbrev led : ℕ → Machine → Type 0
+  led j x = (pred levels ≤ length (x .records)) × Lead j (pred levels) 0 (x .records)
+
+  more-led : (j : ℕ) (x : Machine) → numberOf (queue K levels Idle x .said) ≡ 0 → led j x → led (suc j) (queue K levels Idle x .next)
+  more-led j x z l = lead-next j x z (l .0) (l .1)
+
+  all-led : (x : Machine) → led (pred levels) x → waiting K levels x ≡ false
+  all-led x l = ap not (lead-quiet (pred levels) (pred levels) 0 (x .records) (omega arith) (l .1))
+
   pub idles-quiet : (x : Machine) → pred levels ≤ length (x .records) → ((t : ℕ) → t < pred levels → numberOf (turned K levels Idle (idles K levels t x .records) (idles K levels t x .words) .answer) ≡ 0)
       → pending K levels (idles K levels (pred levels) x .records) ≡ false
-  idles-quiet x len ran = ap not (lead-quiet (pred levels) (pred levels) 0 _ (omega arith) (rw zero-add at (lead-along (pred levels) 0 x len tt ran)))
+  idles-quiet x len = drain.idles-quiet (queue K levels) (waiting K levels) (Jam K levels) (good K levels) (Fits K levels) (means K levels) (keeps K levels) (idling K levels) (jams K levels) (pred levels) led more-led all-led x (len, tt)
 
   -- DRAIN-FEW: whatever the machine and the budget, no more cycles are run than there are levels from 2
   pub drain-few : (b : ℕ) (rs : List Stage) (ws : List ℕ) → pred levels ≤ length rs → drains K levels b rs ws .cycles ≤ pred levels
   drain-few b rs ws len =
-      less-not (λ h. true≢false (sym (drain-needed K levels b rs ws (pred levels) h) ∙ idles-quiet (machine rs ws) len (λ t l. drain-ran K levels b rs ws t (omega arith))))
+      rw (drains-as K levels b rs ws)
+      (drain.drain-few (queue K levels) (waiting K levels) (Jam K levels) (good K levels) (Fits K levels) (means K levels) (keeps K levels) (idling K levels) (jams K levels) (pred levels) led more-led all-led b (machine rs ws) (len, tt))

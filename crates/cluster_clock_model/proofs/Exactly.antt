@@ -4,8 +4,7 @@ use native.Mathlib.Nat.{not-suc-le-zero}
 use native.Mathlib.Omega.{arith}
 use mathlib.Core.Bool.{_&&_, _||_, Bool, false, not, true, true≢false}
 use mathlib.Core.List.{List}
-use mathlib.Core.Logic.{_⊎_, inl, inr}
-use mathlib.Core.Path.{_∙_, _≡_, ap, refl, subst, sym}
+use mathlib.Core.Path.{_∙_, _≡_, ap, refl, sym}
 use lib.Dec.{eqb, leb, ltb}
 use lib.ListN.{length}
 use borrow.Author.Tests.{eqb-false, eqb-true, leb-true}
@@ -17,35 +16,41 @@ use Rattle.cluster_clock_model.specs.declared.Due.{Due}
 use Rattle.cluster_clock_model.specs.declared.Due.the-variants.{Fill, Nothing, Put, Swap}
 use Rattle.cluster_clock_model.specs.declared.Stage.{Stage}
 use Rattle.cluster_clock_model.specs.Calls.{askedOk, clockCleared, clockHeld, fresh, turned, turnOutcome, TurnOutcome, turnRun}
-use Rattle.cluster_clock_model.specs.Promise.{ChildTorn, heldRefusals, NodeTorn, StagesTorn, StageTorn, TurnDamage, turnLeft, turnRefusals, WaitTorn}
+use Rattle.cluster_clock_model.specs.Promise.{ChildTorn, clock, heldRefusals, Machine, machine, NodeTorn, StagesTorn, StageTorn, TurnDamage, turnLeft, turnQueue, turnRefusals, WaitTorn}
 use Rattle.cluster_clock_model.specs.Stage.{below, stageAt}
 use Rattle.cluster_clock_model.specs.Test.{givesOk, isGap, sane, saneAt, stageOk, stagesOk, waitOk}
-use Rattle.cluster_model.specs.Calls.{heldIn, Outcome, rootHeld, rule, ruleAt, Ruling, ruling, shapeOk}
+use Rattle.cluster_model.specs.Calls.{heldIn, rootHeld, rule, ruleAt, Ruling, ruling, shapeOk}
 use Rattle.cluster_model.specs.Heap.{room}
-use Rattle.cluster_model.specs.Node.{gap, has, inside, lhs, lowElem, Node, none, nothingBelow, Place, placeAt, rhs}
+use Rattle.cluster_model.specs.Node.{gap, has, inside, lhs, Node, none, nothingBelow, Place, placeAt, rhs}
 use Rattle.cluster_model.specs.Promise.{Shape, start}
 use Rattle.cluster_model.specs.Way.{child, neatTo, nodeIn, some}
 use Rattle.cluster_model.specs.Words.{width}
 use Rattle.cluster_model.proofs.Damages.{below-fails, fails-by, fails-ltb, is-shape, room-fails, shape-is, shape-means, some-fails, to-fails}
-use Rattle.cluster_model.proofs.Exactly.{cleared-fine, comes-barred, comes-kind, limits-exactly}
+use Rattle.cluster_model.proofs.Exactly.{cleared-fine}
 use Rattle.cluster_model.proofs.Pass.{node-count}
 use Rattle.cluster_model.proofs.Places.{gap-has, inside-length}
-use Rattle.cluster_model.proofs.Rules.{comes}
 use Rattle.laws.specs.Fails.{Fails, fails-and, fails-leb, fails-or, fails-true}
-use Rattle.laws.specs.Ladder.{climb-by, climb-fine, climb-stop, Exactly, Ladder, left-behind, stop}
-use Rattle.laws.specs.Ladder as ladder
+use Rattle.laws.specs.Ladder.{Exactly, left-behind, rung, stop}
 use Rattle.laws.specs.Means.{means-off}
 use Rattle.laws.specs.Tests.{and-left, and-right, and-true}
-use Rattle.promise.specs.Queue.{leaves}
-use Rattle.promise.specs.Refused.{IsPush, limits, refusal-told, Untagged, zero-told}
+use Rattle.promise.specs.Queue.{step, Step}
+use Rattle.promise.proofs.Calls.{grants-kind, grants-zero, last-all, last-ladder, last-tags, last-told}
+use Rattle.promise.proofs.Clock as clocks
+use Rattle.promise.proofs.Clock.{Ticks}
+use Rattle.promise.proofs.Drains.{exactly-as}
+use Rattle.promise.specs.Calls as calls
+use Rattle.promise.specs.Calls.{lastTable, left, Outcome}
+use Rattle.promise.specs.Clock.{cycleLeft, cycling}
+use Rattle.promise.specs.Refused.{IsPush}
 use Rattle.promise.specs.Served.{always, Kind}
+use Rattle.promise.specs.Table.{bars, decided-either, decided-same, ends, needs}
 use Rattle.promise.specs.Tagged.{Barred}
 use Rattle.strip.specs.Answers.{countNumber, numberOf, refusalNumber}
+use Rattle.strip.specs.declared.Answer.{Answer}
 use Rattle.strip.specs.declared.Answer.the-variants.{Done, Refused}
 use Rattle.strip.specs.declared.Count.the-variants.{Held, Unknown}
-use Rattle.strip.specs.declared.Element.{Element}
 use Rattle.strip.specs.declared.Refusal.{Refusal}
-use Rattle.strip.specs.declared.Refusal.the-variants.{BadShape, Damaged, Empty, Full, NoTag}
+use Rattle.strip.specs.declared.Refusal.the-variants.{BadShape, Damaged}
 use Rattle.strip.specs.declared.Request.{Request}
 use Rattle.strip.specs.declared.Request.the-variants.{Idle, Pop, Push, Replace}
 
@@ -140,12 +145,11 @@ module _ (K levels : ℕ) (r : Request) (rs : List Stage) (ws : List ℕ) where
   -- what is so of a cycle refused for the shape or for damage, and of one that ran, is so of the cycle
   pub turned-either : (P : TurnOutcome → Type 0) → P (turnOutcome (Refused BadShape) ws rs) → P (turnOutcome (Refused Damaged) ws rs)
       → (shapeOk K levels (length ws) ≡ true → sound ≡ true → P (turnRun K levels g rs ws)) → P (turned K levels r rs ws)
-  turned-either P bad damaged good = go (shapeOk K levels (length ws)) refl sound refl
-    where
-      go : (a : Bool) → shapeOk K levels (length ws) ≡ a → (b : Bool) → sound ≡ b → P (turned K levels r rs ws)
-      go false e b f = subst P (sym (turned-bad e)) bad
-      go true e false f = subst P (sym (turned-damaged e f)) damaged
-      go true e true f = subst P (sym (turned-fine e f)) (good e f)
+  unfolding turned
+  turned-either P bad damaged good =
+      decided-either (λ n. turnOutcome (Refused n) ws rs) P
+      (needs BadShape (shapeOk K levels (length ws)) (Shape K levels (length ws)) (bars Damaged sound (TurnDamage K levels r rs ws) ends))
+      (turnRun K levels g rs ws) (bad, (damaged, tt)) (λ c. good (c .0) (c .1 .0))
 
   pub damage-fails : Fails sound (TurnDamage K levels r rs ws)
   damage-fails =
@@ -160,11 +164,7 @@ pub turned-length : (K levels : ℕ) (r : Request) (rs : List Stage) (ws : List 
 unfolding turnRun
 turned-length K levels r rs ws = turned-either K levels r rs ws (λ c. length (c .words) ≡ length ws) refl refl (λ e f. pass-length K (pred levels) 0 _ 0 rs ws)
 
--- ---- an idle cycle reads no root, and a refused request runs the cycle as idle
-idle-rule : (c h : ℕ) (e : Element) → rule c Idle h e ≡ ruling Done none
-unfolding rule
-idle-rule c h e = refl
-
+-- ---- an idle cycle reads no root
 idle-asked : (K levels : ℕ) (ws : List ℕ) → askedOk K levels Idle ws ≡ true
 unfolding asks
 idle-asked K levels ws = refl
@@ -172,11 +172,8 @@ idle-asked K levels ws = refl
 pub idle-sound : (K levels : ℕ) (rs : List Stage) (ws : List ℕ) → stagesOk K (pred levels) 0 0 rs ws ≡ true → sound K levels Idle rs ws ≡ true
 idle-sound K levels rs ws e = and-true _ _ (idle-asked K levels ws) e
 
-pub idle-run : (K levels : ℕ) (rs : List Stage) (ws : List ℕ) → shapeOk K levels (length ws) ≡ true → sound K levels Idle rs ws ≡ true → turned K levels Idle rs ws ≡ turnRun K levels (ruling Done none) rs ws
-idle-run K levels rs ws e f = turned-fine K levels Idle rs ws e f ∙ ap (λ (g : Ruling). turnRun K levels g rs ws) (idle-rule (room K levels) (heldIn K levels ws) (lowElem (nodeIn K ws 0 .places)))
-
 -- a root in order holds at most the capacity
-root-limit : (K levels : ℕ) (ws : List ℕ) → 1 ≤ levels → saneAt K (room K (pred levels)) ws 0 ≡ true → heldIn K levels ws ≤ room K levels
+pub root-limit : (K levels : ℕ) (ws : List ℕ) → 1 ≤ levels → saneAt K (room K (pred levels)) ws 0 ≡ true → heldIn K levels ws ≤ room K levels
 unfolding room saneAt sane rootHeld
 root-limit K zero ws h e = absurd (not-suc-le-zero h)
 root-limit K (suc k) ws h e =
@@ -194,104 +191,89 @@ root-limit K (suc k) ws h e =
       node-count K ws (0 * width K),
     )
 
+-- ---- this machine is a clock
+module _ (K levels : ℕ) where
+  abbrev asStep : TurnOutcome → Step Answer Machine
+  asStep c = step (c .answer) (machine (c .records) (c .words))
+
+  abbrev shown : Outcome Machine → TurnOutcome
+  shown o = turnOutcome (o .answer) (o .words .words) (o .words .records)
+
+  -- its cycle is the clock's
+  pub same : (r : Request) (x : Machine) → turnQueue K levels r x ≡ cycling (clock K levels) r x
+  unfolding turned turnRun rule
+  same r x =
+      decided-same asStep (λ (o : Outcome Machine). step (o .answer) (o .words)) (λ n. turnOutcome (Refused n) (x .words) (x .records)) (left x)
+      (needs BadShape (shapeOk K levels (length (x .words))) (Unit {0}) (bars Damaged (sound K levels r (x .records) (x .words)) (Unit {0}) ends)) _ _ (λ n. refl)
+      (decided-same (λ (g : Ruling). asStep (turnRun K levels g (x .records) (x .words))) (λ (g : calls.Ruling Request). step (g .answer) (clock K levels .moves (g .op) x))
+      (λ n. ruling (Refused n) none) (λ n. calls.ruling (Refused n) Idle) (lastTable r (heldIn K levels (x .words)) (room K levels)) _ _ (λ n. refl) refl)
+
+  push-root : (r : Request) (ws : List ℕ) → IsPush r → askedOk K levels r ws ≡ true → saneAt K (room K (pred levels)) ws 0 ≡ true
+  unfolding asks
+  push-root Idle ws p e = absurd p
+  push-root (Push x) ws p e = e
+  push-root Pop ws p e = absurd p
+  push-root (Replace x) ws p e = absurd p
+
+  pub ticks : Ticks (clock K levels)
+  ticks =
+      record {
+        shape = λ x. shape-means K levels (length (x .words));
+        torn = λ r x. damage-fails K levels r (x .records) (x .words);
+        late = λ r x e f. last-told r _ _ (λ p. root-limit K levels (x .words) (shape-is K levels (length (x .words)) e .some) (push-root r (x .words) p (and-left (askedOk K levels r (x .words)) _ f)));
+        shut = refl;
+        jammed = refl;
+        idles = λ r x. last-all (λ n. runsIdle n ≡ true) refl refl refl r _ _;
+        free = λ x. (refl, tt);
+        calm = λ r x f. idle-sound K levels (x .records) (x .words) (and-right (askedOk K levels r (x .words)) _ f);
+        rest = λ x. refl;
+        zero = λ r x. grants-zero r _;
+        stays = λ r x. ap (shapeOk K levels) (pass-length K (pred levels) 0 _ 0 (x .records) (x .words));
+      }
+
+abbrev pub said : TurnOutcome → ℕ
+said c = numberOf (c .answer)
+
 -- EXACTLY: a cycle gives each refusal for its cause and for that cause only, and leaves behind what the table says
 module _ (K levels : ℕ) (r : Request) (rs : List Stage) (ws : List ℕ) where
-  abbrev pub said : TurnOutcome → ℕ
-  said c = numberOf (c .answer)
-
-  abbrev left : Refusal → TurnOutcome
-  left = turnLeft K levels rs ws
-
-  abbrev last : Ladder Refusal
-  last = stop NoTag (Untagged r) (limits r (heldIn K levels ws) (room K levels) ladder.fine)
-
-  push-root : (r : Request) → IsPush r → askedOk K levels r ws ≡ true → saneAt K (room K (pred levels)) ws 0 ≡ true
-  unfolding asks
-  push-root Idle p e = absurd p
-  push-root (Push x) p e = e
-  push-root Pop p e = absurd p
-  push-root (Replace x) p e = absurd p
-
-  module _ (e : shapeOk K levels (length ws) ≡ true) (f : sound K levels r rs ws ≡ true) where
-    refused-as : (n : Refusal) → runsIdle n ≡ true → turnRun K levels (ruling (Refused n) none) rs ws ≡ left n
-    unfolding turnRun leaves
-    refused-as n i = rw i (rw (idle-run K levels rs ws e (idle-sound K levels rs ws (and-right (askedOk K levels r ws) _ f))) refl)
-
-    run-exactly : Exactly said left (turnRun K levels (ruleAt K levels r ws) rs ws) last
-    unfolding turnRun
-    run-exactly =
-        limits-exactly (λ (c : TurnOutcome). c .answer) left (λ x. refl) (λ g. turnRun K levels g rs ws) (λ g. refl) (refused-as NoTag refl) (refused-as Full refl) (refused-as Empty refl) (room K levels) r (heldIn K levels ws) (lowElem (nodeIn K ws 0 .places))
-        (λ p. root-limit K levels ws (shape-is K levels (length ws) e .some) (push-root r p (and-left (askedOk K levels r ws) _ f)))
-
-  pub exactly-cycle : Exactly said left (turned K levels r rs ws) (turnRefusals K levels r rs ws)
-  exactly-cycle = climb-by said left refusal-told BadShape _ _ _ (shape-by (shapeOk K levels (length ws)) refl)
-    where
-      damage-by : shapeOk K levels (length ws) ≡ true → (b : Bool) → sound K levels r rs ws ≡ b
-          → ((TurnDamage K levels r rs ws → ⊥) × Exactly said left (turned K levels r rs ws) last) ⊎ (TurnDamage K levels r rs ws × (turned K levels r rs ws ≡ left Damaged))
-      damage-by e true f = inl (sound-no-damage K levels r rs ws f, subst (λ (c : TurnOutcome). Exactly said left c last) (sym (turned-fine K levels r rs ws e f)) (run-exactly e f))
-      damage-by e false f = inr (damage-fails K levels r rs ws .found f, turned-damaged K levels r rs ws e f)
-
-      shape-by : (a : Bool) → shapeOk K levels (length ws) ≡ a
-          → (Shape K levels (length ws) × Exactly said left (turned K levels r rs ws) (stop Damaged (TurnDamage K levels r rs ws) last)) ⊎ ((Shape K levels (length ws) → ⊥) × (turned K levels r rs ws ≡ left BadShape))
-      shape-by true e = inl (shape-is K levels (length ws) e, climb-stop said left refusal-told Damaged _ _ _ (damage-by e (sound K levels r rs ws) refl))
-      shape-by false e = inr ((λ sh. true≢false (sym (is-shape K levels (length ws) sh) ∙ e)), turned-bad K levels r rs ws e)
+  pub exactly-cycle : Exactly said (turnLeft K levels rs ws) (turned K levels r rs ws) (turnRefusals K levels r rs ws)
+  exactly-cycle =
+      last-ladder (λ l. Exactly said (turnLeft K levels rs ws) (turned K levels r rs ws) (rung BadShape (Shape K levels (length ws)) (stop Damaged (TurnDamage K levels r rs ws) l))) r (heldIn K levels ws) (room K levels)
+      (exactly-as (λ (o : Outcome Machine). numberOf (o .answer)) (cycleLeft (clock K levels) (turnQueue K levels) (machine rs ws)) (shown K levels) said (λ o. refl) _ _
+      (clocks.exactly-cycle (clock K levels) (turnQueue K levels) (same K levels) (ticks K levels) r (machine rs ws)))
 
   -- LEFT BEHIND: 1 and 2 everything, records too; 5, 6 and 7 "cycle runs as idle"
-  pub stands : (n : Refusal) → said (turned K levels r rs ws) ≡ refusalNumber n → turned K levels r rs ws ≡ left n
-  stands = left-behind said left exactly-cycle
+  pub stands : (n : Refusal) → said (turned K levels r rs ws) ≡ refusalNumber n → turned K levels r rs ws ≡ turnLeft K levels rs ws n
+  stands = left-behind said (turnLeft K levels rs ws) exactly-cycle
 
--- ---- KIND: of a cycle that is not refused a push and an idle request answer done, a pop and a replace an element
-module _ (K levels : ℕ) (r : Request) (rs : List Stage) (ws : List ℕ) where
+  -- KIND: of a cycle that is not refused a push and an idle request answer done, a pop and a replace an element
   pub kind : numberOf (turned K levels r rs ws .answer) ≡ 0 → Kind r (turned K levels r rs ws .answer)
-  unfolding turnRun
-  kind =
-      turned-either K levels r rs ws (λ c. numberOf (c .answer) ≡ 0 → Kind r (c .answer)) (λ e. absurd (zero-told BadShape (sym e))) (λ e. absurd (zero-told Damaged (sym e)))
-      (λ e f. comes-kind (room K levels) (heldIn K levels ws) (lowElem (nodeIn K ws 0 .places)) r _ (comes (room K levels) r (heldIn K levels ws) (lowElem (nodeIn K ws 0 .places))))
+  kind = clocks.kind (clock K levels) (turnQueue K levels) (same K levels) (λ r x. grants-kind r _) r (machine rs ws)
 
   -- BARRED: an element without a tag is never let in, whatever stands in the machine
   pub barred : Barred r (turned K levels r rs ws .answer)
-  unfolding turnRun
-  barred =
-      turned-either K levels r rs ws (λ c. Barred r (c .answer)) (λ u e. zero-told BadShape (sym e)) (λ u e. zero-told Damaged (sym e))
-      (λ e f. comes-barred (room K levels) (heldIn K levels ws) (lowElem (nodeIn K ws 0 .places)) r _ (comes (room K levels) r (heldIn K levels ws) (lowElem (nodeIn K ws 0 .places))))
+  barred = clocks.barred (clock K levels) (turnQueue K levels) (same K levels) (ticks K levels) r (machine rs ws) (last-tags r _ _)
+
+  -- NEVER TOO SOON: no cycle is refused 3
+  pub never-soon : numberOf (turned K levels r rs ws .answer) ≡ 3 → ⊥
+  never-soon = clocks.never (clock K levels) (turnQueue K levels) (same K levels) (ticks K levels) 3 (λ e. omega arith) (λ e. omega arith) (λ e. omega arith) r (machine rs ws) (last-all (λ n. refusalNumber n ≡ 3 → ⊥) (λ e. omega arith) (λ e. omega arith) (λ e. omega arith) r _ _)
 
 -- ---- held and clear
 module _ (K levels : ℕ) (ws : List ℕ) where
-  held-is : shapeOk K levels (length ws) ≡ true → saneAt K (room K (pred levels)) ws 0 ≡ true → clockHeld K levels ws ≡ Held (heldIn K levels ws)
-  unfolding clockHeld
-  held-is s o = rw (s, o)
-
-  held-bad : shapeOk K levels (length ws) ≡ false → clockHeld K levels ws ≡ Unknown BadShape
-  unfolding clockHeld
-  held-bad s = rw s
-
-  held-damaged : shapeOk K levels (length ws) ≡ true → saneAt K (room K (pred levels)) ws 0 ≡ false → clockHeld K levels ws ≡ Unknown Damaged
-  unfolding clockHeld
-  held-damaged s o = rw (s, o)
-
   pub held-fine : Shape K levels (length ws) → saneAt K (room K (pred levels)) ws 0 ≡ true → clockHeld K levels ws ≡ Held (heldIn K levels ws)
-  held-fine sh = held-is (is-shape K levels (length ws) sh)
+  unfolding clockHeld
+  held-fine sh o = rw (is-shape K levels (length ws) sh, o)
 
   pub exactly-held : Exactly countNumber Unknown (clockHeld K levels ws) (heldRefusals K levels ws)
-  exactly-held = climb-by countNumber Unknown refusal-told BadShape _ _ _ (by-test (shapeOk K levels (length ws)) refl)
-    where
-      by-root : shapeOk K levels (length ws) ≡ true → (t : Bool) → saneAt K (room K (pred levels)) ws 0 ≡ t
-          → ((NodeTorn K (room K (pred levels)) ws 0 → ⊥) × Exactly countNumber Unknown (clockHeld K levels ws) ladder.fine) ⊎ (NodeTorn K (room K (pred levels)) ws 0 × (clockHeld K levels ws ≡ Unknown Damaged))
-      by-root s true o =
-          inl ((λ d. true≢false (sym o ∙ torn-fails K (room K (pred levels)) ws 0 .shown d)), climb-fine countNumber Unknown _ (λ r e. zero-told r (ap countNumber (sym (held-is s o)) ∙ e)))
-      by-root s false o = inr (torn-fails K (room K (pred levels)) ws 0 .found o, held-damaged s o)
-
-      by-test : (t : Bool) → shapeOk K levels (length ws) ≡ t
-          → (Shape K levels (length ws) × Exactly countNumber Unknown (clockHeld K levels ws) (stop Damaged (NodeTorn K (room K (pred levels)) ws 0) ladder.fine)) ⊎ ((Shape K levels (length ws) → ⊥) × (clockHeld K levels ws ≡ Unknown BadShape))
-      by-test true s = inl (shape-is K levels (length ws) s, climb-stop countNumber Unknown refusal-told Damaged _ _ ladder.fine (by-root s (saneAt K (room K (pred levels)) ws 0) refl))
-      by-test false s = inr ((λ z. true≢false (sym (is-shape K levels (length ws) z) ∙ s)), held-bad s)
+  unfolding clockHeld
+  exactly-held = clocks.exactly-held (clock K levels) (ticks K levels) (λ x. torn-fails K (room K (pred levels)) (x .words) 0) (machine fresh ws)
 
   -- CLEAR: zeros, and nothing pending, whatever records are handed over; refused it leaves everything, the records too
   pub clear-taken : (rs : List Stage) → Shape K levels (length ws) → clockCleared K levels rs ws ≡ turnOutcome Done (start K levels ws) fresh
   unfolding clockCleared
   clear-taken rs sh =
       let e = is-shape K levels (length ws) sh in
-      rw e (ap (λ (o : Outcome). turnOutcome Done (o .words) fresh) (sym (cleared-fine K levels ws e)))
+      rw e (ap (λ (o : Outcome (List ℕ)). turnOutcome Done (o .words) fresh) (sym (cleared-fine K levels ws e)))
 
   pub clear-stands : (rs : List Stage) → (Shape K levels (length ws) → ⊥) → clockCleared K levels rs ws ≡ turnOutcome (Refused BadShape) ws rs
   unfolding clockCleared

@@ -12,17 +12,18 @@ use lib.ListN.{length, length-set, set}
 use lib.Seq.{getD-set-same}
 use borrow.Author.Tests.{eqb-false, eqb-true, ltb-true}
 use Rattle.clocked_model.specs.Calls.{asks}
+use Rattle.cluster_clock_model.proofs.Exactly.{ticks, turned-fine}
 use Rattle.cluster_clock_model.proofs.Fine.{fit-count, node-fine, reach-all, some-fine, stages-fine}
 use Rattle.cluster_clock_model.proofs.Flight.{cycle, cycles, Inv, lowOf, noteBelow, Tree, tree-least, within}
 use Rattle.cluster_clock_model.proofs.Seen.{begins-length, commutes, handed-in, InRange, level-length, node-apart, noteSeen, pass-length, pass-others, pass-records, Ranged, ranged-set, settled-length, Spans, treeIn, filled-length}
 use Rattle.cluster_clock_model.specs.declared.Stage.{Stage}
 use Rattle.cluster_clock_model.specs.Calls.{askedOk, turned, TurnOutcome, turnRun}
-use Rattle.cluster_clock_model.specs.Promise.{Machine, machine}
+use Rattle.cluster_clock_model.specs.Promise.{clock, Machine}
 use Rattle.cluster_clock_model.specs.Stage.{begins, below, childOf, filled, handed, levelStage, levelWords, loaded, noStage, noteOf, pass, settled, stageAt, waits, work, Work, worked}
 use Rattle.cluster_clock_model.specs.Test.{saneAt, stagesOk}
-use Rattle.cluster_model.specs.Calls.{heldIn, rootHeld, ruleAt}
-use Rattle.cluster_model.specs.Heap.{room}
-use Rattle.cluster_model.specs.Node.{fill, inside, lhs, lowElem, Node, Note, nothing, onto, Op, rhs, trial}
+use Rattle.cluster_model.specs.Calls.{heldIn, opOf, rootHeld, ruleAt}
+use Rattle.cluster_model.specs.Heap.{Can, gain, loss, room}
+use Rattle.cluster_model.specs.Node.{fill, inside, lhs, lowElem, Node, Note, nothing, onto, rhs, trial}
 use Rattle.cluster_model.specs.Promise.{nodes, Shape}
 use Rattle.cluster_model.specs.Way.{extent, nodeIn, some, spotOf, touch, works}
 use Rattle.cluster_model.specs.Words.{Neat, width}
@@ -30,13 +31,17 @@ use Rattle.cluster_model.proofs.Damages.{is-shape}
 use Rattle.cluster_model.proofs.Neat.{neat-row}
 use Rattle.cluster_model.proofs.NeatLevels.{touch-written}
 use Rattle.cluster_model.proofs.Pass.{touch-only}
-use Rattle.cluster_model.proofs.Serve.{Ruled, ruled-by}
 use Rattle.cluster_model.proofs.Slice.{node-total, slice}
-use Rattle.laws.specs.Tests.{or-right}
+use Rattle.laws.specs.Tests.{and-true, or-right}
+use Rattle.promise.proofs.Calls.{fits-least, last-fits}
+use Rattle.promise.proofs.Clock.{IsClock}
+use Rattle.promise.specs.Calls.{Fits, grants, lastTable}
 use Rattle.promise.specs.Served.{always, brought, given, Least, lower}
+use Rattle.promise.specs.Table.{Clear}
 use Rattle.strip.specs.Answers.{key}
 use Rattle.strip.specs.declared.Element.{Element}
 use Rattle.strip.specs.declared.Request.{Request}
+use Rattle.strip.specs.declared.Request.the-variants.{Idle, Pop, Push, Replace}
 
 -- ---- neat words stay neat
 module _ (K : ℕ) where
@@ -127,6 +132,9 @@ module _ (K k : ℕ) (x : Machine) (kept : Kept K k x) where
   abbrev inFlight : (Element → Bool) → ℕ
   inFlight f = within f (suc k) flightOf
 
+  abbrev top : Element
+  top = lowElem (nodeIn K ws 0 .places)
+
   two : 1 < K
   two = kept .shape .two
 
@@ -148,9 +156,6 @@ module _ (K k : ℕ) (x : Machine) (kept : Kept K k x) where
   unfolding some
   root-some h = ltb-true 0 (inside always (nodeIn K ws 0 .places)) (some-fine K two rs ws (nodes (suc k)) (kept .neat) k 0 0 0 (kept .sound) (omega (arith, kept-held)))
 
-  ruled : (r : Request) → Ruled (room K (suc k)) inFlight (heldIn K (suc k) ws) (lowElem (nodeIn K ws 0 .places)) kept-held root-least r (ruleAt K (suc k) r ws)
-  ruled r = ruled-by (room K (suc k)) inFlight (heldIn K (suc k) ws) (lowElem (nodeIn K ws 0 .places)) kept-held root-least r
-
   root-sound : (n : ℕ) → n < 0 + 1 → Inv K (suc k) (treeIn K (suc k) 0 0 rs ws n)
   root-sound zero h = kept .sound
   root-sound (suc n) h = absurd (not-suc-le-zero {n = 0} (omega arith))
@@ -165,47 +170,62 @@ module _ (K k : ℕ) (x : Machine) (kept : Kept K k x) where
   pub kept-stages : stagesOk K k 0 0 rs ws ≡ true
   kept-stages = stages-fine K two rs ws (nodes (suc k)) (kept .neat) k 0 0 (omega (arith, reach-all k)) root-sound (kept .ranged)
 
-  -- ---- a cycle on a kept machine is what its ruling says
-  pub kept-turned : (r : Request) → turned K (suc k) r rs ws ≡ turnRun K (suc k) (ruleAt K (suc k) r ws) rs ws
-  unfolding turned
-  kept-turned r = rw (is-shape K (suc k) (length ws) (kept .shape), kept-asked r, kept-stages) refl
+  -- ---- what a request that is let in does
+  module _ (r : Request) (c : Clear (lastTable r (heldIn K (suc k) ws) (room K (suc k)))) where
+    abbrev y : Machine
+    y = clock K (suc k) .moves r x
 
-  abbrev op : Request → Op
-  op r = ruleAt K (suc k) r ws .op
+    can : Can (room K (suc k)) (opOf r) inFlight
+    can = go r (last-fits r (heldIn K (suc k) ws) (room K (suc k)) c)
+      where
+        go : (r : Request) → Fits r (heldIn K (suc k) ws) (room K (suc k)) → Can (room K (suc k)) (opOf r) inFlight
+        go Idle f = tt
+        go (Push x) f = omega (arith, kept-held)
+        go Pop f = omega (arith, kept-held)
+        go (Replace x) f = omega (arith, kept-held)
 
-  abbrev pub turnedTo : Request → Machine
-  turnedTo r = machine (turned K (suc k) r rs ws .records) (turned K (suc k) r rs ws .words)
+    -- the tree goes by a cycle
+    move-flight : treeIn K (suc k) 0 0 (y .records) (y .words) 0 ≡ cycle (suc k) (opOf r) flightOf
+    move-flight = commutes K k 0 (work (opOf r) 0) 0 rs ws 0 (omega arith) (omega arith) (kept .ranged) fits (omega (arith, kept .count))
 
-  -- the tree goes by a cycle
-  pub kept-flight : (r : Request) → treeIn K (suc k) 0 0 (turned K (suc k) r rs ws .records) (turned K (suc k) r rs ws .words) 0 ≡ cycle (suc k) (op r) flightOf
-  unfolding turnRun
-  kept-flight r =
-      ap (λ (o : TurnOutcome). treeIn K (suc k) 0 0 (o .records) (o .words) 0) (kept-turned r)
-      ∙ commutes K k 0 (work (op r) 0) 0 rs ws 0 (omega arith) (omega arith) (kept .ranged) fits (omega (arith, kept .count))
+    pub move-kept : Kept K k y
+    move-kept =
+        let o : Work = work (opOf r) 0 in
+        record {
+          shape = subst (λ (n : ℕ). Shape K (suc k) n) (sym (pass-length K k 0 o 0 rs ws)) (kept .shape);
+          count = subst (λ (n : ℕ). k ≤ n) (sym (pass-records K k 0 o 0 rs ws)) (kept .count);
+          ranged = pass-ranged K k 0 o 0 rs ws (omega arith) (omega (arith, kept .count)) (kept .ranged);
+          neat = pass-neat K (nodes (suc k)) k 0 o 0 rs ws (nodes-fit K k (length ws) (kept .shape .slice)) (kept .neat);
+          sound = subst (Inv K (suc k)) (sym move-flight) (cycles K two (suc k) (opOf r) flightOf (kept .sound) can .sound);
+        }
 
-  pub kept-answer : (r : Request) → turned K (suc k) r rs ws .answer ≡ ruleAt K (suc k) r ws .answer
-  unfolding turnRun
-  kept-answer r = ap (λ (o : TurnOutcome). o .answer) (kept-turned r)
+    moved : (f : Element → Bool) → (loss (opOf r) top f ≡ given r (grants r top) f) × (gain (opOf r) f ≡ brought r (grants r top) f)
+    moved f = go r
+      where
+        go : (r : Request) → (loss (opOf r) top f ≡ given r (grants r top) f) × (gain (opOf r) f ≡ brought r (grants r top) f)
+        go Idle = (refl, refl)
+        go (Push x) = (refl, refl)
+        go Pop = (refl, refl)
+        go (Replace x) = (refl, refl)
 
-  pub kept-next : (r : Request) → Kept K k (turnedTo r)
-  unfolding turnRun
-  kept-next r =
-      let o : Work = work (op r) 0 in
-      let w : turned K (suc k) r rs ws .words ≡ pass K k 0 o 0 rs ws .words = ap (λ (o : TurnOutcome). o .words) (kept-turned r) in
-      let s : turned K (suc k) r rs ws .records ≡ pass K k 0 o 0 rs ws .records = ap (λ (o : TurnOutcome). o .records) (kept-turned r) in
-      record {
-        shape = subst (λ (n : ℕ). Shape K (suc k) n) (sym (ap length w ∙ pass-length K k 0 o 0 rs ws)) (kept .shape);
-        count = subst (λ (n : ℕ). k ≤ n) (sym (ap length s ∙ pass-records K k 0 o 0 rs ws)) (kept .count);
-        ranged = subst (λ (v : List Stage). Ranged k 0 0 v) (sym s) (pass-ranged K k 0 o 0 rs ws (omega arith) (omega (arith, kept .count)) (kept .ranged));
-        neat = subst (λ (v : List ℕ). AllNeat K (nodes (suc k)) v) (sym w) (pass-neat K (nodes (suc k)) k 0 o 0 rs ws (nodes-fit K k (length ws) (kept .shape .slice)) (kept .neat));
-        sound = subst (Inv K (suc k)) (sym (kept-flight r)) (cycles K two (suc k) (op r) flightOf (kept .sound) (ruled r .can) .sound);
-      }
+    pub move-sum : (f : Element → Bool) → within f (suc k) (treeIn K (suc k) 0 0 (y .records) (y .words) 0) + given r (grants r top) f ≡ inFlight f + brought r (grants r top) f
+    unfolding lowOf treeIn
+    move-sum f = rw move-flight (omega (arith, cycles K two (suc k) (opOf r) flightOf (kept .sound) can .sum f, moved f))
 
-  pub kept-sum : (r : Request) (f : Element → Bool)
-      → within f (suc k) (treeIn K (suc k) 0 0 (turned K (suc k) r rs ws .records) (turned K (suc k) r rs ws .words) 0) + given r (turned K (suc k) r rs ws .answer) f
-      ≡ inFlight f + brought r (turned K (suc k) r rs ws .answer) f
-  unfolding lowOf treeIn
-  kept-sum r f = rw (kept-flight r, kept-answer r) (omega (arith, cycles K two (suc k) (op r) flightOf (kept .sound) (ruled r .can) .sum f, ruled r .sum f))
+    pub move-least : Least inFlight r (grants r top)
+    move-least = fits-least inFlight r (heldIn K (suc k) ws) (room K (suc k)) top (last-fits r (heldIn K (suc k) ws) (room K (suc k)) c) root-least
 
-  pub kept-least : (r : Request) → Least inFlight r (turned K (suc k) r rs ws .answer)
-  kept-least r = rw (kept-answer r) (ruled r .least)
+-- it is a clock
+pub is-clock : (K k : ℕ) → IsClock (clock K (suc k)) (Kept K k)
+is-clock K k =
+    record {
+      ticks = ticks K (suc k);
+      shaped = λ x kept. is-shape K (suc k) (length (x .words)) (kept .shape);
+      sound = λ r x kept. and-true _ _ (kept-asked K k x kept r) (kept-stages K k x kept);
+      keeps = λ r x kept c. move-kept K k x kept r c;
+    }
+
+-- a cycle answers what its ruling says
+pub kept-answer : (K k : ℕ) (x : Machine) → Kept K k x → (r : Request) → turned K (suc k) r (x .records) (x .words) .answer ≡ ruleAt K (suc k) r (x .words) .answer
+unfolding turnRun
+kept-answer K k x kept r = ap (λ (o : TurnOutcome). o .answer) (turned-fine K (suc k) r (x .records) (x .words) (is-shape K (suc k) (length (x .words)) (kept .shape)) (and-true _ _ (kept-asked K k x kept r) (kept-stages K k x kept)))

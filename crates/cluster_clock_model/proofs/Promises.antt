@@ -4,50 +4,48 @@ use Prim.Native.Nat.{_+_, _<_, _≤_, pred, suc, zero, ℕ}
 use native.Mathlib.Nat.{not-suc-le-zero}
 use native.Mathlib.Omega.{arith}
 use mathlib.Core.Bool.{Bool, false, not, true, true≢false}
-use mathlib.Core.List.{[], _∷_, List, map}
-use mathlib.Core.Logic.{_⊎_, ⊎-elim}
+use mathlib.Core.List.{List, map}
+use mathlib.Core.Logic.{_⊎_, inl}
 use mathlib.Core.Path.{_∙_, _≡_, ap, refl, subst, sym}
-use lib.ListN.{length, replicate}
-use Rattle.clocked_model.proofs.Draining.{done, stopped}
-use Rattle.clocked_model.specs.Lost.{asked, Call, cycle, drain}
-use Rattle.cluster_clock_model.proofs.Drain.{drain-ends, drain-few, drain-left, drain-spent, drain-state, Ended, idles-quiet}
-use Rattle.cluster_clock_model.proofs.Exactly.{barred, held-fine, sound-no-damage, turned-either}
+use lib.ListN.{length}
+use borrow.Author.Tests.{lt-ltb}
+use Rattle.clocked_model.specs.Lost.{asked, Call}
+use Rattle.promise.specs.Clock.{calls, cycle, drain}
+use Rattle.cluster_clock_model.proofs.Drain.{drain-state, drains-as, good, idles-quiet, waiting}
+use Rattle.cluster_clock_model.proofs.Exactly.{barred, held-fine, root-limit, same}
+pub use Rattle.cluster_clock_model.proofs.Exactly.{never-soon}
 use Rattle.cluster_clock_model.proofs.Flight.{Inv, within}
-use Rattle.cluster_clock_model.proofs.Kept.{Kept, kept-answer, kept-asked, kept-held, kept-least, kept-next, kept-root, kept-stages, kept-sum, root-some}
+use Rattle.cluster_clock_model.proofs.Kept.{is-clock, Kept, kept-answer, kept-held, kept-root, move-kept, move-least, move-sum, root-some}
 use Rattle.cluster_clock_model.proofs.Lost.{flight-sum}
 use Rattle.cluster_clock_model.proofs.Rest.{calm-sound, rest-stored, rest-tree, start-flying, start-none}
 use Rattle.cluster_clock_model.proofs.Seen.{treeIn}
 use Rattle.cluster_clock_model.specs.declared.Stage.{Stage}
-use Rattle.cluster_clock_model.specs.Calls.{clockHeld, DrainOutcome, drains, pending, quiet, turned, turnRun}
-use Rattle.cluster_clock_model.specs.Promise.{AtRest, callAnswers, clearedMachine, idles, Machine, machine, machineQueue, Pinned, ran, ranCalls, remaining, turnAnswers, TurnDamage, turnQueue}
+use Rattle.cluster_clock_model.specs.Calls.{clockHeld, DrainOutcome, drains, quiet, turned}
+use Rattle.cluster_clock_model.specs.Promise.{AtRest, callAnswers, clearedMachine, clock, idles, Machine, machine, machineQueue, Pinned, ran, ranCalls, remaining, turnAnswers, TurnDamage, turnQueue}
 use Rattle.cluster_model.specs.Calls.{heldIn, rule, ruleAt, Ruling}
 use Rattle.cluster_model.specs.Heap.{room, Sound}
 use Rattle.cluster_model.specs.Node.{low, lowElem, Place}
 use Rattle.cluster_model.specs.Promise.{Shape, storedCount}
 use Rattle.cluster_model.specs.Way.{heapIn, nodeIn}
-use Rattle.cluster_model.proofs.Exactly.{comes-number}
 use Rattle.cluster_model.proofs.Rules.{comes, lowest-is}
 use Rattle.cluster_model.specs.Rules as rules
 use Rattle.cluster_model.specs.Rules.{Comes, empty, full, IsLowest, lacks, no-tag, puts, swaps, takes}
-use Rattle.laws.specs.Tests.{and-true}
-use Rattle.promise.specs.Queue.{answers, leaves, leaves-keep, pins}
-use Rattle.promise.specs.Served.{all-sum, allBrought, allGiven, always, brought, given, Holds, Least, least-same, triple}
+use Rattle.promise.specs.Queue.{leaves-keep, pins, step}
+use Rattle.laws.specs.Means.{means-off}
+use Rattle.promise.proofs.Calls.{grants-kind, last-each}
+use Rattle.promise.proofs.Kept.{last-alike}
+use Rattle.promise.specs.Calls.{outcome, PopThenPush}
+use Rattle.promise.specs.Refused.{Untagged, untagged-means}
+use Rattle.promise.proofs.Clock as clocks
+use Rattle.promise.proofs.Clock.{Bag, Lowest, Swaps}
+use Rattle.promise.specs.Drains.{Drained, drainsBy}
+use Rattle.promise.specs.Served.{allBrought, allGiven, always, brought, given, Holds, Least, least-same, triple}
 use Rattle.promise.specs.Tagged.{Tagged, tagged-by}
 use Rattle.strip.specs.Answers.{countNumber, countOf, elementOf, numberOf}
 use Rattle.strip.specs.declared.Answer.the-variants.{Out}
 use Rattle.strip.specs.declared.Element.{Element}
 use Rattle.strip.specs.declared.Request.{Request}
-use Rattle.strip.specs.declared.Request.the-variants.{Idle}
-
--- ---- NEVER TOO SOON: no cycle is refused 3, whatever the words and the records
-pub never-soon : (K levels : ℕ) (r : Request) (rs : List Stage) (ws : List ℕ) → numberOf (turned K levels r rs ws .answer) ≡ 3 → ⊥
-unfolding turnRun
-never-soon K levels r rs ws =
-    turned-either K levels r rs ws (λ c. numberOf (c .answer) ≡ 3 → ⊥) (λ e. omega arith) (λ e. omega arith)
-    (λ s f e. by (numberOf (ruleAt K levels r ws .answer)) e (comes-number (room K levels) (heldIn K levels ws) (lowElem (nodeIn K ws 0 .places)) r _ (comes (room K levels) r (heldIn K levels ws) (lowElem (nodeIn K ws 0 .places)))))
-  where
-    by : (n : ℕ) → n ≡ 3 → (n ≡ 0) ⊎ (n ≡ 5) ⊎ (n ≡ 6) ⊎ (n ≡ 7) → ⊥
-    by n e h = ⊎-elim (λ (z : n ≡ 0). omega arith) (λ z. ⊎-elim (λ (z : n ≡ 5). omega arith) (λ z. ⊎-elim (λ (z : n ≡ 6). omega arith) (λ (z : n ≡ 7). omega arith) z) z) h
+use Rattle.strip.specs.declared.Request.the-variants.{Idle, Replace}
 
 -- what a request gives is the element named, of a queue that is not empty
 comes-out : (c h : ℕ) (t e : Element) (r : Request) (g : Ruling) → Comes c h t r g → g .answer ≡ Out e → (t ≡ e) × (0 < h)
@@ -60,25 +58,35 @@ comes-out c h t e r g (empty p) q = absurd (let z : _≡_ {A = ℕ} 0 1 = cc in 
 comes-out c h t e r g (swaps x u p) q = (ap elementOf q, p)
 comes-out c h t e r g (lacks x u p) q = absurd (let z : _≡_ {A = ℕ} 0 1 = cc in omega arith)
 
--- ---- lists of cycles
+-- ---- what remains is what the clock holds
 module _ (K k : ℕ) where
-  pub next-kept : (r : Request) (x : Machine) → Kept K k x → Kept K k (turnQueue K (suc k) r x .next)
-  next-kept r x kept = kept-next K k x kept r
-
-  pub idles-kept : (n : ℕ) (x : Machine) → Kept K k x → Kept K k (idles K (suc k) n x)
-  idles-kept n x = leaves-keep (turnQueue K (suc k)) (Kept K k) next-kept (replicate n Idle) x
-
-  -- what remains, in the tree's words
+  -- in the tree's words
   pub kept-remains : (x : Machine) → Kept K k x → (f : Element → Bool) → within f (suc k) (treeIn K (suc k) 0 0 (x .records) (x .words) 0) ≡ remaining K (suc k) x f
   kept-remains x kept f = flight-sum f K (x .records) (x .words) k (kept .ranged)
 
+  pub bag : Bag (clock K (suc k)) (Kept K k) (λ r. r) (remaining K (suc k))
+  bag =
+      record {
+        still = refl;
+        sum = λ r x kept c f. omega (arith, kept-remains x kept f, kept-remains (clock K (suc k) .moves r x) (move-kept K k x kept r c) f, move-sum K k x kept r c f);
+      }
+
+  pub lowest : Lowest (clock K (suc k)) (Kept K k) (λ r. r) (remaining K (suc k))
+  lowest r x kept c = least-same (λ f. within f (suc k) (treeIn K (suc k) 0 0 (x .records) (x .words) 0)) (remaining K (suc k) x) (kept-remains x kept) r _ (move-least K k x kept r c)
+
+  pub next-kept : (r : Request) (x : Machine) → Kept K k x → Kept K k (turnQueue K (suc k) r x .next)
+  next-kept = clocks.next-kept (clock K (suc k)) (turnQueue K (suc k)) (same K (suc k)) (Kept K k) (is-clock K k)
+
+  pub idles-kept : (n : ℕ) (x : Machine) → Kept K k x → Kept K k (idles K (suc k) n x)
+  idles-kept = clocks.idles-kept (clock K (suc k)) (turnQueue K (suc k)) (same K (suc k)) (Kept K k) (is-clock K k)
+
   pub cycle-sum : (r : Request) (x : Machine) → Kept K k x → (f : Element → Bool)
       → remaining K (suc k) (turnQueue K (suc k) r x .next) f + given r (turnQueue K (suc k) r x .said) f ≡ remaining K (suc k) x f + brought r (turnQueue K (suc k) r x .said) f
-  cycle-sum r x kept f = omega (arith, kept-remains x kept f, kept-remains (turnQueue K (suc k) r x .next) (next-kept r x kept) f, kept-sum K k x kept r f)
+  cycle-sum = clocks.cycle-sum (clock K (suc k)) (turnQueue K (suc k)) (same K (suc k)) (Kept K k) (is-clock K k) (λ r. r) (remaining K (suc k)) bag
 
   -- what a cycle gives out is the least of it
   pub kept-gives : (x : Machine) → Kept K k x → (r : Request) → Least (remaining K (suc k) x) r (turned K (suc k) r (x .records) (x .words) .answer)
-  kept-gives x kept r = least-same (λ f. within f (suc k) (treeIn K (suc k) 0 0 (x .records) (x .words) 0)) (remaining K (suc k) x) (kept-remains x kept) r _ (kept-least K k x kept r)
+  kept-gives x kept r = clocks.cycle-least (clock K (suc k)) (turnQueue K (suc k)) (same K (suc k)) (Kept K k) (is-clock K k) (λ r. r) (remaining K (suc k)) lowest r x kept
 
   -- .. and the lowest of the root as it stood at the cycle's start
   pub kept-lowest : (x : Machine) → Kept K k x → (r : Request) (e : Element) → turned K (suc k) r (x .records) (x .words) .answer ≡ Out e
@@ -112,33 +120,28 @@ module _ (K k : ℕ) where
   idles-rest x kept = idles-quiet K (suc k) x (kept .count) (λ t l. idle-unrefused (idles K (suc k) t x) (idles-kept t x kept))
 
   pub kept-undamaged : (x : Machine) → Kept K k x → (r : Request) → TurnDamage K (suc k) r (x .records) (x .words) → ⊥
-  kept-undamaged x kept r = sound-no-damage K (suc k) r (x .records) (x .words) (and-true _ _ (kept-asked K k x kept r) (kept-stages K k x kept))
+  kept-undamaged x kept r = clocks.kept-undamaged (clock K (suc k)) (turnQueue K (suc k)) (same K (suc k)) (Kept K k) (is-clock K k) r x kept
 
-  -- ---- cycles and drains
-  drain-is : (b : ℕ) (x : Machine) → machineQueue K (suc k) (drain b) x .next ≡ idles K (suc k) (drains K (suc k) b (x .records) (x .words) .cycles) x
-  drain-is b x = let e = drain-state K (suc k) b (x .records) (x .words) in λ i. machine (e .1 i) (e .0 i)
+  -- a replace is a pop and then a push
+  swapping : Swaps (clock K (suc k)) (turnQueue K (suc k)) (same K (suc k)) (Kept K k) (is-clock K k) (remaining K (suc k)) bag
+  swapping =
+      record {
+        kinds = λ r x. grants-kind r _;
+        alike = λ e x kept tag. last-alike (λ r. r) e (lowElem (nodeIn K (x .words) 0 .places)) (heldIn K (suc k) (x .words)) (room K (suc k)) (means-off (untagged-means e) tag);
+        room = λ e x kept tag c. (
+          means-off (untagged-means e) tag,
+          (
+            lt-ltb _ (room K (suc k)) (clocks.popped-less (clock K (suc k)) (turnQueue K (suc k)) (same K (suc k)) (Kept K k) (is-clock K k) (remaining K (suc k)) bag (λ x kept. kept-held K k x kept ∙ kept-remains x kept always)
+                (room K (suc k)) (λ x kept. root-limit K (suc k) (x .words) (kept .shape .some) (kept-root K k x kept)) x kept c),
+            tt,
+          ),
+        );
+      }
 
-  call-kept : (c : Call) (x : Machine) → Kept K k x → Kept K k (machineQueue K (suc k) c x .next)
-  call-kept (cycle r) x kept = next-kept r x kept
-  call-kept (drain b) x kept = subst (Kept K k) (sym (drain-is b x)) (idles-kept (drains K (suc k) b (x .records) (x .words) .cycles) x kept)
-
-  idles-sum : (n : ℕ) (x : Machine) → Kept K k x → (f : Element → Bool) → remaining K (suc k) (idles K (suc k) n x) f ≡ remaining K (suc k) x f
-  unfolding leaves
-  idles-sum zero x kept f = refl
-  idles-sum (suc n) x kept f = idles-sum n (turnQueue K (suc k) Idle x .next) (next-kept Idle x kept) f ∙ omega (arith, cycle-sum Idle x kept f)
-
-  call-sum : (c : Call) (x : Machine) → Kept K k x → (f : Element → Bool)
-      → remaining K (suc k) (machineQueue K (suc k) c x .next) f + given (asked c) (machineQueue K (suc k) c x .said) f
-      ≡ remaining K (suc k) x f + brought (asked c) (machineQueue K (suc k) c x .said) f
-  call-sum (cycle r) x kept f = cycle-sum r x kept f
-  call-sum (drain b) x kept f = omega (arith, ap (λ (y : Machine). remaining K (suc k) y f) (drain-is b x), idles-sum (drains K (suc k) b (x .records) (x .words) .cycles) x kept f)
-
-  calls-sum : (cs : List Call) (x : Machine) → Kept K k x → (f : Element → Bool)
-      → remaining K (suc k) (leaves (machineQueue K (suc k)) cs x) f + allGiven (map asked cs) (answers (machineQueue K (suc k)) cs x) f
-      ≡ remaining K (suc k) x f + allBrought (map asked cs) (answers (machineQueue K (suc k)) cs x) f
-  unfolding leaves answers allGiven allBrought
-  calls-sum [] x kept f = refl
-  calls-sum (c ∷ cs) x kept f = omega (arith, call-sum c x kept f, calls-sum cs (machineQueue K (suc k) c x .next) (call-kept c x kept) f)
+  -- cycles and drains are the clock's
+  alike : (c : Call) (x : Machine) → machineQueue K (suc k) c x ≡ calls (clock K (suc k)) (turnQueue K (suc k)) c x
+  alike (cycle r) x = refl
+  alike (drain b) x = ap (λ (d : DrainOutcome). step (d .answer) (machine (d .records) (d .words))) (drains-as K (suc k) b (x .records) (x .words))
 
   pub start-remains : (ws : List ℕ) → Shape K (suc k) (length ws) → (f : Element → Bool) → remaining K (suc k) (clearedMachine K (suc k) ws) f ≡ 0
   start-remains ws sh f = sym (kept-remains (clearedMachine K (suc k) ws) (start-flying K k ws sh) f) ∙ start-none K k ws sh f
@@ -147,8 +150,10 @@ module _ (K k : ℕ) where
 -- machine: what stands in the places and what pending puts carry is, each as often, what was accepted less what was answered out
 module _ (K : ℕ) (ws : List ℕ) (cs : List Call) where
   pub nothing-lost : (levels : ℕ) → Shape K levels (length ws) → Holds (remaining K levels (ranCalls K levels cs ws)) (map asked cs) (callAnswers K levels cs ws)
-  nothing-lost zero sh f = absurd (not-suc-le-zero (sh .some))
-  nothing-lost (suc k) sh f = omega (arith, calls-sum K k cs (clearedMachine K (suc k) ws) (start-flying K k ws sh) f, start-remains K k ws sh f)
+  nothing-lost zero sh = absurd (not-suc-le-zero (sh .some))
+  nothing-lost (suc k) sh =
+      clocks.nothing-lost (clock K (suc k)) (turnQueue K (suc k)) (same K (suc k)) (Kept K k) (is-clock K k) (machineQueue K (suc k)) (alike K k) (λ r. r) (remaining K (suc k)) (bag K k) (clearedMachine K (suc k) ws)
+      (start-flying K k ws sh) (start-remains K k ws sh) cs
 
   -- .. so each triple of rank, tag and length as often
   pub each-remains : (levels : ℕ) → Shape K levels (length ws) → (e : Element)
@@ -162,9 +167,9 @@ module _ (K : ℕ) (ws : List ℕ) (rs : List Request) where
 
   -- HOLDS, at every moment
   pub holds : (levels : ℕ) → Shape K levels (length ws) → Holds (remaining K levels (ran K levels rs ws)) rs (turnAnswers K levels rs ws)
-  holds zero sh f = absurd (not-suc-le-zero (sh .some))
-  holds (suc k) sh f =
-      omega (arith, all-sum (turnQueue K (suc k)) (Kept K k) (next-kept K k) (remaining K (suc k)) (cycle-sum K k) rs (clearedMachine K (suc k) ws) (start-flying K k ws sh) f, start-remains K k ws sh f)
+  holds zero sh = absurd (not-suc-le-zero (sh .some))
+  holds (suc k) sh =
+      clocks.all-held (clock K (suc k)) (turnQueue K (suc k)) (same K (suc k)) (Kept K k) (is-clock K k) (remaining K (suc k)) (bag K k) (clearedMachine K (suc k) ws) (start-flying K k ws sh) (start-remains K k ws sh) rs
 
   -- UNDAMAGED: no cycle is refused for damage, and none for the shape
   pub undamaged : (levels : ℕ) → Shape K levels (length ws) → (r : Request) → TurnDamage K levels r (ran K levels rs ws .records) (ran K levels rs ws .words) → ⊥
@@ -180,9 +185,7 @@ module _ (K : ℕ) (ws : List ℕ) (rs : List Request) where
       → let n = numberOf (turned K levels r (ran K levels rs ws .records) (ran K levels rs ws .words) .answer) in (n ≡ 0) ⊎ (n ≡ 5) ⊎ (n ≡ 6) ⊎ (n ≡ 7)
   numbers zero sh r = absurd (not-suc-le-zero (sh .some))
   numbers (suc k) sh r =
-      let now : List ℕ = ran K (suc k) rs ws .words in
-      rw (kept-answer K k (ran K (suc k) rs ws) (ran-kept k sh) r)
-      (comes-number (room K (suc k)) (heldIn K (suc k) now) (lowElem (nodeIn K now 0 .places)) r _ (comes (room K (suc k)) r (heldIn K (suc k) now) (lowElem (nodeIn K now 0 .places))))
+      clocks.kept-numbers (clock K (suc k)) (turnQueue K (suc k)) (same K (suc k)) (Kept K k) (is-clock K k) r (ran K (suc k) rs ws) (ran-kept k sh) (λ n. (n ≡ 0) ⊎ (n ≡ 5) ⊎ (n ≡ 6) ⊎ (n ≡ 7)) (inl refl) (last-each r _ _)
 
   -- LEAST: what a cycle gives out, of a pop or a replace, has the lowest rank of all that is held, in the middle of any work
   pub least : (levels : ℕ) → Shape K levels (length ws) → (r : Request) → Least (remaining K levels (ran K levels rs ws)) r (turned K levels r (ran K levels rs ws .records) (ran K levels rs ws .words) .answer)
@@ -195,6 +198,13 @@ module _ (K : ℕ) (ws : List ℕ) (rs : List Request) where
       → IsLowest (nodeIn K (ran K levels rs ws .words) 0 .places) (low (nodeIn K (ran K levels rs ws .words) 0 .places)) e
   lower-tag zero sh r e q = absurd (not-suc-le-zero (sh .some))
   lower-tag (suc k) sh r e q = kept-lowest K k (ran K (suc k) rs ws) (ran-kept k sh) r e q
+
+  -- POP-THEN-PUSH: "a replace is a pop and then a push" (02 [4]), by cycles, in the middle of any work
+  pub pop-then-push : (levels : ℕ) → Shape K levels (length ws) → (e : Element) → (Untagged (Replace e) → ⊥)
+      → PopThenPush (λ r x. outcome (turnQueue K levels r x .said) (turnQueue K levels r x .next)) (remaining K levels) e (ran K levels rs ws)
+  pop-then-push zero sh e tag = absurd (not-suc-le-zero (sh .some))
+  pop-then-push (suc k) sh e tag =
+      clocks.pop-then-push (clock K (suc k)) (turnQueue K (suc k)) (same K (suc k)) (Kept K k) (is-clock K k) (remaining K (suc k)) (bag K k) (swapping K k) e tag (ran K (suc k) rs ws) (ran-kept k sh)
 
   -- TAGGED: no element of tag 0 is held, and none has come out
   pub tagged : (levels : ℕ) → Shape K levels (length ws) → Tagged (remaining K levels (ran K levels rs ws)) rs (turnAnswers K levels rs ws)
@@ -223,10 +233,27 @@ module _ (K : ℕ) (ws : List ℕ) (rs : List Request) where
   rested-holds zero sh n e f = absurd (not-suc-le-zero (sh .some))
   rested-holds (suc k) sh n e f =
       let x : Machine = ran K (suc k) rs ws in
-      omega (arith, holds (suc k) sh f, rest-remains K k (idles K (suc k) n x) (idles-kept K k n x (ran-kept k sh)) e f, idles-sum K k n x (ran-kept k sh) f)
+      omega (arith, holds (suc k) sh f, rest-remains K k (idles K (suc k) n x) (idles-kept K k n x (ran-kept k sh)) e f, clocks.idles-sum (clock K (suc k)) (turnQueue K (suc k)) (same K (suc k)) (Kept K k) (is-clock K k) (λ r. r) (remaining K (suc k)) (bag K k) n x (ran-kept k sh) f)
 
 -- ---- DRAINED: after any list of cycles a drain with a budget of levels - 1 or more is not refused, runs at most levels - 1 cycles, leaves no work, and leaves a
 -- store that keeps the rules of [2] and holds exactly what was accepted and not answered out
+module _ (K : ℕ) (ws : List ℕ) (rs : List Request) (budget : ℕ) where
+  -- the clock's own drain
+  abbrev by-clock : ℕ → Drained Machine
+  by-clock levels = drainsBy (turnQueue K levels) (waiting K levels) (good K levels (ran K levels rs ws)) budget (ran K levels rs ws)
+
+  -- .. is done, within levels - 1 cycles, and leaves no work
+  comes-to : (levels : ℕ) → Shape K levels (length ws) → pred levels ≤ budget
+      → (numberOf (by-clock levels .answer) ≡ 0) × (by-clock levels .cycles ≤ pred levels) × (by-clock levels .left ≡ false) × AtRest K levels (idles K levels (by-clock levels .cycles) (ran K levels rs ws))
+  comes-to zero sh enough = absurd (not-suc-le-zero (sh .some))
+  comes-to (suc k) sh enough =
+      let kept = ran-kept K ws rs k sh in (
+        clocks.drained-fine (clock K (suc k)) (turnQueue K (suc k)) (same K (suc k)) (Kept K k) (is-clock K k) k (idles-rest K k) (ran K (suc k) rs ws) kept budget enough,
+        clocks.drained-few (clock K (suc k)) (turnQueue K (suc k)) (same K (suc k)) (Kept K k) (is-clock K k) k (idles-rest K k) (ran K (suc k) rs ws) kept budget enough,
+        clocks.drained-left (clock K (suc k)) (turnQueue K (suc k)) (same K (suc k)) (Kept K k) (is-clock K k) k (idles-rest K k) (ran K (suc k) rs ws) kept budget enough,
+        clocks.drained-rest (clock K (suc k)) (turnQueue K (suc k)) (same K (suc k)) (Kept K k) (is-clock K k) k (idles-rest K k) (ran K (suc k) rs ws) kept budget enough,
+      )
+
 module _ (K : ℕ) (ws : List ℕ) (rs : List Request) (levels : ℕ) (sh : Shape K levels (length ws)) (budget : ℕ) (enough : pred levels ≤ budget) where
   abbrev x : Machine
   x = ran K levels rs ws
@@ -234,47 +261,17 @@ module _ (K : ℕ) (ws : List ℕ) (rs : List Request) (levels : ℕ) (sh : Shap
   abbrev d : DrainOutcome
   d = drains K levels budget (x .records) (x .words)
 
-  shape : Shape K levels (length (x .words))
-  shape = shape-kept K ws rs levels sh
-
-  idle-undamaged : (n : ℕ) → TurnDamage K levels Idle (idles K levels n x .records) (idles K levels n x .words) → ⊥
-  idle-undamaged n = go levels sh
-    where
-      go : (levels : ℕ) → Shape K levels (length ws) → TurnDamage K levels Idle (idles K levels n (ran K levels rs ws) .records) (idles K levels n (ran K levels rs ws) .words) → ⊥
-      go zero sh = absurd (not-suc-le-zero (sh .some))
-      go (suc k) sh = kept-undamaged K k (idles K (suc k) n (ran K (suc k) rs ws)) (idles-kept K k n _ (ran-kept K ws rs k sh)) Idle
-
-  records-enough : pred levels ≤ length (x .records)
-  records-enough = go levels sh
-    where
-      go : (levels : ℕ) → Shape K levels (length ws) → pred levels ≤ length (ran K levels rs ws .records)
-      go zero sh = absurd (not-suc-le-zero (sh .some))
-      go (suc k) sh = ran-kept K ws rs k sh .count
-
   pub drained-fine : numberOf (d .answer) ≡ 0
-  drained-fine = go (drain-ends K levels budget (x .records) (x .words) shape)
-    where
-      go : Ended K levels budget x d → numberOf (d .answer) ≡ 0
-      go (done a l) = ap numberOf a
-      go (stopped a l j) = absurd (idle-undamaged (d .cycles) (j .damage))
+  drained-fine = rw (drains-as K levels budget (x .records) (x .words)) (comes-to K ws rs budget levels sh enough .0)
 
   pub drained-few : d .cycles ≤ pred levels
-  drained-few = drain-few K levels budget (x .records) (x .words) records-enough
+  drained-few = rw (drains-as K levels budget (x .records) (x .words)) (comes-to K ws rs budget levels sh enough .1)
 
   pub drained-left : d .left ≡ false
-  drained-left = go (d .left) refl
-    where
-      left-is : d .left ≡ pending K levels (idles K levels (d .cycles) x .records)
-      left-is = drain-left K levels budget (x .records) (x .words) shape ∙ ap (pending K levels) (drain-state K levels budget (x .records) (x .words) .1)
-
-      go : (b : Bool) → d .left ≡ b → b ≡ false
-      go false e = refl
-      go true e =
-          let all : d .cycles ≡ pred levels = omega (arith, drain-spent K levels budget (x .records) (x .words) shape drained-fine e, drained-few) in
-          sym e ∙ left-is ∙ ap (λ (n : ℕ). pending K levels (idles K levels n x .records)) all ∙ rests K ws rs levels sh
+  drained-left = rw (drains-as K levels budget (x .records) (x .words)) (comes-to K ws rs budget levels sh enough .2)
 
   at-rest : AtRest K levels (idles K levels (d .cycles) x)
-  at-rest = ap (pending K levels) (sym (drain-state K levels budget (x .records) (x .words) .1)) ∙ sym (drain-left K levels budget (x .records) (x .words) shape) ∙ drained-left
+  at-rest = rw (drains-as K levels budget (x .records) (x .words)) (comes-to K ws rs budget levels sh enough .3)
 
   pub drained-sound : Sound K levels (heapIn K levels (d .words) 0)
   drained-sound = rw (drain-state K levels budget (x .records) (x .words) .0) (rested-sound K ws rs levels sh (d .cycles) at-rest)

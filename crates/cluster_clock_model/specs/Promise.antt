@@ -1,22 +1,25 @@
 -- What is promised of the clocked cluster heap is said in these words: the machine over a list of cycles, the causes of refusal, each level's one step, and what
 -- is held in the middle of any work.
 use Prim.Native.Nat.{_*_, _+_, _<_, _≤_, pred, suc, zero, ℕ}
-use mathlib.Core.Bool.{Bool, cond, false, not, true}
+use mathlib.Core.Bool.{_&&_, Bool, cond, false, not}
 use mathlib.Core.List.{List}
 use mathlib.Core.Logic.{_⊎_}
 use mathlib.Core.Path.{_≡_}
 use lib.Dec.{ltb}
 use lib.ListN.{length, replicate}
-use Rattle.clocked_model.specs.Lost.{Call, cycle, drain}
+use Rattle.clocked_model.specs.Lost.{Call}
+use Rattle.promise.specs.Calls.{grants, lastTable}
+use Rattle.promise.specs.Clock.{Clock, cycle, drain}
 use Rattle.clocked_model.specs.Promise.{Asks, isBadShape, runsIdle}
 use Rattle.cluster_clock_model.specs.declared.Due.{Due}
 use Rattle.cluster_clock_model.specs.declared.Due.the-variants.{Fill, Nothing, Put, Swap}
 use Rattle.cluster_clock_model.specs.declared.Stage.{Stage}
-use Rattle.cluster_clock_model.specs.Calls.{clockCleared, clockHeld, drainOutcome, DrainOutcome, drains, fresh, pending, turned, turnOutcome, TurnOutcome}
-use Rattle.cluster_clock_model.specs.Stage.{below, handed, levelStage, levelWords, noStage, stageAt, work, Work}
-use Rattle.cluster_model.specs.Calls.{heldIn, ruleAt}
+use Rattle.cluster_clock_model.specs.Calls.{askedOk, clockCleared, clockHeld, drainOutcome, DrainOutcome, drains, fresh, pending, turned, turnOutcome, TurnOutcome}
+use Rattle.cluster_clock_model.specs.Stage.{below, handed, levelStage, levelWords, noStage, pass, stageAt, work, Work}
+use Rattle.cluster_clock_model.specs.Test.{saneAt, stagesOk}
+use Rattle.cluster_model.specs.Calls.{heldIn, opOf, ruleAt, shapeOk, wipe}
 use Rattle.cluster_model.specs.Heap.{room}
-use Rattle.cluster_model.specs.Node.{gap, lhs, placeAt, rhs}
+use Rattle.cluster_model.specs.Node.{gap, lhs, lowElem, placeAt, rhs}
 use Rattle.cluster_model.specs.Promise.{Agree, AnyTo, marked, PlaceDamaged, Shape, start, storedCount, Stuck}
 use Rattle.cluster_model.specs.Way.{child, extent, nodeIn}
 use Rattle.cluster_model.specs.Words.{word}
@@ -32,6 +35,7 @@ use Rattle.strip.specs.declared.Refusal.{Refusal}
 use Rattle.strip.specs.declared.Refusal.the-variants.{BadShape, Damaged, NoTag}
 use Rattle.strip.specs.declared.Request.{Request}
 use Rattle.strip.specs.declared.Request.the-variants.{Idle, Pop, Push, Replace}
+use Rattle.promise.specs.Drains.{Stuck as StuckAt}
 
 -- ---- the clocked heap as a queue: a list of cycles, each handed the words and the records that the one before left
 pub record Machine : Type 0 where
@@ -101,6 +105,27 @@ module _ (K : ℕ) where
   abbrev pub TurnDamage : ℕ → Request → List Stage → List ℕ → Type 0
   TurnDamage levels r rs ws = (Asks r × NodeTorn (room K (pred levels)) ws 0) ⊎ StagesTorn (pred levels) 0 0 rs ws
 
+-- ---- what this heap brings to a clock
+abbrev pub clock : ℕ → ℕ → Clock Request Machine
+clock K levels =
+    record {
+      wants = λ r. r;
+      call = λ r. r;
+      shapeOk = λ x. shapeOk K levels (length (x .words));
+      Shape = λ x. Shape K levels (length (x .words));
+      soundOk = λ r x. askedOk K levels r (x .words) && stagesOk K (pred levels) 0 0 (x .records) (x .words);
+      Torn = λ r x. TurnDamage K levels r (x .records) (x .words);
+      late = λ r x. lastTable r (heldIn K levels (x .words)) (room K levels);
+      runsIdle = runsIdle;
+      gives = λ r x. grants r (lowElem (nodeIn K (x .words) 0 .places));
+      moves = λ r x. let p = pass K (pred levels) 0 (work (opOf r) 0) 0 (x .records) (x .words) in machine (p .records) (p .words);
+      rootOk = λ x. saneAt K (room K (pred levels)) (x .words) 0;
+      RootTorn = λ x. NodeTorn K (room K (pred levels)) (x .words) 0;
+      held = λ x. heldIn K levels (x .words);
+      wipe = λ x. machine fresh (wipe (extent K levels 1) (x .words));
+      pending = λ x. pending K levels (x .records);
+    }
+
 -- the table, in order: 1, 2, 7, then 5 or 6. There is no 3
 abbrev pub turnRefusals : ℕ → ℕ → Request → List Stage → List ℕ → Ladder Refusal
 turnRefusals K levels r rs ws =
@@ -120,10 +145,8 @@ abbrev pub heldRefusals : ℕ → ℕ → List ℕ → Ladder Refusal
 heldRefusals K levels ws = rung BadShape (Shape K levels (length ws)) (stop Damaged (NodeTorn K (room K (pred levels)) ws 0) fine)
 
 -- a refused drain: within the budget and with work pending all along, so many idle cycles run and the next meets damage
-pub record Jams (K levels budget cycles : ℕ) (x : Machine) : Type 0 where
-  pub within : cycles < budget
-  pub waits : (j : ℕ) → j ≤ cycles → pending K levels (idles K levels j x .records) ≡ true
-  pub damage : TurnDamage K levels Idle (idles K levels cycles x .records) (idles K levels cycles x .words)
+abbrev pub Jams : ℕ → ℕ → ℕ → ℕ → Machine → Type 0
+Jams K levels budget cycles x = StuckAt (turnQueue K levels) (λ x. pending K levels (x .records)) (λ x. TurnDamage K levels Idle (x .records) (x .words)) budget cycles x
 
 abbrev pub drainRefusals : ℕ → ℕ → ℕ → List Stage → List ℕ → Ladder Refusal
 drainRefusals K levels budget rs ws = rung BadShape (Shape K levels (length ws)) (stop Damaged ((n : ℕ) × Jams K levels budget n (machine rs ws)) fine)

@@ -14,7 +14,6 @@ pub mod Damages
 pub mod Exactly
 pub mod Stored
 pub mod Promises
-pub mod Replace
 pub mod Slice
 pub mod Unread
 pub mod Cases

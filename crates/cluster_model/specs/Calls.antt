@@ -1,19 +1,20 @@
--- The five calls of the cluster heap, each a total function of K, levels and words to an answer and the words afterwards.
+-- The five calls of the cluster heap, each a total function of K, levels and words to an answer and the words afterwards: what the heap brings, to the calls that every queue has (`promise/specs/Calls.antt`).
 use Prim.Native.Nat.{ℕ, _+_, pred}
-use mathlib.Core.Bool.{Bool, cond, _&&_}
+use mathlib.Core.Bool.{Bool, _&&_}
 use mathlib.Core.List.{List, _++_}
-use lib.Dec.{leb, eqb, ltb}
+use lib.Dec.{leb}
 use lib.ListN.{length, drop, replicate}
+use Rattle.promise.specs.Calls as calls
+use Rattle.promise.specs.Calls.{lastTable, Queue}
 use Rattle.promise.specs.Served.{always}
-use Rattle.strip.specs.Answers.{untagged}
-use Rattle.strip.specs.declared.Element.{Element}
-use Rattle.strip.specs.declared.Refusal.the-variants.{BadShape, Damaged, Full, Empty, NoTag}
+use Rattle.promise.specs.Table.{ends, needs}
 use Rattle.strip.specs.declared.Answer.{Answer}
-use Rattle.strip.specs.declared.Answer.the-variants.{Done, Out, Refused}
 use Rattle.strip.specs.declared.Count.{Count}
-use Rattle.strip.specs.declared.Count.the-variants.{Held, Unknown}
+use Rattle.strip.specs.declared.Element.{Element}
+use Rattle.strip.specs.declared.Refusal.the-variants.{BadShape}
 use Rattle.strip.specs.declared.Request.{Request}
 use Rattle.strip.specs.declared.Request.the-variants.{Idle, Push, Pop, Replace}
+use Rattle.cluster_model.specs.Causes.{NodeDamaged, PathDamaged, Shape, storedCount}
 use Rattle.cluster_model.specs.Node.{inside, lowElem, Node, Op, none, put, take, swap}
 use Rattle.cluster_model.specs.Heap.{room}
 use Rattle.cluster_model.specs.Way.{extent, nodeIn, nodeOk, wayOk, runWords}
@@ -32,32 +33,29 @@ unfoldable pub rootHeld : Node → ℕ
 rootHeld n = inside always (n .places) + (n .left + n .right)
 
 -- ---- what a request comes to at a root that is in order: its answer, and the work at node 0
-pub record Ruling : Type 0 where
-  pub answer : Answer
-  pub op : Op
+abbrev pub Ruling : Type 0
+Ruling = calls.Ruling Op
 
 abbrev pub ruling : Answer → Op → Ruling
-ruling a o = record { answer = a; op = o }
+ruling a o = calls.ruling a o
 
--- "Push and replace with tag 0 are to be refused with a new number 7, .. in every queue" (02 [1])
-abbrev tagged : Element → Ruling → Ruling
-tagged x g = cond (untagged x) (ruling (Refused NoTag) none) g
+-- Push puts at the root, pop takes there; replace is a pop and then a push (02 [4]): the new one is swapped in
+abbrev pub opOf : Request → Op
+opOf Idle = none
+opOf (Push x) = put x
+opOf Pop = take
+opOf (Replace x) = swap x
 
--- Push puts at the root, pop takes there; replace is a pop and then a push (02 [4]): the lowest held is answered, and the new one swapped in. "full:
--- push, held = capacity"; "empty: pop, held = 0", and a replace too; before them 7. h is what is held, e the root's lowest
+-- 7, then 5 or 6; else the root's lowest is answered, and the operation done. c is the capacity, h is what is held, e the root's lowest
 unfoldable pub rule : ℕ → Request → ℕ → Element → Ruling
-rule c Idle h e = ruling Done none
-rule c (Push x) h e = tagged x (cond (ltb h c) (ruling Done (put x)) (ruling (Refused Full) none))
-rule c Pop h e = cond (eqb h 0) (ruling (Refused Empty) none) (ruling (Out e) take)
-rule c (Replace x) h e = tagged x (cond (eqb h 0) (ruling (Refused Empty) none) (ruling (Out e) (swap x)))
+rule c r h e = calls.ruled opOf (lastTable r h c) r e
 
 -- ---- the calls
-pub record Outcome : Type 0 where
-  pub answer : Answer
-  pub words : List ℕ
+abbrev pub Outcome : Type 0
+Outcome = calls.Outcome (List ℕ)
 
 abbrev pub outcome : Answer → List ℕ → Outcome
-outcome a ws = record { answer = a; words = ws }
+outcome a ws = calls.outcome a ws
 
 -- "Clear writes zeros": the first n words
 unfoldable pub wipe : ℕ → List ℕ → List ℕ
@@ -74,20 +72,34 @@ module _ (K levels : ℕ) where
   abbrev pub ruleAt : Request → List ℕ → Ruling
   ruleAt r ws = rule (room K levels) r (heldIn ws) (lowElem (nodeIn K ws 0 .places))
 
-  -- an operation tested whole, and done where no node that it reads is damaged
-  unfoldable pub carriedOut : Ruling → List ℕ → Outcome
-  carriedOut g ws = cond (wayOk K levels (g .op) 0 ws) (outcome (g .answer) (runWords K levels (g .op) 0 ws)) (outcome (Refused Damaged) ws)
+  -- the heap as a queue that does one operation at a time: 1, 2, 7, then 5 or 6
+  abbrev pub heap : Queue (List ℕ)
+  heap =
+      record {
+        opening = λ ws. needs BadShape (shapeOk K levels (length ws)) (Shape K levels (length ws)) ends;
+        clearing = λ ws. needs BadShape (shapeOk K levels (length ws)) (Shape K levels (length ws)) ends;
+        asked = λ r ws. ends;
+        rootOk = rootOk;
+        RootDamaged = λ ws. NodeDamaged K (room K (pred levels)) ws 0;
+        held = heldIn;
+        low = λ ws. lowElem (nodeIn K ws 0 .places);
+        late = λ r ws. lastTable r (heldIn ws) (room K levels);
+        Op = Op;
+        op = opOf;
+        wayOk = λ o ws. wayOk K levels o 0 ws;
+        WayDamaged = λ o ws. PathDamaged K levels o 0 ws;
+        run = λ o ws. runWords K levels o 0 ws;
+        wipe = λ ws. wipe (extent K levels 1) ws;
+        stored = λ ws. storedCount K levels ws;
+      }
 
-  -- push, pop and replace: 1, 2, 7, then 5 or 6
+  -- push, pop and replace
   unfoldable pub called : Request → List ℕ → Outcome
-  called r ws =
-      cond (shapeOk K levels (length ws))
-      (cond (rootOk ws) (carriedOut (ruleAt r ws) ws) (outcome (Refused Damaged) ws))
-      (outcome (Refused BadShape) ws)
+  called r ws = calls.called heap r ws
 
   unfoldable pub cleared : List ℕ → Outcome
-  cleared ws = cond (shapeOk K levels (length ws)) (outcome Done (wipe (extent K levels 1) ws)) (outcome (Refused BadShape) ws)
+  cleared ws = calls.cleared heap ws
 
   -- held reads the root alone, once it passes the test of a node
   unfoldable pub heldCount : List ℕ → Count
-  heldCount ws = cond (shapeOk K levels (length ws)) (cond (rootOk ws) (Held (heldIn ws)) (Unknown Damaged)) (Unknown BadShape)
+  heldCount ws = calls.heldCount heap ws

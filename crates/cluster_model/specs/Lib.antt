@@ -2,6 +2,7 @@ pub mod Node
 pub mod Heap
 pub mod Words
 pub mod Way
+pub mod Causes
 pub mod Calls
 pub mod Promise
 pub mod Rules

@@ -6,7 +6,7 @@ use mathlib.Core.Path.{_≡_, refl}
 use Rattle.promise.specs.Queue.{answers, leaves}
 use Rattle.strip.specs.Answers.{blank, key, precedes, untagged}
 use Rattle.tree_model.proofs.Exactly.{shape-is}
-use Rattle.tree_model.specs.Calls.{called, carriedOut, cleared, heldCount, orderOk, rule, shapeOk}
+use Rattle.tree_model.specs.Calls.{called, cleared, heldCount, orderOk, rule, shapeOk}
 use Rattle.tree_model.specs.Damage.{hasRoom, hasSome, isBlank, lifts, nodeOk, pathOk, readOk, room, slotOk, stepOk, workOk}
 use Rattle.tree_model.specs.Levels.{levelMove, stepWork, top, work}
 use Rattle.tree_model.specs.Node.{every, firstEmpty, isEmpty, isNothing, keep, leastCount, low, lowest, opMove, pass, putBy, putMove, seek, slotAt, sumCounts, swapBy, swapMove, takeBy, takeMove, vacant}
@@ -19,20 +19,20 @@ use Rattle.fair_model.specs.Ranks.{cells, finish, step}
 
 -- REACHED: the served cells times step differ by the whole bound ..
 pub case-served : caseServed ≡ caseServedSays
-unfolding caseServed leaves answers served servedBy moves run moved without fairQueue pushes pops resets stripOk finish cells step blank key untagged precedes vacant isEmpty slotAt seek every firstEmpty leastCount lowest low sumCounts keep pass putBy putMove takeBy takeMove swapBy swapMove opMove isNothing top work levelMove stepWork slotOf write wipe tabulate nodeOf size levelOf levelsOf stepWords applyWords room isBlank slotOk nodeOk hasRoom hasSome readOk lifts stepOk workOk pathOk orderOk shapeOk rule carriedOut called cleared heldCount
+unfolding caseServed leaves answers served servedBy moves run moved without fairQueue pushes pops resets stripOk finish cells step blank key untagged precedes vacant isEmpty slotAt seek every firstEmpty leastCount lowest low sumCounts keep pass putBy putMove takeBy takeMove swapBy swapMove opMove isNothing top work levelMove stepWork slotOf write wipe tabulate nodeOf size levelOf levelsOf stepWords applyWords room isBlank slotOk nodeOk hasRoom hasSome readOk lifts stepOk workOk pathOk orderOk shapeOk rule called cleared heldCount
 case-served = refl
 
 -- .. and every condition of `fairness` holds
 pub reached-from : From 2 2 caseStore [] caseState caseBefore
-unfolding leaves answers served servedBy moves run moved without fairQueue pushes pops resets stripOk finish cells step blank key untagged precedes vacant isEmpty slotAt seek every firstEmpty leastCount lowest low sumCounts keep pass putBy putMove takeBy takeMove swapBy swapMove opMove isNothing top work levelMove stepWork slotOf write wipe tabulate nodeOf size levelOf levelsOf stepWords applyWords room isBlank slotOk nodeOk hasRoom hasSome readOk lifts stepOk workOk pathOk orderOk shapeOk rule carriedOut called cleared heldCount
+unfolding leaves answers served servedBy moves run moved without fairQueue pushes pops resets stripOk finish cells step blank key untagged precedes vacant isEmpty slotAt seek every firstEmpty leastCount lowest low sumCounts keep pass putBy putMove takeBy takeMove swapBy swapMove opMove isNothing top work levelMove stepWork slotOf write wipe tabulate nodeOf size levelOf levelsOf stepWords applyWords room isBlank slotOk nodeOk hasRoom hasSome readOk lifts stepOk workOk pathOk orderOk shapeOk rule called cleared heldCount
 reached-from = record { shape = shape-is 2 2 26 refl; accepted = refl; attributed = (tt, (tt, (tt, ((omega arith, refl), (tt, (tt, tt)))))) }
 
 pub reached-struck : StruckIn 2 2 caseStore [] caseState caseBefore caseStretch
-unfolding leaves answers served servedBy moves run moved without fairQueue pushes pops resets stripOk finish cells step blank key untagged precedes vacant isEmpty slotAt seek every firstEmpty leastCount lowest low sumCounts keep pass putBy putMove takeBy takeMove swapBy swapMove opMove isNothing top work levelMove stepWork slotOf write wipe tabulate nodeOf size levelOf levelsOf stepWords applyWords room isBlank slotOk nodeOk hasRoom hasSome readOk lifts stepOk workOk pathOk orderOk shapeOk rule carriedOut called cleared heldCount
+unfolding leaves answers served servedBy moves run moved without fairQueue pushes pops resets stripOk finish cells step blank key untagged precedes vacant isEmpty slotAt seek every firstEmpty leastCount lowest low sumCounts keep pass putBy putMove takeBy takeMove swapBy swapMove opMove isNothing top work levelMove stepWork slotOf write wipe tabulate nodeOf size levelOf levelsOf stepWords applyWords room isBlank slotOk nodeOk hasRoom hasSome readOk lifts stepOk workOk pathOk orderOk shapeOk rule called cleared heldCount
 reached-struck = ((omega arith, refl), ((omega arith, refl), tt))
 
 pub reached-steady : SteadyIn 2 2 caseStore [] caseState caseBefore caseStretch 0 1 × SteadyIn 2 2 caseStore [] caseState caseBefore caseStretch 1 1
-unfolding leaves answers served servedBy moves run moved without fairQueue pushes pops resets stripOk finish cells step blank key untagged precedes vacant isEmpty slotAt seek every firstEmpty leastCount lowest low sumCounts keep pass putBy putMove takeBy takeMove swapBy swapMove opMove isNothing top work levelMove stepWork slotOf write wipe tabulate nodeOf size levelOf levelsOf stepWords applyWords room isBlank slotOk nodeOk hasRoom hasSome readOk lifts stepOk workOk pathOk orderOk shapeOk rule carriedOut called cleared heldCount
+unfolding leaves answers served servedBy moves run moved without fairQueue pushes pops resets stripOk finish cells step blank key untagged precedes vacant isEmpty slotAt seek every firstEmpty leastCount lowest low sumCounts keep pass putBy putMove takeBy takeMove swapBy swapMove opMove isNothing top work levelMove stepWork slotOf write wipe tabulate nodeOf size levelOf levelsOf stepWords applyWords room isBlank slotOk nodeOk hasRoom hasSome readOk lifts stepOk workOk pathOk orderOk shapeOk rule called cleared heldCount
 reached-steady = (
   record { waiting = (λ e. refl, (λ e. refl, (λ e. refl, (λ e. refl, tt)))); pushed = (tt, (tt, tt)); busy = (inl refl, (inl refl, tt)) },
   record { waiting = (λ e. refl, (λ e. refl, (λ e. refl, (λ e. refl, tt)))); pushed = (tt, (tt, tt)); busy = (inr (inl refl), (inr (inl refl), tt)) },
@@ -40,13 +40,13 @@ reached-steady = (
 
 -- the answers, the words, and the largest finish
 pub case-fair : caseFair ≡ caseFairSays
-unfolding caseFair leaves answers served servedBy moves run moved without fairQueue pushes pops resets stripOk finish cells step blank key untagged precedes vacant isEmpty slotAt seek every firstEmpty leastCount lowest low sumCounts keep pass putBy putMove takeBy takeMove swapBy swapMove opMove isNothing top work levelMove stepWork slotOf write wipe tabulate nodeOf size levelOf levelsOf stepWords applyWords room isBlank slotOk nodeOk hasRoom hasSome readOk lifts stepOk workOk pathOk orderOk shapeOk rule carriedOut called cleared heldCount
+unfolding caseFair leaves answers served servedBy moves run moved without fairQueue pushes pops resets stripOk finish cells step blank key untagged precedes vacant isEmpty slotAt seek every firstEmpty leastCount lowest low sumCounts keep pass putBy putMove takeBy takeMove swapBy swapMove opMove isNothing top work levelMove stepWork slotOf write wipe tabulate nodeOf size levelOf levelsOf stepWords applyWords room isBlank slotOk nodeOk hasRoom hasSome readOk lifts stepOk workOk pathOk orderOk shapeOk rule called cleared heldCount
 case-fair = refl
 
 pub case-words : caseWords ≡ caseWordsSays
-unfolding caseWords leaves answers served servedBy moves run moved without fairQueue pushes pops resets stripOk finish cells step blank key untagged precedes vacant isEmpty slotAt seek every firstEmpty leastCount lowest low sumCounts keep pass putBy putMove takeBy takeMove swapBy swapMove opMove isNothing top work levelMove stepWork slotOf write wipe tabulate nodeOf size levelOf levelsOf stepWords applyWords room isBlank slotOk nodeOk hasRoom hasSome readOk lifts stepOk workOk pathOk orderOk shapeOk rule carriedOut called cleared heldCount
+unfolding caseWords leaves answers served servedBy moves run moved without fairQueue pushes pops resets stripOk finish cells step blank key untagged precedes vacant isEmpty slotAt seek every firstEmpty leastCount lowest low sumCounts keep pass putBy putMove takeBy takeMove swapBy swapMove opMove isNothing top work levelMove stepWork slotOf write wipe tabulate nodeOf size levelOf levelsOf stepWords applyWords room isBlank slotOk nodeOk hasRoom hasSome readOk lifts stepOk workOk pathOk orderOk shapeOk rule called cleared heldCount
 case-words = refl
 
 pub case-spent : caseSpent ≡ caseSpentSays
-unfolding caseSpent leaves answers served servedBy moves run moved without fairQueue pushes pops resets stripOk finish cells step blank key untagged precedes vacant isEmpty slotAt seek every firstEmpty leastCount lowest low sumCounts keep pass putBy putMove takeBy takeMove swapBy swapMove opMove isNothing top work levelMove stepWork slotOf write wipe tabulate nodeOf size levelOf levelsOf stepWords applyWords room isBlank slotOk nodeOk hasRoom hasSome readOk lifts stepOk workOk pathOk orderOk shapeOk rule carriedOut called cleared heldCount
+unfolding caseSpent leaves answers served servedBy moves run moved without fairQueue pushes pops resets stripOk finish cells step blank key untagged precedes vacant isEmpty slotAt seek every firstEmpty leastCount lowest low sumCounts keep pass putBy putMove takeBy takeMove swapBy swapMove opMove isNothing top work levelMove stepWork slotOf write wipe tabulate nodeOf size levelOf levelsOf stepWords applyWords room isBlank slotOk nodeOk hasRoom hasSome readOk lifts stepOk workOk pathOk orderOk shapeOk rule called cleared heldCount
 case-spent = refl

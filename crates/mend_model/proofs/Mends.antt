@@ -7,10 +7,11 @@ use mathlib.Core.List.{List, [], _∷_}
 use mathlib.Core.Path.{_∙_, _≡_, ap, ap₂, refl, sym}
 use lib.Dec.{eqb}
 use lib.ListN.{getD, length}
-use borrow.Author.Tests.{ne-eqb, not-true}
+use borrow.Author.Tests.{lt-ltb, ne-eqb, not-true}
 use Rattle.laws.specs.Lists.{All}
 use Rattle.laws.specs.Sums.{sumTo, to-add, to-ext}
 use Rattle.laws.specs.Tests.{and-right}
+use Rattle.promise.proofs.Kept.{let-in}
 use Rattle.promise.specs.Queue.{answers, leaves}
 use Rattle.promise.specs.Served.{always, brought, hit}
 use Rattle.strip.specs.Answers.{untagged}
@@ -21,12 +22,11 @@ use Rattle.strip.specs.declared.Refusal.the-variants.{BadShape}
 use Rattle.strip.specs.declared.Request.{Request}
 use Rattle.strip.specs.declared.Request.the-variants.{Push}
 use Rattle.tree_model.proofs.Exactly.{is-shape, shape-is}
-use Rattle.tree_model.proofs.Promises.{call-sum, called-kept, Kept, kept-called, kept-sum, past-stands, start-empty, start-kept, stored-holding, tagged}
-use Rattle.tree_model.proofs.Replace.{push-done}
+use Rattle.tree_model.proofs.Promises.{call-sum, called-kept, is-queue, Kept, kept-sum, past-stands, start-empty, start-kept, stored-holding, tagged}
 use Rattle.tree_model.proofs.Slice.{clear-zeroes}
-use Rattle.tree_model.specs.Calls.{called, Outcome, rootOf, shapeOk}
+use Rattle.tree_model.specs.Calls.{called, Outcome, rootOf, shapeOk, tree}
 use Rattle.tree_model.specs.Damage.{room}
-use Rattle.tree_model.specs.Node.{isEmpty}
+use Rattle.tree_model.specs.Node.{isEmpty, sumCounts}
 use Rattle.tree_model.specs.Promise.{after, Shape, start, storedCount, treeQueue}
 use Rattle.tree_model.specs.Tree.{own, ownBy}
 use Rattle.tree_model.specs.Words.{slotOf, slotWords}
@@ -41,9 +41,10 @@ use Rattle.mend_model.proofs.Passes.{reached-passes}
 -- ---- a push of an element with a tag, into a store with room
 module _ (m k : ℕ) (x : Element) (t : untagged x ≡ false) (ws : List ℕ) (kept : Kept m k ws) (h : storedCount (room m (suc k)) ws always < room m (suc k)) where
   push-taken : called m (suc k) (Push x) ws .answer ≡ Done
+  unfolding called
   push-taken =
-      ap (λ (o : Outcome). o .answer) (kept-called m k ws kept (Push x))
-      ∙ push-done (room m (suc k)) x (rootOf m ws) t (omega (arith, kept-sum m k ws kept, stored-holding m k ws always))
+      ap (λ (o : Outcome). o .answer) (let-in (tree m (suc k)) (Kept m k) (is-queue m k) (Push x) ws kept tt
+      (t, (lt-ltb (sumCounts (rootOf m ws)) (room m (suc k)) (omega (arith, kept-sum m k ws kept, stored-holding m k ws always)), tt)))
 
   push-sum : (f : Element → Bool) → storedCount (room m (suc k)) (called m (suc k) (Push x) ws .words) f ≡ storedCount (room m (suc k)) ws f + hit (f x)
   push-sum f = omega (arith, call-sum m k (Push x) ws kept f, ap (λ (a : Answer). brought (Push x) a f) push-taken)

@@ -22,8 +22,7 @@ use Rattle.tree_model.specs.Tree.{many, ownBy, Sound, Tree, treeOf}
 use Rattle.tree_model.specs.Words.{levelOf, levelsOf, nodeOf}
 use Rattle.tree_model.proofs.Exactly.{barred, order-pos, shape-is}
 use Rattle.tree_model.proofs.Many.{not-lower}
-use Rattle.tree_model.proofs.Promises.{Kept, kept-held, kept-least, kept-numbers, kept-sums, kept-undamaged, leaves-kept, start-kept}
-use Rattle.tree_model.proofs.Replace.{kept-replaces}
+use Rattle.tree_model.proofs.Promises.{Kept, kept-held, kept-least, kept-numbers, kept-replaces, kept-sums, kept-undamaged, leaves-kept, start-kept}
 use Rattle.tree_model.proofs.Words.{all-tab, level-length, node-length}
 use Rattle.mend_model.specs.Check.{checked}
 use Rattle.mend_model.specs.Promise.{Onward, then}
@@ -100,7 +99,7 @@ onward m (suc k) ws rs e =
       numbers = kept-numbers m k now kept;
       holds = kept-sums m k ws from rs;
       least = kept-least m k now kept;
-      replaces = λ x tag. kept-replaces m k x tag now kept;
+      replaces = kept-replaces m k now kept;
       held = kept-held m k now kept;
       tagged = λ z.
           let sum = kept-sums m k ws from rs untagged in

@@ -3,3 +3,9 @@ pub mod Served
 pub mod Refused
 pub mod Tagged
 pub mod Lengths
+pub mod Table
+pub mod Calls
+pub mod Drains
+pub mod Clock
+pub mod Promised
+pub mod Ticked

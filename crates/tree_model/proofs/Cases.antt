@@ -2,7 +2,7 @@
 use mathlib.Core.Path.{_≡_, refl}
 use Rattle.promise.specs.Queue.{answers, leaves}
 use Rattle.strip.specs.Answers.{blank, key, untagged, precedes}
-use Rattle.tree_model.specs.Calls.{called, carriedOut, cleared, orderOk, rule, shapeOk}
+use Rattle.tree_model.specs.Calls.{called, cleared, orderOk, rule, shapeOk}
 use Rattle.tree_model.specs.Cases.{caseLengthAnswers, caseLengthAnswersSay, caseLengths, caseLengthsSays}
 use Rattle.tree_model.specs.Damage.{workOk, hasRoom, hasSome, isBlank, lifts, nodeOk, pathOk, readOk, room, slotOk, stepOk}
 use Rattle.tree_model.specs.Levels.{levelMove, stepWork, top, work}
@@ -10,9 +10,9 @@ use Rattle.tree_model.specs.Node.{every, firstEmpty, isEmpty, isNothing,
 use Rattle.tree_model.specs.Words.{applyWords, levelOf, levelsOf, nodeOf, slotOf, stepWords, tabulate, wipe, write}
 
 pub case-lengths : caseLengths ≡ caseLengthsSays
-unfolding caseLengths leaves blank key precedes untagged vacant isEmpty seek every firstEmpty leastCount lowest slotAt low keep pass putBy putMove takeBy takeMove swapBy swapMove opMove isNothing sumCounts work top levelMove stepWork room isBlank slotOk nodeOk hasRoom hasSome readOk lifts stepOk workOk pathOk slotOf write wipe tabulate nodeOf levelOf levelsOf stepWords applyWords orderOk shapeOk rule carriedOut called cleared
+unfolding caseLengths leaves blank key precedes untagged vacant isEmpty seek every firstEmpty leastCount lowest slotAt low keep pass putBy putMove takeBy takeMove swapBy swapMove opMove isNothing sumCounts work top levelMove stepWork room isBlank slotOk nodeOk hasRoom hasSome readOk lifts stepOk workOk pathOk slotOf write wipe tabulate nodeOf levelOf levelsOf stepWords applyWords orderOk shapeOk rule called cleared
 case-lengths = refl
 
 pub case-length-answers : caseLengthAnswers ≡ caseLengthAnswersSay
-unfolding caseLengthAnswers answers blank key precedes untagged vacant isEmpty seek every firstEmpty leastCount lowest slotAt low keep pass putBy putMove takeBy takeMove swapBy swapMove opMove isNothing sumCounts work top levelMove stepWork room isBlank slotOk nodeOk hasRoom hasSome readOk lifts stepOk workOk pathOk slotOf write wipe tabulate nodeOf levelOf levelsOf stepWords applyWords orderOk shapeOk rule carriedOut called cleared
+unfolding caseLengthAnswers answers blank key precedes untagged vacant isEmpty seek every firstEmpty leastCount lowest slotAt low keep pass putBy putMove takeBy takeMove swapBy swapMove opMove isNothing sumCounts work top levelMove stepWork room isBlank slotOk nodeOk hasRoom hasSome readOk lifts stepOk workOk pathOk slotOf write wipe tabulate nodeOf levelOf levelsOf stepWords applyWords orderOk shapeOk rule called cleared
 case-length-answers = refl

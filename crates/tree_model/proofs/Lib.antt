@@ -14,7 +14,6 @@ pub mod Root
 pub mod Slice
 pub mod Agreement
 pub mod Unread
-pub mod Replace
 pub mod Tags
 pub mod Cases
 pub mod Edge

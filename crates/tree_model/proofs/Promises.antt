@@ -1,37 +1,44 @@
 -- The promises: from a cleared store, over any list of requests, the tree is sound, nothing is damaged, it holds exactly what went in and
--- has not come out, and what comes out has the lowest rank.
+-- has not come out, and what comes out has the lowest rank. What the tree keeps between calls makes it a queue (`is-queue`); what follows is every queue's (`promise/proofs/Kept.antt`).
 use Prim.Native.Nat.{_*_, _+_, _<_, _≤_, suc, zero, ℕ}
 use native.Mathlib.Nat.{add-assoc, not-suc-le-zero, one-mul, zero-add, zero-mul}
 use native.Mathlib.Omega.{arith}
 use mathlib.Core.Bool.{Bool, true}
 use mathlib.Core.List.{[], _∷_, List}
-use mathlib.Core.Logic.{_⊎_}
+use mathlib.Core.Logic.{_⊎_, inl}
 use mathlib.Core.Path.{_∙_, _≡_, ap, ap₂, refl, subst, sym}
 use lib.ListN.{getD, length, replicate}
 use Rattle.laws.specs.Lists.{sumOf}
 use Rattle.laws.specs.Sums.{grid, sum-index, sumTo, to-add, to-append, to-ext, to-zero}
-use Rattle.promise.specs.Queue.{answers, leaves, leaves-keep, pins}
-use Rattle.promise.specs.Served.{all-sum, allBrought, allGiven, always, brought, given, Holds, Least, least-same, same, triple}
-use Rattle.promise.specs.Tagged.{Tagged, tagged-by}
+use Rattle.promise.proofs.Calls.{fits-least, last-each, last-fits}
+use Rattle.promise.proofs.Kept as queue
+use Rattle.promise.proofs.Kept.{IsQueue}
+use Rattle.promise.specs.Calls.{Fits, grants, lastTable, Queue}
+use Rattle.promise.specs.Queue.{answers, leaves, pins}
+use Rattle.promise.specs.Refused.{Untagged}
+use Rattle.promise.specs.Served.{allBrought, allGiven, always, brought, given, hit, Holds, Least, lower, same, triple}
+use Rattle.promise.specs.Table.{Clear}
+use Rattle.promise.specs.Tagged.{Tagged}
 use Rattle.strip.specs.Answers.{blank, countNumber, countOf, numberOf}
 use Rattle.strip.specs.declared.Answer.{Answer}
 use Rattle.strip.specs.declared.Element.{Element}
 use Rattle.strip.specs.declared.Request.{Request}
-use Rattle.tree_model.proofs.Exactly.{barred, called-either, called-fine, cleared-fine, comes-number, counted-is, is-shape, no-damage, order-pos, shape-is}
+use Rattle.strip.specs.declared.Request.the-variants.{Idle, Pop, Push, Replace}
+use Rattle.tree_model.proofs.Exactly.{called-either, called-fine, cleared-fine, is-shape, order-pos, root-limit, shape-is, tested}
 use Rattle.tree_model.proofs.Hang.{below-less}
 use Rattle.tree_model.proofs.Path.{node-ok, root-path}
-use Rattle.tree_model.proofs.Rules.{comes}
-use Rattle.tree_model.proofs.Serve.{answered, cleared-holds, cleared-store, root-slots, root-sum}
+use Rattle.tree_model.proofs.Serve.{cleared-holds, cleared-store, op-served, root-least, root-low, root-slots, root-sum, Served}
 use Rattle.tree_model.proofs.Slice.{wiped}
 use Rattle.tree_model.proofs.Words.{apply-length, level-node, node-length, node-slot, size-room, slot-path, tab-ext, words-apply}
-use Rattle.tree_model.specs.Calls.{called, heldCount, Outcome, outcome, rootOf, rootOk, rule, Ruling, ruleAt, wayOk}
+use Rattle.tree_model.specs.Calls.{called, cleared, heldCount, opOf, Outcome, outcome, rootOf, rootOk, rule, Ruling, ruleAt, tree, wayOk}
 use Rattle.tree_model.specs.Damage.{nodeOk, room}
 use Rattle.tree_model.specs.Levels.{apply, Level, Levels, work}
-use Rattle.tree_model.specs.Node.{slotAt, sumCounts, vacant}
-use Rattle.tree_model.specs.Promise.{after, Damage, Pinned, Shape, start, storedCount, treeQueue, Zeroed}
+use Rattle.tree_model.specs.Node.{low, slotAt, sumCounts, vacant}
+use Rattle.tree_model.specs.Promise.{after, Damage, Pinned, PopThenPush, Shape, start, storedCount, treeQueue, Zeroed}
 use Rattle.tree_model.specs.Serve.{bareLevels, holding, ruled, serve, Store}
-use Rattle.tree_model.specs.Tree.{hang, many, own, Sound, Tree, treeOf}
-use Rattle.tree_model.specs.Words.{applyWords, levelOf, levelsOf, nodeOf, size, slotOf, tabulate, slotWords, wipe}
+use Rattle.tree_model.specs.Tree.{Can, gain, hang, loss, lowOf, many, own, Sound, Tree, treeOf}
+use Rattle.tree_model.specs.Words.{applyWords, levelOf, levelsOf, nodeOf, size, slotOf, tabulate, wipe}
+use Rattle.tree_model.specs.declared.Op.the-variants.{Nothing}
 use Rattle.tree_model.specs.declared.Slot.{Slot}
 
 -- ---- the slots of a store and the elements of its trees
@@ -119,12 +126,11 @@ module _ (m k : ℕ) (ws : List ℕ) (kept : Kept m k ws) where
   abbrev ls : Levels (suc k)
   ls = levelsOf m (suc k) ws 0 1
 
+  abbrev t : Tree (suc k)
+  t = treeOf m (suc k) ls 0
+
   some : 0 < m
   some = order-pos (kept .shape)
-
-  pub same-ruling : (r : Request) → ruled m k r ls ≡ ruleAt m (suc k) r ws
-  unfolding ruled levelsOf
-  same-ruling r = ap (rule (room m (suc k)) r) (root-node m ws)
 
   pub sound-root : rootOk m (suc k) ws ≡ true
   unfolding levelsOf
@@ -132,27 +138,171 @@ module _ (m k : ℕ) (ws : List ℕ) (kept : Kept m k ws) where
       ap (nodeOk (room m k)) (sym (root-node m ws)) ∙ ap (nodeOk (room m k)) (sym (root-slots m k some ls (kept .store)))
       ∙ node-ok m k (treeOf m (suc k) ls 0) (kept .store .sound)
 
+  -- held, and the lowest
+  pub kept-sum : sumCounts (rootOf m ws) ≡ holding m k ls always
+  unfolding holding levelsOf
+  kept-sum = ap sumCounts (sym (root-node m ws)) ∙ root-sum m k some ls (kept .store)
+
+  kept-low : lowOf (suc k) t ≡ low (rootOf m ws)
+  unfolding levelsOf
+  kept-low = sym (root-low m k some ls (kept .store)) ∙ ap low (root-node m ws)
+
+  low-least : 0 < sumCounts (rootOf m ws) → storedCount (room m (suc k)) ws (lower (low (rootOf m ws) .rank .0)) ≡ 0
+  unfolding holding levelsOf
+  low-least more =
+      stored-holding m k ws (lower (low (rootOf m ws) .rank .0))
+      ∙ subst (λ (nd : List Slot). 0 < sumCounts nd → holding m k ls (lower (low nd .rank .0)) ≡ 0) (root-node m ws) (root-least m k some ls (kept .store)) more
+
+  -- what a request that is let in does
+  module _ (r : Request) (c : Clear (lastTable r (sumCounts (rootOf m ws)) (room m (suc k)))) where
+    can : Can m (suc k) (opOf r) t
+    unfolding holding
+    can = go r (last-fits r (sumCounts (rootOf m ws)) (room m (suc k)) c)
+      where
+        go : (r : Request) → Fits r (sumCounts (rootOf m ws)) (room m (suc k)) → Can m (suc k) (opOf r) t
+        go Idle f = tt
+        go (Push x) f = omega (arith, kept-sum)
+        go Pop f = omega (arith, kept-sum)
+        go (Replace x) f = omega (arith, kept-sum)
+
+    served : Served m k some ls (kept .store) (opOf r)
+    served = op-served m k some ls (kept .store) (opOf r) can
+
+    way-fine : wayOk m (suc k) (opOf r) ws ≡ true
+    way-fine = root-path m some (suc k) (opOf r) ls (kept .store .shaped) (kept .store .sound) can
+
+    run-levels : levelsOf m (suc k) (applyWords m (suc k) (work (opOf r) 0) 0 1 ws) 0 1 ≡ apply m (suc k) (work (opOf r) 0) ls
+    run-levels = words-apply m some (suc k) (work (opOf r) 0) 0 1 ws (omega (arith, kept .shape .slice, size-room m (suc k) 1)) way-fine .0
+
+    run-kept : Kept m k (applyWords m (suc k) (work (opOf r) 0) 0 1 ws)
+    run-kept =
+        record {
+          shape = subst (λ (n : ℕ). Shape m (suc k) n) (sym (apply-length m (suc k) (work (opOf r) 0) 0 1 ws)) (kept .shape);
+          store = subst (λ (l : Levels (suc k)). Store m k l) (sym run-levels) (served .store);
+        }
+
+    moves : (f : Element → Bool) → (loss (suc k) (opOf r) t f ≡ given r (grants r (low (rootOf m ws))) f) × (gain (opOf r) f ≡ brought r (grants r (low (rootOf m ws))) f)
+    moves f = go r
+      where
+        go : (r : Request) → (loss (suc k) (opOf r) t f ≡ given r (grants r (low (rootOf m ws))) f) × (gain (opOf r) f ≡ brought r (grants r (low (rootOf m ws))) f)
+        go Idle = (refl, refl)
+        go (Push x) = (refl, refl)
+        go Pop = (ap (λ (e : Element). hit (f e)) kept-low, refl)
+        go (Replace x) = (ap (λ (e : Element). hit (f e)) kept-low, refl)
+
+    run-sum : (f : Element → Bool) → storedCount (room m (suc k)) (applyWords m (suc k) (work (opOf r) 0) 0 1 ws) f + given r (grants r (low (rootOf m ws))) f
+        ≡ storedCount (room m (suc k)) ws f + brought r (grants r (low (rootOf m ws))) f
+    run-sum f =
+        omega (arith, stored-holding m k (applyWords m (suc k) (work (opOf r) 0) 0 1 ws) f, stored-holding m k ws f, ap (λ (l : Levels (suc k)). holding m k l f) run-levels, served .sum f, moves f)
+
+    run-least : Least (storedCount (room m (suc k)) ws) r (grants r (low (rootOf m ws)))
+    run-least =
+        fits-least (storedCount (room m (suc k)) ws) r (sumCounts (rootOf m ws)) (room m (suc k)) (low (rootOf m ws)) (last-fits r (sumCounts (rootOf m ws)) (room m (suc k)) c) low-least
+
+-- ---- a cleared store
+module _ (m k : ℕ) (ws : List ℕ) (sh : Shape m (suc k) (length ws)) where
+  wiped-bare : levelsOf m (suc k) (wipe (room m (suc k)) ws) 0 1 ≡ bareLevels m (suc k) 1
+  wiped-bare = wiped-levels m (suc k) (room m (suc k)) ws (sh .slice) 0 1 (omega (arith, size-room m (suc k) 1))
+
+  wiped-kept : Kept m k (wipe (room m (suc k)) ws)
+  wiped-kept =
+      record {
+        shape = subst (λ (n : ℕ). Shape m (suc k) n) (sym (wiped (room m (suc k)) ws (sh .slice) .length)) sh;
+        store = subst (λ (l : Levels (suc k)). Store m k l) (sym wiped-bare) (cleared-store m k);
+      }
+
+  wiped-empty : (f : Element → Bool) → storedCount (room m (suc k)) (wipe (room m (suc k)) ws) f ≡ 0
+  wiped-empty f = stored-holding m k (wipe (room m (suc k)) ws) f ∙ ap (λ (l : Levels (suc k)). holding m k l f) wiped-bare ∙ cleared-holds m k f
+
+-- THE TREE IS A QUEUE
+pub is-queue : (m k : ℕ) → IsQueue (tree m (suc k)) (Kept m k)
+is-queue m k =
+    record {
+      tested = tested m (suc k);
+      opens = λ ws kept. (is-shape m (suc k) (length ws) (kept .shape), tt);
+      root = sound-root m k;
+      way = λ r ws kept d c. way-fine m k ws kept r c;
+      idles = λ ws kept. root-path m (order-pos (kept .shape)) (suc k) Nothing (levelsOf m (suc k) ws 0 1) (kept .store .shaped) (kept .store .sound) tt;
+      keeps = λ r ws kept d c. run-kept m k ws kept r c;
+      sum = λ r ws kept d c. run-sum m k ws kept r c;
+      least = λ r ws kept d c. run-least m k ws kept r c;
+      counts = λ ws kept. kept-sum m k ws kept ∙ sym (stored-holding m k ws always);
+      wiped = λ ws c. wiped-kept m k ws (shape-is m (suc k) (length ws) (c .0));
+      bare = λ ws c. wiped-empty m k ws (shape-is m (suc k) (length ws) (c .0));
+    }
+
+pub swaps : (m k : ℕ) → queue.Swaps (tree m (suc k)) (Kept m k) (is-queue m k)
+swaps m k =
+    queue.last-swaps (tree m (suc k)) (Kept m k) (is-queue m k) (room m (suc k)) (λ r ws P p. p) (λ r ws. tt) (λ ws kept. root-limit m (suc k) ws (kept .shape .some) (sound-root m k ws kept))
+
+-- ---- one call on a kept store, whatever wrote it
+module _ (m k : ℕ) where
+  abbrev q : Queue (List ℕ)
+  q = tree m (suc k)
+
+  pub called-kept : (r : Request) (ws : List ℕ) → Kept m k ws → Kept m k (called m (suc k) r ws .words)
+  unfolding called
+  called-kept = queue.called-kept q (Kept m k) (is-queue m k)
+
+  pub leaves-kept : (rs : List Request) (ws : List ℕ) → Kept m k ws → Kept m k (leaves (treeQueue m (suc k)) rs ws)
+  unfolding called
+  leaves-kept = queue.leaves-kept q (Kept m k) (is-queue m k)
+
+  pub call-sum : (r : Request) (ws : List ℕ) → Kept m k ws → (f : Element → Bool)
+      → storedCount (room m (suc k)) (called m (suc k) r ws .words) f + given r (called m (suc k) r ws .answer) f ≡ storedCount (room m (suc k)) ws f + brought r (called m (suc k) r ws .answer) f
+  unfolding called
+  call-sum = queue.call-sum q (Kept m k) (is-queue m k)
+
+module _ (m k : ℕ) (ws : List ℕ) (kept : Kept m k ws) where
+  -- what its ruling says
   pub sound-way : (r : Request) → wayOk m (suc k) (ruleAt m (suc k) r ws .op) ws ≡ true
-  sound-way r =
-      subst (λ (g : Ruling). wayOk m (suc k) (g .op) ws ≡ true) (same-ruling r)
-      (root-path m some (suc k) (ruled m k r ls .op) ls (kept .store .shaped) (kept .store .sound) (answered m k some ls (kept .store) r .can))
+  unfolding rule
+  sound-way r = queue.sound-way (tree m (suc k)) (Kept m k) (is-queue m k) r ws kept tt
 
-  -- a call on a kept store is what its ruling says
   pub kept-called : (r : Request) → called m (suc k) r ws ≡ outcome (ruleAt m (suc k) r ws .answer) (applyWords m (suc k) (work (ruleAt m (suc k) r ws .op) 0) 0 1 ws)
-  kept-called r = called-fine m (suc k) r ws (is-shape m (suc k) (length ws) (kept .shape)) sound-root (sound-way r)
+  kept-called r = called-fine m (suc k) r ws (is-shape m (suc k) (length ws) (kept .shape)) (sound-root m k ws kept) (sound-way r)
 
-  pub kept-words : (r : Request) → levelsOf m (suc k) (called m (suc k) r ws .words) 0 1 ≡ serve m k r ls
+  -- .. and on its levels
+  same-ruling : (r : Request) → ruled m k r (levelsOf m (suc k) ws 0 1) ≡ ruleAt m (suc k) r ws
+  unfolding ruled levelsOf
+  same-ruling r = ap (rule (room m (suc k)) r) (root-node m ws)
+
+  pub kept-words : (r : Request) → levelsOf m (suc k) (called m (suc k) r ws .words) 0 1 ≡ serve m k r (levelsOf m (suc k) ws 0 1)
   unfolding serve
   kept-words r =
       ap (λ (o : Outcome). levelsOf m (suc k) (o .words) 0 1) (kept-called r)
-      ∙ words-apply m some (suc k) (work (ruleAt m (suc k) r ws .op) 0) 0 1 ws fits (sound-way r) .0
-      ∙ ap (λ (g : Ruling). apply m (suc k) (work (g .op) 0) ls) (sym (same-ruling r))
-    where
-      fits : slotWords * (0 + size m (suc k) 1) ≤ length ws
-      fits = omega (arith, kept .shape .slice, size-room m (suc k) 1)
+      ∙ words-apply m (order-pos (kept .shape)) (suc k) (work (ruleAt m (suc k) r ws .op) 0) 0 1 ws (omega (arith, kept .shape .slice, size-room m (suc k) 1)) (sound-way r) .0
+      ∙ ap (λ (g : Ruling). apply m (suc k) (work (g .op) 0) (levelsOf m (suc k) ws 0 1)) (sym (same-ruling r))
 
-  pub kept-answer : (r : Request) → called m (suc k) r ws .answer ≡ ruled m k r ls .answer
+  pub kept-answer : (r : Request) → called m (suc k) r ws .answer ≡ ruled m k r (levelsOf m (suc k) ws 0 1) .answer
   kept-answer r = ap (λ (o : Outcome). o .answer) (kept-called r) ∙ ap (λ (g : Ruling). g .answer) (sym (same-ruling r))
+
+  pub kept-sums : (rs : List Request) (f : Element → Bool)
+      → storedCount (room m (suc k)) (leaves (treeQueue m (suc k)) rs ws) f + allGiven rs (answers (treeQueue m (suc k)) rs ws) f
+      ≡ storedCount (room m (suc k)) ws f + allBrought rs (answers (treeQueue m (suc k)) rs ws) f
+  unfolding called
+  kept-sums = queue.kept-sums (tree m (suc k)) (Kept m k) (is-queue m k) ws kept
+
+  pub kept-least : (r : Request) → Least (storedCount (room m (suc k)) ws) r (called m (suc k) r ws .answer)
+  unfolding called
+  kept-least r = queue.kept-least (tree m (suc k)) (Kept m k) (is-queue m k) r ws kept
+
+  pub kept-undamaged : (r : Request) → Damage m (suc k) r ws → ⊥
+  unfolding rule
+  kept-undamaged r = queue.kept-undamaged (tree m (suc k)) (Kept m k) (is-queue m k) r ws kept tt
+
+  pub kept-numbers : (r : Request) → let n = numberOf (called m (suc k) r ws .answer) in (n ≡ 0) ⊎ (n ≡ 5) ⊎ (n ≡ 6) ⊎ (n ≡ 7)
+  unfolding called
+  kept-numbers r =
+      queue.kept-numbers (tree m (suc k)) (Kept m k) (is-queue m k) r ws kept (λ n. (n ≡ 0) ⊎ (n ≡ 5) ⊎ (n ≡ 6) ⊎ (n ≡ 7)) (inl refl) tt (last-each r (sumCounts (rootOf m ws)) (room m (suc k)))
+
+  pub kept-held : (countNumber (heldCount m (suc k) ws) ≡ 0) × (countOf (heldCount m (suc k) ws) ≡ storedCount (room m (suc k)) ws always)
+  unfolding heldCount
+  kept-held = queue.kept-held (tree m (suc k)) (Kept m k) (is-queue m k) ws kept
+
+  pub kept-replaces : (x : Element) → (Untagged (Replace x) → ⊥) → PopThenPush m (suc k) x ws
+  unfolding called
+  kept-replaces x tag = queue.kept-replaces (tree m (suc k)) (Kept m k) (is-queue m k) (swaps m k) x tag ws kept tt
 
 -- every call keeps the slice's length
 pub called-length : (m levels : ℕ) (r : Request) (ws : List ℕ) → length (called m levels r ws .words) ≡ length ws
@@ -165,75 +315,21 @@ past-stands m levels r ws p h =
     let sh = shape-is m levels (length ws) s in
     words-apply m (order-pos sh) levels _ 0 1 ws (omega (arith, sh .slice, size-room m levels 1)) w .1 p (omega (arith, size-room m levels 1)))
 
--- ---- lists of requests
-module _ (m k : ℕ) where
-  pub called-kept : (r : Request) (ws : List ℕ) → Kept m k ws → Kept m k (called m (suc k) r ws .words)
-  called-kept r ws kept =
-      record {
-        shape = subst (λ (n : ℕ). Shape m (suc k) n) (sym (called-length m (suc k) r ws)) (kept .shape);
-        store = subst (λ (l : Levels (suc k)). Store m k l) (sym (kept-words m k ws kept r)) (answered m k (order-pos (kept .shape)) (levelsOf m (suc k) ws 0 1) (kept .store) r .store);
-      }
-
-  pub leaves-kept : (rs : List Request) (ws : List ℕ) → Kept m k ws → Kept m k (leaves (treeQueue m (suc k)) rs ws)
-  leaves-kept = leaves-keep (treeQueue m (suc k)) (Kept m k) called-kept
-
-  pub call-sum : (r : Request) (ws : List ℕ) → Kept m k ws → (f : Element → Bool)
-      → storedCount (room m (suc k)) (called m (suc k) r ws .words) f + given r (called m (suc k) r ws .answer) f ≡ storedCount (room m (suc k)) ws f + brought r (called m (suc k) r ws .answer) f
-  call-sum r ws kept f =
-      rw (stored-holding m k (called m (suc k) r ws .words) f, stored-holding m k ws f, kept-words m k ws kept r, kept-answer m k ws kept r)
-      (answered m k (order-pos (kept .shape)) (levelsOf m (suc k) ws 0 1) (kept .store) r .sum f)
-
 -- ---- from a cleared store. The number of levels is any that passes the shape
 module _ (m k : ℕ) (ws : List ℕ) (sh : Shape m (suc k) (length ws)) where
-  start-is : start m (suc k) ws ≡ wipe (room m (suc k)) ws
-  start-is = ap (λ (o : Outcome). o .words) (cleared-fine m (suc k) ws (is-shape m (suc k) (length ws) sh))
+  abbrev fits : Clear (tree m (suc k) .clearing ws)
+  fits = (is-shape m (suc k) (length ws) sh, tt)
 
   pub start-bare : levelsOf m (suc k) (start m (suc k) ws) 0 1 ≡ bareLevels m (suc k) 1
-  start-bare =
-      ap (λ (v : List ℕ). levelsOf m (suc k) v 0 1) start-is
-      ∙ wiped-levels m (suc k) (room m (suc k)) ws (sh .slice) 0 1 (omega (arith, size-room m (suc k) 1))
+  start-bare = ap (λ (o : Outcome). levelsOf m (suc k) (o .words) 0 1) (cleared-fine m (suc k) ws (is-shape m (suc k) (length ws) sh)) ∙ wiped-bare m k ws sh
 
   pub start-kept : Kept m k (start m (suc k) ws)
-  start-kept =
-      record {
-        shape = subst (λ (v : List ℕ). Shape m (suc k) (length v)) (sym start-is) (subst (λ (n : ℕ). Shape m (suc k) n) (sym (wiped (room m (suc k)) ws (sh .slice) .length)) sh);
-        store = subst (λ (l : Levels (suc k)). Store m k l) (sym start-bare) (cleared-store m k);
-      }
+  unfolding cleared
+  start-kept = queue.start-kept (tree m (suc k)) (Kept m k) (is-queue m k) ws fits
 
   pub start-empty : (f : Element → Bool) → storedCount (room m (suc k)) (start m (suc k) ws) f ≡ 0
-  start-empty f = stored-holding m k (start m (suc k) ws) f ∙ ap (λ (l : Levels (suc k)). holding m k l f) start-bare ∙ cleared-holds m k f
-
--- the call held on a kept store
-pub kept-sum : (m k : ℕ) (ws : List ℕ) → Kept m k ws → sumCounts (rootOf m ws) ≡ holding m k (levelsOf m (suc k) ws 0 1) always
-unfolding holding levelsOf
-kept-sum m k ws kept = ap sumCounts (sym (root-node m ws)) ∙ root-sum m k (order-pos (kept .shape)) (levelsOf m (suc k) ws 0 1) (kept .store)
-
--- ---- what is so of every kept store, whatever wrote it
-module _ (m k : ℕ) (ws : List ℕ) (kept : Kept m k ws) where
-  -- a list of requests: what is stored then and came out is what was stored and went in
-  pub kept-sums : (rs : List Request) (f : Element → Bool)
-      → storedCount (room m (suc k)) (leaves (treeQueue m (suc k)) rs ws) f + allGiven rs (answers (treeQueue m (suc k)) rs ws) f
-      ≡ storedCount (room m (suc k)) ws f + allBrought rs (answers (treeQueue m (suc k)) rs ws) f
-  kept-sums rs f = all-sum (treeQueue m (suc k)) (Kept m k) (called-kept m k) (storedCount (room m (suc k))) (call-sum m k) rs ws kept f
-
-  -- a request
-  pub kept-least : (r : Request) → Least (storedCount (room m (suc k)) ws) r (called m (suc k) r ws .answer)
-  kept-least r =
-      subst (λ (a : Answer). Least (storedCount (room m (suc k)) ws) r a) (sym (kept-answer m k ws kept r))
-      (least-same (holding m k (levelsOf m (suc k) ws 0 1)) (storedCount (room m (suc k)) ws) (λ f. sym (stored-holding m k ws f)) r
-      (ruled m k r (levelsOf m (suc k) ws 0 1) .answer) (answered m k (order-pos (kept .shape)) (levelsOf m (suc k) ws 0 1) (kept .store) r .least))
-
-  pub kept-undamaged : (r : Request) → Damage m (suc k) r ws → ⊥
-  kept-undamaged r d = no-damage m (suc k) r ws (sound-root m k ws kept) (sound-way m k ws kept r) d
-
-  pub kept-numbers : (r : Request) → let n = numberOf (called m (suc k) r ws .answer) in (n ≡ 0) ⊎ (n ≡ 5) ⊎ (n ≡ 6) ⊎ (n ≡ 7)
-  kept-numbers r = rw (kept-called m k ws kept r) (comes-number (room m (suc k)) (rootOf m ws) r _ (comes (room m (suc k)) r (rootOf m ws)))
-
-  -- held
-  pub kept-held : (countNumber (heldCount m (suc k) ws) ≡ 0) × (countOf (heldCount m (suc k) ws) ≡ storedCount (room m (suc k)) ws always)
-  kept-held =
-      let e = counted-is m (suc k) ws (is-shape m (suc k) (length ws) (kept .shape)) (sound-root m k ws kept) in
-      (ap countNumber e, ap countOf e ∙ kept-sum m k ws kept ∙ sym (stored-holding m k ws always))
+  unfolding cleared
+  start-empty = queue.start-empty (tree m (suc k)) (Kept m k) (is-queue m k) ws fits
 
 -- THE PROMISES. Any order and number of levels that pass the shape, any words to start with, any list of requests.
 
@@ -243,8 +339,9 @@ module _ (m : ℕ) (ws : List ℕ) (rs : List Request) where
 
   -- HOLDS: of every kind of element as many are stored as went in and have not come out
   pub holds : (levels : ℕ) → Shape m levels (length ws) → Holds (storedCount (room m levels) (after m levels rs ws)) rs (said levels)
-  holds zero sh f = absurd (not-suc-le-zero (sh .some))
-  holds (suc k) sh f = omega (arith, kept-sums m k (start m (suc k) ws) (start-kept m k ws sh) rs f, start-empty m k ws sh f)
+  unfolding called cleared
+  holds zero sh = absurd (not-suc-le-zero (sh .some))
+  holds (suc k) sh = queue.holds (tree m (suc k)) (Kept m k) (is-queue m k) ws (fits m k ws sh) rs
 
   -- .. so each pair as often
   pub pairs : (levels : ℕ) → Shape m levels (length ws) → (e : Element)
@@ -258,39 +355,50 @@ module _ (m : ℕ) (ws : List ℕ) (rs : List Request) where
 
   -- TAGGED: no element of tag 0 is stored, and none has come out
   pub tagged : (levels : ℕ) → Shape m levels (length ws) → Tagged (storedCount (room m levels) (after m levels rs ws)) rs (said levels)
-  tagged levels sh = tagged-by (treeQueue m levels) (barred m levels) (storedCount (room m levels) (after m levels rs ws)) rs (start m levels ws) (holds levels sh)
+  unfolding called cleared
+  tagged zero sh = absurd (not-suc-le-zero (sh .some))
+  tagged (suc k) sh = queue.tagged (tree m (suc k)) (Kept m k) (is-queue m k) ws (fits m k ws sh) rs
+
+  -- what a list of requests leaves is kept: of every call on it is so what is so of a kept store
+  pub after-kept : (k : ℕ) → Shape m (suc k) (length ws) → Kept m k (after m (suc k) rs ws)
+  after-kept k sh = leaves-kept m k rs (start m (suc k) ws) (start-kept m k ws sh)
 
   -- LEAST: what comes out, of a pop or a replace, has the lowest rank of all stored before
   pub least : (levels : ℕ) → Shape m levels (length ws) → (r : Request)
       → Least (storedCount (room m levels) (after m levels rs ws)) r (called m levels r (after m levels rs ws) .answer)
   least zero sh r = absurd (not-suc-le-zero (sh .some))
-  least (suc k) sh r = kept-least m k (after m (suc k) rs ws) (leaves-kept m k rs (start m (suc k) ws) (start-kept m k ws sh)) r
+  least (suc k) sh r = kept-least m k (after m (suc k) rs ws) (after-kept k sh) r
 
   -- SOUND: every count is one plus what lies below, no rank lies above a lower one, and an empty slot is all zero with nothing below
   pub sound : (levels : ℕ) → Shape m levels (length ws) → Sound m levels (treeOf m levels (levelsOf m levels (after m levels rs ws) 0 1) 0)
   sound zero sh = absurd (not-suc-le-zero (sh .some))
-  sound (suc k) sh = leaves-kept m k rs (start m (suc k) ws) (start-kept m k ws sh) .store .sound
+  sound (suc k) sh = after-kept k sh .store .sound
 
   -- UNDAMAGED: no call is refused for damage, and none for the shape
   pub undamaged : (levels : ℕ) → Shape m levels (length ws) → (r : Request) → Damage m levels r (after m levels rs ws) → ⊥
   undamaged zero sh r d = not-suc-le-zero (sh .some)
-  undamaged (suc k) sh r d = kept-undamaged m k (after m (suc k) rs ws) (leaves-kept m k rs (start m (suc k) ws) (start-kept m k ws sh)) r d
+  undamaged (suc k) sh r d = kept-undamaged m k (after m (suc k) rs ws) (after-kept k sh) r d
 
   -- .. so that only 0, 5, 6 and 7 are answered
   pub numbers : (levels : ℕ) → Shape m levels (length ws) → (r : Request)
       → let n = numberOf (called m levels r (after m levels rs ws) .answer) in (n ≡ 0) ⊎ (n ≡ 5) ⊎ (n ≡ 6) ⊎ (n ≡ 7)
   numbers zero sh r = absurd (not-suc-le-zero (sh .some))
-  numbers (suc k) sh r = kept-numbers m k (after m (suc k) rs ws) (leaves-kept m k rs (start m (suc k) ws) (start-kept m k ws sh)) r
+  numbers (suc k) sh r = kept-numbers m k (after m (suc k) rs ws) (after-kept k sh) r
 
   pub shape-kept : (levels : ℕ) → Shape m levels (length ws) → Shape m levels (length (after m levels rs ws))
   shape-kept zero sh = absurd (not-suc-le-zero (sh .some))
-  shape-kept (suc k) sh = leaves-kept m k rs (start m (suc k) ws) (start-kept m k ws sh) .shape
+  shape-kept (suc k) sh = after-kept k sh .shape
 
   -- the call held answers how many are stored
   pub held-says : (levels : ℕ) → Shape m levels (length ws)
       → (countNumber (heldCount m levels (after m levels rs ws)) ≡ 0) × (countOf (heldCount m levels (after m levels rs ws)) ≡ storedCount (room m levels) (after m levels rs ws) always)
   held-says zero sh = absurd (not-suc-le-zero (sh .some))
-  held-says (suc k) sh = kept-held m k (after m (suc k) rs ws) (leaves-kept m k rs (start m (suc k) ws) (start-kept m k ws sh))
+  held-says (suc k) sh = kept-held m k (after m (suc k) rs ws) (after-kept k sh)
+
+  -- POP-THEN-PUSH: "a replace is a pop and then a push"
+  pub pop-then-push : (levels : ℕ) → Shape m levels (length ws) → (x : Element) → (Untagged (Replace x) → ⊥) → PopThenPush m levels x (after m levels rs ws)
+  pop-then-push zero sh x tag = absurd (not-suc-le-zero (sh .some))
+  pop-then-push (suc k) sh x tag = kept-replaces m k (after m (suc k) rs ws) (after-kept k sh) x tag
 
 -- PINNED: every public call, for all inputs
 pub pinned : (m levels : ℕ) (ws : List ℕ) → Pinned m levels ws

@@ -1,21 +1,21 @@
--- The five calls of the one-at-a-time tree, each a total function of order, levels and words to an answer and the words afterwards.
+-- The five calls of the one-at-a-time tree, each a total function of order, levels and words to an answer and the words afterwards: what the tree brings, to the calls that every queue has (`promise/specs/Calls.antt`).
 use Prim.Native.Nat.{ℕ, _*_, pred}
-use mathlib.Core.Bool.{Bool, cond, _&&_, _||_}
+use mathlib.Core.Bool.{Bool, _&&_, _||_}
 use mathlib.Core.List.{List}
-use lib.Dec.{ltb, leb, eqb}
+use lib.Dec.{leb, eqb}
 use lib.ListN.{length}
-use Rattle.strip.specs.Answers.{untagged}
-use Rattle.strip.specs.declared.Element.{Element}
-use Rattle.strip.specs.declared.Refusal.the-variants.{BadShape, Damaged, Full, Empty, NoTag}
+use Rattle.promise.specs.Calls as calls
+use Rattle.promise.specs.Calls.{lastTable, Queue}
+use Rattle.promise.specs.Table.{ends, needs}
+use Rattle.strip.specs.declared.Refusal.the-variants.{BadShape}
 use Rattle.strip.specs.declared.Answer.{Answer}
-use Rattle.strip.specs.declared.Answer.the-variants.{Done, Out, Refused}
 use Rattle.strip.specs.declared.Count.{Count}
-use Rattle.strip.specs.declared.Count.the-variants.{Held, Unknown}
 use Rattle.strip.specs.declared.Request.{Request}
 use Rattle.strip.specs.declared.Request.the-variants.{Idle, Push, Pop, Replace}
 use Rattle.tree_model.specs.declared.Slot.{Slot}
 use Rattle.tree_model.specs.declared.Op.{Op}
 use Rattle.tree_model.specs.declared.Op.the-variants.{Nothing, Put, Take, Swap}
+use Rattle.tree_model.specs.Causes.{NodeDamaged, PathDamaged, Shape, storedCount}
 use Rattle.tree_model.specs.Node.{sumCounts, low}
 use Rattle.tree_model.specs.Levels.{work}
 use Rattle.tree_model.specs.Words.{slotWords, nodeOf, levelsOf, applyWords, wipe}
@@ -35,33 +35,29 @@ unfoldable pub shapeOk : ℕ → ℕ → ℕ → Bool
 shapeOk m levels len = orderOk m && (leb 1 levels && (leb (room m levels) slotLimit && leb (slotWords * room m levels) len))
 
 -- ---- what a request comes to at a root that is in order: its answer, and the work at node 0
-pub record Ruling : Type 0 where
-  pub answer : Answer
-  pub op : Op
+abbrev pub Ruling : Type 0
+Ruling = calls.Ruling Op
 
 abbrev pub ruling : Answer → Op → Ruling
-ruling a o = record { answer = a; op = o }
+ruling a o = calls.ruling a o
 
--- "Push and replace with tag 0 are to be refused with a new number 7" (02 [1])
-abbrev tagged : Element → Ruling → Ruling
-tagged x g = cond (untagged x) (ruling (Refused NoTag) Nothing) g
+-- "Push puts at the root, pop takes there". Replace is a pop and then a push (02 [4]): "the new one is swapped in by the same swap rule"
+abbrev pub opOf : Request → Op
+opOf Idle = Nothing
+opOf (Push x) = Put x
+opOf Pop = Take
+opOf (Replace x) = Swap x
 
--- "Push puts at the root, pop takes there". Replace is a pop and then a push (02 [4]): "an empty queue refuses replace with 6 .., and
--- otherwise the lowest held element is answered, even if the new rank is lower, and the new one is swapped in by the same swap rule". "full:
--- push, held = capacity"; "empty: pop, held = 0"; before them 7
+-- 7, then 5 or 6; else the lowest of the root is answered, and the operation done. c is the capacity
 unfoldable pub rule : ℕ → Request → List Slot → Ruling
-rule c Idle nd = ruling Done Nothing
-rule c (Push x) nd = tagged x (cond (ltb (sumCounts nd) c) (ruling Done (Put x)) (ruling (Refused Full) Nothing))
-rule c Pop nd = cond (eqb (sumCounts nd) 0) (ruling (Refused Empty) Nothing) (ruling (Out (low nd)) Take)
-rule c (Replace x) nd = tagged x (cond (eqb (sumCounts nd) 0) (ruling (Refused Empty) Nothing) (ruling (Out (low nd)) (Swap x)))
+rule c r nd = calls.ruled opOf (lastTable r (sumCounts nd) c) r (low nd)
 
 -- ---- the calls
-pub record Outcome : Type 0 where
-  pub answer : Answer
-  pub words : List ℕ
+abbrev pub Outcome : Type 0
+Outcome = calls.Outcome (List ℕ)
 
 abbrev pub outcome : Answer → List ℕ → Outcome
-outcome a ws = record { answer = a; words = ws }
+outcome a ws = calls.outcome a ws
 
 -- the root's slots
 abbrev pub rootOf : ℕ → List ℕ → List Slot
@@ -79,21 +75,35 @@ module _ (m levels : ℕ) where
   abbrev pub wayOk : Op → List ℕ → Bool
   wayOk o ws = pathOk m levels (work o 0) (levelsOf m levels ws 0 1)
 
-  -- an operation tested whole, and done where no node of its path is damaged
-  unfoldable pub carriedOut : Ruling → List ℕ → Outcome
-  carriedOut g ws = cond (wayOk (g .op) ws) (outcome (g .answer) (applyWords m levels (work (g .op) 0) 0 1 ws)) (outcome (Refused Damaged) ws)
+  -- the tree as a queue that does one operation at a time: "Order for the tree: 1, 2, 3, then 5 or 6"; 7 comes "after 3 in the clocked tree, after 2 in the one-at-a-time tree"
+  abbrev pub tree : Queue (List ℕ)
+  tree =
+      record {
+        opening = λ ws. needs BadShape (shapeOk m levels (length ws)) (Shape m levels (length ws)) ends;
+        clearing = λ ws. needs BadShape (shapeOk m levels (length ws)) (Shape m levels (length ws)) ends;
+        asked = λ r ws. ends;
+        rootOk = rootOk;
+        RootDamaged = λ ws. NodeDamaged (room m (pred levels)) (rootOf m ws);
+        held = λ ws. sumCounts (rootOf m ws);
+        low = λ ws. low (rootOf m ws);
+        late = λ r ws. lastTable r (sumCounts (rootOf m ws)) (room m levels);
+        Op = Op;
+        op = opOf;
+        wayOk = wayOk;
+        WayDamaged = λ o ws. PathDamaged m levels (work o 0) (levelsOf m levels ws 0 1);
+        run = λ o ws. applyWords m levels (work o 0) 0 1 ws;
+        wipe = λ ws. wipe (room m levels) ws;
+        stored = λ ws. storedCount (room m levels) ws;
+      }
 
-  -- push, pop and replace: "Order for the tree: 1, 2, 3, then 5 or 6"; 7 comes "after 3 in the clocked tree, after 2 in the one-at-a-time tree"
+  -- push, pop and replace
   unfoldable pub called : Request → List ℕ → Outcome
-  called r ws =
-      cond (shapeOk m levels (length ws))
-      (cond (rootOk ws) (carriedOut (ruleAt r ws) ws) (outcome (Refused Damaged) ws))
-      (outcome (Refused BadShape) ws)
+  called r ws = calls.called tree r ws
 
   -- "Clear writes zeros"
   unfoldable pub cleared : List ℕ → Outcome
-  cleared ws = cond (shapeOk m levels (length ws)) (outcome Done (wipe (room m levels) ws)) (outcome (Refused BadShape) ws)
+  cleared ws = calls.cleared tree ws
 
   -- "Held for a tree is the sum of the root's counts, taken once the root passes test 2; the call held reads the root alone"
   unfoldable pub heldCount : List ℕ → Count
-  heldCount ws = cond (shapeOk m levels (length ws)) (cond (rootOk ws) (Held (sumCounts (rootOf m ws))) (Unknown Damaged)) (Unknown BadShape)
+  heldCount ws = calls.heldCount tree ws

@@ -2,9 +2,10 @@ pub mod Node
 pub mod Levels
 pub mod Words
 pub mod Damage
+pub mod Tree
+pub mod Causes
 pub mod Calls
 pub mod Rules
-pub mod Tree
 pub mod Serve
 pub mod Promise
 pub mod Cases

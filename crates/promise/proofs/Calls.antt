@@ -1,0 +1,240 @@
+-- What is so of every queue's calls, whatever the words: each refusal is given exactly for its cause, of a request that is not refused the answer is of its kind, and no element without a tag is
+-- let in.
+use Prim.Native.Nat.{_<_, _≤_, ℕ}
+use native.Mathlib.Nat.{pos-of-ne-zero}
+use native.Mathlib.Omega.{arith}
+use mathlib.Core.Bool.{Bool, cond, false, false≢true, true, true≢false}
+use mathlib.Core.Logic.{_⊎_, inl, inr, ⊎-elim}
+use mathlib.Core.Path.{_∙_, _≡_, ap, refl, subst, sym}
+use lib.Dec.{ltb}
+use borrow.Author.Tests.{eqb-false, le-ltb, ltb-false, ltb-true}
+use Rattle.laws.specs.Fails.{Fails}
+use Rattle.laws.specs.Ladder.{climb-fine, climb-stop, Exactly, fine, Ladder, left-behind, stop}
+use Rattle.laws.specs.Means.{Means, means-eqb}
+use Rattle.promise.specs.Calls.{called, carriedOut, cleared, clearRefusals, Damage, does, Fits, grants, heldCount, heldRefusals, lacksTag, lastTable, left, Outcome, outcome, Queue, refusals, ruleAt, ruled, Ruling, ruling}
+use Rattle.promise.specs.Refused.{IsPush, limits, refusal-told, Untagged, untagged-means, zero-told}
+use Rattle.promise.specs.Served.{Kind, Least, lower}
+use Rattle.promise.specs.Table.{Clear, decided-either, decided-exactly, Each, each-any, guarded, Guards, ladder, Table, Told}
+use Rattle.promise.specs.Tagged.{Barred}
+use Rattle.strip.specs.Answers.{countNumber, numberOf, refusalNumber}
+use Rattle.strip.specs.declared.Answer.{Answer}
+use Rattle.strip.specs.declared.Answer.the-variants.{Refused}
+use Rattle.strip.specs.declared.Count.{Count}
+use Rattle.strip.specs.declared.Count.the-variants.{Held, Unknown}
+use Rattle.strip.specs.declared.Element.{Element}
+use Rattle.strip.specs.declared.Refusal.{Refusal}
+use Rattle.strip.specs.declared.Refusal.the-variants.{Damaged, Empty, Full, NoTag}
+use Rattle.strip.specs.declared.Request.{Request}
+use Rattle.strip.specs.declared.Request.the-variants.{Idle, Pop, Push, Replace}
+
+-- ---- the last rungs: 7, then 5 or 6
+pub tag-means : (r : Request) → Means (lacksTag r) (Untagged r)
+tag-means Idle = record { says = λ e. absurd (false≢true e); holds = λ u. absurd u }
+tag-means (Push x) = untagged-means x
+tag-means Pop = record { says = λ e. absurd (false≢true e); holds = λ u. absurd u }
+tag-means (Replace x) = untagged-means x
+
+-- with at most c held a push is refused exactly where c are
+full-fails : (h c : ℕ) → h ≤ c → Fails (ltb h c) (h ≡ c)
+full-fails h c most = record { found = λ e. omega (arith, ltb-false h c e); shown = λ e. le-ltb h c (omega arith) }
+
+pub last-told : (r : Request) (h c : ℕ) → (IsPush r → h ≤ c) → Told (lastTable r h c)
+last-told Idle h c most = (tag-means Idle, λ n. tt)
+last-told (Push x) h c most = (tag-means (Push x), λ n. (full-fails h c (most tt), λ m. tt))
+last-told Pop h c most = (tag-means Pop, λ n. (means-eqb h 0, λ m. tt))
+last-told (Replace x) h c most = (tag-means (Replace x), λ n. (means-eqb h 0, λ m. tt))
+
+pub last-guards : (r : Request) (h c : ℕ) → Guards (Untagged r) (lastTable r h c)
+last-guards r h c = inl (λ u. u)
+
+pub last-tags : (r : Request) (h c : ℕ) → Untagged r → Clear (lastTable r h c) → ⊥
+last-tags r h c u k = true≢false (sym (tag-means r .holds u) ∙ k .0)
+
+pub last-each : (r : Request) (h c : ℕ) → Each (λ x. (refusalNumber x ≡ 0) ⊎ (refusalNumber x ≡ 5) ⊎ (refusalNumber x ≡ 6) ⊎ (refusalNumber x ≡ 7)) (lastTable r h c)
+last-each Idle h c = (inr (inr (inr refl)), tt)
+last-each (Push x) h c = (inr (inr (inr refl)), (inr (inl refl), tt))
+last-each Pop h c = (inr (inr (inr refl)), (inr (inr (inl refl)), tt))
+last-each (Replace x) h c = (inr (inr (inr refl)), (inr (inr (inl refl)), tt))
+
+pub last-all : (P : Refusal → Type 0) → P NoTag → P Full → P Empty → (r : Request) (h c : ℕ) → Each P (lastTable r h c)
+last-all P t f e Idle h c = (t, tt)
+last-all P t f e (Push x) h c = (t, (f, tt))
+last-all P t f e Pop h c = (t, (e, tt))
+last-all P t f e (Replace x) h c = (t, (e, tt))
+
+-- in words
+pub last-ladder : (P : Ladder Refusal → Type 0) (r : Request) (h c : ℕ) → P (ladder (lastTable r h c) fine) → P (stop NoTag (Untagged r) (limits r h c fine))
+last-ladder P Idle h c p = p
+last-ladder P (Push x) h c p = p
+last-ladder P Pop h c p = p
+last-ladder P (Replace x) h c p = p
+
+-- ---- what a request comes to by a table
+pub grants-zero : (r : Request) (e : Element) → numberOf (grants r e) ≡ 0
+grants-zero Idle e = refl
+grants-zero (Push x) e = refl
+grants-zero Pop e = refl
+grants-zero (Replace x) e = refl
+
+pub grants-kind : (r : Request) (e : Element) → Kind r (grants r e)
+grants-kind Idle e = refl
+grants-kind (Push x) e = refl
+grants-kind Pop e = tt
+grants-kind (Replace x) e = tt
+
+module _ {W : Type 0} (op : Request → W) (r : Request) (e : Element) where
+  -- KIND
+  pub ruled-kind : (a : Table) → numberOf (ruled op a r e .answer) ≡ 0 → Kind r (ruled op a r e .answer)
+  ruled-kind a =
+      decided-either (λ x. ruling (Refused x) (op Idle)) (λ (g : Ruling W). numberOf (g .answer) ≡ 0 → Kind r (g .answer)) a (ruling (grants r e) (op r))
+      (each-any _ (λ x z. absurd (zero-told x (sym z))) a) (λ c z. grants-kind r e)
+
+  -- BARRED
+  pub ruled-barred : (a : Table) → Told a → Guards (Untagged r) a → Barred r (ruled op a r e .answer)
+  ruled-barred a t g =
+      decided-either (λ x. ruling (Refused x) (op Idle)) (λ (g : Ruling W). Barred r (g .answer)) a (ruling (grants r e) (op r))
+      (each-any _ (λ x u z. zero-told x (sym z)) a) (λ c u z. guarded a t g u c)
+
+  -- .. and the number is 0, or that of a refusal in the table
+  pub ruled-number : (P : ℕ → Type 0) (a : Table) → P 0 → Each (λ x. P (refusalNumber x)) a → P (numberOf (ruled op a r e .answer))
+  ruled-number P a z each =
+      decided-either (λ x. ruling (Refused x) (op Idle)) (λ (g : Ruling W). P (numberOf (g .answer))) a (ruling (grants r e) (op r))
+      each (λ c. subst P (sym (grants-zero r e)) z)
+
+  -- EXACTLY, whatever is made of a ruling: of a refused one what is left behind
+  pub ruled-exactly : {O : Type 0} (answer : O → Answer) (left : Refusal → O) → ((x : Refusal) → answer (left x) ≡ Refused x) → (f : Ruling W → O) → ((g : Ruling W) → answer (f g) ≡ g .answer)
+      → (a : Table) → Told a → Each (λ x. f (ruling (Refused x) (op Idle)) ≡ left x) a → Exactly (λ o. numberOf (answer o)) left (f (ruled op a r e)) (ladder a fine)
+  ruled-exactly answer left left-says f says a t each =
+      decided-exactly (λ o. numberOf (answer o)) left (λ x y z. refusal-told x y (ap numberOf (sym (left-says x)) ∙ z ∙ ap numberOf (left-says y))) f (λ x. ruling (Refused x) (op Idle)) a
+      (ruling (grants r e) (op r)) fine t each
+      (λ c. climb-fine (λ o. numberOf (answer o)) left _ (λ x z. zero-told x (sym (grants-zero r e) ∙ ap numberOf (sym (says (ruling (grants r e) (op r)))) ∙ z ∙ ap numberOf (left-says x))))
+
+-- ---- the same by the last rungs
+pub last-fits : (r : Request) (h c : ℕ) → Clear (lastTable r h c) → Fits r h c
+last-fits Idle h c k = tt
+last-fits (Push x) h c k = ltb-true h c (k .1 .0)
+last-fits Pop h c k = pos-of-ne-zero (eqb-false h 0 (k .1 .0))
+last-fits (Replace x) h c k = pos-of-ne-zero (eqb-false h 0 (k .1 .0))
+
+-- where the lowest is least, so is what a request gives
+pub fits-least : (held : (Element → Bool) → ℕ) (r : Request) (h c : ℕ) (e : Element) → Fits r h c → (0 < h → held (lower (e .rank .0)) ≡ 0) → Least held r (grants r e)
+fits-least held Idle h c e f l = tt
+fits-least held (Push x) h c e f l = tt
+fits-least held Pop h c e f l = λ z. l f
+fits-least held (Replace x) h c e f l = λ z. l f
+
+module _ {W : Type 0} (op : Request → W) where
+  -- only 0, 5, 6 and 7
+  pub last-number : (r : Request) (h c : ℕ) (e : Element) → let n = numberOf (ruled op (lastTable r h c) r e .answer) in (n ≡ 0) ⊎ (n ≡ 5) ⊎ (n ≡ 6) ⊎ (n ≡ 7)
+  last-number r h c e = ruled-number op r e (λ n. (n ≡ 0) ⊎ (n ≡ 5) ⊎ (n ≡ 6) ⊎ (n ≡ 7)) (lastTable r h c) (inl refl) (last-each r h c)
+
+  pub last-barred : (r : Request) (h c : ℕ) (e : Element) → Barred r (ruled op (lastTable r h c) r e .answer)
+  last-barred r h c e =
+      decided-either (λ x. ruling (Refused x) (op Idle)) (λ (g : Ruling W). Barred r (g .answer)) (lastTable r h c) (ruling (grants r e) (op r))
+      (each-any _ (λ x u z. zero-told x (sym z)) (lastTable r h c)) (λ k u z. true≢false (sym (tag-means r .holds u) ∙ k .0))
+
+  -- EXACTLY, whatever is made of a ruling
+  module _ {O : Type 0} (answer : O → Answer) (left : Refusal → O) (left-says : (x : Refusal) → answer (left x) ≡ Refused x) (f : Ruling W → O) (says : (g : Ruling W) → answer (f g) ≡ g .answer)
+      (at-no-tag : f (ruling (Refused NoTag) (op Idle)) ≡ left NoTag) (at-full : f (ruling (Refused Full) (op Idle)) ≡ left Full) (at-empty : f (ruling (Refused Empty) (op Idle)) ≡ left Empty) where
+    pub last-exactly : (r : Request) (h c : ℕ) (e : Element) → (IsPush r → h ≤ c)
+        → Exactly (λ o. numberOf (answer o)) left (f (ruled op (lastTable r h c) r e)) (stop NoTag (Untagged r) (limits r h c fine))
+    last-exactly Idle h c e most = ruled-exactly op Idle e answer left left-says f says (lastTable Idle h c) (last-told Idle h c most) (at-no-tag, tt)
+    last-exactly (Push x) h c e most = ruled-exactly op (Push x) e answer left left-says f says (lastTable (Push x) h c) (last-told (Push x) h c most) (at-no-tag, (at-full, tt))
+    last-exactly Pop h c e most = ruled-exactly op Pop e answer left left-says f says (lastTable Pop h c) (last-told Pop h c most) (at-no-tag, (at-empty, tt))
+    last-exactly (Replace x) h c e most = ruled-exactly op (Replace x) e answer left left-says f says (lastTable (Replace x) h c) (last-told (Replace x) h c most) (at-no-tag, (at-empty, tt))
+
+-- ---- a queue whose tests stand for their causes
+pub record Tested {S : Type 0} (q : Queue S) : Type 0 where
+  pub opening : (s : S) → Told (q .opening s)
+  pub clearing : (s : S) → Told (q .clearing s)
+  pub asked : (r : Request) (s : S) → Clear (q .opening s) → Told (q .asked r s)
+  pub root : (s : S) → Fails (q .rootOk s) (q .RootDamaged s)
+  pub way : (o : q .Op) (s : S) → Fails (q .wayOk o s) (q .WayDamaged o s)
+  pub late : (r : Request) (s : S) → Clear (q .opening s) → q .rootOk s ≡ true → Told (q .late r s)
+  -- no work writes nothing
+  pub stays : (s : S) → q .run (q .op Idle) s ≡ s
+  -- 7 is among the causes
+  pub tagged : (r : Request) (s : S) → Guards (Untagged r) (q .asked r s) ⊎ Guards (Untagged r) (q .late r s)
+
+-- the number that a call says
+abbrev pub said : {S : Type 0} → Outcome S → ℕ
+said o = numberOf (o .answer)
+
+module _ {S : Type 0} (q : Queue S) where
+  -- what is so of a refused call and of one that is done is so of the call
+  pub called-either : (r : Request) (s : S) (P : Outcome S → Type 0) → ((x : Refusal) → P (left s x))
+      → (Clear (q .opening s) → Clear (q .asked r s) → q .rootOk s ≡ true → q .wayOk (ruleAt q r s .op) s ≡ true → P (does q (ruleAt q r s) s)) → P (called q r s)
+  called-either r s P refused done =
+      decided-either (left s) P (q .opening s) _ (each-any _ refused (q .opening s)) (λ c.
+      decided-either (left s) P (q .asked r s) _ (each-any _ refused (q .asked r s)) (λ d. go c d (q .rootOk s) refl (q .wayOk (ruleAt q r s .op) s) refl))
+    where
+      go : Clear (q .opening s) → Clear (q .asked r s) → (a : Bool) → q .rootOk s ≡ a → (b : Bool) → q .wayOk (ruleAt q r s .op) s ≡ b
+          → P (cond a (cond b (does q (ruleAt q r s) s) (left s Damaged)) (left s Damaged))
+      go c d true e true f = done c d e f
+      go c d true e false f = refused Damaged
+      go c d false e b f = refused Damaged
+
+  pub counted-either : (s : S) (P : Count → Type 0) → ((x : Refusal) → P (Unknown x)) → P (Held (q .held s)) → P (heldCount q s)
+  counted-either s P refused held = decided-either Unknown P (q .opening s) _ (each-any _ refused (q .opening s)) (λ c. go (q .rootOk s))
+    where
+      go : (a : Bool) → P (cond a (Held (q .held s)) (Unknown Damaged))
+      go true = held
+      go false = refused Damaged
+
+  -- KIND: of a call that is not refused a push and an idle request answer done, a pop and a replace an element
+  pub kind : (r : Request) (s : S) → numberOf (called q r s .answer) ≡ 0 → Kind r (called q r s .answer)
+  kind r s =
+      called-either r s (λ o. numberOf (o .answer) ≡ 0 → Kind r (o .answer)) (λ x e. absurd (zero-told x (sym e)))
+      (λ c d o w. ruled-kind (q .op) r (q .low s) (q .late r s))
+
+  module _ (t : Tested q) where
+    -- BARRED: an element without a tag is never let in, whatever the words
+    pub barred : (r : Request) (s : S) → Barred r (called q r s .answer)
+    barred r s =
+        called-either r s (λ o. Barred r (o .answer)) (λ x u e. zero-told x (sym e))
+        (λ c d o w. ⊎-elim (λ g u e. guarded (q .asked r s) (t .asked r s c) g u d) (λ g. ruled-barred (q .op) r (q .low s) (q .late r s) (t .late r s c o) g) (t .tagged r s))
+
+    pub no-damage : (r : Request) (s : S) → q .rootOk s ≡ true → q .wayOk (ruleAt q r s .op) s ≡ true → Damage q r s → ⊥
+    no-damage r s o w = ⊎-elim (λ d. true≢false (sym o ∙ t .root s .shown d)) (λ d. true≢false (sym w ∙ t .way (ruleAt q r s .op) s .shown d))
+
+    -- ---- EXACTLY: the columns "Exactly when" and "Left behind"
+    by-damage : (r : Request) (s : S) → Clear (q .opening s)
+        → Exactly said (left s) (cond (q .rootOk s) (carriedOut q (ruleAt q r s) s) (left s Damaged)) (stop Damaged (Damage q r s) (ladder (q .late r s) fine))
+    by-damage r s c = climb-stop said (left s) refusal-told Damaged _ _ _ (go (q .rootOk s) refl (q .wayOk (ruleAt q r s .op) s) refl)
+      where
+        go : (a : Bool) → q .rootOk s ≡ a → (b : Bool) → q .wayOk (ruleAt q r s .op) s ≡ b
+            → ((Damage q r s → ⊥) × Exactly said (left s) (cond a (cond b (does q (ruleAt q r s) s) (left s Damaged)) (left s Damaged)) (ladder (q .late r s) fine))
+            ⊎ (Damage q r s × (cond a (cond b (does q (ruleAt q r s) s) (left s Damaged)) (left s Damaged) ≡ left s Damaged))
+        go true o true w =
+            inl (
+              no-damage r s o w,
+              ruled-exactly (q .op) r (q .low s) (λ (o : Outcome S). o .answer) (left s) (λ x. refl) (λ g. does q g s) (λ g. refl) (q .late r s) (t .late r s c o)
+                  (each-any _ (λ x. ap (outcome (Refused x)) (t .stays s)) (q .late r s)),
+            )
+        go true o false w = inr (inr (t .way (ruleAt q r s .op) s .found w), refl)
+        go false o b w = inr (inl (t .root s .found o), refl)
+
+    -- push, pop and replace
+    pub exactly : (r : Request) (s : S) → Exactly said (left s) (called q r s) (refusals q r s)
+    exactly r s =
+        decided-exactly said (left s) refusal-told (λ (o : Outcome S). o) (left s) (q .opening s) _ _ (t .opening s) (each-any _ (λ x. refl) (q .opening s)) (λ c.
+        decided-exactly said (left s) refusal-told (λ (o : Outcome S). o) (left s) (q .asked r s) _ _ (t .asked r s c) (each-any _ (λ x. refl) (q .asked r s)) (λ d. by-damage r s c))
+
+    pub stands : (r : Request) (s : S) (n : Refusal) → said (called q r s) ≡ refusalNumber n → called q r s ≡ left s n
+    stands r s = left-behind said (left s) (exactly r s)
+
+    pub exactly-clear : (s : S) → Exactly said (left s) (cleared q s) (clearRefusals q s)
+    exactly-clear s =
+        decided-exactly said (left s) refusal-told (λ (o : Outcome S). o) (left s) (q .clearing s) _ _ (t .clearing s) (each-any _ (λ x. refl) (q .clearing s)) (λ c.
+        climb-fine said (left s) _ (λ x e. zero-told x e))
+
+    pub exactly-held : (s : S) → Exactly countNumber Unknown (heldCount q s) (heldRefusals q s)
+    exactly-held s =
+        decided-exactly countNumber Unknown refusal-told (λ (c : Count). c) Unknown (q .opening s) _ _ (t .opening s) (each-any _ (λ x. refl) (q .opening s)) (λ c.
+        climb-stop countNumber Unknown refusal-told Damaged _ _ _ (go (q .rootOk s) refl))
+      where
+        go : (a : Bool) → q .rootOk s ≡ a
+            → ((q .RootDamaged s → ⊥) × Exactly countNumber Unknown (cond a (Held (q .held s)) (Unknown Damaged)) fine)
+            ⊎ (q .RootDamaged s × (cond a (Held (q .held s)) (Unknown Damaged) ≡ Unknown Damaged))
+        go true o = inl ((λ d. true≢false (sym o ∙ t .root s .shown d)), climb-fine countNumber Unknown _ (λ x e. zero-told x e))
+        go false o = inr (t .root s .found o, refl)

@@ -1,0 +1,87 @@
+-- Several queues in one store, each call at one of them: what is so of each follows from what each shows of itself, and from what a call at one leaves of the others. To a queue a call at another is an idle one.
+use Prim.Native.Nat.{_+_, ℕ}
+use native.Mathlib.Decide.{ℕ-discrete}
+use native.Mathlib.Omega.{arith}
+use mathlib.Core.Bool.{Bool, cond}
+use mathlib.Core.List.{[], _∷_, List, map}
+use mathlib.Core.Logic.{_⊎_, ⊎-elim}
+use mathlib.Core.Path.{_≡_, refl, subst, sym}
+use lib.Dec.{eqb}
+use borrow.Author.Tests.{eq-eqb, ne-eqb}
+use Rattle.promise.proofs.Calls.{called-either}
+use Rattle.promise.proofs.Kept.{call-sum, called-kept, IsQueue, kept-either, kept-least}
+use Rattle.promise.specs.Calls.{called, Outcome, Queue, stepping}
+use Rattle.promise.specs.Queue.{answers, leaves, leaves-keep, Step}
+use Rattle.promise.specs.Served.{allBrought, allGiven, brought, given, Least}
+use Rattle.promise.specs.Table.{Clear, each-any}
+use Rattle.strip.specs.declared.Answer.{Answer}
+use Rattle.strip.specs.declared.Element.{Element}
+use Rattle.strip.specs.declared.Request.{Request}
+use Rattle.strip.specs.declared.Request.the-variants.{Idle}
+
+-- what a list of calls of any kind brings and gives, by what each is to the one who counts
+module _ {C S : Type 0} (queue : C → S → Step Answer S) (seen : C → Request) (Kept : S → Type 0) (keep : (c : C) (s : S) → Kept s → Kept (queue c s .next)) (held : S → (Element → Bool) → ℕ)
+    (sum : (c : C) (s : S) → Kept s → (f : Element → Bool) → held (queue c s .next) f + given (seen c) (queue c s .said) f ≡ held s f + brought (seen c) (queue c s .said) f) where
+  pub seen-sum : (cs : List C) (s : S) → Kept s → (f : Element → Bool)
+      → held (leaves queue cs s) f + allGiven (map seen cs) (answers queue cs s) f ≡ held s f + allBrought (map seen cs) (answers queue cs s) f
+  unfolding leaves answers allGiven allBrought
+  seen-sum [] s kept f = refl
+  seen-sum (c ∷ cs) s kept f = omega (arith, sum c s kept f, seen-sum cs (queue c s .next) (keep c s kept) f)
+
+-- a request at one of the queues
+pub record At : Type 0 where
+  pub queue : ℕ
+  pub asks : Request
+
+-- what it is to queue i
+abbrev pub seenBy : ℕ → At → Request
+seenBy i c = cond (eqb (c .queue) i) (c .asks) Idle
+
+module _ {S : Type 0} (q : ℕ → Queue S) (Valid : ℕ → Type 0) (Kept : S → Type 0) where
+  pub record IsForest : Type 0 where
+    pub valid : (i : ℕ) → Valid i ⊎ (Valid i → ⊥)
+    pub each : (i : ℕ) → Valid i → IsQueue (q i) Kept
+    -- there is no such queue: refused
+    pub none : (i : ℕ) → (Valid i → ⊥) → (s : S) → Clear (q i .opening s) → ⊥
+    -- a call at one leaves what the others hold
+    pub apart : (i j : ℕ) → (i ≡ j → ⊥) → Valid i → (r : Request) (s : S) → Kept s → Clear (q i .asked r s) → Clear (q i .late r s) → (f : Element → Bool)
+        → q j .stored (q i .run (q i .op r) s) f ≡ q j .stored s f
+
+  abbrev pub forest : At → S → Step Answer S
+  forest c = stepping (called (q (c .queue))) (c .asks)
+
+  module _ (is : IsForest) where
+    pub forest-kept : (c : At) (s : S) → Kept s → Kept (forest c s .next)
+    forest-kept c s kept =
+        ⊎-elim (λ v. called-kept (q (c .queue)) Kept (is .each (c .queue) v) (c .asks) s kept)
+        (λ n. called-either (q (c .queue)) (c .asks) s (λ (o : Outcome S). Kept (o .words)) (λ x. kept) (λ k d o w. absurd (is .none (c .queue) n s k))) (is .valid (c .queue))
+
+    -- what a call at another leaves
+    stands-apart : (c : At) (s : S) → Kept s → (j : ℕ) → (c .queue ≡ j → ⊥) → (f : Element → Bool) → q j .stored (forest c s .next) f ≡ q j .stored s f
+    stands-apart c s kept j ne f =
+        ⊎-elim
+        (λ v. kept-either (q (c .queue)) Kept (is .each (c .queue) v) (c .asks) s kept (λ (o : Outcome S). q j .stored (o .words) f ≡ q j .stored s f) (each-any _ (λ x. refl) (q (c .queue) .asked (c .asks) s))
+        (each-any _ (λ x. refl) (q (c .queue) .late (c .asks) s)) (λ d k. is .apart (c .queue) j ne v (c .asks) s kept d k f))
+        (λ n. called-either (q (c .queue)) (c .asks) s (λ (o : Outcome S). q j .stored (o .words) f ≡ q j .stored s f) (λ x. refl) (λ k d o w. absurd (is .none (c .queue) n s k))) (is .valid (c .queue))
+
+    forest-sum : (j : ℕ) → Valid j → (c : At) (s : S) → Kept s → (f : Element → Bool)
+        → q j .stored (forest c s .next) f + given (seenBy j c) (forest c s .said) f ≡ q j .stored s f + brought (seenBy j c) (forest c s .said) f
+    forest-sum j v c s kept f = elim (ℕ-discrete (c .queue) j) [ yes e ↦ here e | no e ↦ there e ]
+      where
+        here : c .queue ≡ j → q j .stored (forest c s .next) f + given (seenBy j c) (forest c s .said) f ≡ q j .stored s f + brought (seenBy j c) (forest c s .said) f
+        here e =
+            rw (eq-eqb (c .queue) j e)
+            (subst (λ (i : ℕ). q i .stored (forest c s .next) f + given (c .asks) (forest c s .said) f ≡ q i .stored s f + brought (c .asks) (forest c s .said) f) e
+            (call-sum (q (c .queue)) Kept (is .each (c .queue) (subst Valid (sym e) v)) (c .asks) s kept f))
+
+        there : (c .queue ≡ j → ⊥) → q j .stored (forest c s .next) f + given (seenBy j c) (forest c s .said) f ≡ q j .stored s f + brought (seenBy j c) (forest c s .said) f
+        there ne = rw (ne-eqb (c .queue) j ne) (omega (arith, stands-apart c s kept j ne f))
+
+    -- HOLDS, queue by queue, over any list of calls at any of them
+    pub forest-holds : (j : ℕ) → Valid j → (cs : List At) (s : S) → Kept s → (f : Element → Bool)
+        → q j .stored (leaves forest cs s) f + allGiven (map (seenBy j) cs) (answers forest cs s) f ≡ q j .stored s f + allBrought (map (seenBy j) cs) (answers forest cs s) f
+    forest-holds j v cs s kept f = seen-sum forest (seenBy j) Kept forest-kept (q j .stored) (forest-sum j v) cs s kept f
+
+    -- LEAST, of a call at any of them after any list of calls
+    pub forest-least : (cs : List At) (s : S) → Kept s → (i : ℕ) → Valid i → (r : Request) → Least (q i .stored (leaves forest cs s)) r (called (q i) r (leaves forest cs s) .answer)
+    forest-least cs s kept i v r = kept-least (q i) Kept (is .each i v) r (leaves forest cs s) (leaves-keep forest Kept forest-kept cs s kept)

@@ -1,0 +1,7 @@
+pub mod Calls
+pub mod Kept
+pub mod Drains
+pub mod Clock
+pub mod Forest
+pub mod Promised
+pub mod Ticked

@@ -1,0 +1,57 @@
+-- A queue that shows `Tested` and `IsQueue` keeps all promises.
+use Prim.Native.Nat.{ℕ}
+use mathlib.Core.List.{List}
+use mathlib.Core.Logic.{_⊎_, inl, inr}
+use mathlib.Core.Path.{_≡_, refl}
+use Rattle.promise.proofs.Calls as calls
+use Rattle.promise.proofs.Calls.{Tested}
+use Rattle.promise.proofs.Kept as kept
+use Rattle.promise.proofs.Kept.{IsQueue, Swaps}
+use Rattle.promise.specs.Calls.{Queue}
+use Rattle.promise.specs.Promised.{after, Answers, OneOf, Promised, Replaces}
+use Rattle.promise.specs.Queue.{pins}
+use Rattle.promise.specs.Table.{bars, Clear, Each, ends, needs, stops, Table}
+use Rattle.strip.specs.Answers.{refusalNumber}
+use Rattle.strip.specs.declared.Request.{Request}
+
+-- every refusal of a table is one of it
+pub each-of : (P : ℕ → Type 0) (a : Table) → ((n : ℕ) → OneOf a n → P n) → Each (λ x. P (refusalNumber x)) a
+each-of P ends f = tt
+each-of P (needs x t Q l) f = (f (refusalNumber x) (inl refl), each-of P l (λ n o. f n (inr o)))
+each-of P (stops x t D l) f = (f (refusalNumber x) (inl refl), each-of P l (λ n o. f n (inr o)))
+each-of P (bars x t D l) f = (f (refusalNumber x) (inl refl), each-of P l (λ n o. f n (inr o)))
+
+module _ {S : Type 0} (q : Queue S) where
+  pub answers-so : Tested q → Answers q
+  answers-so t =
+      record {
+        exactly = calls.exactly q t;
+        exactly-clear = calls.exactly-clear q t;
+        exactly-held = calls.exactly-held q t;
+        kind = calls.kind q;
+        barred = calls.barred q t;
+        pinned = λ s. record { clear = pins _; push = λ x. pins _; pop = pins _; replace = λ x. pins _; held = pins _ };
+      }
+
+  module _ (Kept : S → Type 0) (is : IsQueue q Kept) (rs : List Request) (s : S) (fits : Clear (q .clearing s)) where
+    -- 0, or the number of a rung
+    abbrev Said : Request → ℕ → Type 0
+    Said r n = (n ≡ 0) ⊎ OneOf (q .asked r (after q rs s)) n ⊎ OneOf (q .late r (after q rs s)) n
+
+    pub promised-so : Promised q rs s
+    promised-so =
+        record {
+          holds = kept.holds q Kept is s fits rs;
+          triples = kept.triples q Kept is s fits rs;
+          tagged = kept.tagged q Kept is s fits rs;
+          least = kept.least q Kept is s fits rs;
+          shape-kept = kept.shape-kept q Kept is s fits rs;
+          undamaged = kept.undamaged q Kept is s fits rs;
+          numbers = λ r.
+              kept.kept-numbers q Kept is r (after q rs s) (kept.after-kept q Kept is s fits rs) (Said r) (inl refl) (each-of (Said r) (q .asked r (after q rs s)) (λ n o. inr (inl o)))
+              (each-of (Said r) (q .late r (after q rs s)) (λ n o. inr (inr o)));
+          held-says = kept.held-says q Kept is s fits rs;
+        }
+
+    pub replaces-so : Swaps q Kept is → Replaces q rs s
+    replaces-so sw x tag first = kept.pop-then-push q Kept is s fits rs sw x tag first
