@@ -13,7 +13,7 @@ use Rattle.clocked_model.specs.Cases.{caseEmpty, caseEmptySays, caseLost, caseL
 use Rattle.clocked_model.specs.Cases as clock
 use Rattle.cluster_clock_model.specs.Cases.{caseClock, caseClockSays, caseFlight, caseFlightAnswers, caseFlightAnswersSay, caseFlightSays, caseTie, caseTieAnswers, caseTieAnswersSay, caseTieSays}
 use Rattle.cluster_model.specs.Cases.{caseCluster, caseClusterAnswers, caseClusterAnswersSay, caseClusterSays}
-use Rattle.fair_model.specs.Cases.{caseFair, caseFairSays, caseServed, caseServedSays, caseSpent, caseSpentSays, caseWords, caseWordsSays}
+use Rattle.fair_model.specs.Cases.{caseFair, caseFairSays, caseReset, caseResetSays, caseServed, caseServedSays, caseSpent, caseSpentSays, caseWords, caseWordsSays}
 use Rattle.promise.specs.Queue.{answers}
 use Rattle.strip.specs.Answers.{countNumber, countOf, element, lengthOf, numberOf, rankOf, tagOf}
 use Rattle.strip.specs.declared.Answer.{Answer}
@@ -131,11 +131,12 @@ table =
     ∷ answersAre (map told (getD caseClusterAnswers 0 [])) (map told (getD caseClusterAnswersSay 0 []))
     -- .. of equal ranks in one node the lower tag first, and 6 on the empty heap
     ∷ answersAre (map told (getD caseClusterAnswers 1 [])) (map told (getD caseClusterAnswersSay 1 []))
-    -- [10] fair ranks: the bound of two flows reached; every refusal, what is served, and the state's words; the largest finish, and 10 before the queue's 1
+    -- [10] fair ranks: the bound of two flows reached; every refusal, what is served, and the state's words; the largest finish, and 10 before the queue's 1; a reset
     ∷ sums caseServed caseServedSays
     ∷ answersAre caseFair caseFairSays
     ∷ wordsAre caseWords caseWordsSays
     ∷ answersAre caseSpent caseSpentSays
+    ∷ wordsAre caseReset caseResetSays
     -- [5] the cluster heap by cycles, K = 2, levels 2: the record of level 2 as six numbers, and the words: four pushes, then a pop; a pop and a push; a replace;
     -- and one cycle later
     ∷ wordsAre caseClock caseClockSays

@@ -8,3 +8,4 @@ pub mod Promises
 pub mod Below
 pub mod Cases
 pub mod Slice
+pub mod Leaves
