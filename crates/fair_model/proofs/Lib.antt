@@ -1,3 +1,5 @@
+pub mod Table
+pub mod Steps
 pub mod Chain
 pub mod Orderly
 pub mod Bound
