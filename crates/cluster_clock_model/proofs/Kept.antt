@@ -18,7 +18,7 @@ use Rattle.cluster_clock_model.proofs.Flight.{cycle, cycles, Inv, lowOf
 use Rattle.cluster_clock_model.proofs.Seen.{begins-length, commutes, handed-in, InRange, level-length, node-apart, noteSeen, pass-length, pass-others, pass-records, Ranged, ranged-set, settled-length, Spans, treeIn, filled-length}
 use Rattle.cluster_clock_model.specs.declared.Stage.{Stage}
 use Rattle.cluster_clock_model.specs.Calls.{askedOk, turned, TurnOutcome, turnRun}
-use Rattle.cluster_clock_model.specs.Promise.{clock, Machine}
+use Rattle.cluster_clock_model.specs.Promise.{clock, Machine, turnQueue}
 use Rattle.cluster_clock_model.specs.Stage.{begins, below, childOf, filled, handed, levelStage, levelWords, loaded, noStage, noteOf, pass, settled, stageAt, waits, work, Work, worked}
 use Rattle.cluster_clock_model.specs.Test.{saneAt, stagesOk}
 use Rattle.cluster_model.specs.Calls.{heldIn, opOf, rootHeld, ruleAt}
@@ -34,7 +34,7 @@ use Rattle.cluster_model.proofs.Pass.{touch-only}
 use Rattle.cluster_model.proofs.Slice.{node-total, slice}
 use Rattle.laws.specs.Tests.{and-true, or-right}
 use Rattle.promise.proofs.Calls.{fits-least, last-fits}
-use Rattle.promise.proofs.Clock.{IsClock}
+use Rattle.promise.proofs.InFlight.{IsClock}
 use Rattle.promise.specs.Calls.{Fits, grants, lastTable}
 use Rattle.promise.specs.Served.{always, brought, given, Least, lower}
 use Rattle.promise.specs.Table.{Clear}
@@ -216,7 +216,7 @@ module _ (K k : ℕ) (x : Machine) (kept : Kept K k x) where
     move-least = fits-least inFlight r (heldIn K (suc k) ws) (room K (suc k)) top (last-fits r (heldIn K (suc k) ws) (room K (suc k)) c) root-least
 
 -- it is a clock
-pub is-clock : (K k : ℕ) → IsClock (clock K (suc k)) (Kept K k)
+pub is-clock : (K k : ℕ) → IsClock (clock K (suc k)) (turnQueue K (suc k)) (Kept K k)
 is-clock K k =
     record {
       ticks = ticks K (suc k);

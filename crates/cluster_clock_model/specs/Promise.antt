@@ -9,8 +9,8 @@ use lib.Dec.{ltb}
 use lib.ListN.{length, replicate}
 use Rattle.clocked_model.specs.Lost.{Call}
 use Rattle.promise.specs.Calls.{grants, lastTable}
-use Rattle.promise.specs.Clock.{Clock, cycle, drain}
-use Rattle.clocked_model.specs.Promise.{Asks, isBadShape, runsIdle}
+use Rattle.promise.specs.Clock.{Clock, cycle, drain, runsIdle}
+use Rattle.clocked_model.specs.Promise.{Asks, isBadShape}
 use Rattle.cluster_clock_model.specs.declared.Due.{Due}
 use Rattle.cluster_clock_model.specs.declared.Due.the-variants.{Fill, Nothing, Put, Swap}
 use Rattle.cluster_clock_model.specs.declared.Stage.{Stage}
@@ -116,7 +116,6 @@ clock K levels =
       soundOk = λ r x. askedOk K levels r (x .words) && stagesOk K (pred levels) 0 0 (x .records) (x .words);
       Torn = λ r x. TurnDamage K levels r (x .records) (x .words);
       late = λ r x. lastTable r (heldIn K levels (x .words)) (room K levels);
-      runsIdle = runsIdle;
       gives = λ r x. grants r (lowElem (nodeIn K (x .words) 0 .places));
       moves = λ r x. let p = pass K (pred levels) 0 (work (opOf r) 0) 0 (x .records) (x .words) in machine (p .records) (p .words);
       rootOk = λ x. saneAt K (room K (pred levels)) (x .words) 0;

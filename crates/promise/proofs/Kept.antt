@@ -72,6 +72,49 @@ given-out a e f = ap (λ (n : ℕ). unrefused n (hit (f (elementOf a)))) e
 pub brought-in : (x : Element) (a : Answer) → numberOf a ≡ 0 → (f : Element → Bool) → brought (Replace x) a f ≡ hit (f x)
 brought-in x a e f = ap (λ (n : ℕ). unrefused n (hit (f x))) e
 
+-- ---- POP-THEN-PUSH, of any calls: a replace that is answered as a pop is, refused leaves what the refused pop leaves, and where it is not refused the push after the
+-- pop is taken; and of each of the three the elements change as it says
+module _ {S : Type 0} (calls : Request → S → Outcome S) (stored : S → (Element → Bool) → ℕ) where
+  -- what is held then, with what is given, is what was held and what is brought
+  abbrev pub Sums : Request → S → Type 0
+  Sums r s = (f : Element → Bool) → stored (calls r s .words) f + given r (calls r s .answer) f ≡ stored s f + brought r (calls r s .answer) f
+
+  module _ (x : Element) (s : S) (behind : Refusal → Outcome S) (stands : (r : Request) (n : Refusal) → numberOf (calls r s .answer) ≡ refusalNumber n → calls r s ≡ behind n)
+      (same-answer : calls (Replace x) s .answer ≡ calls Pop s .answer) (taken : numberOf (calls (Replace x) s .answer) ≡ 0 → calls (Push x) (calls Pop s .words) .answer ≡ Done)
+      (swap : Sums (Replace x) s) (pop : Sums Pop s) (push : Sums (Push x) (calls Pop s .words)) where
+    abbrev swapped : Answer
+    swapped = calls (Replace x) s .answer
+
+    stand : (numberOf swapped ≡ 0 → ⊥) → calls (Replace x) s ≡ calls Pop s
+    stand h = go swapped refl
+      where
+        go : (b : Answer) → swapped ≡ b → calls (Replace x) s ≡ calls Pop s
+        go Done e = absurd (h (ap numberOf e))
+        go (Out y) e = absurd (h (ap numberOf e))
+        go (Refused n) e = stands (Replace x) n (ap numberOf e) ∙ sym (stands Pop n (ap numberOf (sym same-answer ∙ e)))
+
+    pop-sum : numberOf swapped ≡ 0 → (f : Element → Bool) → stored (calls Pop s .words) f + hit (f (elementOf swapped)) ≡ stored s f
+    pop-sum e f =
+        let p : numberOf (calls Pop s .answer) ≡ 0 = ap numberOf (sym same-answer) ∙ e in
+        omega (arith, pop f, given-out (calls Pop s .answer) p f, ap (λ (b : Answer). hit (f (elementOf b))) same-answer)
+
+    replace-sum : numberOf swapped ≡ 0 → (f : Element → Bool) → stored (calls (Replace x) s .words) f + hit (f (elementOf swapped)) ≡ stored s f + hit (f x)
+    replace-sum e f = omega (arith, swap f, given-out swapped e f, brought-in x swapped e f)
+
+    push-sum : numberOf swapped ≡ 0 → (f : Element → Bool) → stored (calls (Push x) (calls Pop s .words) .words) f ≡ stored (calls Pop s .words) f + hit (f x)
+    push-sum e f = omega (arith, push f, ap (λ (b : Answer). brought (Push x) b f) (taken e))
+
+    pub replaces-by : PopThenPush calls stored x s
+    unfolding leaves
+    replaces-by =
+        record {
+          answer = same-answer;
+          refused = stand;
+          taken = taken;
+          stores = λ e f. omega (arith, replace-sum e f, pop-sum e f, push-sum e f);
+          swapped = λ y e f. omega (arith, replace-sum (ap numberOf e) f, ap (λ (b : Answer). hit (f (elementOf b))) e);
+        }
+
 -- a ruling that is not refused has passed the table
 ruled-clear : {W : Type 0} (op : Request → W) (r : Request) (e : Element) (a : Table) → numberOf (ruled op a r e .answer) ≡ 0 → Clear a
 ruled-clear {W} op r e a =
@@ -181,14 +224,6 @@ module _ {S : Type 0} (q : Queue S) (Kept : S → Type 0) (is : IsQueue q Kept) 
         ap (λ (o : Outcome S). o .answer) (kept-called (Replace x) s kept first) ∙ sw .alike x s kept tag
         ∙ sym (ap (λ (o : Outcome S). o .answer) (kept-called Pop s kept (sw .pops s)))
 
-    stand : (numberOf a ≡ 0 → ⊥) → called q (Replace x) s ≡ called q Pop s
-    stand h = go a refl
-      where
-        go : (b : Answer) → a ≡ b → called q (Replace x) s ≡ called q Pop s
-        go Done e = absurd (h (ap numberOf e))
-        go (Out y) e = absurd (h (ap numberOf e))
-        go (Refused n) e = stands q (is .tested) (Replace x) s n (ap numberOf e) ∙ sym (stands q (is .tested) Pop s n (ap numberOf (sym same-answer ∙ e)))
-
     -- the pop is let in, and so is the push on what it leaves
     pop-clear : numberOf a ≡ 0 → Clear (q .late Pop s)
     pop-clear e =
@@ -202,27 +237,9 @@ module _ {S : Type 0} (q : Queue S) (Kept : S → Type 0) (is : IsQueue q Kept) 
         subst (λ (v : S). called q (Push x) v .answer ≡ Done) (sym (ap (λ (o : Outcome S). o .words) (let-in Pop s kept (sw .pops s) c)))
         (ap (λ (o : Outcome S). o .answer) (let-in (Push x) (q .run (q .op Pop) s) (is .keeps Pop s kept (sw .pops s) c) (r .0) (r .1)))
 
-    pop-sum : numberOf a ≡ 0 → (f : Element → Bool) → q .stored vs f + hit (f (elementOf a)) ≡ q .stored s f
-    pop-sum e f =
-        let p : numberOf (called q Pop s .answer) ≡ 0 = ap numberOf (sym same-answer) ∙ e in
-        omega (arith, call-sum Pop s kept f, given-out (called q Pop s .answer) p f, ap (λ (b : Answer). hit (f (elementOf b))) same-answer)
-
-    replace-sum : numberOf a ≡ 0 → (f : Element → Bool) → q .stored (called q (Replace x) s .words) f + hit (f (elementOf a)) ≡ q .stored s f + hit (f x)
-    replace-sum e f = omega (arith, call-sum (Replace x) s kept f, given-out a e f, brought-in x a e f)
-
-    push-sum : numberOf a ≡ 0 → (f : Element → Bool) → q .stored (called q (Push x) vs .words) f ≡ q .stored vs f + hit (f x)
-    push-sum e f = omega (arith, call-sum (Push x) vs popped f, ap (λ (b : Answer). brought (Push x) b f) (push-taken e))
-
     pub kept-replaces : PopThenPush (called q) (q .stored) x s
-    unfolding leaves
     kept-replaces =
-        record {
-          answer = same-answer;
-          refused = stand;
-          taken = push-taken;
-          stores = λ e f. omega (arith, replace-sum e f, pop-sum e f, push-sum e f);
-          swapped = λ y e f. omega (arith, replace-sum (ap numberOf e) f, ap (λ (b : Answer). hit (f (elementOf b))) e);
-        }
+        replaces-by (called q) (q .stored) x s (left s) (λ r. stands q (is .tested) r s) same-answer push-taken (call-sum (Replace x) s kept) (call-sum Pop s kept) (call-sum (Push x) vs popped)
 
   -- .. of a queue that has no more to ask than its tag and its limits
   module _ (cap : ℕ) (last : (r : Request) (s : S) (P : Table → Type 0) → P (lastTable r (q .held s) cap) → P (q .late r s)) (free : (r : Request) (s : S) → Clear (q .asked r s))

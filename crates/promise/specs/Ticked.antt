@@ -7,8 +7,7 @@ use mathlib.Core.Logic.{_⊎_}
 use mathlib.Core.Path.{_≡_}
 use Rattle.laws.specs.Ladder.{Exactly}
 use Rattle.promise.specs.Calls.{Outcome}
-use Rattle.promise.specs.Clock.{Call, calls, Clock, cycled, cycleLeft, cycleRefusals, cycling, sees, ticks}
-use Rattle.promise.specs.Drains.{drainsBy, idled}
+use Rattle.promise.specs.Clock.{Call, calls, Clock, cycled, cycleLeft, cycleRefusals, cycling, drainedBy, rested, sees}
 use Rattle.promise.specs.Promised.{OneOf}
 use Rattle.promise.specs.Queue.{answers, leaves}
 use Rattle.promise.specs.Served.{Holds, Least}
@@ -39,9 +38,9 @@ module _ {C M : Type 0} (k : Clock C M) where
       pub shape : k .Shape (ran cs x)
       pub numbers : (c : C) → let n = numberOf (cycled k c (ran cs x) .answer) in (n ≡ 0) ⊎ OneOf (k .late c (ran cs x)) n
       -- so many idle cycles bring it to rest
-      pub rests : k .pending (idled (ticks k (cycling k)) most (ran cs x)) ≡ false
+      pub rests : k .pending (rested k (cycling k) most (ran cs x)) ≡ false
       -- a drain with that budget or more is not refused, runs no more, and leaves no work
-      pub drains : (b : ℕ) → most ≤ b → let d = drainsBy (ticks k (cycling k)) (k .pending) (k .shapeOk (ran cs x)) b (ran cs x) in (numberOf (d .answer) ≡ 0) × (d .cycles ≤ most) × (d .left ≡ false)
+      pub drains : (b : ℕ) → most ≤ b → let d = drainedBy k (cycling k) b (ran cs x) in (numberOf (d .answer) ≡ 0) × (d .cycles ≤ most) × (d .left ≡ false)
 
     -- cycles and drains mixed
     abbrev pub NothingLost : List (Call C) → M → Type 0
