@@ -1,6 +1,6 @@
 -- The promises: from a cleared machine, over any list of cycles, nothing is damaged and nothing too soon; in the middle of any work the places and the pending puts
 -- hold exactly what went in and has not come out, and what comes out has the lowest rank; and a drain leaves a sound heap.
-use Prim.Native.Nat.{_+_, _<_, _≤_, pred, suc, zero, ℕ}
+use Prim.Native.Nat.{_+_, _≤_, pred, suc, zero, ℕ}
 use native.Mathlib.Nat.{not-suc-le-zero}
 use native.Mathlib.Omega.{arith}
 use mathlib.Core.Bool.{Bool, false, not, true, true≢false}
@@ -22,17 +22,16 @@ use Rattle.cluster_clock_model.proofs.Seen.{treeIn}
 use Rattle.cluster_clock_model.specs.declared.Stage.{Stage}
 use Rattle.cluster_clock_model.specs.Calls.{clockHeld, DrainOutcome, drains, quiet, turned}
 use Rattle.cluster_clock_model.specs.Promise.{AtRest, callAnswers, clearedMachine, clock, idles, Machine, machine, machineQueue, Pinned, ran, ranCalls, remaining, turnAnswers, TurnDamage, turnQueue}
-use Rattle.cluster_model.specs.Calls.{heldIn, rule, ruleAt, Ruling}
+use Rattle.cluster_model.specs.Calls.{heldIn, rule, ruleAt}
 use Rattle.cluster_model.specs.Heap.{room, Sound}
 use Rattle.cluster_model.specs.Node.{low, lowElem, Place}
 use Rattle.cluster_model.specs.Promise.{Shape, storedCount}
 use Rattle.cluster_model.specs.Way.{heapIn, nodeIn}
 use Rattle.cluster_model.proofs.Rules.{comes, lowest-is}
-use Rattle.cluster_model.specs.Rules as rules
-use Rattle.cluster_model.specs.Rules.{Comes, empty, full, IsLowest, lacks, no-tag, puts, swaps, takes}
+use Rattle.cluster_model.specs.Rules.{IsLowest}
 use Rattle.promise.specs.Queue.{leaves-keep, pins, step}
 use Rattle.laws.specs.Means.{means-off}
-use Rattle.promise.proofs.Calls.{grants-kind, last-each}
+use Rattle.promise.proofs.Calls.{comes-out, grants-kind, last-each}
 use Rattle.promise.proofs.Kept.{last-alike}
 use Rattle.promise.specs.Calls.{outcome, PopThenPush}
 use Rattle.promise.specs.Refused.{Untagged, untagged-means}
@@ -41,22 +40,11 @@ use Rattle.promise.proofs.InFlight.{Bag, Lowest, Swaps}
 use Rattle.promise.specs.Drains.{Drained}
 use Rattle.promise.specs.Served.{allBrought, allGiven, always, brought, given, Holds, Least, least-same, triple}
 use Rattle.promise.specs.Tagged.{Tagged, tagged-by}
-use Rattle.strip.specs.Answers.{countNumber, countOf, elementOf, numberOf}
+use Rattle.strip.specs.Answers.{countNumber, countOf, numberOf}
 use Rattle.strip.specs.declared.Answer.the-variants.{Out}
 use Rattle.strip.specs.declared.Element.{Element}
 use Rattle.strip.specs.declared.Request.{Request}
 use Rattle.strip.specs.declared.Request.the-variants.{Idle, Replace}
-
--- what a request gives is the element named, of a queue that is not empty
-comes-out : (c h : ℕ) (t e : Element) (r : Request) (g : Ruling) → Comes c h t r g → g .answer ≡ Out e → (t ≡ e) × (0 < h)
-comes-out c h t e r g rules.idles q = absurd (let z : _≡_ {A = ℕ} 0 1 = cc in omega arith)
-comes-out c h t e r g (no-tag r′ u) q = absurd (let z : _≡_ {A = ℕ} 0 1 = cc in omega arith)
-comes-out c h t e r g (puts x u p) q = absurd (let z : _≡_ {A = ℕ} 0 1 = cc in omega arith)
-comes-out c h t e r g (full x u p) q = absurd (let z : _≡_ {A = ℕ} 0 1 = cc in omega arith)
-comes-out c h t e r g (takes p) q = (ap elementOf q, p)
-comes-out c h t e r g (empty p) q = absurd (let z : _≡_ {A = ℕ} 0 1 = cc in omega arith)
-comes-out c h t e r g (swaps x u p) q = (ap elementOf q, p)
-comes-out c h t e r g (lacks x u p) q = absurd (let z : _≡_ {A = ℕ} 0 1 = cc in omega arith)
 
 -- ---- what remains is what the clock holds
 module _ (K k : ℕ) where

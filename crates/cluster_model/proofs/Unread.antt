@@ -12,17 +12,17 @@ use lib.ListN.{getD, length, length-set, set}
 use lib.Seq.{getD-set-other, getD-set-same}
 use borrow.Author.Tests.{eq-eqb, leb-true}
 use Rattle.laws.specs.Tests.{and-left, and-right}
+use Rattle.promise.proofs.Calls.{unread-by}
 use Rattle.promise.specs.Served.{always}
 use Rattle.strip.specs.declared.Element.{Element}
 use Rattle.strip.specs.declared.Request.{Request}
-use Rattle.cluster_model.specs.Calls.{called, heldCount, Outcome, rootHeld, rootOk, rule, ruleAt, Ruling, shapeOk}
+use Rattle.cluster_model.specs.Calls.{called, heap, heldCount, rootHeld, rootOk, rule, ruleAt, Ruling}
 use Rattle.cluster_model.specs.Heap.{room}
 use Rattle.cluster_model.specs.Node.{begin, finish, Finished, inside, lhs, low, lowElem, Node, none, nothingBelow, Op, Place, put, rhs, Side, swap, take}
 use Rattle.cluster_model.specs.Promise.{Agree, Shape}
 use Rattle.cluster_model.specs.Way.{child, childrenOk, extent, Lies, lowIn, neatTo, nodeIn, nodeOk, ownOk, readOk, roomy, runWords, some, stepIn, strict, touch, under1, wayOk, works}
 use Rattle.cluster_model.specs.Words.{lengthIn, markOf, neatPlace, rankIn, tagIn, width, writeNode, writePlace, writeRow}
 use Rattle.cluster_model.proofs.Damages.{is-shape}
-use Rattle.cluster_model.proofs.Exactly.{called-fine, called-root, called-way}
 use Rattle.cluster_model.proofs.Slice.{lies-all}
 use Rattle.cluster_model.proofs.Words.{node-local}
 
@@ -182,28 +182,10 @@ module _ (K levels : ℕ) (ws vs : List ℕ) (sh : Shape K levels (length ws)) (
 
     -- UNREAD
     pub unread : (called K levels r ws .answer ≡ called K levels r vs .answer) × Agree (extent K levels 1) (called K levels r ws .words) (called K levels r vs .words)
-    unread = go (rootOk K levels ws) refl (wayOk K levels o 0 ws) refl
-      where
-        s : shapeOk K levels (length ws) ≡ true
-        s = is-shape K levels (length ws) sh
-
-        z : shapeOk K levels (length vs) ≡ true
-        z = is-shape K levels (length vs) zh
-
-        pair : (a b : Outcome) → called K levels r ws ≡ a → called K levels r vs ≡ b → (a .answer ≡ b .answer) × Agree (extent K levels 1) (a .words) (b .words)
-            → (called K levels r ws .answer ≡ called K levels r vs .answer) × Agree (extent K levels 1) (called K levels r ws .words) (called K levels r vs .words)
-        pair a b p q i = rw (p, q) i
-
-        go : (a : Bool) → rootOk K levels ws ≡ a → (b : Bool) → wayOk K levels (ruleAt K levels r ws .op) 0 ws ≡ b
-            → (called K levels r ws .answer ≡ called K levels r vs .answer) × Agree (extent K levels 1) (called K levels r ws .words) (called K levels r vs .words)
-        go false p b w = pair _ _ (called-root K levels r ws s p) (called-root K levels r vs z (sym same-test ∙ p)) (refl, agree)
-        go true p false w = pair _ _ (called-way K levels r ws s p w) (called-way K levels r vs z (sym same-test ∙ p) (sym same-path ∙ w)) (refl, agree)
-        go true p true w =
-            pair _ _ (called-fine K levels r ws s p w) (called-fine K levels r vs z (sym same-test ∙ p) (sym same-path ∙ w)) (
-              ap (λ (g : Ruling). g .answer) same-rule,
-              subst (λ (g : Ruling). Agree (extent K levels 1) (runWords K levels (ruleAt K levels r ws .op) 0 ws) (runWords K levels (g .op) 0 vs)) same-rule
-                  (like-run K (extent K levels 1) ws vs both levels (ruleAt K levels r ws .op) 0 (lies-all K levels (extent K levels 1) (omega arith)) .same),
-            )
+    unfolding called rule
+    unread =
+        unread-by (heap K levels) (Agree N) r ws vs (is-shape K levels (length ws) sh, tt) (is-shape K levels (length vs) zh, tt) tt tt same-test same-rule same-path agree (λ w.
+        subst (λ (g : Ruling). Agree N (runWords K levels o 0 ws) (runWords K levels (g .op) 0 vs)) same-rule (like-run K N ws vs both levels o 0 (lies-all K levels N (omega arith)) .same))
 
   pub unread-held : heldCount K levels ws ≡ heldCount K levels vs
   unfolding heldCount

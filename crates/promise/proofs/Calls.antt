@@ -6,19 +6,20 @@ use native.Mathlib.Omega.{arith}
 use mathlib.Core.Bool.{Bool, cond, false, false≢true, true, true≢false}
 use mathlib.Core.Logic.{_⊎_, inl, inr, ⊎-elim}
 use mathlib.Core.Path.{_∙_, _≡_, ap, refl, subst, sym}
-use lib.Dec.{ltb}
-use borrow.Author.Tests.{eqb-false, le-ltb, ltb-false, ltb-true}
+use lib.Dec.{eqb, ltb}
+use borrow.Author.Tests.{eqb-false, eqb-true, le-ltb, ltb-false, ltb-true}
 use Rattle.laws.specs.Fails.{Fails}
 use Rattle.laws.specs.Ladder.{climb-fine, climb-stop, Exactly, fine, Ladder, left-behind, stop}
-use Rattle.laws.specs.Means.{Means, means-eqb}
-use Rattle.promise.specs.Calls.{called, carriedOut, cleared, clearRefusals, Damage, does, Fits, grants, heldCount, heldRefusals, lacksTag, lastTable, left, Outcome, outcome, Queue, refusals, ruleAt, ruled, Ruling, ruling}
+use Rattle.laws.specs.Means.{Means, means-eqb, means-no}
+use Rattle.laws.specs.Tests.{cond-both}
+use Rattle.promise.specs.Calls.{called, carriedOut, cleared, clearRefusals, Comes, Damage, does, empty, Fits, full, grants, heldCount, heldRefusals, idles, lacks, lacksTag, lastTable, left, no-tag, Outcome, outcome, puts, Queue, refusals, ruleAt, ruled, Ruling, ruling, swaps, takes}
 use Rattle.promise.specs.Refused.{IsPush, limits, refusal-told, Untagged, untagged-means, zero-told}
-use Rattle.promise.specs.Served.{Kind, Least, lower}
-use Rattle.promise.specs.Table.{Clear, decided-either, decided-exactly, Each, each-any, guarded, Guards, ladder, Table, Told}
+use Rattle.promise.specs.Served.{IsOut, Kind, Least, lower}
+use Rattle.promise.specs.Table.{Clear, decided-clear, decided-either, decided-exactly, Each, each-any, guarded, Guards, ladder, Table, Told}
 use Rattle.promise.specs.Tagged.{Barred}
-use Rattle.strip.specs.Answers.{countNumber, numberOf, refusalNumber}
+use Rattle.strip.specs.Answers.{countNumber, elementOf, numberOf, refusalNumber, untagged}
 use Rattle.strip.specs.declared.Answer.{Answer}
-use Rattle.strip.specs.declared.Answer.the-variants.{Refused}
+use Rattle.strip.specs.declared.Answer.the-variants.{Done, Out, Refused}
 use Rattle.strip.specs.declared.Count.{Count}
 use Rattle.strip.specs.declared.Count.the-variants.{Held, Unknown}
 use Rattle.strip.specs.declared.Element.{Element}
@@ -109,6 +110,20 @@ module _ {W : Type 0} (op : Request → W) (r : Request) (e : Element) where
       (ruling (grants r e) (op r)) fine t each
       (λ c. climb-fine (λ o. numberOf (answer o)) left _ (λ x z. zero-told x (sym (grants-zero r e) ∙ ap numberOf (sym (says (ruling (grants r e) (op r)))) ∙ z ∙ ap numberOf (left-says x))))
 
+-- an element that is given out is the lowest, of a queue that is not empty
+pub is-out : (a : Answer) (e : Element) → a ≡ Out e → IsOut a
+is-out a e p = subst IsOut (sym p) tt
+
+pub comes-out : {W : Type 0} {none take : W} {put swap : Element → W} (c h : ℕ) (t e : Element) (r : Request) (g : Ruling W) → Comes none put take swap c h t r g → g .answer ≡ Out e → (t ≡ e) × (0 < h)
+comes-out c h t e r g idles q = absurd (is-out Done e q)
+comes-out c h t e r g (no-tag r′ u) q = absurd (is-out (Refused NoTag) e q)
+comes-out c h t e r g (puts x u p) q = absurd (is-out Done e q)
+comes-out c h t e r g (full x u p) q = absurd (is-out (Refused Full) e q)
+comes-out c h t e r g (takes p) q = (ap elementOf q, p)
+comes-out c h t e r g (empty p) q = absurd (is-out (Refused Empty) e q)
+comes-out c h t e r g (swaps x u p) q = (ap elementOf q, p)
+comes-out c h t e r g (lacks x u p) q = absurd (is-out (Refused Empty) e q)
+
 -- ---- the same by the last rungs
 pub last-fits : (r : Request) (h c : ℕ) → Clear (lastTable r h c) → Fits r h c
 last-fits Idle h c k = tt
@@ -124,6 +139,22 @@ fits-least held Pop h c e f l = λ z. l f
 fits-least held (Replace x) h c e f l = λ z. l f
 
 module _ {W : Type 0} (op : Request → W) where
+  -- COMES: a request comes to what the law says
+  abbrev To : ℕ → ℕ → Element → Request → Ruling W → Type 0
+  To c h e r = Comes (op Idle) (λ x. op (Push x)) (op Pop) (λ x. op (Replace x)) c h e r
+
+  pub last-comes : (c : ℕ) (r : Request) (h : ℕ) (e : Element) → To c h e r (ruled op (lastTable r h c) r e)
+  last-comes c Idle h e = idles
+  last-comes c (Push x) h e =
+      cond-both (To c h e (Push x)) (untagged x) _ _ (λ t. no-tag (Push x) (untagged-means x .says t)) (λ t.
+      let some = means-no (untagged-means x) t in
+      cond-both (To c h e (Push x)) (ltb h c) _ _ (λ l. puts x some (ltb-true h c l)) (λ l. full x some (ltb-false h c l)))
+  last-comes c Pop h e = cond-both (To c h e Pop) (eqb h 0) _ _ (λ z. empty (eqb-true h 0 z)) (λ z. takes (pos-of-ne-zero (eqb-false h 0 z)))
+  last-comes c (Replace x) h e =
+      cond-both (To c h e (Replace x)) (untagged x) _ _ (λ t. no-tag (Replace x) (untagged-means x .says t)) (λ t.
+      let some = means-no (untagged-means x) t in
+      cond-both (To c h e (Replace x)) (eqb h 0) _ _ (λ z. lacks x some (eqb-true h 0 z)) (λ z. swaps x some (pos-of-ne-zero (eqb-false h 0 z))))
+
   -- only 0, 5, 6 and 7
   pub last-number : (r : Request) (h c : ℕ) (e : Element) → let n = numberOf (ruled op (lastTable r h c) r e .answer) in (n ≡ 0) ⊎ (n ≡ 5) ⊎ (n ≡ 6) ⊎ (n ≡ 7)
   last-number r h c e = ruled-number op r e (λ n. (n ≡ 0) ⊎ (n ≡ 5) ⊎ (n ≡ 6) ⊎ (n ≡ 7)) (lastTable r h c) (inl refl) (last-each r h c)
@@ -180,6 +211,27 @@ module _ {S : Type 0} (q : Queue S) where
       go : (a : Bool) → P (cond a (Held (q .held s)) (Unknown Damaged))
       go true = held
       go false = refused Damaged
+
+  -- UNREAD: two stores that pass what is asked first, and in which the tests, the ruling and its work read the same, are answered the same and left alike
+  module _ (Like : S → S → Type 0) (r : Request) (s t : S) (opens : Clear (q .opening s)) (opens′ : Clear (q .opening t)) (first : Clear (q .asked r s)) (first′ : Clear (q .asked r t))
+      (root : q .rootOk s ≡ q .rootOk t) (ruling : ruleAt q r s ≡ ruleAt q r t) (way : q .wayOk (ruleAt q r s .op) s ≡ q .wayOk (ruleAt q r t .op) t) (like : Like s t)
+      (runs : q .wayOk (ruleAt q r s .op) s ≡ true → Like (q .run (ruleAt q r s .op) s) (q .run (ruleAt q r t .op) t)) where
+    passed : (u : S) → Clear (q .opening u) → Clear (q .asked r u) → called q r u ≡ cond (q .rootOk u) (carriedOut q (ruleAt q r u) u) (left u Damaged)
+    passed u a b = decided-clear (left u) (q .opening u) _ a ∙ decided-clear (left u) (q .asked r u) _ b
+
+    pub unread-by : (called q r s .answer ≡ called q r t .answer) × Like (called q r s .words) (called q r t .words)
+    unread-by = rw (passed s opens first, passed t opens′ first′) (go (q .rootOk s) (q .rootOk t) root (q .wayOk (ruleAt q r s .op) s) (q .wayOk (ruleAt q r t .op) t) way runs)
+      where
+        go : (a b : Bool) → a ≡ b → (c d : Bool) → c ≡ d → (c ≡ true → Like (q .run (ruleAt q r s .op) s) (q .run (ruleAt q r t .op) t))
+            → let o = cond {A = Outcome S} a (cond {A = Outcome S} c (does q (ruleAt q r s) s) (left s Damaged)) (left s Damaged) in
+            let p = cond {A = Outcome S} b (cond {A = Outcome S} d (does q (ruleAt q r t) t) (left t Damaged)) (left t Damaged) in (o .answer ≡ p .answer) × Like (o .words) (p .words)
+        go true true e true true f h = (ap (λ (g : Ruling (q .Op)). g .answer) ruling, h refl)
+        go true true e true false f h = absurd (true≢false f)
+        go true true e false true f h = absurd (false≢true f)
+        go true true e false false f h = (refl, like)
+        go true false e c d f h = absurd (true≢false e)
+        go false true e c d f h = absurd (false≢true e)
+        go false false e c d f h = (refl, like)
 
   -- KIND: of a call that is not refused a push and an idle request answer done, a pop and a replace an element
   pub kind : (r : Request) (s : S) → numberOf (called q r s .answer) ≡ 0 → Kind r (called q r s .answer)

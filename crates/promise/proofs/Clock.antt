@@ -2,7 +2,7 @@
 -- exactly for its cause and leaves what the table says, and no element without a tag is let in.
 -- All is said of a `queue` that goes as the clock's cycles do, so that a model may keep a definition and outcome records of its own.
 use Prim.Native.Nat.{ℕ}
-use mathlib.Core.Bool.{Bool, cond, false, true, true≢false}
+use mathlib.Core.Bool.{Bool, false, true, true≢false}
 use mathlib.Core.Path.{_∙_, _≡_, ap, refl, subst, sym}
 use Rattle.laws.specs.Fails.{Fails}
 use Rattle.laws.specs.Ladder.{climb-fine, Exactly, fine, left-behind}

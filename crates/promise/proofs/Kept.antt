@@ -129,7 +129,7 @@ last-alike {W} op x e h c t = rw t (go (eqb h 0))
     go true = refl
     go false = refl
 
-module _ {S : Type 0} (q : Queue S) (Kept : S → Type 0) (is : IsQueue q Kept) where
+module _ {S : Type 0} {q : Queue S} {Kept : S → Type 0} (is : IsQueue q Kept) where
   -- ---- one call on a kept store
   module _ (r : Request) (s : S) (kept : Kept s) where
     -- refused, a ruling has no work
