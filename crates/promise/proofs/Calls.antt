@@ -96,12 +96,6 @@ module _ {W : Type 0} (op : Request → W) (r : Request) (e : Element) where
       decided-either (λ x. ruling (Refused x) (op Idle)) (λ (g : Ruling W). Barred r (g .answer)) a (ruling (grants r e) (op r))
       (each-any _ (λ x u z. zero-told x (sym z)) a) (λ c u z. guarded a t g u c)
 
-  -- .. and the number is 0, or that of a refusal in the table
-  pub ruled-number : (P : ℕ → Type 0) (a : Table) → P 0 → Each (λ x. P (refusalNumber x)) a → P (numberOf (ruled op a r e .answer))
-  ruled-number P a z each =
-      decided-either (λ x. ruling (Refused x) (op Idle)) (λ (g : Ruling W). P (numberOf (g .answer))) a (ruling (grants r e) (op r))
-      each (λ c. subst P (sym (grants-zero r e)) z)
-
   -- EXACTLY, whatever is made of a ruling: of a refused one what is left behind
   pub ruled-exactly : {O : Type 0} (answer : O → Answer) (left : Refusal → O) → ((x : Refusal) → answer (left x) ≡ Refused x) → (f : Ruling W → O) → ((g : Ruling W) → answer (f g) ≡ g .answer)
       → (a : Table) → Told a → Each (λ x. f (ruling (Refused x) (op Idle)) ≡ left x) a → Exactly (λ o. numberOf (answer o)) left (f (ruled op a r e)) (ladder a fine)
@@ -154,25 +148,6 @@ module _ {W : Type 0} (op : Request → W) where
       cond-both (To c h e (Replace x)) (untagged x) _ _ (λ t. no-tag (Replace x) (untagged-means x .says t)) (λ t.
       let some = means-no (untagged-means x) t in
       cond-both (To c h e (Replace x)) (eqb h 0) _ _ (λ z. lacks x some (eqb-true h 0 z)) (λ z. swaps x some (pos-of-ne-zero (eqb-false h 0 z))))
-
-  -- only 0, 5, 6 and 7
-  pub last-number : (r : Request) (h c : ℕ) (e : Element) → let n = numberOf (ruled op (lastTable r h c) r e .answer) in (n ≡ 0) ⊎ (n ≡ 5) ⊎ (n ≡ 6) ⊎ (n ≡ 7)
-  last-number r h c e = ruled-number op r e (λ n. (n ≡ 0) ⊎ (n ≡ 5) ⊎ (n ≡ 6) ⊎ (n ≡ 7)) (lastTable r h c) (inl refl) (last-each r h c)
-
-  pub last-barred : (r : Request) (h c : ℕ) (e : Element) → Barred r (ruled op (lastTable r h c) r e .answer)
-  last-barred r h c e =
-      decided-either (λ x. ruling (Refused x) (op Idle)) (λ (g : Ruling W). Barred r (g .answer)) (lastTable r h c) (ruling (grants r e) (op r))
-      (each-any _ (λ x u z. zero-told x (sym z)) (lastTable r h c)) (λ k u z. true≢false (sym (tag-means r .holds u) ∙ k .0))
-
-  -- EXACTLY, whatever is made of a ruling
-  module _ {O : Type 0} (answer : O → Answer) (left : Refusal → O) (left-says : (x : Refusal) → answer (left x) ≡ Refused x) (f : Ruling W → O) (says : (g : Ruling W) → answer (f g) ≡ g .answer)
-      (at-no-tag : f (ruling (Refused NoTag) (op Idle)) ≡ left NoTag) (at-full : f (ruling (Refused Full) (op Idle)) ≡ left Full) (at-empty : f (ruling (Refused Empty) (op Idle)) ≡ left Empty) where
-    pub last-exactly : (r : Request) (h c : ℕ) (e : Element) → (IsPush r → h ≤ c)
-        → Exactly (λ o. numberOf (answer o)) left (f (ruled op (lastTable r h c) r e)) (stop NoTag (Untagged r) (limits r h c fine))
-    last-exactly Idle h c e most = ruled-exactly op Idle e answer left left-says f says (lastTable Idle h c) (last-told Idle h c most) (at-no-tag, tt)
-    last-exactly (Push x) h c e most = ruled-exactly op (Push x) e answer left left-says f says (lastTable (Push x) h c) (last-told (Push x) h c most) (at-no-tag, (at-full, tt))
-    last-exactly Pop h c e most = ruled-exactly op Pop e answer left left-says f says (lastTable Pop h c) (last-told Pop h c most) (at-no-tag, (at-empty, tt))
-    last-exactly (Replace x) h c e most = ruled-exactly op (Replace x) e answer left left-says f says (lastTable (Replace x) h c) (last-told (Replace x) h c most) (at-no-tag, (at-empty, tt))
 
 -- ---- a queue whose tests stand for their causes
 pub record Tested {S : Type 0} (q : Queue S) : Type 0 where

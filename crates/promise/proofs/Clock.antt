@@ -8,7 +8,7 @@ use Rattle.laws.specs.Fails.{Fails}
 use Rattle.laws.specs.Ladder.{climb-fine, Exactly, fine, left-behind}
 use Rattle.laws.specs.Means.{Means}
 use Rattle.promise.specs.Calls.{left, Outcome, outcome, Ruling, ruling}
-use Rattle.promise.specs.Clock.{Clock, comes, countRefusals, cycled, cycling, cycleLeft, cycleRefusals, goes, heldIn, runsIdle}
+use Rattle.promise.specs.Clock.{clearedTo, Clock, comes, countRefusals, cycled, cycling, cycleLeft, cycleRefusals, goes, heldIn, runsIdle, wipeRefusals}
 use Rattle.promise.specs.Queue.{leaves, step, Step}
 use Rattle.promise.specs.Refused.{refusal-told, Untagged, zero-told}
 use Rattle.promise.specs.Served.{Kind}
@@ -144,7 +144,12 @@ module _ {C M : Type 0} {k : Clock C M} {queue : C → M → Step Answer M} (t :
     pub stands : (n : Refusal) → numberOf (queue c x .said) ≡ refusalNumber n → now c x ≡ behind n
     stands = left-behind said behind exactly-cycle
 
-  -- held, whatever stands in the machine
+  -- clear and held, whatever stands in the machine
+  pub exactly-clear : (x : M) → Exactly said (left x) (clearedTo k x) (wipeRefusals k x)
+  exactly-clear x =
+      decided-exactly said (left x) refusal-told (λ (o : Outcome M). o) (left x) (needs BadShape (k .shapeOk x) (k .Shape x) ends) (outcome Done (k .wipe x)) fine
+      (t .shape x, λ s. tt) (refl, tt) (λ q. climb-fine said (left x) _ (λ n z. zero-told n z))
+
   pub exactly-held : (x : M) → Exactly countNumber Unknown (heldIn k x) (countRefusals k x)
   exactly-held x =
       decided-exactly countNumber Unknown refusal-told (λ (c : Count). c) Unknown (needs BadShape (k .shapeOk x) (k .Shape x) (bars Damaged (k .rootOk x) (k .RootTorn x) ends)) (Held (k .held x)) fine

@@ -9,15 +9,14 @@ use lib.ListN.{replicate}
 use Rattle.promise.proofs.Clock.{in-order, idle-runs, let-in, no-damage, stands, Ticks}
 use Rattle.promise.proofs.Drains.{drain-ends, drain-left, drain-needed, drain-spent, drain-state, less-not}
 use Rattle.promise.proofs.Forest.{seen-sum}
-use Rattle.promise.proofs.Kept.{given-out, none-least, none-moved, replaces-by}
-use Rattle.promise.specs.Calls.{Outcome, outcome, PopThenPush, Ruling, ruling}
+use Rattle.promise.proofs.Kept.{given-out, none-least, none-moved, passed, replaces-by}
+use Rattle.promise.specs.Calls.{Outcome, outcome, PopThenPush, ruling}
 use Rattle.promise.specs.Clock.{asking, Call, calls, Clock, comes, cycle, cycleLeft, drain, drainedBy, rested, sees}
 use Rattle.promise.specs.Drains.{Close, done, Drained, stopped}
 use Rattle.promise.specs.Queue.{answers, leaves, leaves-keep, step, Step}
-use Rattle.promise.specs.Refused.{Untagged, zero-told}
+use Rattle.promise.specs.Refused.{Untagged}
 use Rattle.promise.specs.Served.{all-sum, always, brought, given, Holds, Kind, Least}
-use Rattle.promise.specs.Table.{Clear, decided, decided-either, Each, each-any, Table}
-use Rattle.promise.specs.Tagged.{Barred, Tagged, tagged-by}
+use Rattle.promise.specs.Table.{Clear, Each, each-any}
 use Rattle.strip.specs.Answers.{numberOf, refusalNumber}
 use Rattle.strip.specs.declared.Answer.{Answer}
 use Rattle.strip.specs.declared.Answer.the-variants.{Done, Refused}
@@ -211,11 +210,6 @@ module _ {M : Type 0} {k : Clock Request M} {queue : Request → M → Step Answ
   pub all-held : (x : M) → Kept x → ((f : Element → Bool) → stored x f ≡ 0) → (rs : List Request) → Holds (stored (leaves queue rs x)) rs (answers queue rs x)
   all-held x kept bare rs f = omega (arith, all-sum queue Kept (next-kept is) stored (cycle-sum is bag) rs x kept f, bare f)
 
-  -- TAGGED: no element of tag 0 is held, and none has come out
-  pub all-tagged : ((r : Request) (x : M) → Barred r (queue r x .said)) → (x : M) → Kept x → ((f : Element → Bool) → stored x f ≡ 0) → (rs : List Request)
-      → Tagged (stored (leaves queue rs x)) rs (answers queue rs x)
-  all-tagged shut x kept bare rs = tagged-by queue shut (stored (leaves queue rs x)) rs x (all-held x kept bare rs)
-
   -- ---- POP-THEN-PUSH: "a replace is a pop and then a push" (02 [4]), by cycles. A replace of an element that has a tag is refused where a pop is, and what a pop leaves has room
   pub record Swaps : Type 0 where
     pub kinds : (r : Request) (x : M) → Kind r (k .gives r x)
@@ -238,11 +232,7 @@ module _ {M : Type 0} {k : Clock Request M} {queue : Request → M → Step Answ
     held-then r x = outcome (queue r x .said) (queue r x .next)
 
     pop-clear : numberOf (queue (Replace e) y .said) ≡ 0 → Clear (k .late Pop y)
-    pop-clear z = passed (k .late Pop y) (ap numberOf (sym (came-to Pop) ∙ sym same-answer) ∙ z)
-      where
-        passed : (a : Table) → numberOf (decided (λ n. ruling (Refused n) (k .call Idle)) a (ruling (k .gives Pop y) Pop) .answer) ≡ 0 → Clear a
-        passed a =
-            decided-either (λ n. ruling (Refused n) (k .call Idle)) (λ (g : Ruling Request). numberOf (g .answer) ≡ 0 → Clear a) a (ruling (k .gives Pop y) Pop) (each-any _ (λ n z. absurd (zero-told n (sym z))) a) (λ c z. c)
+    pop-clear z = passed (k .call Idle) (ruling (k .gives Pop y) Pop) (k .late Pop y) (ap numberOf (sym (came-to Pop) ∙ sym same-answer) ∙ z)
 
     push-taken : numberOf (queue (Replace e) y .said) ≡ 0 → queue (Push e) (queue Pop y .next) .said ≡ Done
     push-taken z =

@@ -13,7 +13,7 @@ use Rattle.promise.specs.Calls.{called, cleared, Damage, does, grants, h
 use Rattle.promise.specs.Queue.{answers, leaves, leaves-keep, Step}
 use Rattle.promise.specs.Refused.{Untagged, untagged-means, zero-told}
 use Rattle.promise.specs.Served.{all-sum, allBrought, allGiven, always, brought, given, hit, Holds, Least, same, triple, unrefused}
-use Rattle.promise.specs.Table.{Clear, decided-clear, decided-either, Each, each-any, Table}
+use Rattle.promise.specs.Table.{Clear, decided, decided-clear, decided-either, Each, each-any, Table}
 use Rattle.promise.specs.Tagged.{Tagged, tagged-by}
 use Rattle.strip.specs.Answers.{blank, countNumber, countOf, elementOf, numberOf, refusalNumber, untagged}
 use Rattle.strip.specs.declared.Answer.{Answer}
@@ -116,10 +116,9 @@ module _ {S : Type 0} (calls : Request → S → Outcome S) (stored : S → (Ele
         }
 
 -- a ruling that is not refused has passed the table
-ruled-clear : {W : Type 0} (op : Request → W) (r : Request) (e : Element) (a : Table) → numberOf (ruled op a r e .answer) ≡ 0 → Clear a
-ruled-clear {W} op r e a =
-    decided-either (λ x. ruling (Refused x) (op Idle)) (λ (g : Ruling W). numberOf (g .answer) ≡ 0 → Clear a) a (ruling (grants r e) (op r))
-    (each-any _ (λ x z. absurd (zero-told x (sym z))) a) (λ c z. c)
+pub passed : {W : Type 0} (none : W) (g : Ruling W) (a : Table) → numberOf (decided (λ x. ruling (Refused x) none) a g .answer) ≡ 0 → Clear a
+passed {W} none g a =
+    decided-either (λ x. ruling (Refused x) none) (λ (g : Ruling W). numberOf (g .answer) ≡ 0 → Clear a) a g (each-any _ (λ x z. absurd (zero-told x (sym z))) a) (λ c z. c)
 
 -- by its tag and its limits alone a replace of an element that has a tag is answered as a pop is
 pub last-alike : {W : Type 0} (op : Request → W) (x e : Element) (h c : ℕ) → untagged x ≡ false → ruled op (lastTable (Replace x) h c) (Replace x) e .answer ≡ ruled op (lastTable Pop h c) Pop e .answer
@@ -227,7 +226,7 @@ module _ {S : Type 0} {q : Queue S} {Kept : S → Type 0} (is : IsQueue q Kept) 
     -- the pop is let in, and so is the push on what it leaves
     pop-clear : numberOf a ≡ 0 → Clear (q .late Pop s)
     pop-clear e =
-        ruled-clear (q .op) Pop (q .low s) (q .late Pop s)
+        passed (q .op Idle) (ruling (grants Pop (q .low s)) (q .op Pop)) (q .late Pop s)
         (ap numberOf (sym (ap (λ (o : Outcome S). o .answer) (kept-called Pop s kept (sw .pops s))) ∙ sym same-answer) ∙ e)
 
     push-taken : numberOf a ≡ 0 → called q (Push x) vs .answer ≡ Done

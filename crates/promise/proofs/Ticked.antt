@@ -4,7 +4,8 @@ use mathlib.Core.Bool.{Bool, false}
 use mathlib.Core.List.{List}
 use mathlib.Core.Logic.{_⊎_, inl, inr}
 use mathlib.Core.Path.{_≡_, refl}
-use Rattle.promise.proofs.Clock.{barred, exactly-cycle, Ticks}
+use Rattle.promise.proofs.Clock.{barred, exactly-clear, exactly-cycle, exactly-held, Ticks}
+use Rattle.promise.proofs.Drains.{exactly-drain}
 use Rattle.promise.proofs.InFlight.{Bag, cycle-least, drained-few, drained-fine, drained-left, holds, IsClock, kept-numbers, kept-undamaged, Lowest, nothing-lost, ran-kept}
 use Rattle.promise.proofs.Promised.{each-of}
 use Rattle.promise.specs.Clock.{Call, calls, Clock, cycling, rested}
@@ -20,6 +21,9 @@ module _ {C M : Type 0} (k : Clock C M) where
   cycle-answers t tags =
       record {
         exactly = λ c x. exactly-cycle t c x;
+        exactly-drain = λ b x. exactly-drain t b x;
+        exactly-clear = λ x. exactly-clear t x;
+        exactly-held = λ x. exactly-held t x;
         barred = λ c x. barred t c x (tags c x);
       }
 

@@ -87,6 +87,9 @@ module _ {C M : Type 0} (k : Clock C M) where
   abbrev pub cycleRefusals : C → M → Ladder Refusal
   cycleRefusals c x = rung BadShape (k .Shape x) (stop Damaged (k .Torn c x) (ladder (k .late c x) fine))
 
+  abbrev pub wipeRefusals : M → Ladder Refusal
+  wipeRefusals x = rung BadShape (k .Shape x) fine
+
   abbrev pub countRefusals : M → Ladder Refusal
   countRefusals x = rung BadShape (k .Shape x) (stop Damaged (k .RootTorn x) fine)
 

@@ -6,20 +6,27 @@ use mathlib.Core.List.{List, map}
 use mathlib.Core.Logic.{_⊎_}
 use mathlib.Core.Path.{_≡_}
 use Rattle.laws.specs.Ladder.{Exactly}
-use Rattle.promise.specs.Calls.{Outcome}
-use Rattle.promise.specs.Clock.{Call, calls, Clock, cycled, cycleLeft, cycleRefusals, cycling, drainedBy, rested, sees}
+use Rattle.promise.specs.Calls.{left, Outcome}
+use Rattle.promise.specs.Clock.{asking, Call, calls, clearedTo, Clock, countRefusals, cycled, cycleLeft, cycleRefusals, cycling, drainedBy, heldIn, rested, sees, wipeRefusals}
+use Rattle.promise.specs.Drains.{behind, Drained, drainRefusals}
 use Rattle.promise.specs.Promised.{OneOf}
 use Rattle.promise.specs.Queue.{answers, leaves}
 use Rattle.promise.specs.Served.{Holds, Least}
 use Rattle.promise.specs.Tagged.{Barred}
-use Rattle.strip.specs.Answers.{numberOf}
+use Rattle.strip.specs.Answers.{countNumber, numberOf}
+use Rattle.strip.specs.declared.Count.the-variants.{Unknown}
 use Rattle.strip.specs.declared.Element.{Element}
 use Rattle.strip.specs.declared.Request.{Request}
+use Rattle.strip.specs.declared.Request.the-variants.{Idle}
 
 module _ {C M : Type 0} (k : Clock C M) where
   -- whatever stands in the machine
   pub record CycleAnswers : Type 0 where
     pub exactly : (c : C) (x : M) → Exactly (λ (o : Outcome M). numberOf (o .answer)) (cycleLeft k (cycling k) x) (cycled k c x) (cycleRefusals k c x)
+    pub exactly-drain : (b : ℕ) (x : M) → let d = drainedBy k (cycling k) b x in
+        Exactly (λ (d : Drained M). numberOf (d .answer)) (behind (asking k (cycling k)) (d .cycles) x) d (drainRefusals (asking k (cycling k)) (k .pending) (k .Torn (k .call Idle)) (k .Shape) b x)
+    pub exactly-clear : (x : M) → Exactly (λ (o : Outcome M). numberOf (o .answer)) (left x) (clearedTo k x) (wipeRefusals k x)
+    pub exactly-held : (x : M) → Exactly countNumber Unknown (heldIn k x) (countRefusals k x)
     pub barred : (c : C) (x : M) → Barred (k .wants c) (cycled k c x .answer)
 
   -- after a list of cycles
