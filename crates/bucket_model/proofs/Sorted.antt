@@ -9,13 +9,16 @@ use borrow.Author.Tests.{lt-ltb, le-ltb, ne-eqb}
 use lib.Dec.{ltb, eqb}
 use lib.ListN.{length}
 use Rattle.laws.specs.Lists.{All, all-map}
-use Rattle.strip.specs.Answers.{untagged}
+use Rattle.promise.specs.Table.{decided-either, ends, needs}
+use Rattle.strip.specs.Answers.{refusalNumber, untagged}
 use Rattle.strip.specs.declared.Element.{Element}
-use Rattle.strip.specs.declared.Refusal.the-variants.{BadRank, Full, NoTag}
-use Rattle.strip.specs.declared.Answer.the-variants.{Done, Refused}
+use Rattle.strip.specs.declared.Refusal.{Refusal}
+use Rattle.strip.specs.declared.Refusal.the-variants.{BadRank, Full, Empty, NoTag}
+use Rattle.strip.specs.declared.Answer.the-variants.{Done, Out, Refused}
+use Rattle.strip.specs.declared.Count.the-variants.{Held}
 use Rattle.strip.specs.declared.Request.the-variants.{Idle, Push, Pop, Replace}
 use Rattle.bucket_model.specs.Layout.{Lay}
-use Rattle.bucket_model.specs.Plain.{Call, ask, held, Said, answered, Step, step, insert, tagged, roomy, plainPop, plainReplace, plain, plainWith, plainSays, plainAfter, came, went, brought, gone, ofRank, times, Sorted}
+use Rattle.bucket_model.specs.Plain.{Call, ask, held, Said, answered, counted, Step, step, insert, plainReplace, plain, plainWith, plainSays, plainAfter, came, went, brought, gone, ofRank, times, Sorted}
 
 -- ---- the elements of a rank
 
@@ -90,7 +93,34 @@ insert-rank r e (x ∷ l) s = elim (decLt (e .rank .0) (x .rank .0)) [
         rank-append r (x ∷ []) (insert e l) ∙ ap (λ (m : List Element). ofRank r (x ∷ []) ++ m) ih
         ∙ sym (append-assoc (ofRank r (x ∷ [])) (ofRank r l) (ofRank r (e ∷ []))) ∙ ap (λ (m : List Element). m ++ ofRank r (e ∷ [])) (sym (rank-append r (x ∷ []) l))
 
--- ---- one step
+-- ---- one call
+
+-- P of what a call does that is not refused
+abbrev pub Does : Call → List Element → (Step (List Element) → Type 0) → Type 0
+Does (ask Idle) l P = P (step (answered Done) l)
+Does (ask (Push e)) l P = P (step (answered Done) (insert e l))
+Does (ask Pop) l P = (x : Element) (m : List Element) → l ≡ x ∷ m → P (step (answered (Out x)) m)
+Does (ask (Replace e)) l P = (x : Element) (m : List Element) → l ≡ x ∷ m → P (step (answered (Out x)) (insert e m))
+Does held l P = P (step (counted (Held (length l))) l)
+
+-- what is so of that, and of every refusal but 2, which leaves the list, is so of every call
+pub plain-either : (ranks : ℕ) (room : Bool) (c : Call) (l : List Element) (P : Step (List Element) → Type 0) → ((x : Refusal) → (refusalNumber x ≡ 2 → ⊥) → P (step (answered (Refused x)) l)) → Does c l P
+    → P (plainWith ranks room c l)
+unfolding plainWith
+plain-either ranks room (ask Idle) l P f h = h
+plain-either ranks room (ask (Push e)) l P f h =
+    decided-either (λ x. step (answered (Refused x)) l) P (needs BadRank (ltb (e .rank .0) ranks) (Unit {0}) (needs NoTag (not (untagged e)) (Unit {0}) (needs Full room (Unit {0}) ends)))
+    (step (answered Done) (insert e l)) (f BadRank (λ n. omega arith), (f NoTag (λ n. omega arith), (f Full (λ n. omega arith), tt))) (λ _. h)
+plain-either ranks room (ask Pop) [] P f h = f Empty (λ n. omega arith)
+plain-either ranks room (ask Pop) (x ∷ l) P f h = h x l refl
+plain-either ranks room (ask (Replace e)) l P f h =
+    decided-either (λ x. step (answered (Refused x)) l) P (needs BadRank (ltb (e .rank .0) ranks) (Unit {0}) (needs NoTag (not (untagged e)) (Unit {0}) ends))
+    (plainReplace e l) (f BadRank (λ n. omega arith), (f NoTag (λ n. omega arith), tt)) (λ _. go l refl)
+  where
+    go : (m : List Element) → l ≡ m → P (plainReplace e l)
+    go [] i = rw i (subst (λ (m : List Element). P (step (answered (Refused Empty)) m)) i (f Empty (λ n. omega arith)))
+    go (x ∷ m) i = rw i (h x m i)
+plain-either ranks room held l P f h = h
 
 -- in order again; of each rank what was there, with what came behind it, is what went and then what is there; and nothing is lost
 pub record Kept (c : Call) (l : List Element) (x : Step (List Element)) : Type 0 where
@@ -120,11 +150,6 @@ kept-no c l x s a b e =
       holds = λ g. rw (a, b, e) (omega arith);
     }
 
--- a step taken only where a test holds, and else refused
-kept-if : (c : Call) (l : List Element) (t : Bool) (x y : Step (List Element)) → Kept c l x → Kept c l y → Kept c l (cond t x y)
-kept-if c l true x y p q = p
-kept-if c l false x y p q = q
-
 kept-push : (e : Element) (l : List Element) → Sorted l → Kept (ask (Push e)) l (step (answered Done) (insert e l))
 unfolding times
 kept-push e l s =
@@ -134,20 +159,18 @@ kept-push e l s =
       holds = λ g. omega (arith, times-insert g e l);
     }
 
-kept-pop : (l : List Element) → Sorted l → Kept (ask Pop) l (plainPop l)
+kept-pop : (x : Element) (l : List Element) → Sorted (x ∷ l) → Kept (ask Pop) (x ∷ l) (step (answered (Out x)) l)
 unfolding times
-kept-pop [] s = kept-no (ask Pop) [] (plainPop []) s refl refl refl
-kept-pop (x ∷ l) s =
+kept-pop x l s =
     record {
       sorted = s .1;
       fifo = λ r. ap (λ (m : List Element). ofRank r (x ∷ l) ++ m) (rank-nil r) ∙ append-nil (ofRank r (x ∷ l)) ∙ rank-append r (x ∷ []) l;
       holds = λ g. omega arith;
     }
 
-kept-replace : (e : Element) (l : List Element) → Sorted l → Kept (ask (Replace e)) l (plainReplace e l)
+kept-replace : (e x : Element) (l : List Element) → Sorted (x ∷ l) → Kept (ask (Replace e)) (x ∷ l) (step (answered (Out x)) (insert e l))
 unfolding times
-kept-replace e [] s = kept-no (ask (Replace e)) [] (plainReplace e []) s refl refl refl
-kept-replace e (x ∷ l) s =
+kept-replace e x l s =
     record {
       sorted = insert-sorted e l (s .1);
       fifo = λ r.
@@ -158,21 +181,21 @@ kept-replace e (x ∷ l) s =
     }
 
 pub plain-kept : (ranks : ℕ) (room : Bool) (c : Call) (l : List Element) → Sorted l → Kept c l (plainWith ranks room c l)
-unfolding plainWith
-plain-kept ranks room (ask Idle) l s = kept-no (ask Idle) l (plainWith ranks room (ask Idle) l) s refl refl refl
-plain-kept ranks room (ask (Push e)) l s =
-    let put = roomy room l (step (answered Done) (insert e l)) in
-    kept-if (ask (Push e)) l (ltb (e .rank .0) ranks) (tagged e l put) (step (answered (Refused BadRank)) l)
-    (kept-if (ask (Push e)) l (not (untagged e)) put (step (answered (Refused NoTag)) l)
-    (kept-if (ask (Push e)) l room (step (answered Done) (insert e l)) (step (answered (Refused Full)) l) (kept-push e l s) (kept-no (ask (Push e)) l (step (answered (Refused Full)) l) s refl refl refl))
-    (kept-no (ask (Push e)) l (step (answered (Refused NoTag)) l) s refl refl refl))
-    (kept-no (ask (Push e)) l (step (answered (Refused BadRank)) l) s refl refl refl)
-plain-kept ranks room (ask Pop) l s = kept-pop l s
-plain-kept ranks room (ask (Replace e)) l s =
-    kept-if (ask (Replace e)) l (ltb (e .rank .0) ranks) (tagged e l (plainReplace e l)) (step (answered (Refused BadRank)) l)
-    (kept-if (ask (Replace e)) l (not (untagged e)) (plainReplace e l) (step (answered (Refused NoTag)) l) (kept-replace e l s) (kept-no (ask (Replace e)) l (step (answered (Refused NoTag)) l) s refl refl refl))
-    (kept-no (ask (Replace e)) l (step (answered (Refused BadRank)) l) s refl refl refl)
-plain-kept ranks room held l s = kept-no held l (plainWith ranks room held l) s refl refl refl
+plain-kept ranks room c l s = plain-either ranks room c l (Kept c l) (λ x n. kept-no c l (step (answered (Refused x)) l) s (none c x) refl refl) (does c)
+  where
+    none : (c : Call) (x : Refusal) → came c (answered (Refused x)) ≡ []
+    none (ask Idle) x = refl
+    none (ask (Push e)) x = refl
+    none (ask Pop) x = refl
+    none (ask (Replace e)) x = refl
+    none held x = refl
+
+    does : (c : Call) → Does c l (Kept c l)
+    does (ask Idle) = kept-no (ask Idle) l (step (answered Done) l) s refl refl refl
+    does (ask (Push e)) = kept-push e l s
+    does (ask Pop) = λ x m i. rw i (kept-pop x m (subst Sorted i s))
+    does (ask (Replace e)) = λ x m i. rw i (kept-replace e x m (subst Sorted i s))
+    does held = kept-no held l (step (counted (Held (length l))) l) s refl refl refl
 
 -- ---- any list of calls
 

@@ -1,27 +1,26 @@
 -- 02's rule of acceptance on the words, what a replace is, and what a pop gives: on every store that calls lead to.
 use mathlib.Core.Path.{_≡_, refl, sym, ap, subst, _∙_}
-use mathlib.Core.Bool.{Bool, true, false, cond, not}
-use mathlib.Core.List.{List, [], _∷_}
+use mathlib.Core.Bool.{Bool, true, false, cond}
+use mathlib.Core.List.{List, _∷_}
 use mathlib.Core.Logic.{inl}
 use Prim.Native.Nat.{ℕ, _<_}
 use native.Mathlib.Omega.{arith}
 use borrow.Author.Tests.{lt-ltb}
-use lib.Dec.{ltb}
 use lib.ListN.{length}
 use Rattle.laws.specs.Means.{Iff, Means, means-no, means-off}
 use Rattle.laws.specs.Updates.{is-upd}
+use Rattle.promise.proofs.Tabled.{granted, passes}
 use Rattle.promise.specs.Queue.{Step, leaves}
 use Rattle.promise.specs.Refused.{untagged-means}
-use Rattle.strip.specs.Answers.{untagged}
+use Rattle.strip.specs.Answers.{numberOf, untagged}
 use Rattle.strip.specs.declared.Element.{Element}
 use Rattle.strip.specs.declared.Answer.{Answer}
 use Rattle.strip.specs.declared.Answer.the-variants.{Done, Out, Refused}
-use Rattle.strip.specs.declared.Refusal.{Refusal}
-use Rattle.strip.specs.declared.Refusal.the-variants.{Full, BadRank, NoTag}
-use Rattle.strip.specs.declared.Request.{Request}
+use Rattle.strip.specs.declared.Refusal.the-variants.{Full}
 use Rattle.strip.specs.declared.Request.the-variants.{Push, Pop, Replace}
 use Rattle.bucket_model.specs.Layout.{word}
-use Rattle.bucket_model.specs.Plain.{ask, Said, answered, Store, roomy, plainPop, plainReplace, plainWith, Sorted}
+use Rattle.bucket_model.specs.Calls.{Outcome}
+use Rattle.bucket_model.specs.Plain.{ask, Said, answered, Store, roomy, plainWith, Sorted}
 use Rattle.bucket_model.specs.Plain as plain
 use Rattle.bucket_model.proofs.Served.{answerOf}
 use Rattle.ports_model.specs.Layout.{Shape, ranksOf, floorAt, ceilingAt, floorOf, ceilingOf}
@@ -31,6 +30,7 @@ use Rattle.ports_model.specs.Lists.{Ask, at, Lists, none, accepts, serve
 use Rattle.ports_model.specs.Runs.{asked, called, start, manyAt, storedAt}
 use Rattle.ports_model.specs.Promise.{FirstOut, Swaps}
 use Rattle.ports_model.proofs.Clear.{deep}
+use Rattle.ports_model.proofs.Exactly.{goes}
 use Rattle.ports_model.proofs.Facts.{room-means}
 use Rattle.ports_model.proofs.Promises.{now-holds, in-order, keeps}
 use Rattle.ports_model.proofs.Room.{served-in, accepts-means, spare-node}
@@ -53,19 +53,13 @@ module _ (t : Bool) (P : Type 0) (m : Means t P) (a : Answer) (e : a ≡ cond t 
           let d : a ≡ Refused Full = e ∙ ap (λ (u : Bool). cond u Done (Refused Full)) i in
           (record { to = λ x. absurd (done-full (sym x ∙ d)); from = λ x. absurd (means-no m i x) }, record { to = λ f. means-no m i; from = λ n. d })
 
--- what a replace of a plain list gives is what a pop gives
-plain-gives : (ranks : ℕ) (room : Bool) (e x : Element) (l : List Element) → plainWith ranks room (ask (Replace e)) l .said ≡ answered (Out x) → plainWith ranks room (ask Pop) l .said ≡ answered (Out x)
-unfolding plainWith
-plain-gives ranks room e x l a = go (ltb (e .rank .0) ranks) (not (untagged e)) l a
-  where
-    refused : (r : Refusal) → answered (Refused r) ≡ answered (Out x) → ⊥
-    refused r i = let n : _≡_ {A = ℕ} 0 1 = cc in omega arith
-
-    go : (t u : Bool) (l : List Element) → cond t (cond u (plainReplace e l) (plain.step (answered (Refused NoTag)) l)) (plain.step (answered (Refused BadRank)) l) .said ≡ answered (Out x) → plainPop l .said ≡ answered (Out x)
-    go true true [] i = i
-    go true true (y ∷ l) i = i
-    go true false l i = absurd (refused NoTag i)
-    go false u l i = absurd (refused BadRank i)
+-- what a replace gives is what a pop gives, on any words: it asks all that a pop asks
+pub replace-gives : (s : Shape) (p : ℕ) (x : Store) (e y : Element) → asked s p (Replace e) x .answer ≡ Out y → asked s p Pop x .answer ≡ Out y
+replace-gives s p x e y a =
+    let g = goes s p (x .bits) (x .words) (Replace e) in
+    let t = granted g (ap numberOf a) in
+    let u = t .1 .1 .1 .1 in
+    ap (λ (o : Outcome). o .answer) (passes (goes s p (x .bits) (x .words) Pop) (t .0, (t .1 .0, (u .0, (u .1 .0, (u .1 .1 .0, tt)))))) ∙ sym (ap (λ (o : Outcome). o .answer) (passes g t)) ∙ a
 
 -- ---- from clear with fair limits on slices long enough, whatever was in them, for any list of calls at any ports
 
@@ -112,15 +106,6 @@ module _ (s : Shape) (lim b w : List ℕ) (shaped : Shaped s b w) (fair : Fair s
   node a =
       let r = room-is s (deep s lim b w shaped fair) (shaped .some) lim (now .bits) (now .words) lists H p p< in
       omega (arith, spare-node s lim lists (H .sound) p p< (accepts-means s lim lists p .says (sym r ∙ room-means s p (now .words) .holds a)), used-is s (deep s lim b w shaped fair) (shaped .some) lim (now .bits) (now .words) lists H)
-
-  said-is : (q : Request) → answered (asked s p q (leaves (called s) as′ (start s lim b w)) .answer) ≡ plainWith (ranksOf s) (accepts s lim (leaves (served s lim) as′ none) p) (ask q) (leaves (served s lim) as′ none p) .said
-  unfolding called
-  said-is q = calls s (deep s lim b w shaped fair) (shaped .some) lim now lists H (at p (ask q)) .alike ∙ ap (λ (y : Step Said Lists). y .said) (served-in s lim (at p (ask q)) lists p<)
-
-  -- what a replace gives is what a pop gives
-  pub replace-gives : (e x : Element) → asked s p (Replace e) (leaves (called s) as′ (start s lim b w)) .answer ≡ Out x → asked s p Pop (leaves (called s) as′ (start s lim b w)) .answer ≡ Out x
-  replace-gives e x a =
-      ap answerOf (said-is Pop ∙ plain-gives (ranksOf s) (accepts s lim lists p) e x (lists p) (sym (said-is (Replace e)) ∙ ap answered a))
 
   -- LEAST: what a pop gives is the first of all that the port holds, and nothing held there has a lower rank
   pub least : (y : Element) → asked s p Pop (leaves (called s) as′ (start s lim b w)) .answer ≡ Out y → FirstOut s p (leaves (called s) as′ (start s lim b w)) y

@@ -1,4 +1,5 @@
 pub mod Calls
+pub mod Tabled
 pub mod Kept
 pub mod Clock
 pub mod Drains
