@@ -12,7 +12,8 @@ use Rattle.clocked_model.specs.declared.State.{State}
 use Rattle.laws.specs.Ladder.{fine, Ladder, rung, stop}
 use Rattle.laws.specs.Sums.{sumTo}
 use Rattle.promise.specs.Calls.{grants, lastTable}
-use Rattle.promise.specs.Clock.{Clock, runsIdle}
+use Rattle.promise.specs.Clock.{Clock}
+pub use Rattle.promise.specs.Clock.{runsIdle}
 use Rattle.promise.specs.Table.{stops}
 use Rattle.promise.specs.Queue.{answers, leaves, Pins, step, Step}
 use Rattle.promise.specs.Refused.{limits, Untagged}

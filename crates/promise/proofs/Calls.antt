@@ -1,5 +1,5 @@
--- What is so of every queue's calls, whatever the words: each refusal is given exactly for its cause, of a request that is not refused the answer is of its kind, and no element without a tag is
--- let in.
+-- What is so of every queue's calls, whatever the words: each refusal is given exactly for its cause, of a request that is not refused the answer is of its
+-- kind, and no element without a tag is let in.
 use Prim.Native.Nat.{_<_, _≤_, ℕ}
 use native.Mathlib.Nat.{pos-of-ne-zero}
 use native.Mathlib.Omega.{arith}
@@ -214,54 +214,54 @@ module _ {S : Type 0} (q : Queue S) where
       called-either r s (λ o. numberOf (o .answer) ≡ 0 → Kind r (o .answer)) (λ x e. absurd (zero-told x (sym e)))
       (λ c d o w. ruled-kind (q .op) r (q .low s) (q .late r s))
 
-  module _ (t : Tested q) where
-    -- BARRED: an element without a tag is never let in, whatever the words
-    pub barred : (r : Request) (s : S) → Barred r (called q r s .answer)
-    barred r s =
-        called-either r s (λ o. Barred r (o .answer)) (λ x u e. zero-told x (sym e))
-        (λ c d o w. ⊎-elim (λ g u e. guarded (q .asked r s) (t .asked r s c) g u d) (λ g. ruled-barred (q .op) r (q .low s) (q .late r s) (t .late r s c o) g) (t .tagged r s))
+module _ {S : Type 0} {q : Queue S} (t : Tested q) where
+  -- BARRED: an element without a tag is never let in, whatever the words
+  pub barred : (r : Request) (s : S) → Barred r (called q r s .answer)
+  barred r s =
+      called-either q r s (λ o. Barred r (o .answer)) (λ x u e. zero-told x (sym e))
+      (λ c d o w. ⊎-elim (λ g u e. guarded (q .asked r s) (t .asked r s c) g u d) (λ g. ruled-barred (q .op) r (q .low s) (q .late r s) (t .late r s c o) g) (t .tagged r s))
 
-    pub no-damage : (r : Request) (s : S) → q .rootOk s ≡ true → q .wayOk (ruleAt q r s .op) s ≡ true → Damage q r s → ⊥
-    no-damage r s o w = ⊎-elim (λ d. true≢false (sym o ∙ t .root s .shown d)) (λ d. true≢false (sym w ∙ t .way (ruleAt q r s .op) s .shown d))
+  pub no-damage : (r : Request) (s : S) → q .rootOk s ≡ true → q .wayOk (ruleAt q r s .op) s ≡ true → Damage q r s → ⊥
+  no-damage r s o w = ⊎-elim (λ d. true≢false (sym o ∙ t .root s .shown d)) (λ d. true≢false (sym w ∙ t .way (ruleAt q r s .op) s .shown d))
 
-    -- ---- EXACTLY: the columns "Exactly when" and "Left behind"
-    by-damage : (r : Request) (s : S) → Clear (q .opening s)
-        → Exactly said (left s) (cond (q .rootOk s) (carriedOut q (ruleAt q r s) s) (left s Damaged)) (stop Damaged (Damage q r s) (ladder (q .late r s) fine))
-    by-damage r s c = climb-stop said (left s) refusal-told Damaged _ _ _ (go (q .rootOk s) refl (q .wayOk (ruleAt q r s .op) s) refl)
-      where
-        go : (a : Bool) → q .rootOk s ≡ a → (b : Bool) → q .wayOk (ruleAt q r s .op) s ≡ b
-            → ((Damage q r s → ⊥) × Exactly said (left s) (cond a (cond b (does q (ruleAt q r s) s) (left s Damaged)) (left s Damaged)) (ladder (q .late r s) fine))
-            ⊎ (Damage q r s × (cond a (cond b (does q (ruleAt q r s) s) (left s Damaged)) (left s Damaged) ≡ left s Damaged))
-        go true o true w =
-            inl (
-              no-damage r s o w,
-              ruled-exactly (q .op) r (q .low s) (λ (o : Outcome S). o .answer) (left s) (λ x. refl) (λ g. does q g s) (λ g. refl) (q .late r s) (t .late r s c o)
-                  (each-any _ (λ x. ap (outcome (Refused x)) (t .stays s)) (q .late r s)),
-            )
-        go true o false w = inr (inr (t .way (ruleAt q r s .op) s .found w), refl)
-        go false o b w = inr (inl (t .root s .found o), refl)
+  -- ---- EXACTLY: the columns "Exactly when" and "Left behind"
+  by-damage : (r : Request) (s : S) → Clear (q .opening s)
+      → Exactly said (left s) (cond (q .rootOk s) (carriedOut q (ruleAt q r s) s) (left s Damaged)) (stop Damaged (Damage q r s) (ladder (q .late r s) fine))
+  by-damage r s c = climb-stop said (left s) refusal-told Damaged _ _ _ (go (q .rootOk s) refl (q .wayOk (ruleAt q r s .op) s) refl)
+    where
+      go : (a : Bool) → q .rootOk s ≡ a → (b : Bool) → q .wayOk (ruleAt q r s .op) s ≡ b
+          → ((Damage q r s → ⊥) × Exactly said (left s) (cond a (cond b (does q (ruleAt q r s) s) (left s Damaged)) (left s Damaged)) (ladder (q .late r s) fine))
+          ⊎ (Damage q r s × (cond a (cond b (does q (ruleAt q r s) s) (left s Damaged)) (left s Damaged) ≡ left s Damaged))
+      go true o true w =
+          inl (
+            no-damage r s o w,
+            ruled-exactly (q .op) r (q .low s) (λ (o : Outcome S). o .answer) (left s) (λ x. refl) (λ g. does q g s) (λ g. refl) (q .late r s) (t .late r s c o)
+                (each-any _ (λ x. ap (outcome (Refused x)) (t .stays s)) (q .late r s)),
+          )
+      go true o false w = inr (inr (t .way (ruleAt q r s .op) s .found w), refl)
+      go false o b w = inr (inl (t .root s .found o), refl)
 
-    -- push, pop and replace
-    pub exactly : (r : Request) (s : S) → Exactly said (left s) (called q r s) (refusals q r s)
-    exactly r s =
-        decided-exactly said (left s) refusal-told (λ (o : Outcome S). o) (left s) (q .opening s) _ _ (t .opening s) (each-any _ (λ x. refl) (q .opening s)) (λ c.
-        decided-exactly said (left s) refusal-told (λ (o : Outcome S). o) (left s) (q .asked r s) _ _ (t .asked r s c) (each-any _ (λ x. refl) (q .asked r s)) (λ d. by-damage r s c))
+  -- push, pop and replace
+  pub exactly : (r : Request) (s : S) → Exactly said (left s) (called q r s) (refusals q r s)
+  exactly r s =
+      decided-exactly said (left s) refusal-told (λ (o : Outcome S). o) (left s) (q .opening s) _ _ (t .opening s) (each-any _ (λ x. refl) (q .opening s)) (λ c.
+      decided-exactly said (left s) refusal-told (λ (o : Outcome S). o) (left s) (q .asked r s) _ _ (t .asked r s c) (each-any _ (λ x. refl) (q .asked r s)) (λ d. by-damage r s c))
 
-    pub stands : (r : Request) (s : S) (n : Refusal) → said (called q r s) ≡ refusalNumber n → called q r s ≡ left s n
-    stands r s = left-behind said (left s) (exactly r s)
+  pub stands : (r : Request) (s : S) (n : Refusal) → said (called q r s) ≡ refusalNumber n → called q r s ≡ left s n
+  stands r s = left-behind said (left s) (exactly r s)
 
-    pub exactly-clear : (s : S) → Exactly said (left s) (cleared q s) (clearRefusals q s)
-    exactly-clear s =
-        decided-exactly said (left s) refusal-told (λ (o : Outcome S). o) (left s) (q .clearing s) _ _ (t .clearing s) (each-any _ (λ x. refl) (q .clearing s)) (λ c.
-        climb-fine said (left s) _ (λ x e. zero-told x e))
+  pub exactly-clear : (s : S) → Exactly said (left s) (cleared q s) (clearRefusals q s)
+  exactly-clear s =
+      decided-exactly said (left s) refusal-told (λ (o : Outcome S). o) (left s) (q .clearing s) _ _ (t .clearing s) (each-any _ (λ x. refl) (q .clearing s)) (λ c.
+      climb-fine said (left s) _ (λ x e. zero-told x e))
 
-    pub exactly-held : (s : S) → Exactly countNumber Unknown (heldCount q s) (heldRefusals q s)
-    exactly-held s =
-        decided-exactly countNumber Unknown refusal-told (λ (c : Count). c) Unknown (q .opening s) _ _ (t .opening s) (each-any _ (λ x. refl) (q .opening s)) (λ c.
-        climb-stop countNumber Unknown refusal-told Damaged _ _ _ (go (q .rootOk s) refl))
-      where
-        go : (a : Bool) → q .rootOk s ≡ a
-            → ((q .RootDamaged s → ⊥) × Exactly countNumber Unknown (cond a (Held (q .held s)) (Unknown Damaged)) fine)
-            ⊎ (q .RootDamaged s × (cond a (Held (q .held s)) (Unknown Damaged) ≡ Unknown Damaged))
-        go true o = inl ((λ d. true≢false (sym o ∙ t .root s .shown d)), climb-fine countNumber Unknown _ (λ x e. zero-told x e))
-        go false o = inr (t .root s .found o, refl)
+  pub exactly-held : (s : S) → Exactly countNumber Unknown (heldCount q s) (heldRefusals q s)
+  exactly-held s =
+      decided-exactly countNumber Unknown refusal-told (λ (c : Count). c) Unknown (q .opening s) _ _ (t .opening s) (each-any _ (λ x. refl) (q .opening s)) (λ c.
+      climb-stop countNumber Unknown refusal-told Damaged _ _ _ (go (q .rootOk s) refl))
+    where
+      go : (a : Bool) → q .rootOk s ≡ a
+          → ((q .RootDamaged s → ⊥) × Exactly countNumber Unknown (cond a (Held (q .held s)) (Unknown Damaged)) fine)
+          ⊎ (q .RootDamaged s × (cond a (Held (q .held s)) (Unknown Damaged) ≡ Unknown Damaged))
+      go true o = inl ((λ d. true≢false (sym o ∙ t .root s .shown d)), climb-fine countNumber Unknown _ (λ x e. zero-told x e))
+      go false o = inr (t .root s .found o, refl)

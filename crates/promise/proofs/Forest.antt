@@ -1,4 +1,5 @@
--- Several queues in one store, each call at one of them: what is so of each follows from what each shows of itself, and from what a call at one leaves of the others. To a queue a call at another is an idle one.
+-- Several queues in one store, each call at one of them: what is so of each follows from what each shows of itself, and from what a call at one leaves of the
+-- others. To a queue a call at another is an idle one.
 use Prim.Native.Nat.{_+_, ℕ}
 use native.Mathlib.Decide.{ℕ-discrete}
 use native.Mathlib.Omega.{arith}

@@ -1,5 +1,6 @@
--- THE PROMISES of a queue that does one operation at a time, from what it keeps between calls. `IsQueue` is all that a queue has to show; what follows is the same for every queue: from a cleared store, over any
--- list of requests, nothing is damaged, it holds exactly what went in and has not come out, what comes out has the lowest rank, and a replace is a pop and then a push.
+-- THE PROMISES of a queue that does one operation at a time, from what it keeps between calls. `IsQueue` is all that a queue has to show; what follows is the
+-- same for every queue: from a cleared store, over any list of requests, nothing is damaged, it holds exactly what went in and has not come out, what comes out
+-- has the lowest rank, and a replace is a pop and then a push.
 use Prim.Native.Nat.{_+_, _<_, _≤_, suc, zero, ℕ}
 use native.Mathlib.Omega.{arith}
 use mathlib.Core.Bool.{Bool, cond, false, true}
@@ -178,7 +179,7 @@ module _ {S : Type 0} {q : Queue S} {Kept : S → Type 0} (is : IsQueue q Kept) 
     kept-least = kept-any (λ o. Least (q .stored s) r (o .answer)) (λ x. none-least r x (q .stored s)) (is .least r s kept)
 
     pub kept-undamaged : Clear (q .asked r s) → Damage q r s → ⊥
-    kept-undamaged d = no-damage q (is .tested) r s (is .root s kept) (sound-way d)
+    kept-undamaged d = no-damage (is .tested) r s (is .root s kept) (sound-way d)
 
     pub kept-numbers : (P : ℕ → Type 0) → P 0 → Each (λ x. P (refusalNumber x)) (q .asked r s) → Each (λ x. P (refusalNumber x)) (q .late r s) → P (numberOf (called q r s .answer))
     kept-numbers P z first last = kept-either (λ o. P (numberOf (o .answer))) first last (λ d c. subst P (sym (grants-zero r (q .low s))) z)
@@ -238,7 +239,7 @@ module _ {S : Type 0} {q : Queue S} {Kept : S → Type 0} (is : IsQueue q Kept) 
 
     pub kept-replaces : PopThenPush (called q) (q .stored) x s
     kept-replaces =
-        replaces-by (called q) (q .stored) x s (left s) (λ r. stands q (is .tested) r s) same-answer push-taken (call-sum (Replace x) s kept) (call-sum Pop s kept) (call-sum (Push x) vs popped)
+        replaces-by (called q) (q .stored) x s (left s) (λ r. stands (is .tested) r s) same-answer push-taken (call-sum (Replace x) s kept) (call-sum Pop s kept) (call-sum (Push x) vs popped)
 
   -- .. of a queue that has no more to ask than its tag and its limits
   module _ (cap : ℕ) (last : (r : Request) (s : S) (P : Table → Type 0) → P (lastTable r (q .held s) cap) → P (q .late r s)) (free : (r : Request) (s : S) → Clear (q .asked r s))
@@ -289,7 +290,7 @@ module _ {S : Type 0} {q : Queue S} {Kept : S → Type 0} (is : IsQueue q Kept) 
 
       -- TAGGED: no element of tag 0 is stored, and none has come out
       pub tagged : Tagged (q .stored after) rs spoken
-      tagged = tagged-by steps (barred q (is .tested)) (q .stored after) rs start holds
+      tagged = tagged-by steps (barred (is .tested)) (q .stored after) rs start holds
 
       -- LEAST: what comes out, of a pop or a replace, has the lowest rank of all stored before
       pub least : (r : Request) → Least (q .stored after) r (called q r after .answer)

@@ -25,11 +25,11 @@ module _ {S : Type 0} (q : Queue S) where
   pub answers-so : Tested q → Answers q
   answers-so t =
       record {
-        exactly = calls.exactly q t;
-        exactly-clear = calls.exactly-clear q t;
-        exactly-held = calls.exactly-held q t;
+        exactly = calls.exactly t;
+        exactly-clear = calls.exactly-clear t;
+        exactly-held = calls.exactly-held t;
         kind = calls.kind q;
-        barred = calls.barred q t;
+        barred = calls.barred t;
         pinned = λ s. record { clear = pins _; push = λ x. pins _; pop = pins _; replace = λ x. pins _; held = pins _ };
       }
 

@@ -1,5 +1,5 @@
--- The calls of a queue that does one operation at a time, once for every such queue: what it has to bring (`Queue`), and from that push, pop and replace (`called`), clear (`cleared`), held
--- (`heldCount`), their tables of refusals, and what is said of a list of requests.
+-- The calls of a queue that does one operation at a time, once for every such queue: what it has to bring (`Queue`), and from that push, pop and replace
+-- (`called`), clear (`cleared`), held (`heldCount`), their tables of refusals, and what is said of a list of requests.
 use Prim.Native.Nat.{_+_, _<_, _≤_, ℕ}
 use mathlib.Core.Bool.{Bool, cond, false}
 use mathlib.Core.List.{[], _∷_}
@@ -67,8 +67,8 @@ abbrev pub ruled : {W : Type 0} → (Request → W) → Table → Request → El
 ruled op a r e = decided (λ x. ruling (Refused x) (op Idle)) a (ruling (grants r e) (op r))
 
 -- what a request comes to, in the law's words, where c is the capacity, h are held and e is the lowest, and these are the four kinds of work: "Push puts at the
--- root, pop takes there". Replace: "an empty queue refuses replace with 6 .., and otherwise the lowest held element is answered, even if the new rank is lower, and the
--- new one is swapped in by the same swap rule": x's rank is not looked at. "Push and replace with tag 0 are to be refused", whatever is held
+-- root, pop takes there". Replace: "an empty queue refuses replace with 6 .., and otherwise the lowest held element is answered, even if the new rank is lower,
+-- and the new one is swapped in by the same swap rule": x's rank is not looked at. "Push and replace with tag 0 are to be refused", whatever is held
 pub data Comes {W : Type 0} (none : W) (put : Element → W) (take : W) (swap : Element → W) (c h : ℕ) (e : Element) : Request → Ruling W → Type 0 where
   idles : Comes none put take swap c h e Idle (ruling Done none)
   no-tag : (r : Request) → Untagged r → Comes none put take swap c h e r (ruling (Refused NoTag) none)

@@ -1,5 +1,5 @@
--- The calls of a machine that works by clock cycles, once for every such machine: what it has to bring (`Clock`), and from that a cycle (`cycled`), clear and held, their tables of refusals, and what a
--- refused cycle leaves.
+-- The calls of a machine that works by clock cycles, once for every such machine: what it has to bring (`Clock`), and from that a cycle (`cycled`), clear and
+-- held, their tables of refusals, and what a refused cycle leaves.
 use Prim.Native.Nat.{ℕ}
 use mathlib.Core.Bool.{Bool, cond, false, true}
 use Rattle.laws.specs.Ladder.{fine, Ladder, rung, stop}

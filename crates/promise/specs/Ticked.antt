@@ -1,5 +1,6 @@
--- All that is promised of a machine that works by clock cycles, as two records: of its cycles whatever stands in it (`CycleAnswers`), and from a cleared machine over any list of cycles (`Running`), or of cycles and
--- drains. A machine that shows `Ticks`, `IsClock` and `Bag` has both (`promise/proofs/Ticked.antt`).
+-- All that is promised of a machine that works by clock cycles, as two records: of its cycles whatever stands in it (`CycleAnswers`), and from a cleared
+-- machine over any list of cycles (`Running`), or of cycles and drains. A machine that shows `Ticks`, `IsClock` and `Bag` has both
+-- (`promise/proofs/Ticked.antt`).
 use Prim.Native.Nat.{_≤_, ℕ}
 use mathlib.Core.Bool.{Bool, false}
 use mathlib.Core.List.{List, map}
