@@ -164,8 +164,8 @@ uint32_t card_tree_mend(const uint32_t *from, size_t from_len, uint32_t *to, siz
  * with its 456th strip; then the host pops until nothing is held, resets, and goes on.
  */
 
-/* Sets the clock and all finishes to 0. Reads the store alone. Refused 11 while anything is held; a
-   store that the tree would refuse holds nothing. */
+/* Sets the clock and all finishes to 0. Of the store it reads the root alone. Refused 1 for a short
+   state; as card_tree_held is refused, 1 or 2; 11 while anything is held. A refusal changes nothing. */
 uint32_t card_fair_reset(uint32_t *state, size_t state_len, const uint32_t *store, size_t store_len,
                          uint32_t order, uint32_t levels);
 

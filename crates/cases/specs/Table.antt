@@ -12,8 +12,9 @@ use Rattle.bucket_model.specs.Plain.{answersFrom, bucketAnswers, Store}
 use Rattle.clocked_model.specs.Cases.{caseEmpty, caseEmptySays, caseLost, caseLostSays, caseSix, caseSixSays, caseUntagged, caseUntaggedSays}
 use Rattle.clocked_model.specs.Cases as clock
 use Rattle.cluster_clock_model.specs.Cases.{caseClock, caseClockSays, caseFlight, caseFlightAnswers, caseFlightAnswersSay, caseFlightSays, caseTie, caseTieAnswers, caseTieAnswersSay, caseTieSays}
+use Rattle.cluster_model.specs.Edge as cluster
 use Rattle.cluster_model.specs.Cases.{caseCluster, caseClusterAnswers, caseClusterAnswersSay, caseClusterSays}
-use Rattle.fair_model.specs.Cases.{caseFair, caseFairSays, caseServed, caseServedSays, caseSpent, caseSpentSays, caseWords, caseWordsSays}
+use Rattle.fair_model.specs.Cases.{caseFair, caseFairSays, caseLimits, caseLimitsSays, caseReset, caseResetSays, caseServed, caseServedSays, caseSpent, caseSpentSays, caseWords, caseWordsSays}
 use Rattle.promise.specs.Queue.{answers}
 use Rattle.strip.specs.Answers.{countNumber, countOf, element, lengthOf, numberOf, rankOf, tagOf}
 use Rattle.strip.specs.declared.Answer.{Answer}
@@ -34,12 +35,13 @@ abbrev pub toldHeld : Count → ℕ × ℕ
 toldHeld c = (countNumber c, countOf c)
 
 -- a row: what is asked of a cleared queue, what it says, the words it leaves, and what held says then. A slice to begin with is garbage, and longer
--- than needed. `bucketOn` asks it of a store that was not cleared, `bucketWords` of two storeys. `edge` has a shape's capacity and the number of a clear on any words that hold it. `wordsAre`,
+-- than needed. `bucketOn` asks it of a store that was not cleared, `bucketWords` of two storeys. `edge` and `clusterEdge` have a shape's capacity and the number of a clear on any words that hold it. `wordsAre`,
 -- `pendingAre`, `answersAre` and `sums` hold a model crate's own case to what it should be: words, the record of level 2 with the words, answers, and counts
 pub data Row : Type 0 where
   tree : (order levels : ℕ) (requests : List Request) (said : List (ℕ × ℕ × ℕ × ℕ)) (left : List ℕ) (held : ℕ × ℕ) → Row
   held : (order levels : ℕ) (words : List ℕ) (said : ℕ × ℕ) → Row
   edge : (order levels slots said : ℕ) → Row
+  clusterEdge : (places levels capacity words said : ℕ) → Row
   wordsAre : (left says : List (List ℕ)) → Row
   pendingAre : (left says : List (Work × List ℕ)) → Row
   answersAre : (answers says : List (ℕ × ℕ × ℕ × ℕ)) → Row
@@ -57,6 +59,7 @@ Right (tree m l rs said left h) =
     (map told (answers (treeQueue m l) rs (start m l (garbage (length left)))) ≡ said) × (after m l rs (garbage (length left)) ≡ left) × (toldHeld (heldCount m l left) ≡ h)
 Right (held m l ws said) = toldHeld (heldCount m l ws) ≡ said
 Right (edge m l n said) = Edge m l n said
+Right (clusterEdge K l n words said) = cluster.Edge K l n words said
 Right (wordsAre left says) = left ≡ says
 Right (pendingAre left says) = left ≡ says
 Right (answersAre answers says) = answers ≡ says
@@ -131,11 +134,13 @@ table =
     ∷ answersAre (map told (getD caseClusterAnswers 0 [])) (map told (getD caseClusterAnswersSay 0 []))
     -- .. of equal ranks in one node the lower tag first, and 6 on the empty heap
     ∷ answersAre (map told (getD caseClusterAnswers 1 [])) (map told (getD caseClusterAnswersSay 1 []))
-    -- [10] fair ranks: the bound of two flows reached; every refusal, what is served, and the state's words; the largest finish, and 10 before the queue's 1
+    -- [10] fair ranks: the bound of two flows reached; every refusal, what is served, and the state's words; the largest finish, and 10 before the queue's 1; a reset; the limits
     ∷ sums caseServed caseServedSays
     ∷ answersAre caseFair caseFairSays
     ∷ wordsAre caseWords caseWordsSays
     ∷ answersAre caseSpent caseSpentSays
+    ∷ wordsAre caseReset caseResetSays
+    ∷ sums caseLimits caseLimitsSays
     -- [5] the cluster heap by cycles, K = 2, levels 2: the record of level 2 as six numbers, and the words: four pushes, then a pop; a pop and a push; a replace;
     -- and one cycle later
     ∷ wordsAre caseClock caseClockSays
@@ -149,14 +154,28 @@ table =
     ∷ held 3 1 (replicate 12 0) (1, 0)
     ∷ held 2 1 (9 ∷ 0 ∷ 0 ∷ 0 ∷ 0 ∷ 0 ∷ 0 ∷ 0 ∷ []) (2, 0)
     ∷ held 2 1 (0 ∷ 0 ∷ 9 ∷ 0 ∷ 0 ∷ 0 ∷ 0 ∷ 0 ∷ []) (2, 0)
-    -- 9. the largest shape of each order is taken, one level more is refused 1: on any slice that is long enough, so that the capacity is the cause
+    -- 9. 01's largest shape of each order and today's are taken, one level more is refused 1: on any slice that is long enough, so that the capacity is the cause
+    ∷ edge 4 6 5460 0
     ∷ edge 4 8 87380 0
     ∷ edge 4 9 349524 1
+    ∷ edge 2 11 4094 0
     ∷ edge 2 15 65534 0
     ∷ edge 2 16 131070 1
+    ∷ edge 8 4 4680 0
     ∷ edge 8 5 37448 0
     ∷ edge 8 6 299592 1
     -- .. and so is order 3, and levels 0
     ∷ edge 3 2 12 1
     ∷ edge 2 0 0 1
+    -- [2] the cluster heap: K = 1 and 17 are refused, 2 and 16 taken; the most levels of K = 2, 5 and 16 are taken, one more is refused. 5,115 is the largest capacity there is
+    ∷ clusterEdge 1 1 1 6 1
+    ∷ clusterEdge 2 1 2 10 0
+    ∷ clusterEdge 16 1 16 66 0
+    ∷ clusterEdge 17 1 17 70 1
+    ∷ clusterEdge 2 11 4094 20470 0
+    ∷ clusterEdge 2 12 8190 40950 1
+    ∷ clusterEdge 5 10 5115 22506 0
+    ∷ clusterEdge 5 11 10235 45034 1
+    ∷ clusterEdge 16 8 4080 16830 0
+    ∷ clusterEdge 16 9 8176 33726 1
     ∷ []

@@ -331,13 +331,16 @@ fn shaped(store: &mut [u32], order: usize, levels: usize) {
     say_answer(tree::clear(store, order, levels));
 }
 
-// The largest shape of each order is taken, one level more refused.
+// 01's largest shape of each order and today's are taken, one level more refused.
 fn edges(store: &mut [u32]) {
     io::write_all(1, b"case 9\n");
+    shaped(store, 4, 6);
     shaped(store, 4, 8);
     shaped(store, 4, 9);
+    shaped(store, 2, 11);
     shaped(store, 2, 15);
     shaped(store, 2, 16);
+    shaped(store, 8, 4);
     shaped(store, 8, 5);
     shaped(store, 8, 6);
     shaped(store, 3, 2);

@@ -17,3 +17,4 @@ pub mod Promises
 pub mod Slice
 pub mod Unread
 pub mod Cases
+pub mod Edge

@@ -7,3 +7,4 @@ pub mod Calls
 pub mod Promise
 pub mod Rules
 pub mod Cases
+pub mod Edge

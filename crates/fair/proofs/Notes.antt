@@ -8,10 +8,11 @@ use mathlib.Core.List.{_++_, List}
 use mathlib.Core.Path.{_∙_, _≡_, ap, refl, subst, sym}
 use lib.ListN.{drop, getD, length, replicate, set}
 use borrow.Author.Tests.{eq-eqb, le-leb, lt-leb, ne-eqb, not-false, not-true}
-use Rattle.strip.specs.Answers.{countOf, element}
+use Rattle.strip.specs.Answers.{element}
 use Rattle.strip.specs.declared.Answer.{Answer}
 use Rattle.strip.specs.declared.Answer.the-variants.{Done, Out, Refused}
 use Rattle.strip.specs.declared.Count.{Count}
+use Rattle.strip.specs.declared.Count.the-variants.{Held, Unknown}
 use Rattle.strip.specs.declared.Element.{Element}
 use Rattle.strip.specs.declared.Refusal.{Refusal}
 use Rattle.strip.specs.declared.Refusal.the-variants.{BadShape}
@@ -100,16 +101,17 @@ pub reset-short : (m levels : ℕ) (st ws : List ℕ) → length st < 65 → rep
 unfolding resets
 reset-short m levels st ws s = rw (lt-leb 65 (length st) s)
 
-pub reset-held : (m levels : ℕ) (st ws : List ℕ) (n : ℕ) (h : Count) → 65 ≤ length st → h ≡ heldCount m levels ws → n ≡ countOf h → 0 < n
+pub reset-refused : (m levels : ℕ) (st ws : List ℕ) (h : Count) (q : Refusal) → 65 ≤ length st → h ≡ heldCount m levels ws → h ≡ Unknown q
+    → reply (Denied (Queue q)) (desk st ws) ≡ resets m levels (desk st ws)
+unfolding resets
+reset-refused m levels st ws h q s e p = rw (le-leb 65 (length st) s, ← e, p)
+
+pub reset-held : (m levels : ℕ) (st ws : List ℕ) (h : Count) (n : ℕ) → 65 ≤ length st → h ≡ heldCount m levels ws → h ≡ Held n → 0 < n
     → reply (Denied NotEmpty) (desk st ws) ≡ resets m levels (desk st ws)
 unfolding resets
-reset-held m levels st ws n h s e p l =
-    let q : countOf (heldCount m levels ws) ≡ n = ap countOf (sym e) ∙ sym p in
-    rw (le-leb 65 (length st) s, ne-eqb (countOf (heldCount m levels ws)) 0 (λ z. omega arith))
+reset-held m levels st ws h n s e p l = rw (le-leb 65 (length st) s, ← e, p, ne-eqb n 0 (λ z. omega arith))
 
-pub reset-done : (m levels : ℕ) (st ws : List ℕ) (n : ℕ) (h : Count) (st′ : List ℕ) → 65 ≤ length st → h ≡ heldCount m levels ws → n ≡ countOf h → n ≤ 0
+pub reset-done : (m levels : ℕ) (st ws : List ℕ) (h : Count) (n : ℕ) (st′ : List ℕ) → 65 ≤ length st → h ≡ heldCount m levels ws → h ≡ Held n → n ≤ 0
     → st′ ≡ replicate 65 0 ++ drop 65 st → reply Accepted (desk st′ ws) ≡ resets m levels (desk st ws)
 unfolding resets
-reset-done m levels st ws n h st′ s e p l z =
-    let q : countOf (heldCount m levels ws) ≡ n = ap countOf (sym e) ∙ sym p in
-    rw (le-leb 65 (length st) s, eq-eqb (countOf (heldCount m levels ws)) 0 (omega arith), z)
+reset-done m levels st ws h n st′ s e p l z = rw (le-leb 65 (length st) s, ← e, p, eq-eqb n 0 (omega arith), z)

@@ -21,7 +21,6 @@ use strip::Length;
 use strip::Rank;
 use strip::Refusal;
 use strip::Tag;
-use strip::count_of;
 
 // The words of a state: the clock and 64 finishes.
 pub const STATE_WORDS: usize = 65;
@@ -142,18 +141,23 @@ pub fn pop(state: &mut [u32], store: &mut [u32], order: usize, levels: usize) ->
     set_clock(state, answer)
 }
 
-// The store is read only: by the root, how many are held.
+// The store is read only: by the root, how many are held. Where that is refused, so is the reset.
 pub fn reset(state: &mut [u32], store: &[u32], order: usize, levels: usize) -> FairAnswer
     ensures { λ r. ⌜ reply r (desk (now (state .exit)) (now (store .entry))) ≡ resets order levels (desk (now (state .entry)) (now (store .entry))) ⌝ }
 {
     if state.len() < STATE_WORDS {
         return FairAnswer::Denied(FairRefusal::Queue(Refusal::BadShape));
     }
-    if 0 < count_of(tree::held(store, order, levels)) {
-        return FairAnswer::Denied(FairRefusal::NotEmpty);
+    match tree::held(store, order, levels) {
+        Count::Unknown(r) => FairAnswer::Denied(FairRefusal::Queue(r)),
+        Count::Held(n) => {
+            if 0 < n {
+                return FairAnswer::Denied(FairRefusal::NotEmpty);
+            }
+            zero_words(state, STATE_WORDS);
+            FairAnswer::Accepted
+        }
     }
-    zero_words(state, STATE_WORDS);
-    FairAnswer::Accepted
 }
 
 // The queue's own: no word of the state is read.

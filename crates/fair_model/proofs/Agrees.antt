@@ -17,6 +17,7 @@ use Rattle.promise.specs.Served.{always, brought, given, hit, Least, lower}
 use Rattle.strip.specs.Answers.{countOf, element}
 use Rattle.strip.specs.declared.Answer.{Answer}
 use Rattle.strip.specs.declared.Answer.the-variants.{Done, Out, Refused}
+use Rattle.strip.specs.declared.Count.the-variants.{Held}
 use Rattle.strip.specs.declared.Element.{Element}
 use Rattle.strip.specs.declared.Refusal.{Refusal}
 use Rattle.strip.specs.declared.Request.{Request}
@@ -168,10 +169,10 @@ module _ (m k : ℕ) where
           (λ long g. gone-follows (p .answer) refl g)
 
     -- ---- reset
-    nothing-listed : countOf (heldCount m (suc k) (d .store)) ≡ 0 → s .waiting ≡ []
-    nothing-listed e = listed-none (s .waiting) (sym (a .holds always) ∙ sym (kept-held m k (d .store) (a .kept) .1) ∙ e)
+    nothing-listed : heldCount m (suc k) (d .store) ≡ Held 0 → s .waiting ≡ []
+    nothing-listed e = listed-none (s .waiting) (sym (a .holds always) ∙ sym (kept-held m k (d .store) (a .kept) .1) ∙ ap countOf e)
 
-    renewed : countOf (heldCount m (suc k) (d .store)) ≡ 0 → Follows anew s (desk (blankState (d .state)) (d .store))
+    renewed : heldCount m (suc k) (d .store) ≡ Held 0 → Follows anew s (desk (blankState (d .state)) (d .store))
     unfolding moved sumOf
     renewed e =
         record {

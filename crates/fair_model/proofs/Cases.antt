@@ -12,7 +12,7 @@ use Rattle.tree_model.specs.Levels.{levelMove, stepWork, top, work}
 use Rattle.tree_model.specs.Node.{every, firstEmpty, isEmpty, isNothing, keep, leastCount, low, lowest, opMove, pass, putBy, putMove, seek, slotAt, sumCounts, swapBy, swapMove, takeBy, takeMove, vacant}
 use Rattle.tree_model.specs.Words.{applyWords, levelOf, levelsOf, nodeOf, size, slotOf, stepWords, tabulate, wipe, write}
 use Rattle.fair_model.specs.Calls.{pops, pushes, resets, stripOk}
-use Rattle.fair_model.specs.Cases.{caseBefore, caseFair, caseFairSays, caseServed, caseServedSays, caseSpent, caseSpentSays, caseState, caseStore, caseStretch, caseWords, caseWordsSays}
+use Rattle.fair_model.specs.Cases.{caseBefore, caseFair, caseFairSays, caseLimits, caseLimitsSays, caseReset, caseResetSays, caseServed, caseServedSays, caseSpent, caseSpentSays, caseState, caseStore, caseStretch, caseWords, caseWordsSays}
 use Rattle.fair_model.specs.Ledger.{moved, run, served, servedBy, without}
 use Rattle.fair_model.specs.Promise.{fairQueue, From, moves, SteadyIn, StruckIn}
 use Rattle.fair_model.specs.Ranks.{cells, finish, step}
@@ -50,3 +50,11 @@ case-words = refl
 pub case-spent : caseSpent ≡ caseSpentSays
 unfolding caseSpent leaves answers served servedBy moves run moved without fairQueue pushes pops resets stripOk finish cells step blank key untagged precedes vacant isEmpty slotAt seek every firstEmpty leastCount lowest low sumCounts keep pass putBy putMove takeBy takeMove swapBy swapMove opMove isNothing top work levelMove stepWork slotOf write wipe tabulate nodeOf size levelOf levelsOf stepWords applyWords room isBlank slotOk nodeOk hasRoom hasSome readOk lifts stepOk workOk pathOk orderOk shapeOk rule called cleared heldCount
 case-spent = refl
+
+pub case-reset : caseReset ≡ caseResetSays
+unfolding caseReset resets blank vacant isEmpty every sumCounts slotOf tabulate nodeOf room isBlank slotOk nodeOk orderOk shapeOk heldCount
+case-reset = refl
+
+pub case-limits : caseLimits ≡ caseLimitsSays
+unfolding caseLimits pushes pops resets stripOk finish cells step blank key untagged precedes vacant isEmpty slotAt seek every firstEmpty leastCount lowest low sumCounts keep pass putBy putMove takeBy takeMove swapBy swapMove opMove isNothing top work levelMove stepWork slotOf write wipe tabulate nodeOf size levelOf levelsOf stepWords applyWords room isBlank slotOk nodeOk hasRoom hasSome readOk lifts stepOk workOk pathOk orderOk shapeOk rule called cleared heldCount
+case-limits = refl

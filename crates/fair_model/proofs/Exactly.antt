@@ -1,31 +1,36 @@
 -- EXACTLY: each refusal is given for its causes and no others, and leaves everything, whatever the words. PINNED: no call has two outcomes.
-use Prim.Native.Nat.{_<_, _≤_, ℕ}
+use Prim.Native.Nat.{_<_, _≤_, pred, ℕ}
 use native.Mathlib.Nat.{pos-of-ne-zero}
 use native.Mathlib.Omega.{arith}
-use mathlib.Core.Bool.{Bool, cond, false, true}
-use mathlib.Core.Logic.{_⊎_, inl, inr, ⊎-elim}
+use mathlib.Core.Bool.{Bool, cond, false, true, true≢false}
+use mathlib.Core.Logic.{inl, inr, ⊎-elim}
 use mathlib.Core.Path.{_∙_, _≡_, ap, refl, subst, sym}
-use lib.Dec.{eqb, leb}
+use lib.Dec.{eqb}
 use lib.ListN.{length}
-use borrow.Author.Tests.{eqb-false, eqb-true, leb-false, leb-true}
-use Rattle.laws.specs.Ladder.{climb, climb-fine, climb-stop, Exactly, fine, First, Ladder, rung, stop}
+use borrow.Author.Tests.{eqb-false, eqb-true}
+use Rattle.laws.specs.Fails.{fails-leb}
+use Rattle.laws.specs.Ladder.{climb-by, climb-fine, climb-stop, Exactly, fine, First, Ladder, rung, stop}
 use Rattle.laws.specs.Means.{means-leb}
 use Rattle.promise.specs.Queue.{pins}
 use Rattle.promise.specs.Refused.{refusal-told, zero-told}
 use Rattle.promise.specs.Served.{IsOut}
-use Rattle.strip.specs.Answers.{countOf, numberOf, refusalNumber}
+use Rattle.promise.specs.Table.{Clear, decided, decided-exactly, each-any, ends, ladder, TableOf, Told}
+use Rattle.strip.specs.Answers.{numberOf, refusalNumber}
 use Rattle.strip.specs.declared.Answer.{Answer}
 use Rattle.strip.specs.declared.Answer.the-variants.{Done, Out, Refused}
+use Rattle.strip.specs.declared.Count.the-variants.{Held, Unknown}
 use Rattle.strip.specs.declared.Refusal.{Refusal}
 use Rattle.strip.specs.declared.Refusal.the-variants.{BadPort, BadRank, BadShape, Damaged, Empty, Full, NoTag, TooSoon}
 use Rattle.strip.specs.declared.Request.{Request}
 use Rattle.strip.specs.declared.Request.the-variants.{Pop, Push}
 use Rattle.tree_model.proofs.Exactly as tree
-use Rattle.tree_model.specs.Calls.{called, heldCount, Outcome, outcome}
-use Rattle.tree_model.specs.Promise.{refusals}
-use Rattle.fair_model.specs.Calls.{answerNumber, blankState, denied, Desk, desk, fairNumber, handedOut, nextElement, nextFinish, passedOn, pops, pushes, Reply, reply, resets, stateOk, stateWords, stripOk, told}
-use Rattle.fair_model.specs.Promise.{Call, FairKind, fairQueue, fairRefusals, IsServed, Long, Pinned, pop, push, queued, reset}
-use Rattle.fair_model.specs.Ranks.{Good, latest}
+use Rattle.tree_model.specs.Calls.{called, heldCount, Outcome, outcome, rootOf, rootOk, shapeOk}
+use Rattle.tree_model.specs.Damage.{room}
+use Rattle.tree_model.specs.Node.{sumCounts}
+use Rattle.tree_model.specs.Promise.{heldRefusals, refusals}
+use Rattle.fair_model.specs.Calls.{answerNumber, blankState, denied, Desk, desk, emptied, fairNumber, handedOut, nextElement, nextFinish, passedOn, pops, pushes, pushTable, Reply, reply, resets, stateTable, stateWords, told}
+use Rattle.fair_model.specs.Promise.{Call, FairKind, fairQueue, fairRefusals, IsServed, Pinned, pop, push, queued, reset}
+use Rattle.fair_model.specs.Ranks.{latest}
 use Rattle.fair_model.specs.declared.FairAnswer.the-variants.{Accepted}
 use Rattle.fair_model.specs.declared.FairRefusal.{FairRefusal}
 use Rattle.fair_model.specs.declared.FairRefusal.the-variants.{BadStrip, ClockSpent, NotEmpty, Queue}
@@ -71,15 +76,16 @@ told-number (Out e) = refl
 told-number (Refused r) = refl
 
 -- ---- the queue's own table
-first-queued : (l : Ladder Refusal) (q : Refusal) → First l q → First (queued l) (Queue q)
-first-queued fine q h = h
-first-queued (rung x P l) q h = ⊎-elim (λ u. inl (u .0, ap Queue (u .1))) (λ u. inr (u .0, first-queued l q (u .1))) h
-first-queued (stop x P l) q h = ⊎-elim (λ u. inl (u .0, ap Queue (u .1))) (λ u. inr (u .0, first-queued l q (u .1))) h
+first-queued : (l : Ladder Refusal) (k : Ladder FairRefusal) (q : Refusal) → First l q → First (queued l k) (Queue q)
+first-queued fine k q h = absurd h
+first-queued (rung x P l) k q h = ⊎-elim (λ u. inl (u .0, ap Queue (u .1))) (λ u. inr (u .0, first-queued l k q (u .1))) h
+first-queued (stop x P l) k q h = ⊎-elim (λ u. inl (u .0, ap Queue (u .1))) (λ u. inr (u .0, first-queued l k q (u .1))) h
 
-pub queued-first : (Q : FairRefusal → Type 0) (l : Ladder Refusal) → ((q : Refusal) → First l q → Q (Queue q)) → (r : FairRefusal) → First (queued l) r → Q r
-queued-first Q fine k r h = absurd h
-queued-first Q (rung x P l) k r h = ⊎-elim (λ u. subst Q (sym (u .1)) (k x (inl (u .0, refl)))) (λ u. queued-first Q l (λ q v. k q (inr (u .0, v))) r (u .1)) h
-queued-first Q (stop x P l) k r h = ⊎-elim (λ u. subst Q (sym (u .1)) (k x (inl (u .0, refl)))) (λ u. queued-first Q l (λ q v. k q (inr (u .0, v))) r (u .1)) h
+pub queued-first : (Q : FairRefusal → Type 0) (l : Ladder Refusal) (k : Ladder FairRefusal) → ((q : Refusal) → First l q → Q (Queue q)) → ((r : FairRefusal) → First k r → Q r)
+    → (r : FairRefusal) → First (queued l k) r → Q r
+queued-first Q fine k f g r h = g r h
+queued-first Q (rung x P l) k f g r h = ⊎-elim (λ u. subst Q (sym (u .1)) (f x (inl (u .0, refl)))) (λ u. queued-first Q l k (λ q v. f q (inr (u .0, v))) g r (u .1)) h
+queued-first Q (stop x P l) k f g r h = ⊎-elim (λ u. subst Q (sym (u .1)) (f x (inl (u .0, refl)))) (λ u. queued-first Q l k (λ q v. f q (inr (u .0, v))) g r (u .1)) h
 
 module _ (m levels : ℕ) (d : Desk) where
   abbrev says : Reply → ℕ
@@ -90,40 +96,35 @@ module _ (m levels : ℕ) (d : Desk) where
 
   -- what the queue answers is told on: g is what becomes of its outcome
   queue-exactly : (r : Request) (g : Outcome → Reply) → ((o : Outcome) → g o .said ≡ told (o .answer)) → ((q : Refusal) → g (outcome (Refused q) (d .store)) ≡ left (Queue q))
-      → Exactly says left (g (called m levels r (d .store))) (queued (refusals m levels r (d .store)))
+      → Exactly says left (g (called m levels r (d .store))) (queued (refusals m levels r (d .store)) fine)
   queue-exactly r g same stood =
       record {
         only = λ x e. by x (sym (told-number (called m levels r (d .store) .answer)) ∙ ap answerNumber (sym (same (called m levels r (d .store)))) ∙ e);
-        always = λ x h. queued-first (λ y. g (called m levels r (d .store)) ≡ left y) (refusals m levels r (d .store)) (λ q v. ap g (tree.exactly m levels (d .store) r .always q v) ∙ stood q) x h;
+        always = λ x h. queued-first (λ y. g (called m levels r (d .store)) ≡ left y) (refusals m levels r (d .store)) fine
+            (λ q v. ap g (tree.exactly m levels (d .store) r .always q v) ∙ stood q) (λ y v. absurd v) x h;
       }
     where
-      by : (x : FairRefusal) → numberOf (called m levels r (d .store) .answer) ≡ fairNumber x → First (queued (refusals m levels r (d .store))) x
+      by : (x : FairRefusal) → numberOf (called m levels r (d .store) .answer) ≡ fairNumber x → First (queued (refusals m levels r (d .store)) fine) x
       by BadStrip e = absurd (omega (arith, e, answer-most (called m levels r (d .store) .answer)))
       by ClockSpent e = absurd (omega (arith, e, answer-most (called m levels r (d .store) .answer)))
       by NotEmpty e = absurd (omega (arith, e, answer-most (called m levels r (d .store) .answer)))
-      by (Queue q) e = first-queued (refusals m levels r (d .store)) q (tree.exactly m levels (d .store) r .only q e)
+      by (Queue q) e = first-queued (refusals m levels r (d .store)) fine q (tree.exactly m levels (d .store) r .only q e)
+
+  -- a table of fair ranks' own, before what comes then
+  own-exactly : (a : TableOf FairRefusal) (o : Reply) (l : Ladder FairRefusal) → Told a → (Clear a → Exactly says left o l) → Exactly says left (decided left a o) (ladder a l)
+  own-exactly a o l t = decided-exactly says left fair-told (λ (z : Reply). z) left a o l t (each-any (λ x. left x ≡ left x) (λ x. refl) a)
 
   exactly-push : (f w n t : ℕ) → Exactly says left (pushes m levels f w n t d) (fairRefusals m levels (push f w n t) d)
   unfolding pushes
   exactly-push f w n t =
-      climb says left fair-told (stripOk f w n) (Good f w n) BadStrip _ _ (strip-means f w n) (λ good.
-      climb says left fair-told (stateOk (d .state)) (Long d) (Queue BadShape) _ _ (means-leb stateWords (length (d .state))) (λ long.
-      climb-stop says left fair-told ClockSpent (latest < nextFinish d f w n) _ _ (spent (leb (nextFinish d f w n) latest) refl)))
-    where
-      on : Outcome → Reply
-      on o = passedOn o f (nextFinish d f w n) (d .state)
-
-      spent : (b : Bool) → leb (nextFinish d f w n) latest ≡ b
-          → ((latest < nextFinish d f w n → ⊥) × Exactly says left (cond b (passedOn (called m levels (Push (nextElement d f w n t)) (d .store)) f (nextFinish d f w n) (d .state)) (denied ClockSpent d)) (queued (refusals m levels (Push (nextElement d f w n t)) (d .store))))
-          ⊎ ((latest < nextFinish d f w n) × (cond b (passedOn (called m levels (Push (nextElement d f w n t)) (d .store)) f (nextFinish d f w n) (d .state)) (denied ClockSpent d) ≡ left ClockSpent))
-      spent true e = inl ((λ h. omega (arith, h, leb-true (nextFinish d f w n) latest e)), queue-exactly (Push (nextElement d f w n t)) on (λ o. refl) (λ q. refl))
-      spent false e = inr (leb-false (nextFinish d f w n) latest e, refl)
+      own-exactly (pushTable f w n d) _ _ (strip-means f w n, λ good. (means-leb stateWords (length (d .state)), λ long. (fails-leb (nextFinish d f w n) latest, λ fits. tt)))
+      (λ c. queue-exactly (Push (nextElement d f w n t)) (λ o. passedOn o f (nextFinish d f w n) (d .state)) (λ o. refl) (λ q. refl))
 
   exactly-pop : Exactly says left (pops m levels d) (fairRefusals m levels pop d)
   unfolding pops
   exactly-pop =
-      climb says left fair-told (stateOk (d .state)) (Long d) (Queue BadShape) _ _ (means-leb stateWords (length (d .state))) (λ long.
-      queue-exactly Pop (λ o. handedOut o (d .state)) (λ o. refl) (λ q. refl))
+      own-exactly (stateTable d ends) _ _ (means-leb stateWords (length (d .state)), λ long. tt)
+      (λ c. queue-exactly Pop (λ o. handedOut o (d .state)) (λ o. refl) (λ q. refl))
 
   granted : (r : FairRefusal) → 0 ≡ fairNumber r → ⊥
   granted BadStrip e = omega arith
@@ -131,17 +132,31 @@ module _ (m levels : ℕ) (d : Desk) where
   granted NotEmpty e = omega arith
   granted (Queue q) e = zero-told q e
 
+  -- what held is refused for is passed on; held is then the sum of the root's counts
   exactly-reset : Exactly says left (resets m levels d) (fairRefusals m levels reset d)
-  unfolding resets
-  exactly-reset =
-      climb says left fair-told (stateOk (d .state)) (Long d) (Queue BadShape) _ _ (means-leb stateWords (length (d .state))) (λ long.
-      climb-stop says left fair-told NotEmpty (0 < countOf (heldCount m levels (d .store))) _ fine (empty (eqb (countOf (heldCount m levels (d .store))) 0) refl))
+  unfolding resets heldCount
+  exactly-reset = own-exactly (stateTable d ends) _ _ (means-leb stateWords (length (d .state)), λ long. tt) (λ c. go (shapeOk m levels (length (d .store))) refl (rootOk m levels (d .store)) refl)
     where
-      empty : (b : Bool) → eqb (countOf (heldCount m levels (d .store))) 0 ≡ b
-          → ((0 < countOf (heldCount m levels (d .store)) → ⊥) × Exactly says left (cond b (reply Accepted (desk (blankState (d .state)) (d .store))) (denied NotEmpty d)) fine)
-          ⊎ ((0 < countOf (heldCount m levels (d .store))) × (cond b (reply Accepted (desk (blankState (d .state)) (d .store))) (denied NotEmpty d) ≡ left NotEmpty))
-      empty true e = inl ((λ h. omega (arith, h, eqb-true (countOf (heldCount m levels (d .store))) 0 e)), climb-fine says left _ granted)
-      empty false e = inr (pos-of-ne-zero (eqb-false (countOf (heldCount m levels (d .store))) 0 e), refl)
+      n : ℕ
+      n = sumCounts (rootOf m (d .store))
+
+      empty : (b : Bool) → eqb n 0 ≡ b → Exactly says left (cond b (reply Accepted (desk (blankState (d .state)) (d .store))) (denied NotEmpty d)) (stop NotEmpty (0 < n) fine)
+      empty true e = climb-stop says left fair-told NotEmpty (0 < n) _ fine (inl ((λ h. omega (arith, h, eqb-true n 0 e)), climb-fine says left _ granted))
+      empty false e = climb-stop says left fair-told NotEmpty (0 < n) _ fine (inr (pos-of-ne-zero (eqb-false n 0 e), refl))
+
+      go : (a : Bool) → shapeOk m levels (length (d .store)) ≡ a → (b : Bool) → rootOk m levels (d .store) ≡ b
+          → Exactly says left (emptied (cond a (cond b (Held n) (Unknown Damaged)) (Unknown BadShape)) d) (queued (heldRefusals m levels (d .store)) (stop NotEmpty (0 < n) fine))
+      go false s b o = climb-by says left fair-told (Queue BadShape) _ _ _ (inr ((λ h. true≢false (sym (tree.is-shape m levels (length (d .store)) h) ∙ s)), refl))
+      go true s false o =
+          climb-by says left fair-told (Queue BadShape) _ _ _ (inl (
+            tree.shape-is m levels (length (d .store)) s,
+            climb-stop says left fair-told (Queue Damaged) _ _ _ (inr (tree.node-fails (room m (pred levels)) (rootOf m (d .store)) .found o, refl)),
+          ))
+      go true s true o =
+          climb-by says left fair-told (Queue BadShape) _ _ _ (inl (
+            tree.shape-is m levels (length (d .store)) s,
+            climb-stop says left fair-told (Queue Damaged) _ _ _ (inl ((λ h. true≢false (sym o ∙ tree.node-fails (room m (pred levels)) (rootOf m (d .store)) .shown h)), empty (eqb n 0) refl)),
+          ))
 
   -- EXACTLY: the table, by the number that a call says, and with everything left behind
   pub exactly : (c : Call) → Exactly says left (fairQueue m levels c d) (fairRefusals m levels c d)

@@ -1,3 +1,5 @@
+pub mod Table
+pub mod Steps
 pub mod Chain
 pub mod Orderly
 pub mod Bound
@@ -8,3 +10,4 @@ pub mod Promises
 pub mod Below
 pub mod Cases
 pub mod Slice
+pub mod Leaves

@@ -10,22 +10,23 @@ use borrow.Author.Tests.{eqb-true, leb-true}
 use Rattle.laws.specs.Ladder.{left-behind}
 use Rattle.laws.specs.Means.{Means, means-and, means-by, means-leb, means-ltb}
 use Rattle.promise.specs.Served.{IsOut}
-use Rattle.strip.specs.Answers.{countOf, numberOf}
+use Rattle.promise.specs.Table.{decided-either, each-any, ends}
+use Rattle.strip.specs.Answers.{numberOf}
 use Rattle.strip.specs.declared.Answer.{Answer}
 use Rattle.strip.specs.declared.Answer.the-variants.{Done, Out, Refused}
+use Rattle.strip.specs.declared.Count.{Count}
+use Rattle.strip.specs.declared.Count.the-variants.{Held, Unknown}
 use Rattle.strip.specs.declared.Element.{Element}
 use Rattle.strip.specs.declared.Refusal.{Refusal}
-use Rattle.strip.specs.declared.Refusal.the-variants.{BadShape}
 use Rattle.strip.specs.declared.Request.{Request}
 use Rattle.strip.specs.declared.Request.the-variants.{Pop, Push}
 use Rattle.tree_model.proofs.Exactly.{exactly, kind}
 use Rattle.tree_model.specs.Calls.{called, heldCount, Outcome, outcome}
-use Rattle.fair_model.specs.Calls.{blankState, denied, Desk, desk, handedOut, nextElement, nextFinish, passedOn, pops, pushes, Reply, reply, resets, stateOk, stateWords, stripOk}
-use Rattle.fair_model.specs.Promise.{Long}
+use Rattle.fair_model.specs.Calls.{blankState, denied, Desk, desk, emptied, handedOut, Long, nextElement, nextFinish, passedOn, pops, pushes, pushTable, Reply, reply, resets, stateTable, stateWords, stripOk}
 use Rattle.fair_model.specs.Ranks.{flows, Good, heaviest, latest, longest}
 use Rattle.fair_model.specs.declared.FairAnswer.the-variants.{Accepted}
 use Rattle.fair_model.specs.declared.FairRefusal.{FairRefusal}
-use Rattle.fair_model.specs.declared.FairRefusal.the-variants.{BadStrip, ClockSpent, NotEmpty, Queue}
+use Rattle.fair_model.specs.declared.FairRefusal.the-variants.{NotEmpty, Queue}
 
 -- the test of a strip
 pub strip-means : (f w n : ℕ) → Means (stripOk f w n) (Good f w n)
@@ -57,36 +58,31 @@ module _ (m levels : ℕ) (d : Desk) where
       → (Good f w n → Long d → nextFinish d f w n ≤ latest
       → P (passedOn (called m levels (Push (nextElement d f w n t)) (d .store)) f (nextFinish d f w n) (d .state))) → P (pushes m levels f w n t d)
   unfolding pushes
-  push-either f w n t P refused done = go (stripOk f w n) refl (stateOk (d .state)) refl (leb (nextFinish d f w n) latest) refl
-    where
-      on : Reply
-      on = passedOn (called m levels (Push (nextElement d f w n t)) (d .store)) f (nextFinish d f w n) (d .state)
-
-      go : (a : Bool) → stripOk f w n ≡ a → (b : Bool) → stateOk (d .state) ≡ b → (c : Bool) → leb (nextFinish d f w n) latest ≡ c
-          → P (cond a (cond b (cond c (passedOn (called m levels (Push (nextElement d f w n t)) (d .store)) f (nextFinish d f w n) (d .state)) (denied ClockSpent d)) (denied (Queue BadShape) d)) (denied BadStrip d))
-      go false e b e′ c e″ = refused BadStrip
-      go true e false e′ c e″ = refused (Queue BadShape)
-      go true e true e′ false e″ = refused ClockSpent
-      go true e true e′ true e″ = done (strip-means f w n .says e) (leb-true stateWords (length (d .state)) e′) (leb-true (nextFinish d f w n) latest e″)
+  push-either f w n t P refused done =
+      decided-either (λ x. denied x d) P (pushTable f w n d) _ (each-any (λ x. P (denied x d)) refused (pushTable f w n d))
+      (λ c. done (strip-means f w n .says (c .0)) (leb-true stateWords (length (d .state)) (c .1 .0)) (leb-true (nextFinish d f w n) latest (c .1 .1 .0)))
 
   pub pop-either : (P : Reply → Type 0) → ((x : FairRefusal) → P (denied x d)) → (Long d → P (handedOut (called m levels Pop (d .store)) (d .state))) → P (pops m levels d)
   unfolding pops
-  pop-either P refused done = go (stateOk (d .state)) refl
-    where
-      go : (b : Bool) → stateOk (d .state) ≡ b → P (cond b (handedOut (called m levels Pop (d .store)) (d .state)) (denied (Queue BadShape) d))
-      go false e = refused (Queue BadShape)
-      go true e = done (leb-true stateWords (length (d .state)) e)
+  pop-either P refused done =
+      decided-either (λ x. denied x d) P (stateTable d ends) _ (each-any (λ x. P (denied x d)) refused (stateTable d ends)) (λ c. done (leb-true stateWords (length (d .state)) (c .0)))
 
+  -- a reset that is accepted has found that nothing is held
   pub reset-either : (P : Reply → Type 0) → ((x : FairRefusal) → P (denied x d))
-      → (Long d → countOf (heldCount m levels (d .store)) ≡ 0 → P (reply Accepted (desk (blankState (d .state)) (d .store)))) → P (resets m levels d)
+      → (Long d → heldCount m levels (d .store) ≡ Held 0 → P (reply Accepted (desk (blankState (d .state)) (d .store)))) → P (resets m levels d)
   unfolding resets
-  reset-either P refused done = go (stateOk (d .state)) refl (eqb (countOf (heldCount m levels (d .store))) 0) refl
+  reset-either P refused done =
+      decided-either (λ x. denied x d) P (stateTable d ends) _ (each-any (λ x. P (denied x d)) refused (stateTable d ends))
+      (λ c. counted (leb-true stateWords (length (d .state)) (c .0)) (heldCount m levels (d .store)) refl)
     where
-      go : (b : Bool) → stateOk (d .state) ≡ b → (c : Bool) → eqb (countOf (heldCount m levels (d .store))) 0 ≡ c
-          → P (cond b (cond c (reply Accepted (desk (blankState (d .state)) (d .store))) (denied NotEmpty d)) (denied (Queue BadShape) d))
-      go false e c e′ = refused (Queue BadShape)
-      go true e false e′ = refused NotEmpty
-      go true e true e′ = done (leb-true stateWords (length (d .state)) e) (eqb-true (countOf (heldCount m levels (d .store))) 0 e′)
+      none : Long d → (n : ℕ) → heldCount m levels (d .store) ≡ Held n → (b : Bool) → eqb n 0 ≡ b
+          → P (cond b (reply Accepted (desk (blankState (d .state)) (d .store))) (denied NotEmpty d))
+      none long n e true z = done long (e ∙ ap Held (eqb-true n 0 z))
+      none long n e false z = refused NotEmpty
+
+      counted : Long d → (h : Count) → heldCount m levels (d .store) ≡ h → P (emptied h d)
+      counted long (Held n) e = none long n e (eqb n 0) refl
+      counted long (Unknown q) e = refused (Queue q)
 
 -- the state that a reset leaves
 pub blank-at : (st : List ℕ) (j : ℕ) → j < stateWords → getD (blankState st) j 0 ≡ 0

@@ -11,13 +11,13 @@ use lib.Dec.{eqb, ltb}
 use lib.ListN.{getD, length}
 use lib.Seq.{getD-set-other, getD-set-same}
 use borrow.Author.Tests.{eq-eqb, eqb-true, le-ltb}
-use Rattle.laws.specs.Ladder.{First}
+use Rattle.laws.specs.Ladder.{fine, First, stop}
 use Rattle.laws.specs.Lists.{All, all-map, sumOf}
 use Rattle.laws.specs.Tests.{and-left, and-right}
 use Rattle.laws.specs.Updates.{is-upd, upd}
 use Rattle.promise.specs.Refused.{zero-told}
 use Rattle.promise.specs.Served.{always, hit, Least, lower, same, triple}
-use Rattle.strip.specs.Answers.{numberOf, refusalNumber}
+use Rattle.strip.specs.Answers.{countNumber, countOf, numberOf, refusalNumber}
 use Rattle.strip.specs.declared.Answer.{Answer}
 use Rattle.strip.specs.declared.Answer.the-variants.{Done, Out, Refused}
 use Rattle.strip.specs.declared.Element.{Element}
@@ -27,9 +27,10 @@ use Rattle.strip.specs.declared.Request.the-variants.{Pop, Push}
 use Rattle.tree_model.proofs.Exactly as tree
 use Rattle.tree_model.proofs.Many.{many-held}
 use Rattle.tree_model.proofs.Promises.{Kept, kept-held, kept-least, kept-numbers, leaves-kept, start-kept, stored-holding}
-use Rattle.tree_model.specs.Calls.{called, Outcome}
+use Rattle.tree_model.specs.Calls.{called, Outcome, rootOf}
 use Rattle.tree_model.specs.Damage.{room}
-use Rattle.tree_model.specs.Promise.{after, refusals, Shape, start, storedCount}
+use Rattle.tree_model.specs.Node.{sumCounts}
+use Rattle.tree_model.specs.Promise.{after, heldRefusals, refusals, Shape, start, storedCount}
 use Rattle.tree_model.specs.Serve.{holding}
 use Rattle.tree_model.specs.Tree.{treeOf}
 use Rattle.tree_model.specs.Words.{levelsOf}
@@ -40,7 +41,7 @@ use Rattle.fair_model.specs.Ranks.{cells, finish, Good, latest, step}
 use Rattle.fair_model.specs.declared.FairAnswer.{FairAnswer}
 use Rattle.fair_model.specs.declared.FairAnswer.the-variants.{Accepted, Served}
 use Rattle.fair_model.specs.declared.FairRefusal.{FairRefusal}
-use Rattle.fair_model.specs.declared.FairRefusal.the-variants.{Queue}
+use Rattle.fair_model.specs.declared.FairRefusal.the-variants.{NotEmpty, Queue}
 use Rattle.fair_model.proofs.Agrees.{Agrees, follows, moves-agree, moves-lawful, sum-as}
 use Rattle.fair_model.proofs.Bound.{bound}
 use Rattle.fair_model.proofs.Exactly.{exactly, queued-first}
@@ -61,7 +62,7 @@ reset-agrees m k d kept =
       long = blank-length (d .state);
       clock = sym (blank-at (d .state) 0 (omega arith));
       last = λ i h. sym (blank-at (d .state) (suc i) (omega arith));
-      holds = λ f. omega (arith, stored-le m k (d .store) f, e, kept-held m k (d .store) kept .1);
+      holds = λ f. omega (arith, stored-le m k (d .store) f, ap countOf e, kept-held m k (d .store) kept .1);
     })
 
 -- ---- in the ledger: nothing falls but by a reset
@@ -157,8 +158,8 @@ module _ (m k : ℕ) (d : Desk) (s : World) (a : Agrees m k s d) (o : Orderly s)
   Limit q = (refusalNumber q ≡ 5) ⊎ (refusalNumber q ≡ 6) ⊎ (refusalNumber q ≡ 7)
 
   -- a refusal of the queue's own table, on the store that the ledger goes with
-  limit-of : (r : Request) (x : FairRefusal) → First (queued (refusals m (suc k) r (d .store))) x → (q : Refusal) → x ≡ Queue q → Limit q
-  limit-of r x h q e = queued-first (λ y. (q : Refusal) → y ≡ Queue q → Limit q) (refusals m (suc k) r (d .store)) (λ y v q e. by y v q (same-queue e)) x h q e
+  limit-of : (r : Request) (x : FairRefusal) → First (queued (refusals m (suc k) r (d .store)) fine) x → (q : Refusal) → x ≡ Queue q → Limit q
+  limit-of r x h q e = queued-first (λ y. (q : Refusal) → y ≡ Queue q → Limit q) (refusals m (suc k) r (d .store)) fine (λ y v q e. by y v q (same-queue e)) (λ y v. absurd v) x h q e
     where
       same-queue : {a b : Refusal} → _≡_ {A = FairRefusal} (Queue a) (Queue b) → a ≡ b
       same-queue {a} {b} e = cc
@@ -168,12 +169,19 @@ module _ (m k : ℕ) (d : Desk) (s : World) (a : Agrees m k s d) (o : Orderly s)
           let n : numberOf (called m (suc k) r (d .store) .answer) ≡ refusalNumber q = ap (λ (o : Outcome). numberOf (o .answer)) (tree.exactly m (suc k) (d .store) r .always y v) ∙ ap refusalNumber e in
           ⊎-elim (λ z. absurd (zero-told q (sym z ∙ n))) (λ z. ⊎-elim (λ z. inl (sym n ∙ z)) (λ z. inr (⊎-elim (λ z. inl (sym n ∙ z)) (λ z. inr (sym n ∙ z)) z)) z) (kept-numbers m k (d .store) (a .kept) r)
 
+  -- .. and held is not refused there
+  held-fine : (x : FairRefusal) → First (queued (heldRefusals m (suc k) (d .store)) (stop NotEmpty (0 < sumCounts (rootOf m (d .store))) fine)) x → (q : Refusal) → x ≡ Queue q → ⊥
+  held-fine x h =
+      queued-first (λ y. (q : Refusal) → y ≡ Queue q → ⊥) (heldRefusals m (suc k) (d .store)) (stop NotEmpty (0 < sumCounts (rootOf m (d .store))) fine)
+      (λ y v q e. zero-told y (sym (kept-held m k (d .store) (a .kept) .0) ∙ ap countNumber (tree.exactly-held m (suc k) (d .store) .always y v)))
+      (λ y v q e. ⊎-elim (λ w. let z : _≡_ {A = ℕ} 0 1 = let f = w .1 in cc in omega arith) (λ w. w .1) v) x h
+
   limits : (c : Call) (q : Refusal) → First (fairRefusals m (suc k) c d) (Queue q) → Limit q
   limits (push f w n t) q h =
       ⊎-elim (λ u. let z : _≡_ {A = ℕ} 0 1 = let e = u .1 in cc in absurd (omega arith)) (λ u. ⊎-elim (λ v. absurd (v .0 (a .long)))
       (λ v. ⊎-elim (λ w. let z : _≡_ {A = ℕ} 0 1 = let e = w .1 in cc in absurd (omega arith)) (λ y. limit-of (Push (nextElement d f w n t)) (Queue q) (y .1) q refl) (v .1)) (u .1)) h
   limits pop q h = ⊎-elim (λ v. absurd (v .0 (a .long))) (λ v. limit-of Pop (Queue q) (v .1) q refl) h
-  limits reset q h = ⊎-elim (λ v. absurd (v .0 (a .long))) (λ v. ⊎-elim (λ w. let z : _≡_ {A = ℕ} 0 1 = let e = w .1 in cc in absurd (omega arith)) (λ w. absurd (w .1)) (v .1)) h
+  limits reset q h = ⊎-elim (λ v. absurd (v .0 (a .long))) (λ v. absurd (held-fine (Queue q) (v .1) q refl)) h
 
   runs-by : Runs m (suc k) d s
   runs-by =

@@ -9,12 +9,13 @@ use lib.Dec.{eqb, leb}
 use lib.ListN.{drop, getD, length, length-replicate, replicate, set}
 use lib.Seq.{getD-append-add, getD-drop, getD-set-other, getD-set-same}
 use borrow.Author.Tests.{le-leb}
-use Rattle.strip.specs.Answers.{countOf}
 use Rattle.strip.specs.declared.Answer.{Answer}
 use Rattle.strip.specs.declared.Answer.the-variants.{Done, Out, Refused}
+use Rattle.strip.specs.declared.Count.{Count}
+use Rattle.strip.specs.declared.Count.the-variants.{Held, Unknown}
 use Rattle.strip.specs.declared.Request.the-variants.{Pop, Push}
 use Rattle.tree_model.specs.Calls.{called, heldCount}
-use Rattle.fair_model.specs.Calls.{blankState, denied, Desk, desk, nextElement, nextFinish, noted, passedOn, pops, pushes, Reply, reply, resets, stateWords, stripOk, timed}
+use Rattle.fair_model.specs.Calls.{blankState, denied, Desk, desk, emptied, nextElement, nextFinish, noted, passedOn, pops, pushes, Reply, reply, resets, stateWords, stripOk, timed}
 use Rattle.fair_model.specs.Promise.{Alike, AlikeReply, Call, fairQueue, pop, push, reset}
 use Rattle.fair_model.specs.Ranks.{latest}
 use Rattle.fair_model.specs.declared.FairAnswer.the-variants.{Accepted}
@@ -22,7 +23,7 @@ use Rattle.fair_model.specs.declared.FairRefusal.the-variants.{BadStrip,
 use Rattle.fair_model.proofs.Outcomes.{blank-at, pop-either, push-either, reset-either, strip-means}
 
 -- ---- not written
-blank-past : (st : List ℕ) (p : ℕ) → stateWords ≤ p → getD (blankState st) p 0 ≡ getD st p 0
+pub blank-past : (st : List ℕ) (p : ℕ) → stateWords ≤ p → getD (blankState st) p 0 ≡ getD st p 0
 blank-past st p h =
     let e : p ≡ 65 + (p - 65) = omega arith in
     let n : length (replicate {A = ℕ} stateWords 0) ≡ 65 = length-replicate {A = ℕ} stateWords 0 in
@@ -98,13 +99,17 @@ module _ (st vs ws : List ℕ) (long : stateWords ≤ length st) (wide : stateWo
   unfolding pops
   pop-alike m levels = rw (le-leb stateWords (length st) long, le-leb stateWords (length vs) wide) (refl, refl, timed-alike (called m levels Pop ws .answer))
 
-  reset-alike : (m levels : ℕ) → AlikeReply (resets m levels (desk st ws)) (resets m levels (desk vs ws))
-  unfolding resets
-  reset-alike m levels = rw (le-leb stateWords (length st) long, le-leb stateWords (length vs) wide) (go (eqb (countOf (heldCount m levels ws)) 0))
+  emptied-alike : (h : Count) → AlikeReply (emptied h (desk st ws)) (emptied h (desk vs ws))
+  emptied-alike (Unknown q) = (refl, refl, same)
+  emptied-alike (Held n) = go (eqb n 0)
     where
       go : (b : Bool) → AlikeReply (cond b (reply Accepted (desk (blankState st) ws)) (denied NotEmpty (desk st ws))) (cond b (reply Accepted (desk (blankState vs) ws)) (denied NotEmpty (desk vs ws)))
       go true = (refl, refl, λ p l. blank-at st p l ∙ sym (blank-at vs p l))
       go false = (refl, refl, same)
+
+  reset-alike : (m levels : ℕ) → AlikeReply (resets m levels (desk st ws)) (resets m levels (desk vs ws))
+  unfolding resets
+  reset-alike m levels = rw (le-leb stateWords (length st) long, le-leb stateWords (length vs) wide) (emptied-alike (heldCount m levels ws))
 
   -- UNREAD: whatever stands behind
   pub unread : (m levels : ℕ) (c : Call) → AlikeReply (fairQueue m levels c (desk st ws)) (fairQueue m levels c (desk vs ws))

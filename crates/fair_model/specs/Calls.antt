@@ -1,18 +1,21 @@
 -- The calls of fair ranks over the one-at-a-time tree, each a total function of all numbers and words handed in to an answer and all words afterwards.
-use Prim.Native.Nat.{suc, ℕ}
+use Prim.Native.Nat.{_<_, _≤_, suc, ℕ}
 use mathlib.Core.Bool.{_&&_, Bool, cond}
 use mathlib.Core.List.{_++_, List}
 use lib.Dec.{eqb, leb, ltb}
 use lib.ListN.{drop, getD, length, replicate, set}
 use Rattle.promise.specs.Queue.{step, Step}
-use Rattle.strip.specs.Answers.{blank, countOf, element, refusalNumber}
+use Rattle.promise.specs.Table.{bars, decided, ends, needs, TableOf}
+use Rattle.strip.specs.Answers.{blank, element, refusalNumber}
 use Rattle.strip.specs.declared.Answer.{Answer}
 use Rattle.strip.specs.declared.Answer.the-variants.{Done, Out, Refused}
+use Rattle.strip.specs.declared.Count.{Count}
+use Rattle.strip.specs.declared.Count.the-variants.{Held, Unknown}
 use Rattle.strip.specs.declared.Element.{Element}
 use Rattle.strip.specs.declared.Refusal.the-variants.{BadShape}
 use Rattle.strip.specs.declared.Request.the-variants.{Pop, Push}
 use Rattle.tree_model.specs.Calls.{called, heldCount, Outcome}
-use Rattle.fair_model.specs.Ranks.{finish, flows, heaviest, latest, longest}
+use Rattle.fair_model.specs.Ranks.{finish, flows, Good, heaviest, latest, longest}
 use Rattle.fair_model.specs.declared.FairAnswer.{FairAnswer}
 use Rattle.fair_model.specs.declared.FairAnswer.the-variants.{Accepted, Denied, Served}
 use Rattle.fair_model.specs.declared.FairRefusal.{FairRefusal}
@@ -109,25 +112,33 @@ handedOut o st = reply (told (o .answer)) (desk (timed (o .answer) st) (o .words
 abbrev pub blankState : List ℕ → List ℕ
 blankState st = replicate stateWords 0 ++ drop stateWords st
 
+-- ---- the tests of fair ranks' own, in order, each with the fact that it stands for
+-- a state of enough words; a shorter one is refusal 1
+abbrev pub Long : Desk → Type 0
+Long d = stateWords ≤ length (d .state)
+
+abbrev pub stateTable : Desk → TableOf FairRefusal → TableOf FairRefusal
+stateTable d l = needs (Queue BadShape) (stateOk (d .state)) (Long d) l
+
+-- "A flow, weight or length outside these limits is refused first ("bad strip"); a finish above 4,294,967,295 is refused next ("clock spent")"
+abbrev pub pushTable : ℕ → ℕ → ℕ → Desk → TableOf FairRefusal
+pushTable f w n d = needs BadStrip (stripOk f w n) (Good f w n) (stateTable d (bars ClockSpent (leb (nextFinish d f w n) latest) (latest < nextFinish d f w n) ends))
+
+-- a reset "is refused ("not empty") while anything is held"; where held is refused, so is the reset
+abbrev pub emptied : Count → Desk → Reply
+emptied (Held n) d = cond (eqb n 0) (reply Accepted (desk (blankState (d .state)) (d .store))) (denied NotEmpty d)
+emptied (Unknown q) d = denied (Queue q) d
+
 module _ (m levels : ℕ) where
   -- order of tests: 9; a state too short, 1; 10; the queue's own
   unfoldable pub pushes : ℕ → ℕ → ℕ → ℕ → Desk → Reply
   pushes f w n t d =
-      cond (stripOk f w n)
-      (cond (stateOk (d .state))
-      (cond (leb (nextFinish d f w n) latest)
-      (passedOn (called m levels (Push (nextElement d f w n t)) (d .store)) f (nextFinish d f w n) (d .state))
-      (denied ClockSpent d))
-      (denied (Queue BadShape) d))
-      (denied BadStrip d)
+      decided (λ x. denied x d) (pushTable f w n d) (passedOn (called m levels (Push (nextElement d f w n t)) (d .store)) f (nextFinish d f w n) (d .state))
 
   -- a state too short, 1; the queue's own
   unfoldable pub pops : Desk → Reply
-  pops d = cond (stateOk (d .state)) (handedOut (called m levels Pop (d .store)) (d .state)) (denied (Queue BadShape) d)
+  pops d = decided (λ x. denied x d) (stateTable d ends) (handedOut (called m levels Pop (d .store)) (d .state))
 
-  -- a state too short, 1; 11: refused "while anything is held". A refused held answers 0
+  -- a state too short, 1; held's own, 1 and 2; 11
   unfoldable pub resets : Desk → Reply
-  resets d =
-      cond (stateOk (d .state))
-      (cond (eqb (countOf (heldCount m levels (d .store))) 0) (reply Accepted (desk (blankState (d .state)) (d .store))) (denied NotEmpty d))
-      (denied (Queue BadShape) d)
+  resets d = decided (λ x. denied x d) (stateTable d ends) (emptied (heldCount m levels (d .store)) d)

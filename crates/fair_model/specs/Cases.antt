@@ -1,9 +1,9 @@
 -- Worked cases, order 2, levels 2: the bound reached, every refusal, and the largest finish.
 use Prim.Native.Nat.{_*_, _+_, ℕ}
 use mathlib.Core.List.{[], _++_, _∷_, List, map}
-use lib.ListN.{replicate, take}
+use lib.ListN.{getD, replicate, take}
 use Rattle.promise.specs.Queue.{answers, leaves}
-use Rattle.fair_model.specs.Calls.{answerNumber, Desk, desk, servedElement}
+use Rattle.fair_model.specs.Calls.{answerNumber, Desk, desk, pushes, Reply, resets, servedElement}
 use Rattle.fair_model.specs.Promise.{Call, Entry, fairQueue, opened, pop, push, reset, servedIn}
 use Rattle.fair_model.specs.Ranks.{step}
 use Rattle.fair_model.specs.declared.FairAnswer.{FairAnswer}
@@ -84,3 +84,53 @@ caseSpent =
 
 abbrev pub caseSpentSays : List (ℕ × ℕ × ℕ × ℕ)
 caseSpentSays = (0, 0, 0, 0) ∷ (10, 0, 0, 0) ∷ (0, 4294967295, 1, 64) ∷ (10, 0, 0, 0) ∷ (10, 0, 0, 0) ∷ (1, 0, 0, 0) ∷ []
+
+-- ---- a reset, over stores of order 4 with one level: the number, then the clock, the finishes of flows 0 and 63 and the word behind. What the queue refuses is passed on, before 11, and
+-- everything stands
+abbrev pub resetState : List ℕ
+resetState = (7 ∷ 70 ∷ replicate 62 9) ++ (700 ∷ 7000 ∷ [])
+
+abbrev toldReset : Reply → List ℕ
+toldReset z = answerNumber (z .said) ∷ getD (z .next .state) 0 0 ∷ getD (z .next .state) 1 0 ∷ getD (z .next .state) 64 0 ∷ getD (z .next .state) 65 0 ∷ []
+
+unfoldable pub caseReset : List (List ℕ)
+caseReset =
+    -- an order of 3, no level, 15 words, a state of 64 words: 1, also where the root is damaged and something is held
+    toldReset (resets 3 1 (desk resetState (5 ∷ 50 ∷ 500 ∷ 3 ∷ replicate 12 0)))
+    ∷ toldReset (resets 4 0 (desk resetState (5 ∷ 50 ∷ 500 ∷ 3 ∷ replicate 12 0)))
+    ∷ toldReset (resets 4 1 (desk resetState (5 ∷ 50 ∷ 500 ∷ 3 ∷ replicate 11 0)))
+    ∷ toldReset (resets 4 1 (desk (7 ∷ 70 ∷ replicate 62 9) (5 ∷ 50 ∷ 500 ∷ 3 ∷ replicate 12 0)))
+    -- a count of 3 where there is room for one; a count of 0 over a length: 2
+    ∷ toldReset (resets 4 1 (desk resetState (5 ∷ 50 ∷ 500 ∷ 3 ∷ replicate 12 0)))
+    ∷ toldReset (resets 4 1 (desk resetState (replicate 14 0 ++ (500 ∷ 0 ∷ []))))
+    -- one strip is held: 11; none: done
+    ∷ toldReset (resets 4 1 (desk resetState (replicate 12 0 ++ (5 ∷ 50 ∷ 500 ∷ 1 ∷ []))))
+    ∷ toldReset (resets 4 1 (desk resetState (replicate 16 0)))
+    ∷ []
+
+abbrev pub caseResetSays : List (List ℕ)
+caseResetSays =
+    (1 ∷ 7 ∷ 70 ∷ 700 ∷ 7000 ∷ []) ∷ (1 ∷ 7 ∷ 70 ∷ 700 ∷ 7000 ∷ []) ∷ (1 ∷ 7 ∷ 70 ∷ 700 ∷ 7000 ∷ []) ∷ (1 ∷ 7 ∷ 70 ∷ 0 ∷ 0 ∷ [])
+    ∷ (2 ∷ 7 ∷ 70 ∷ 700 ∷ 7000 ∷ []) ∷ (2 ∷ 7 ∷ 70 ∷ 700 ∷ 7000 ∷ [])
+    ∷ (11 ∷ 7 ∷ 70 ∷ 700 ∷ 7000 ∷ []) ∷ (0 ∷ 0 ∷ 0 ∷ 0 ∷ 7000 ∷ []) ∷ []
+
+-- ---- the limits by their edges, order 4 with one level, state and store of zeros: the number of one push, and its flow's finish then
+abbrev oneStrip : ℕ → ℕ → ℕ → List ℕ
+oneStrip f w n =
+    let z = pushes 4 1 f w n 50 (desk (replicate 65 0) (replicate 16 0)) in
+    answerNumber (z .said) ∷ getD (z .next .state) (1 + f) 0 ∷ []
+
+unfoldable pub caseLimits : List (List ℕ)
+caseLimits =
+    -- flows 0 to 63
+    oneStrip 0 1 64 ∷ oneStrip 63 1 64 ∷ oneStrip 64 1 64
+    -- weights 1 to 1,024
+    ∷ oneStrip 3 0 64 ∷ oneStrip 3 1024 64 ∷ oneStrip 3 1025 64
+    -- 1 to 9,216 bytes, in cells of 64 bytes, rounded up
+    ∷ oneStrip 3 2 0 ∷ oneStrip 3 2 1 ∷ oneStrip 3 2 64 ∷ oneStrip 3 2 65 ∷ oneStrip 3 2 9216 ∷ oneStrip 3 2 9217 ∷ []
+
+abbrev pub caseLimitsSays : List (List ℕ)
+caseLimitsSays =
+    (0 ∷ 65536 ∷ []) ∷ (0 ∷ 65536 ∷ []) ∷ (9 ∷ 0 ∷ [])
+    ∷ (9 ∷ 0 ∷ []) ∷ (0 ∷ 64 ∷ []) ∷ (9 ∷ 0 ∷ [])
+    ∷ (9 ∷ 0 ∷ []) ∷ (0 ∷ 32768 ∷ []) ∷ (0 ∷ 32768 ∷ []) ∷ (0 ∷ 65536 ∷ []) ∷ (0 ∷ 4718592 ∷ []) ∷ (9 ∷ 0 ∷ []) ∷ []

@@ -1,4 +1,5 @@
 pub mod Ranks
+pub mod Steps
 pub mod Calls
 pub mod Ledger
 pub mod Promise

@@ -1,5 +1,5 @@
 -- What is promised of fair ranks is said in these words: the table of refusals, a list of calls, and the ledger that goes with it.
-use Prim.Native.Nat.{_<_, _≤_, suc, ℕ}
+use Prim.Native.Nat.{_+_, _<_, _≤_, suc, ℕ}
 use mathlib.Core.Bool.{_&&_, Bool, cond}
 use mathlib.Core.List.{[], _++_, _∷_, List}
 use mathlib.Core.Logic.{_⊎_}
@@ -10,16 +10,18 @@ use Rattle.laws.specs.Ladder.{fine, Ladder, rung, stop}
 use Rattle.laws.specs.Lists.{All}
 use Rattle.promise.specs.Queue.{leaves, Pins, Step}
 use Rattle.promise.specs.Served.{lower, triple}
-use Rattle.strip.specs.Answers.{countOf, refusalNumber}
+use Rattle.strip.specs.Answers.{refusalNumber}
+use Rattle.strip.specs.declared.Answer.the-variants.{Done, Out}
 use Rattle.strip.specs.declared.Element.{Element}
 use Rattle.strip.specs.declared.Refusal.{Refusal}
 use Rattle.strip.specs.declared.Refusal.the-variants.{BadShape}
 use Rattle.strip.specs.declared.Request.{Request}
 use Rattle.strip.specs.declared.Request.the-variants.{Pop, Push}
-use Rattle.tree_model.specs.Calls.{heldCount}
+use Rattle.tree_model.specs.Calls.{called, heldCount, outcome, rootOf}
 use Rattle.tree_model.specs.Damage.{room}
-use Rattle.tree_model.specs.Promise.{after, refusals, Shape, storedCount}
-use Rattle.fair_model.specs.Calls.{answerNumber, clockOf, Desk, desk, lastOf, nextElement, nextFinish, pops, pushes, Reply, resets, stateOk, stateWords, stripOk}
+use Rattle.tree_model.specs.Node.{sumCounts}
+use Rattle.tree_model.specs.Promise.{after, heldRefusals, refusals, Shape, storedCount}
+use Rattle.fair_model.specs.Calls.{answerNumber, clockOf, Desk, desk, lastOf, Long, nextElement, nextFinish, pops, pushes, Reply, resets, stateOk, stateWords, stripOk}
 use Rattle.fair_model.specs.Ledger.{anew, comes, found, fresh, goes, listed, Move, moved, run, served, stays, Steady, Strip, World}
 use Rattle.fair_model.specs.Ranks.{flows, Good, latest}
 use Rattle.fair_model.specs.declared.FairAnswer.{FairAnswer}
@@ -40,26 +42,25 @@ fairQueue m levels pop d = pops m levels d
 fairQueue m levels reset d = resets m levels d
 
 -- ---- the table of refusals
--- the queue's own table
-abbrev pub queued : Ladder Refusal → Ladder FairRefusal
-queued fine = fine
-queued (rung x P l) = rung (Queue x) P (queued l)
-queued (stop x P l) = stop (Queue x) P (queued l)
-
--- a state of enough words
-abbrev pub Long : Desk → Type 0
-Long d = stateWords ≤ length (d .state)
+-- the queue's own rungs, before the ladder k
+abbrev pub queued : Ladder Refusal → Ladder FairRefusal → Ladder FairRefusal
+queued fine k = k
+queued (rung x P l) k = rung (Queue x) P (queued l k)
+queued (stop x P l) k = stop (Queue x) P (queued l k)
 
 -- "A flow, weight or length outside these limits is refused first ("bad strip"); a finish above 4,294,967,295 is refused next ("clock spent")"; a
--- reset "is refused ("not empty") while anything is held"
+-- reset "is refused ("not empty") while anything is held", after what held is refused for
 abbrev pub fairRefusals : ℕ → ℕ → Call → Desk → Ladder FairRefusal
 fairRefusals m levels (push f w n t) d =
     rung BadStrip (Good f w n)
     (rung (Queue BadShape) (Long d)
     (stop ClockSpent (latest < nextFinish d f w n)
-    (queued (refusals m levels (Push (nextElement d f w n t)) (d .store)))))
-fairRefusals m levels pop d = rung (Queue BadShape) (Long d) (queued (refusals m levels Pop (d .store)))
-fairRefusals m levels reset d = rung (Queue BadShape) (Long d) (stop NotEmpty (0 < countOf (heldCount m levels (d .store))) fine)
+    (queued (refusals m levels (Push (nextElement d f w n t)) (d .store)) fine)))
+fairRefusals m levels pop d = rung (Queue BadShape) (Long d) (queued (refusals m levels Pop (d .store)) fine)
+fairRefusals m levels reset d =
+    rung (Queue BadShape) (Long d)
+    (queued (heldRefusals m levels (d .store))
+    (stop NotEmpty (0 < sumCounts (rootOf m (d .store))) fine))
 
 -- KIND: of a call that is not refused a push and a reset answer that they are accepted, a pop an element
 abbrev pub IsServed : FairAnswer → Type 0
@@ -198,6 +199,32 @@ pub record Noted (d : Desk) (f r : ℕ) (after : List ℕ) : Type 0 where
   pub later : lastOf (d .state) f < r
   pub ahead : clockOf (d .state) < r
   pub clock : clockOf after ≡ clockOf (d .state)
+
+-- ---- word by word: what a call leaves of the state, by the places of its words. Word 0 is the clock, word 1 + f the last finish of flow f, and a longer
+-- slice goes on behind word 64
+-- "the clock becomes the rank of what is popped", and no other word of the state changes; the store is what the queue's pop leaves; refused, all stands
+pub record PopLeaves (m levels : ℕ) (d : Desk) (z : Reply) : Type 0 where
+  pub length : length (z .next .state) ≡ length (d .state)
+  pub clock : (e : Element) → z .said ≡ Served e → getD (z .next .state) 0 0 ≡ e .rank .0
+  pub others : (p : ℕ) → 1 ≤ p → getD (z .next .state) p 0 ≡ getD (d .state) p 0
+  pub queue : (e : Element) → z .said ≡ Served e → called m levels Pop (d .store) ≡ outcome (Out e) (z .next .store)
+  pub stands : (x : FairRefusal) → z .said ≡ Denied x → z .next ≡ d
+
+-- "a reset sets the clock and all finishes to 0", words 0 to 64; what stands behind them and the store are as they were; refused, all stands
+pub record ResetLeaves (d : Desk) (z : Reply) : Type 0 where
+  pub length : length (z .next .state) ≡ length (d .state)
+  pub zeros : z .said ≡ Accepted → (p : ℕ) → p < 65 → getD (z .next .state) p 0 ≡ 0
+  pub rest : (p : ℕ) → 65 ≤ p → getD (z .next .state) p 0 ≡ getD (d .state) p 0
+  pub store : z .next .store ≡ d .store
+  pub stands : (x : FairRefusal) → z .said ≡ Denied x → z .next ≡ d
+
+-- an accepted push writes its finish at word 1 + f, and no other word of the state; the store is what the queue's push leaves; refused, all stands
+pub record PushLeaves (m levels f : ℕ) (x : Element) (d : Desk) (z : Reply) : Type 0 where
+  pub length : length (z .next .state) ≡ length (d .state)
+  pub finish : z .said ≡ Accepted → getD (z .next .state) (1 + f) 0 ≡ x .rank .0
+  pub others : (p : ℕ) → (p ≡ 1 + f → ⊥) → getD (z .next .state) p 0 ≡ getD (d .state) p 0
+  pub queue : z .said ≡ Accepted → called m levels (Push x) (d .store) ≡ outcome Done (z .next .store)
+  pub stands : (y : FairRefusal) → z .said ≡ Denied y → z .next ≡ d
 
 -- ---- of a longer state the rest is never touched
 -- two states that agree on the clock and all finishes

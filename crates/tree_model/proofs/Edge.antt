@@ -43,6 +43,11 @@ pub four-past : Edge 4 9 349524 1
 unfolding room
 four-past = past 4 9 349524 refl (omega arith)
 
+-- .. "Order 4: 6 levels taken", 01's own
+pub four-six : Edge 4 6 5460 0
+unfolding room
+four-six = record { capacity = refl; says = λ ws l. taken 4 6 ws (record { order = inr (inl refl); some = omega arith; capacity = omega arith; slice = l }) }
+
 -- "Order 2: .. taken, .. refused"
 pub two-taken : Edge 2 15 65534 0
 unfolding room
@@ -52,6 +57,10 @@ pub two-past : Edge 2 16 131070 1
 unfolding room
 two-past = past 2 16 131070 refl (omega arith)
 
+pub two-eleven : Edge 2 11 4094 0
+unfolding room
+two-eleven = record { capacity = refl; says = λ ws l. taken 2 11 ws (record { order = inl refl; some = omega arith; capacity = omega arith; slice = l }) }
+
 -- "Order 8: .. taken, .. refused"
 pub eight-taken : Edge 8 5 37448 0
 unfolding room
@@ -60,6 +69,10 @@ eight-taken = record { capacity = refl; says = λ ws l. taken 8 5 ws (record { o
 pub eight-past : Edge 8 6 299592 1
 unfolding room
 eight-past = past 8 6 299592 refl (omega arith)
+
+pub eight-four : Edge 8 4 4680 0
+unfolding room
+eight-four = record { capacity = refl; says = λ ws l. taken 8 4 ws (record { order = inr (inr refl); some = omega arith; capacity = omega arith; slice = l }) }
 
 -- "Order 3, levels 0 ..: refused 1"
 pub three-refused : Edge 3 2 12 1

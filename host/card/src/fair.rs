@@ -101,7 +101,8 @@ impl<S: AsRef<[u32]> + AsMut<[u32]>, W: AsRef<[u32]> + AsMut<[u32]>> Fair<S, W> 
         self.reset()
     }
 
-    /// Sets the clock and all finishes to 0. Refused [`Refusal::NotEmpty`] while anything is held.
+    /// Sets the clock and all finishes to 0. Refused [`Refusal::NotEmpty`] while anything is held, [`Refusal::Damaged`] where the tree's root
+    /// is damaged.
     #[inline]
     pub fn reset(&mut self) -> Result<(), Refusal> {
         refused(calls::fair_reset(self.state.as_mut(), self.words.as_ref(), self.order, self.levels))

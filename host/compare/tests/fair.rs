@@ -26,11 +26,14 @@ struct Desk {
     store: [Vec<u32>; 2],
     /// How often each number was answered by a reset, a push, a pop and a held.
     numbers: [[u64; 12]; 4],
+    /// How often a reset with a state of enough words was refused for the tree's shape.
+    shapeless: u64,
 }
 
 impl Desk {
     fn new(order: u32, levels: u32, state: Vec<u32>, store: Vec<u32>) -> Desk {
-        Desk { order, levels, state: [state.clone(), state], store: [store.clone(), store], numbers: [[0; 12]; 4] }
+        let (state, store) = ([state.clone(), state], [store.clone(), store]);
+        Desk { order, levels, state, store, numbers: [[0; 12]; 4], shapeless: 0 }
     }
 
     /// A cleared store and a state that is reset, each with some words behind.
@@ -69,6 +72,7 @@ impl Desk {
         assert_eq!((number, &out), (told, &plain_out), "{ask:?}, order {order}, levels {levels}");
         assert_eq!((&self.state[0], &self.store[0]), (&self.state[1], &self.store[1]), "{ask:?}");
         self.numbers[kind][number as usize] += 1;
+        self.shapeless += u64::from(kind == 0 && number == 1 && self.state[0].len() >= STATE);
         (number, out)
     }
 }
@@ -255,7 +259,7 @@ fn edge(rng: &mut Rng, limit: u32) -> u32 {
 #[test]
 fn hostile() {
     let mut rng = Rng::new(seed(), 1001);
-    let mut numbers = [[0; 12]; 4];
+    let (mut numbers, mut shapeless) = ([[0; 12]; 4], 0);
     for round in 0..6000 {
         let (mut order, mut levels) = rng.pick(&SHAPES);
         let words = tree_words(order, levels);
@@ -301,8 +305,10 @@ fn hostile() {
             desk.both(ask);
         }
         add(&mut numbers, &desk.numbers);
+        shapeless += desk.shapeless;
     }
-    gave(&numbers, [&[0, 1, 11], &[0, 1, 2, 5, 7, 9, 10], &[0, 1, 2, 6], &[0, 1, 2]]);
+    assert!(shapeless > 0, "no reset over a shape that is none");
+    gave(&numbers, [&[0, 1, 2, 11], &[0, 1, 2, 5, 7, 9, 10], &[0, 1, 2, 6], &[0, 1, 2]]);
 }
 
 /// Where several causes hold, the earlier test answers: 9, a short state's 1, 10, then the tree's own.
@@ -324,10 +330,11 @@ fn the_order_of_refusals() {
     let full = vec![5, 50, 64, 1, 6, 60, 64, 1];
     assert_eq!(push(&mut Desk::new(2, 1, vec![0; 65], full.clone()), 63, 0), 7);
     assert_eq!(push(&mut Desk::new(2, 1, vec![0; 65], full.clone()), 63, 1), 5);
-    // a reset on a store that the tree refuses is taken, one that holds something is not
-    assert_eq!(Desk::new(2, 2, spent.clone(), vec![7; 24]).both(Ask::Reset).0, 0);
-    assert_eq!(Desk::new(3, 9, spent.clone(), vec![]).both(Ask::Reset).0, 0);
+    // a reset: a short state, the tree's shape and damage, then whether anything is held
     assert_eq!(Desk::new(2, 1, spent[..64].to_vec(), full.clone()).both(Ask::Reset).0, 1);
+    assert_eq!(Desk::new(3, 9, spent.clone(), vec![]).both(Ask::Reset).0, 1);
+    assert_eq!(Desk::new(2, 1, spent.clone(), full[..7].to_vec()).both(Ask::Reset).0, 1);
+    assert_eq!(Desk::new(2, 2, spent.clone(), vec![7; 24]).both(Ask::Reset).0, 2);
     assert_eq!(Desk::new(2, 1, spent, full).both(Ask::Reset).0, 11);
 }
 

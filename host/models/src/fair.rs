@@ -78,10 +78,10 @@ pub fn pop(state: &mut [u32], store: &mut [u32], order: u32, levels: u32, out: &
     given.map(|_| ())
 }
 
-/// A store whose held is refused holds nothing.
+/// Where the tree refuses to say what it holds, so is the reset refused, and nothing is wiped.
 pub fn reset(state: &mut [u32], store: &[u32], order: u32, levels: u32) -> Result<(), No> {
     state_ok(state)?;
-    if tree::held(store, order, levels).unwrap_or(0) > 0 {
+    if tree::held(store, order, levels)? > 0 {
         return Err(No::NotEmpty);
     }
     state[..STATE].fill(0);
@@ -223,5 +223,10 @@ mod tests {
         push(&mut state, &mut store, 2, 2, 63, 1024, 7, 1).unwrap();
         assert_eq!(state[64], 65_600);
         assert_eq!(reset(&mut state, &store, 2, 2), Err(No::NotEmpty));
+        // a shape that is none, and a root that is damaged, are the tree's refusals and wipe nothing
+        assert!(matches!(reset(&mut state, &store, 3, 2), Err(No::BadShape(_))));
+        store[3] = 9;
+        assert!(matches!(reset(&mut state, &store, 2, 2), Err(No::Damaged(_))));
+        assert_eq!((state[0], state[64]), (65_536, 65_600));
     }
 }
