@@ -8,5 +8,6 @@ pub mod Exactly
 pub mod Drain
 pub mod Lost
 pub mod Promises
+pub mod Level
 pub mod OneStep
 pub mod Unread

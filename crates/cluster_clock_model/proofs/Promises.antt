@@ -127,6 +127,10 @@ module _ (K k : ℕ) where
         );
       }
 
+  pub kept-replaces : (x : Machine) → Kept K k x → (e : Element) → (Untagged (Replace e) → ⊥)
+      → PopThenPush (λ r x. outcome (turnQueue K (suc k) r x .said) (turnQueue K (suc k) r x .next)) (remaining K (suc k)) e x
+  kept-replaces x kept e tag = clocks.pop-then-push (is-clock K k) bag swapping e tag x kept
+
   -- cycles and drains are the clock's
   alike : (c : Call) (x : Machine) → machineQueue K (suc k) c x ≡ calls (clock K (suc k)) (turnQueue K (suc k)) c x
   alike (cycle r) x = refl
@@ -192,8 +196,7 @@ module _ (K : ℕ) (ws : List ℕ) (rs : List Request) where
   pub pop-then-push : (levels : ℕ) → Shape K levels (length ws) → (e : Element) → (Untagged (Replace e) → ⊥)
       → PopThenPush (λ r x. outcome (turnQueue K levels r x .said) (turnQueue K levels r x .next)) (remaining K levels) e (ran K levels rs ws)
   pop-then-push zero sh e tag = absurd (not-suc-le-zero (sh .some))
-  pop-then-push (suc k) sh e tag =
-      clocks.pop-then-push (is-clock K k) (bag K k) (swapping K k) e tag (ran K (suc k) rs ws) (ran-kept k sh)
+  pop-then-push (suc k) sh e tag = kept-replaces K k (ran K (suc k) rs ws) (ran-kept k sh) e tag
 
   -- TAGGED: no element of tag 0 is held, and none has come out
   pub tagged : (levels : ℕ) → Shape K levels (length ws) → Tagged (remaining K levels (ran K levels rs ws)) rs (turnAnswers K levels rs ws)
