@@ -23,6 +23,7 @@ use node::shape::shape_of;
 use node::slot_at;
 use node::sum_counts;
 use strip::Element;
+use strip::Rank;
 use strip::Refusal;
 use strip::is_untagged;
 use tree::clear;
@@ -52,9 +53,9 @@ fn counts_under(s: &[u32], order: usize, p: usize, under: bool) -> usize
 }
 
 // Whether slot p is broken, under a slot of that rank.
-fn slot_broken(s: &[u32], order: usize, p: usize, under: bool, above: u32) -> bool
+fn slot_broken(s: &[u32], order: usize, p: usize, under: bool, above: Rank) -> bool
     requires { ⌜ SlotIn order p under (now s) ⌝ }
-    ensures { λ r. ⌜ r ≡ broken above (underIf order under (now (s .entry)) p) (slotOf (now (s .entry)) p) ⌝ }
+    ensures { λ r. ⌜ r ≡ broken (above .0) (underIf order under (now (s .entry)) p) (slotOf (now (s .entry)) p) ⌝ }
 {
     let a = slot_at(s, p);
     let sum = counts_under(s, order, p, under);
@@ -65,28 +66,27 @@ fn slot_broken(s: &[u32], order: usize, p: usize, under: bool, above: u32) -> bo
         return !clean | (sum != 0);
     }
     let rank = element.rank;
-    (count - 1 != sum) | (rank.0 < above)
+    (count - 1 != sum) | (rank.0 < above.0)
 }
 
-fn rank_at(s: &[u32], p: usize) -> u32
+fn rank_at(s: &[u32], p: usize) -> Rank
     requires { ⌜ slotWords * p + slotWords ≤ length (now s) ⌝ }
-    ensures { λ r. ⌜ r ≡ slotOf (now (s .entry)) p .element .rank .0 ⌝ }
+    ensures { λ r. ⌜ r .0 ≡ slotOf (now (s .entry)) p .element .rank .0 ⌝ }
 {
     let a = slot_at(s, p);
     let element = a.element;
-    let rank = element.rank;
-    rank.0
+    element.rank
 }
 
 // ---- by loops
 
 // The rank of the slot above a node; 0 for the root.
-fn rank_above(s: &[u32], node: usize) -> u32
+fn rank_above(s: &[u32], node: usize) -> Rank
     requires { ⌜ slotWords * node ≤ length (now s) ⌝ }
-    ensures { λ r. ⌜ r ≡ rankAbove (now (s .entry)) node ⌝ }
+    ensures { λ r. ⌜ r .0 ≡ rankAbove (now (s .entry)) node ⌝ }
 {
     if node == 0 {
-        return 0;
+        return Rank(0);
     }
     rank_at(s, node - 1)
 }
@@ -139,9 +139,9 @@ pub fn check(store: &[u32], order: usize, levels: usize) -> Check
 
 // ---- by descent: the check of a node calls the check of its slots, and each slot that of the node under it, with the levels left falling
 
-fn node_whole(s: &[u32], order: usize, left: usize, node: usize, above: u32) -> bool
+fn node_whole(s: &[u32], order: usize, left: usize, node: usize, above: Rank) -> bool
     requires { ⌜ NodeLies order left node (now s) ⌝ }
-    ensures { λ r. ⌜ r ≡ nodeWhole order left (now (s .entry)) node above ⌝ }
+    ensures { λ r. ⌜ r ≡ nodeWhole order left (now (s .entry)) node (above .0) ⌝ }
 {
     if left == 0 {
         return true;
@@ -157,9 +157,9 @@ fn node_whole(s: &[u32], order: usize, left: usize, node: usize, above: u32) -> 
     true
 }
 
-fn slot_whole(s: &[u32], order: usize, left: usize, p: usize, above: u32) -> bool
+fn slot_whole(s: &[u32], order: usize, left: usize, p: usize, above: Rank) -> bool
     requires { ⌜ SlotLies order left p (now s) ⌝ }
-    ensures { λ r. ⌜ r ≡ slotWhole order left (now (s .entry)) above p ⌝ }
+    ensures { λ r. ⌜ r ≡ slotWhole order left (now (s .entry)) (above .0) p ⌝ }
 {
     if slot_broken(s, order, p, left > 0, above) {
         return false;
@@ -176,7 +176,7 @@ pub fn is_whole(store: &[u32], order: usize, levels: usize) -> Bare
     if !shape_fits(shape, store.len()) {
         return Bare::Unasked(Refusal::BadShape);
     }
-    if node_whole(store, order, levels, 0, 0) {
+    if node_whole(store, order, levels, 0, Rank(0)) {
         return Bare::Yes;
     }
     Bare::No

@@ -8,3 +8,4 @@ pub mod Mends
 pub mod Unread
 pub mod Places
 pub mod Cases
+pub mod Order

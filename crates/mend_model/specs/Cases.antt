@@ -61,3 +61,9 @@ abbrev pub mendCase : List ℕ × ℕ × ℕ
 mendCase =
     let o = mended 2 2 (slotsOf spoilt) (replicate 26 9) in
     (o .words, mendNumber (o .answer), mendSkipped (o .answer))
+
+-- two elements that are kept, order 4: in slice order 5/50/500 comes first and gets the first slot. In the case above the other order would make the same words
+abbrev pub mendTwo : List ℕ × ℕ × ℕ
+mendTwo =
+    let o = mended 4 1 (slotsOf ((0, 7, 0, 0) ∷ (5, 50, 500, 3) ∷ (8, 0, 800, 1) ∷ (3, 30, 300, 1) ∷ [])) (replicate 16 9) in
+    (o .words, mendNumber (o .answer), mendSkipped (o .answer))

@@ -1,12 +1,14 @@
 -- What is promised of the check and the mender is said in these words: 02's sentence as a fact, slots by level, node and place, and what passes on.
 use Prim.Native.Nat.{ℕ, zero, suc, _+_, _*_, _/_, _%_, _<_, _^_}
 use mathlib.Core.Bool.{Bool, true, false, not, _&&_}
-use mathlib.Core.List.{List, []}
+use mathlib.Core.List.{[], _∷_, List, map}
 use mathlib.Core.Logic.{_⊎_}
 use mathlib.Core.Path.{_≡_}
 use lib.ListN.{getD, length}
 use Rattle.laws.specs.Fails.{Any}
 use Rattle.laws.specs.Ladder.{fine, Ladder, rung}
+use Rattle.laws.specs.Lists.{All}
+use Rattle.laws.specs.Means.{Iff}
 use Rattle.laws.specs.Sums.{sumTo}
 use Rattle.promise.specs.Queue.{answers, leaves, Pins}
 use Rattle.promise.specs.Served.{allBrought, allGiven, always, Least}
@@ -18,12 +20,12 @@ use Rattle.strip.specs.declared.Element.{Element}
 use Rattle.strip.specs.declared.Refusal.{Refusal}
 use Rattle.strip.specs.declared.Refusal.the-variants.{BadShape}
 use Rattle.strip.specs.declared.Request.{Request}
-use Rattle.strip.specs.declared.Request.the-variants.{Replace}
+use Rattle.strip.specs.declared.Request.the-variants.{Push, Replace}
 use Rattle.tree_model.specs.Calls.{called, heldCount}
 use Rattle.tree_model.specs.Damage.{room}
 use Rattle.tree_model.specs.Levels.{Levels}
 use Rattle.tree_model.specs.Node.{slotAt, sumCounts}
-use Rattle.tree_model.specs.Promise.{Damage, levelAt, PopThenPush, Shape, storedCount, treeQueue}
+use Rattle.tree_model.specs.Promise.{Damage, fourWords, levelAt, PopThenPush, Shape, storedCount, treeQueue}
 use Rattle.tree_model.specs.Tree.{Sound, treeOf}
 use Rattle.tree_model.specs.Words.{levelsOf}
 use Rattle.tree_model.specs.declared.Slot.{Slot}
@@ -108,6 +110,20 @@ module _ (m levels : ℕ) (ws : List ℕ) (rs : List Request) where
     pub held : (countNumber (heldCount m levels then) ≡ 0) × (countOf (heldCount m levels then) ≡ storedCount (room m levels) then always)
     -- the check does not look at tags: where no element without one was stored, none is and none has come out
     pub tagged : storedCount (room m levels) ws untagged ≡ 0 → Tagged (storedCount (room m levels) then) rs saidFrom
+
+-- ---- "pushes into it, in slice order, every slot with a count not 0 .. A slot with tag 0 is skipped"
+-- each is before all that come after it
+abbrev pub Rising : List ℕ → Type 0
+Rising [] = Unit {0}
+Rising (p ∷ l) = All (λ q. p < q) l × Rising l
+
+-- so a list of requests takes over the first n slots of the words: it is the pushes of the elements of slots of the slice, in rising order of their numbers, and a slot is among them exactly if
+-- its count is not 0 and its tag is not 0
+pub record InSliceOrder (ws : List ℕ) (n : ℕ) (rs : List Request) : Type 0 where
+  pub slots : List ℕ
+  pub pushed : rs ≡ map (λ (p : ℕ). Push (fourWords ws p .element)) slots
+  pub rising : Rising slots
+  pub these : (p : ℕ) → Iff (Any (λ q. q ≡ p) slots) ((p < n) × (fourWords ws p .count ≡ 0 → ⊥) × (fourWords ws p .element .tag .0 ≡ 0 → ⊥))
 
 -- ---- tests on elements: those that the mender takes over, and those that it skips
 abbrev pub withTag : (Element → Bool) → Element → Bool

@@ -1,25 +1,40 @@
 -- The definitions are 01's rules, in 01's own words. What comes after goes by these laws.
-use Prim.Native.Nat.{_<_, _≤_, suc, ℕ}
+use Prim.Native.Nat.{_<_, _≤_, suc, zero, ℕ}
+use native.Mathlib.Nat.{le-of-suc-le-suc, not-suc-le-zero}
 use mathlib.Core.Bool.{_||_, Bool, cond, false, not, true}
-use mathlib.Core.List.{List}
+use mathlib.Core.List.{[], _∷_, List}
 use mathlib.Core.Logic.{inl, inr}
 use mathlib.Core.Path.{_≡_, refl}
-use lib.Dec.{leb, ltb}
-use lib.ListN.{length}
-use borrow.Author.Tests.{leb-false, leb-true, ltb-false, ltb-true}
+use lib.Dec.{eqb, leb, ltb}
+use lib.ListN.{getD, length}
+use borrow.Author.Tests.{eqb-false, leb-false, leb-true, ltb-false, ltb-true}
 use Rattle.promise.proofs.Calls.{last-comes}
 use Rattle.strip.specs.Answers.{blank, key}
 use Rattle.strip.proofs.Order.{before-says, UpTo, upto-rank, upto-says, upto-tag}
 use Rattle.strip.specs.declared.Element.{Element}
 use Rattle.strip.specs.declared.Request.{Request}
-use Rattle.tree_model.proofs.Choice.{all-slotAt, least-in, least-le, least-left, lowest-is, lowest-left}
+use Rattle.tree_model.proofs.Choice.{all-slotAt, empty-found, least-in, least-le, least-left, lowest-is, lowest-left}
 use Rattle.tree_model.specs.Calls.{opOf, rule}
-use Rattle.tree_model.specs.Node.{firstEmpty, keep, leastCount, lowest, move, pass, putBy, putMove, slotAt, sumCounts, swapBy, swapMove, takeBy, takeMove, low}
-use Rattle.tree_model.specs.Rules.{clears, Comes, ends, exchanges, goes, IsLeast, IsLowest, passes, Puts, receives, stays, Swaps, Takes, LowerTag}
+use Rattle.tree_model.specs.Node.{firstEmpty, isEmpty, seek, vacant, keep, leastCount, lowest, move, pass, putBy, putMove, slotAt, sumCounts, swapBy, swapMove, takeBy, takeMove, low}
+use Rattle.tree_model.specs.Rules.{clears, Comes, ends, exchanges, goes, IsFirst, IsLeast, IsLowest, passes, Puts, receives, stays, Swaps, Takes, LowerTag}
 use Rattle.tree_model.specs.declared.Op.the-variants.{Put}
 use Rattle.tree_model.specs.declared.Slot.{Slot}
 
 -- ---- the choices
+first-left : (nd : List Slot) (i : ℕ) → i < firstEmpty nd → slotAt nd i .count ≡ 0 → ⊥
+unfolding firstEmpty seek slotAt isEmpty
+first-left [] i h e = not-suc-le-zero h
+first-left (s ∷ ss) i h e = go (eqb (s .count) 0) refl i h e (λ i h e. first-left ss i h e)
+  where
+    go : (b : Bool) → eqb (s .count) 0 ≡ b → (i : ℕ) → i < cond b 0 (suc (firstEmpty ss)) → getD (s ∷ ss) i vacant .count ≡ 0
+        → ((i : ℕ) → i < firstEmpty ss → slotAt ss i .count ≡ 0 → ⊥) → ⊥
+    go true p i h e ih = not-suc-le-zero h
+    go false p zero h e ih = eqb-false (s .count) 0 p e
+    go false p (suc i) h e ih = ih i (le-of-suc-le-suc h) e
+
+pub first-is : (nd : List Slot) → firstEmpty nd < length nd → IsFirst nd (firstEmpty nd)
+first-is nd h = record { inside = h; empty = empty-found nd h; first = first-left nd }
+
 pub least-is : (nd : List Slot) → 0 < length nd → IsLeast nd (leastCount nd)
 least-is nd h = record { inside = least-in nd h; smallest = λ i l. all-slotAt (λ u. slotAt nd (leastCount nd) .count ≤ u .count) nd i (least-le nd) l; leftmost = least-left nd }
 

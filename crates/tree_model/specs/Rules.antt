@@ -16,6 +16,12 @@ use Rattle.tree_model.specs.declared.Move.{Move}
 use Rattle.tree_model.specs.declared.Op.the-variants.{Nothing, Put, Swap, Take}
 use Rattle.tree_model.specs.declared.Slot.{Slot}
 
+-- "with an empty slot, the first one"
+pub record IsFirst (nd : List Slot) (j : ℕ) : Type 0 where
+  pub inside : j < length nd
+  pub empty : slotAt nd j .count ≡ 0
+  pub first : (i : ℕ) → i < j → slotAt nd i .count ≡ 0 → ⊥
+
 -- "the slot with the smallest count, leftmost on a tie"
 pub record IsLeast (nd : List Slot) (j : ℕ) : Type 0 where
   pub inside : j < length nd

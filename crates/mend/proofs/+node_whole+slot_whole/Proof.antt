@@ -46,7 +46,7 @@ abbrev slot-calls : ℕ → slot-whole-lts.Claims
 slot-calls t = (slot-broken-reads.Asked, slot-broken-reads.Learnt, rank-at-reads.Asked, rank-at-reads.Learnt, node-whole-below t, node-whole.Post)
 
 abbrev node-whole-Inv-loop : node-whole-lts.InvT-loop
-node-whole-Inv-loop s order left node above p₀ end p = AtPlace order left node above s end p
+node-whole-Inv-loop s order left node above p₀ end p = AtPlace order left node (above .0) s end p
 
 abbrev node-whole-μ-loop : node-whole-lts.MeasureT-loop
 node-whole-μ-loop s order left node above p₀ end p = end - p

@@ -11,8 +11,8 @@ returns c =
 
 returns-2 : tie.Need-returns-2
 returns-2 c =
-    let at-counts-under = c .before .before .before .before .before in let at-slot-at = at-counts-under .before in
-    broken-full _ _ _ _ (at-slot-at .slot-at .ensures) _ (at-counts-under .counts-under .ensures) (c .before .before .if1 .left)
+    let else1 = c .before .before .before in let at-counts-under = else1 .before .before .before in let at-slot-at = at-counts-under .before in
+    broken-full _ _ _ _ (at-slot-at .slot-at .ensures) _ (at-counts-under .counts-under .ensures) (else1 .if1 .left)
 
 pub slot-broken-spec : {M : Type 1} → statement M
 slot-broken-spec = tie.close
