@@ -1,5 +1,6 @@
 //! Holds `docs/PROMISES.md` to the sources: its tables are the public and the exported functions, its list of helpers the other crates
-//! with public functions, every edit that the prover must refuse is named, and every name and file in backticks is there.
+//! with public functions, every edit that the prover must refuse is named, and every name and file in backticks is there. The names of
+//! the other pages that go by definitions are there too.
 
 use checks::{root, text};
 use std::collections::{BTreeMap, BTreeSet};
@@ -122,8 +123,8 @@ impl Sources {
             let there = |file: &String| file.starts_with(&folder) || *file == edit;
             return !self.meant(word).is_empty() || self.files.keys().any(there);
         }
-        let named = self.declared.values().any(|names| names.contains(word));
-        named || self.crates().contains(word) || !self.meant(word).is_empty()
+        let named = self.declared.values().any(|names| names.contains(word)) || self.crates().contains(word);
+        named || !self.meant(word).is_empty() || !self.meant(&format!("{word}.antt")).is_empty()
     }
 }
 
@@ -278,22 +279,57 @@ fn held(line: &str) -> Vec<(&str, Vec<String>)> {
     found
 }
 
+/// The lines of a page that are no code, with their numbers.
+fn lines(page: &str) -> Vec<(usize, &str)> {
+    let (mut code, mut found) = (false, Vec::new());
+    for (line, number) in page.lines().zip(1..) {
+        code ^= line.starts_with("```");
+        if !code && !line.starts_with("    ") {
+            found.push((number, line));
+        }
+    }
+    found
+}
+
+/// The names, files and items in backticks that are not in the sources.
+fn strangers<'a>(line: &'a str, sources: &'a Sources) -> impl Iterator<Item = &'a str> {
+    let item = |word: &str| !word.contains(' ') && (word.contains('/') || word.contains("::"));
+    words(line).into_iter().filter(move |word| (is_name(word) || item(word)) && !sources.has(word))
+}
+
 #[test]
 fn every_name_is_where_the_page_has_it() {
     let (page, sources) = (page(), sources());
     let mut wrong = Vec::new();
-    for (number, line) in page.lines().enumerate().filter(|(_, line)| !line.starts_with("    ")) {
-        let place = format!("PROMISES, line {}", number + 1);
-        for word in words(line) {
-            let place_or_item = !word.contains(' ') && (word.contains('/') || word.contains("::"));
-            if (is_name(word) || place_or_item) && !sources.has(word) {
-                wrong.push(format!("{place}: `{word}` is not in the sources"));
-            }
-        }
+    for (number, line) in lines(&page) {
+        let place = format!("PROMISES, line {number}");
+        wrong.extend(strangers(line, sources).map(|word| format!("{place}: `{word}` is not in the sources")));
         for (file, names) in held(line) {
             let files = sources.meant(file);
             let missing = names.into_iter().filter(|name| !files.iter().any(|file| sources.declares(file, name)));
             wrong.extend(missing.map(|name| format!("{place}: `{name}` is not in {file}")));
+        }
+    }
+    told(&wrong);
+}
+
+/// Words of these pages that are no names of the sources: of the languages, of the format, and examples.
+const PLAIN: [&str; 7] = ["usize", "std", "nonnull", "non_exhaustive", "PFT", "else2", "at-look"];
+
+#[test]
+fn names_of_the_other_pages_are_there() {
+    let sources = sources();
+    let wrapper = root().join("host/card/src");
+    let files = std::fs::read_dir(wrapper).unwrap().map(|entry| text(&entry.unwrap().path()));
+    let wrapper = files.collect::<String>();
+    let mut wrong = Vec::new();
+    for name in ["RULES", "DECISIONS", "DESIGN"] {
+        let page = text(&root().join(format!("docs/{name}.md")));
+        for (number, line) in lines(&page) {
+            let outside =
+                |word: &&str| !PLAIN.contains(word) && !wrapper.contains(*word) && !root().join(word).exists();
+            let missing = strangers(line, sources).filter(outside);
+            wrong.extend(missing.map(|word| format!("{name}, line {number}: `{word}` is not in the sources")));
         }
     }
     told(&wrong);
