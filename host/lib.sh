@@ -129,7 +129,7 @@ for_target() {
     made_lib=$LIB/$1/libcard.a
     [ "$2" = -O3 ] || made_lib=$LIB/$1$2/libcard.a
     folder=$(dirname "$made_lib")
-    if fresh "$made_lib"; then return; fi
+    if fresh "$made_lib" && [ -z "$(find host/lib.sh -newer "$made_lib")" ]; then return; fi
     module
     mkdir -p "$folder" || exit 1
     if [ "$1$2" = x86_64-linux-O3 ]; then
@@ -184,7 +184,7 @@ ran() {
         $run "$1"
     else
         # shellcheck disable=SC2086
-        $run -nographic -monitor none -serial none -chardev stdio,id=out -semihosting-config enable=on,target=native,chardev=out -kernel "$1"
+        timeout 900 $run -nographic -monitor none -serial none -chardev stdio,id=out -semihosting-config enable=on,target=native,chardev=out -kernel "$1"
     fi
 }
 

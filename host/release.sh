@@ -40,7 +40,7 @@ tools_for() { # MACHINE
         ;;
     *) (x86_tools && rust_tools "$1" "$CARD_TARGET") || return 1 ;;
     esac
-    cp "$(env -u CARD_LIB host/lib.sh --play "$1")" "$to/bin/$1/play"
+    cp "$(host/lib.sh --play "$1")" "$to/bin/$1/play"
 }
 
 rm -rf "$to" "$out/$name.tar.gz" "$out/$name.tar.gz.sha256"
@@ -83,7 +83,7 @@ TEXT
 tools_for x86_64-linux || fail 'no tools for x86-64'
 if [ "$here" != x86_64-linux ]; then tools_for "$here" || fail "no tools for $here"; fi
 (cd "$to" && find . -type f ! -name SHA256SUMS | LC_ALL=C sort | xargs sha256sum >SHA256SUMS) || exit 1
-(cd "$out" && tar --sort=name --owner=0 --group=0 --numeric-owner -czf "$name.tar.gz" "$name" && sha256sum "$name.tar.gz" >"$name.tar.gz.sha256") || exit 1
+(cd "$out" && tar --sort=name --mtime='2020-01-01 UTC' --owner=0 --group=0 --numeric-owner -czf "$name.tar.gz" "$name" && sha256sum "$name.tar.gz" >"$name.tar.gz.sha256") || exit 1
 rm -rf "$to"
 
 # The trial, as one who has the archive alone.

@@ -22,16 +22,13 @@ case $#$* in
     exit 2
     ;;
 esac
-tools && runner || {
+x86=
+[ -n "${CARD_LIB:-}" ] || [ "$(uname -m)" = x86_64 ] || x86=yes
+{ tools && runner && { [ -z "$x86" ] || (x86_tools); }; } || {
     echo 'host: FAILED: compilers and, where one is needed, an emulator'
     exit 1
 }
-x86=
-if [ -n "${CARD_LIB:-}" ]; then
-    echo "host: the static library is taken from CARD_LIB: $CARD_LIB"
-elif [ "$(uname -m)" != x86_64 ]; then
-    x86=$(pwd)/$(host/lib.sh x86_64-linux) || exit 1
-fi
+[ -z "${CARD_LIB:-}" ] || echo "host: the static library is taken from CARD_LIB: $CARD_LIB"
 library . || exit 1
 if [ -n "${PLAY:-}" ]; then
     echo "host: the trace program is taken from PLAY: $PLAY"
@@ -42,6 +39,7 @@ fi
 [ $# -eq 0 ] || export CARD_SEED="$1"
 export PLAY
 
+root=$(pwd)
 cd host || exit 2
 test_of() { $CARGO test --offline --no-fail-fast "$@"; }
 test_of --workspace
@@ -49,8 +47,7 @@ status=$?
 if [ -n "$x86" ]; then
     # the x86-64 library itself, in a folder of its own, since another compiler makes its programs; the soak was one of the checks
     (
-        CARD_LIB=$x86
-        x86_tools || exit 1
+        CARD_LIB=$root/$("$root/host/lib.sh" x86_64-linux) && x86_tools || exit 1
         test_of --target-dir target/x86 -p checks --test c
         programs=$?
         test_of --target-dir target/x86 --target "$CARD_TARGET" -p compare --test library -- --brief && [ "$programs" -eq 0 ]
