@@ -70,6 +70,10 @@ module _ (k : Lay) (b w : List ℕ) where
   pub goes : (q : Request) → Goes said (λ x. refused x b w) (callTable k b w q) (done k b w q) (asked k q (store b w))
   goes q = record { told = told q; is = same q; done = grants-zero q _; number = λ x. refl }
 
+  -- a refused call leaves every word
+  pub stands : (q : Request) → (said (asked k q (store b w)) ≡ 0 → ⊥) → (asked k q (store b w) .bits ≡ b) × (asked k q (store b w) .words ≡ w)
+  stands q = tabled.either (goes q) (λ (o : Outcome). (said o ≡ 0 → ⊥) → (o .bits ≡ b) × (o .words ≡ w)) (λ x n. (refl, refl)) (λ p n. absurd (n (goes q .done)))
+
   pub exactly : (q : Request) → Exactly (asked k q (store b w)) b w (callTable k b w q)
   exactly q = tabled.exactly (goes q)
 

@@ -71,13 +71,13 @@ module _ (k : Lay) (laid : Laid k) where
     pub in-order : Sorted (stored k (after k cs (start k b w) .words))
     in-order = whole-run .sorted
 
-    -- of each rank, what came in is what went out and then what is held, in this order
-    pub fifo : (r : ℕ) → ofRank r (brought cs (says k cs (start k b w))) ≡ ofRank r (gone (says k cs (start k b w))) ++ ofRank r (stored k (after k cs (start k b w) .words))
+    -- of each rank, what came in is what went out and then what is held, in this order; by 01's numbers
+    pub fifo : (r : ℕ) → ofRank r (brought cs (says k cs (start k b w))) ≡ ofRank r (gone cs (says k cs (start k b w))) ++ ofRank r (stored k (after k cs (start k b w) .words))
     unfolding ofRank
     fifo r = whole-run .fifo r
 
     -- every element is in the store as often as it went in and has not come out: so many pass any test
-    pub holds : (f : Element → Bool) → times f (brought cs (says k cs (start k b w))) ≡ times f (gone (says k cs (start k b w))) + times f (stored k (after k cs (start k b w) .words))
+    pub holds : (f : Element → Bool) → times f (brought cs (says k cs (start k b w))) ≡ times f (gone cs (says k cs (start k b w))) + times f (stored k (after k cs (start k b w) .words))
     unfolding times
     holds f = omega (arith, whole-run .holds f)
 

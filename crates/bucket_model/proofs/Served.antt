@@ -2,7 +2,7 @@
 use mathlib.Core.Path.{_≡_, refl, sym, ap, _∙_}
 use mathlib.Core.Bool.{Bool, true, false, cond}
 use mathlib.Core.List.{List, [], _∷_}
-use Prim.Native.Nat.{ℕ, _+_, _≤_}
+use Prim.Native.Nat.{ℕ, zero, suc, _+_, _≤_}
 use native.Mathlib.Omega.{arith}
 use borrow.Author.Tests.{le-ltb}
 use lib.Dec.{ltb}
@@ -15,7 +15,7 @@ use Rattle.promise.specs.Served.{hit, lower, given, brought, all-sum, Least, Is
 use Rattle.promise.specs.Served as said
 use Rattle.promise.specs.Refused.{untagged-means}
 use Rattle.promise.specs.Tagged.{Barred, Tagged, tagged-by}
-use Rattle.strip.specs.Answers.{untagged, rankOf, countNumber, countOf}
+use Rattle.strip.specs.Answers.{untagged, numberOf, rankOf, countNumber, countOf}
 use Rattle.strip.specs.declared.Element.{Element}
 use Rattle.strip.specs.declared.Answer.{Answer}
 use Rattle.strip.specs.declared.Answer.the-variants.{Done, Out, Refused}
@@ -27,7 +27,7 @@ use Rattle.bucket_model.specs.Layout.{Lay, Laid}
 use Rattle.bucket_model.specs.Calls.{heldCount}
 use Rattle.bucket_model.specs.Causes.{Shaped}
 use Rattle.bucket_model.specs.Plain as listed
-use Rattle.bucket_model.specs.Plain.{Call, ask, held, says, brings, came, Said, answered, counted, Step, step, Store, store, asked, called, start, Reached, plain, plainWith, stored, times}
+use Rattle.bucket_model.specs.Plain.{Call, ask, held, says, ifDone, brings, came, Said, answered, counted, Step, step, Store, store, asked, called, start, Reached, plain, plainWith, stored, times}
 use Rattle.bucket_model.specs.Promise.{bucketQueue, storedBy}
 use Rattle.bucket_model.proofs.Kind.{kind, barred}
 use Rattle.bucket_model.proofs.Sorted.{Does, plain-either, times-append, times-insert}
@@ -61,20 +61,17 @@ sums ranks room q l f = plain-either ranks room (ask q) l (Sums l f q) (λ x n. 
 
 -- ---- an element without a tag
 
-none-in : (e : Element) → (e .tag .0 ≡ 0 → ⊥) → times untagged (e ∷ []) ≡ 0
+none-in : (e : Element) (n : ℕ) → (e .tag .0 ≡ 0 → n ≡ 0 → ⊥) → times untagged (ifDone n e) ≡ 0
 unfolding times
-none-in e n = rw (means-off (untagged-means e) n) refl
+none-in e zero b = rw (means-off (untagged-means e) (λ u. b u refl)) refl
+none-in e (suc n) b = refl
 
 pub none-brings : (q : Request) (a : Answer) → Barred q a → times untagged (brings q a) ≡ 0
 unfolding times
 none-brings Idle a b = refl
-none-brings (Push e) Done b = none-in e (λ u. b u refl)
-none-brings (Push e) (Out x) b = refl
-none-brings (Push e) (Refused r) b = refl
+none-brings (Push e) a b = none-in e (numberOf a) b
 none-brings Pop a b = refl
-none-brings (Replace e) Done b = refl
-none-brings (Replace e) (Out x) b = none-in e (λ u. b u refl)
-none-brings (Replace e) (Refused r) b = refl
+none-brings (Replace e) a b = none-in e (numberOf a) b
 
 pub none-lower : (r : ℕ) (l : List Element) → All (λ y. r ≤ y .rank .0) l → times (lower r) l ≡ 0
 unfolding times

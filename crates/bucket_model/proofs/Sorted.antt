@@ -2,15 +2,16 @@
 use mathlib.Core.Path.{_≡_, refl, sym, ap, subst, _∙_}
 use mathlib.Core.Bool.{Bool, true, false, cond, not}
 use mathlib.Core.List.{List, [], _∷_, _++_, append-assoc, append-nil}
-use Prim.Native.Nat.{ℕ, suc, _+_, _≤_, _<_}
+use Prim.Native.Nat.{ℕ, zero, suc, _+_, _≤_, _<_}
 use native.Mathlib.Decide.{ℕ-discrete, decLt}
 use native.Mathlib.Omega.{arith}
 use borrow.Author.Tests.{lt-ltb, le-ltb, ne-eqb}
 use lib.Dec.{ltb, eqb}
 use lib.ListN.{length}
 use Rattle.laws.specs.Lists.{All, all-map}
+use Rattle.promise.specs.Refused.{zero-told}
 use Rattle.promise.specs.Table.{decided-either, ends, needs}
-use Rattle.strip.specs.Answers.{refusalNumber, untagged}
+use Rattle.strip.specs.Answers.{blank, refusalNumber, untagged}
 use Rattle.strip.specs.declared.Element.{Element}
 use Rattle.strip.specs.declared.Refusal.{Refusal}
 use Rattle.strip.specs.declared.Refusal.the-variants.{BadRank, Full, Empty, NoTag}
@@ -18,7 +19,7 @@ use Rattle.strip.specs.declared.Answer.the-variants.{Done, Out, Refused}
 use Rattle.strip.specs.declared.Count.the-variants.{Held}
 use Rattle.strip.specs.declared.Request.the-variants.{Idle, Push, Pop, Replace}
 use Rattle.bucket_model.specs.Layout.{Lay}
-use Rattle.bucket_model.specs.Plain.{Call, ask, held, Said, answered, counted, Step, step, insert, plainReplace, plain, plainWith, plainSays, plainAfter, came, went, brought, gone, ofRank, times, Sorted}
+use Rattle.bucket_model.specs.Plain.{Call, ask, held, Said, answered, counted, Step, step, insert, plainReplace, plain, plainWith, plainSays, plainAfter, ifDone, came, went, brought, gone, ofRank, times, Sorted}
 
 -- ---- the elements of a rank
 
@@ -125,8 +126,8 @@ plain-either ranks room held l P f h = h
 -- in order again; of each rank what was there, with what came behind it, is what went and then what is there; and nothing is lost
 pub record Kept (c : Call) (l : List Element) (x : Step (List Element)) : Type 0 where
   pub sorted : Sorted (x .next)
-  pub fifo : (r : ℕ) → ofRank r l ++ ofRank r (came c (x .said)) ≡ ofRank r (went (x .said)) ++ ofRank r (x .next)
-  pub holds : (g : Element → Bool) → times g l + times g (came c (x .said)) ≡ times g (went (x .said)) + times g (x .next)
+  pub fifo : (r : ℕ) → ofRank r l ++ ofRank r (came c (x .said)) ≡ ofRank r (went c (x .said)) ++ ofRank r (x .next)
+  pub holds : (g : Element → Bool) → times g l + times g (came c (x .said)) ≡ times g (went c (x .said)) + times g (x .next)
 
 rank-still : (r : ℕ) (l : List Element) → ofRank r l ++ ofRank r [] ≡ ofRank r [] ++ ofRank r l
 rank-still r l = rw (rank-nil r) (append-nil (ofRank r l))
@@ -140,8 +141,16 @@ times-insert g e (x ∷ l) = go (ltb (e .rank .0) (x .rank .0)) (times-insert g 
     go true ih = refl
     go false ih = omega arith
 
+-- what is refused brings nothing in, and gives nothing out
+if-refused : (x : Refusal) (e : Element) → ifDone (refusalNumber x) e ≡ []
+if-refused x e = go (refusalNumber x) refl
+  where
+    go : (n : ℕ) → refusalNumber x ≡ n → ifDone n e ≡ []
+    go zero i = absurd (zero-told x (sym i))
+    go (suc n) i = refl
+
 -- a step that says no
-kept-no : (c : Call) (l : List Element) (x : Step (List Element)) → Sorted l → came c (x .said) ≡ [] → went (x .said) ≡ [] → x .next ≡ l → Kept c l x
+kept-no : (c : Call) (l : List Element) (x : Step (List Element)) → Sorted l → came c (x .said) ≡ [] → went c (x .said) ≡ [] → x .next ≡ l → Kept c l x
 unfolding times
 kept-no c l x s a b e =
     record {
@@ -181,14 +190,21 @@ kept-replace e x l s =
     }
 
 pub plain-kept : (ranks : ℕ) (room : Bool) (c : Call) (l : List Element) → Sorted l → Kept c l (plainWith ranks room c l)
-plain-kept ranks room c l s = plain-either ranks room c l (Kept c l) (λ x n. kept-no c l (step (answered (Refused x)) l) s (none c x) refl refl) (does c)
+plain-kept ranks room c l s = plain-either ranks room c l (Kept c l) (λ x n. kept-no c l (step (answered (Refused x)) l) s (none-in c x) (none-out c x) refl) (does c)
   where
-    none : (c : Call) (x : Refusal) → came c (answered (Refused x)) ≡ []
-    none (ask Idle) x = refl
-    none (ask (Push e)) x = refl
-    none (ask Pop) x = refl
-    none (ask (Replace e)) x = refl
-    none held x = refl
+    none-in : (c : Call) (x : Refusal) → came c (answered (Refused x)) ≡ []
+    none-in (ask Idle) x = refl
+    none-in (ask (Push e)) x = if-refused x e
+    none-in (ask Pop) x = refl
+    none-in (ask (Replace e)) x = if-refused x e
+    none-in held x = refl
+
+    none-out : (c : Call) (x : Refusal) → went c (answered (Refused x)) ≡ []
+    none-out (ask Idle) x = refl
+    none-out (ask (Push e)) x = refl
+    none-out (ask Pop) x = if-refused x blank
+    none-out (ask (Replace e)) x = if-refused x blank
+    none-out held x = refl
 
     does : (c : Call) → Does c l (Kept c l)
     does (ask Idle) = kept-no (ask Idle) l (step (answered Done) l) s refl refl refl
@@ -206,8 +222,8 @@ times-append g (x ∷ xs) ys = omega (arith, times-append g xs ys)
 
 pub record Through (cs : List Call) (ss : List Said) (l m : List Element) : Type 0 where
   pub sorted : Sorted m
-  pub fifo : (r : ℕ) → ofRank r l ++ ofRank r (brought cs ss) ≡ ofRank r (gone ss) ++ ofRank r m
-  pub holds : (g : Element → Bool) → times g l + times g (brought cs ss) ≡ times g (gone ss) + times g m
+  pub fifo : (r : ℕ) → ofRank r l ++ ofRank r (brought cs ss) ≡ ofRank r (gone cs ss) ++ ofRank r m
+  pub holds : (g : Element → Bool) → times g l + times g (brought cs ss) ≡ times g (gone cs ss) + times g m
 
 -- one call, and then the others
 pub through-step : (c : Call) (cs : List Call) (ss : List Said) (l m : List Element) (x : Step (List Element)) → Kept c l x → Through cs ss (x .next) m → Through (c ∷ cs) (x .said ∷ ss) l m
@@ -217,12 +233,12 @@ through-step c cs ss l m x y t =
       sorted = t .sorted;
       fifo = λ r.
           let A = ofRank r (brought cs ss) in
-          rw (rank-append r (came c (x .said)) (brought cs ss), rank-append r (went (x .said)) (gone ss))
+          rw (rank-append r (came c (x .said)) (brought cs ss), rank-append r (went c (x .said)) (gone cs ss))
           (sym (append-assoc (ofRank r l) (ofRank r (came c (x .said))) A) ∙ ap (λ (z : List Element). z ++ A) (y .fifo r)
-          ∙ append-assoc (ofRank r (went (x .said))) (ofRank r (x .next)) A ∙ ap (λ (z : List Element). ofRank r (went (x .said)) ++ z) (t .fifo r)
-          ∙ sym (append-assoc (ofRank r (went (x .said))) (ofRank r (gone ss)) (ofRank r m)));
+          ∙ append-assoc (ofRank r (went c (x .said))) (ofRank r (x .next)) A ∙ ap (λ (z : List Element). ofRank r (went c (x .said)) ++ z) (t .fifo r)
+          ∙ sym (append-assoc (ofRank r (went c (x .said))) (ofRank r (gone cs ss)) (ofRank r m)));
       holds = λ g.
-          rw (times-append g (came c (x .said)) (brought cs ss), times-append g (went (x .said)) (gone ss))
+          rw (times-append g (came c (x .said)) (brought cs ss), times-append g (went c (x .said)) (gone cs ss))
           (omega (arith, y .holds g, t .holds g));
     }
 

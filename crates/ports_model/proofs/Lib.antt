@@ -19,6 +19,7 @@ pub mod Kind
 pub mod Served
 pub mod Unread
 pub mod Cases
+pub mod Edge
 pub mod Lies
 pub mod Bounded
 pub mod Shown

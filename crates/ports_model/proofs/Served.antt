@@ -1,5 +1,5 @@
 -- What is least, and that nothing without a tag is held, in 01's numbers, port by port.
-use mathlib.Core.Path.{_≡_, refl, _∙_}
+use mathlib.Core.Path.{_≡_, refl, sym, _∙_}
 use mathlib.Core.Bool.{Bool, true, false}
 use mathlib.Core.List.{List, [], _∷_}
 use Prim.Native.Nat.{ℕ, _<_}
@@ -59,4 +59,4 @@ module _ (s : Shape) (lim b w : List ℕ) (shaped : Shaped s b w) (fair : Fair s
       least-out (λ f. times f (storedAt s p now)) (asked s p Pop now .answer) (kind s p Pop now n) (λ x q. none-lower (x .rank .0) (storedAt s p now) (least s lim b w shaped fair as′ p p< x q .lowest))
   port-least (Replace e) = λ n.
       least-out (λ f. times f (storedAt s p now)) (asked s p (Replace e) now .answer) (kind s p (Replace e) now n)
-      (λ x q. none-lower (x .rank .0) (storedAt s p now) (least s lim b w shaped fair as′ p p< x (replace-gives s p now e x q) .lowest))
+      (λ x q. none-lower (x .rank .0) (storedAt s p now) (least s lim b w shaped fair as′ p p< x (sym (replace-gives s p now e n) ∙ q) .lowest))

@@ -7,3 +7,4 @@ pub mod Lists
 pub mod Runs
 pub mod Promise
 pub mod Cases
+pub mod Edge
