@@ -10,19 +10,20 @@ use mathlib.Core.Path.{_∙_, _≡_, ap, ap₂, refl, subst, sym}
 use lib.Dec.{ltb}
 use lib.ListN.{length, length-set, set}
 use lib.Seq.{getD-set-same}
-use borrow.Author.Tests.{ltb-false, ltb-true}
+use borrow.Author.Tests.{lt-ltb, ltb-false, ltb-true}
 use Rattle.cluster_clock_model.proofs.Exactly.{damage-fails, sound, turned-fine}
 use Rattle.cluster_clock_model.proofs.Ends.{root-ends, work-ends}
-use Rattle.cluster_clock_model.proofs.Level.{Has, like-filled, like-worked, same-begins}
+use Rattle.cluster_clock_model.proofs.Level.{Has, like-filled, like-worked, same-at, same-begins}
 use Rattle.cluster_clock_model.proofs.Seen.{begins-length, filled-length, filled-node, handed-in, InRange, level-in, level-length, level-only, node-apart, noteSeen, opAt, pass-only, pass-others, Ranged, ranged-set, set-later, settled-length, Spans, spans-next, spans-own, worked-node}
 use Rattle.cluster_clock_model.specs.declared.Due.{Due}
 use Rattle.cluster_clock_model.specs.declared.Due.the-variants.{Fill, Nothing, Put, Swap}
 use Rattle.cluster_clock_model.specs.declared.Stage.{Stage}
 use Rattle.cluster_clock_model.specs.Calls.{askedOk, isNothing, turned, TurnOutcome, turnRun}
-use Rattle.cluster_clock_model.specs.Promise.{Busy, firstNode, GivenAt, InLevel, OneStep, stageBelow, TurnDamage, WaitsAt, workOf}
+use Rattle.cluster_clock_model.specs.Promise.{Busy, firstNode, GivenAt, InLevel, InNode, OneStep, Reads, stageBelow, TurnDamage, WaitsAt, workOf}
 use Rattle.cluster_clock_model.specs.Stage.{begins, below, childOf, filled, handed, levelStage, levelWords, loaded, lowAt, noStage, noteOf, pass, settled, stageAt, waits, work, Work, worked}
 use Rattle.cluster_clock_model.specs.Test.{stageOk, stagesOk}
-use Rattle.cluster_model.specs.Calls.{ruleAt}
+use Rattle.cluster_model.specs.Calls.{rootHeld, rule, ruleAt}
+use Rattle.cluster_model.specs.Heap.{room}
 use Rattle.cluster_model.specs.Node.{begin, Begun, fill, finish, Finished, lhs, low, lowElem, Node, Note, nothing, onto, Op, rhs, Side, trial}
 use Rattle.cluster_model.specs.Promise.{Shape}
 use Rattle.cluster_model.specs.Way.{child, nodeIn, spotOf, touch, works}
@@ -360,6 +361,12 @@ module _ (K : ℕ) where
       (subst (λ (b : ℕ). stageOk K 0 (stageAt rs (onward k 0) .due) (stageAt rs (onward k 0) .node) b ws ≡ true) (down-first k) (stage-last k 0 0 rs ws ok)) in
       ends-stage (below a) w ws (work-ends K d n a (low (nodeIn K ws (below a + w .node) .places)) ws at)
 
+waiting-in : (d : Due) (n a : ℕ) → waits d ≡ true → InRange d n a → n < a + 1
+waiting-in Nothing n a t h = absurd (false≢true t)
+waiting-in (Put y) n a t h = absurd (false≢true t)
+waiting-in (Fill j) n a t h = h
+waiting-in (Swap j x) n a t h = h
+
 -- ONE STEP: a cycle with no damage, of any machine with a good shape and a record for each level from 2
 module _ (K k : ℕ) (r : Request) (rs : List Stage) (ws : List ℕ) (sh : Shape K (suc k) (length ws)) (len : k ≤ length rs) (fine : TurnDamage K (suc k) r rs ws → ⊥) where
   abbrev o : Work
@@ -439,9 +446,8 @@ module _ (K k : ℕ) (r : Request) (rs : List Stage) (ws : List ℕ) (sh : Shape
         words = λ i p h l. words-at i p h (bounds i p l);
         own = λ i h p g. level-only K (firstNode i) (workOf K (suc k) r rs ws i) (stageBelow K (suc k) rs i) ws (own-in i (omega arith)) (below-in i) p (outside i p g);
         stands = λ i n p h l quiet g.
-            words-at i ((firstNode i + n) * (2 + K * 4) + p) h (has-own K (firstNode i) n l ((firstNode i + n) * (2 + K * 4) + p) (omega arith) (omega arith))
-            ∙ level-stands K (firstNode i) (workOf K (suc k) r rs ws i) (stageBelow K (suc k) rs i) ws n ((firstNode i + n) * (2 + K * 4) + p) (λ t e. quiet (work-busy K (suc k) r rs ws i n t e))
-            (λ t e. quiet (wait-busy K (suc k) r rs ws i n t e)) (omega arith) (omega arith);
+            words-at i p h (has-own K (firstNode i) n l p (g .0) (g .1))
+            ∙ level-stands K (firstNode i) (workOf K (suc k) r rs ws i) (stageBelow K (suc k) rs i) ws n p (λ t e. quiet (work-busy K (suc k) r rs ws i n t e)) (λ t e. quiet (wait-busy K (suc k) r rs ws i n t e)) (g .0) (g .1);
         still = λ i p h quiet l. words-at i p h (bounds i p l) ∙ ap (λ (v : List ℕ). word v p) (unmoved i (omega arith) quiet);
         past = λ p h. ap (λ (v : List ℕ). word v p) words-are ∙ pass-only K k 0 o 0 rs ws (omega arith) ranged p (inr (omega (arith, h)));
         loads = loads;
@@ -453,12 +459,6 @@ module _ (K k : ℕ) (r : Request) (rs : List Stage) (ws : List ℕ) (sh : Shape
       outside : (i p : ℕ) → (p < firstNode i * (2 + K * 4)) ⊎ (firstNode (suc i) * (2 + K * 4) ≤ p) → (p < spotOf K (firstNode i)) ⊎ (spotOf K (firstNode i) + (firstNode i + 1) * width K ≤ p)
       outside i p (inl h) = inl h
       outside i p (inr h) = inr (next-first K i p h)
-
-      waiting-in : (d : Due) (n a : ℕ) → waits d ≡ true → InRange d n a → n < a + 1
-      waiting-in Nothing n a t h = absurd (false≢true t)
-      waiting-in (Put y) n a t h = absurd (false≢true t)
-      waiting-in (Fill j) n a t h = h
-      waiting-in (Swap j x) n a t h = h
 
       unmoved : (i : ℕ) → i ≤ k → ((n : ℕ) → n < firstNode i + 1 → Busy K (suc k) r rs ws i n → ⊥) → stepped i ≡ ws
       unmoved i h quiet =
@@ -473,3 +473,112 @@ module _ (K k : ℕ) (r : Request) (rs : List Stage) (ws : List ℕ) (sh : Shape
 pub one-step : (K levels : ℕ) (r : Request) (rs : List Stage) (ws : List ℕ) → Shape K levels (length ws) → pred levels ≤ length rs → (TurnDamage K levels r rs ws → ⊥) → OneStep K levels r rs ws
 one-step K zero r rs ws sh len fine = absurd (not-suc-le-zero (sh .some))
 one-step K (suc k) r rs ws sh len fine = one-step-at K k r rs ws sh len fine
+
+-- READS: two cycles with no damage leave the same of level i, words and record, where what it reads is the same
+module _ (K k : ℕ) (r t : Request) (rs qs : List Stage) (ws vs : List ℕ) (sh : Shape K (suc k) (length ws)) (zh : Shape K (suc k) (length vs)) (len : k ≤ length rs) (lenq : k ≤ length qs)
+    (fine : TurnDamage K (suc k) r rs ws → ⊥) (fineq : TurnDamage K (suc k) t qs vs → ⊥) (i : ℕ) (h : i ≤ k) (same : Reads K (suc k) i r t rs qs ws vs) where
+  abbrev b : ℕ
+  b = firstNode i
+
+  fits-in : (us : List ℕ) → Spans K k 0 ≤ length us → spotOf K b + (b + 1) * width K ≤ length us
+  fits-in us g = subst (λ (c : ℕ). spotOf K c + (c + 1) * width K ≤ length us) (down-first i) (omega (arith, down-fits K k i 0 h))
+
+  unbound : (p : ℕ) → Level K b p → InLevel K (suc k) i p
+  unfolding firstNode
+  unbound p l = (l .0, omega (arith, l .1, deep (width K) b))
+    where
+      deep : (d c : ℕ) → (c + c + 1) * d ≡ c * d + (c + 1) * d
+      deep d c = omega arith
+
+  alike : Alike (Level K b) ws vs
+  alike =
+      record {
+        one = λ p l. omega (arith, l .1, fits-in ws (wide K k r rs ws sh len fine));
+        other = λ p l. omega (arith, l .1, fits-in vs (wide K k t qs vs zh lenq fineq));
+        same = λ p l. same .own p (unbound p l);
+      }
+
+  own-node : (n : ℕ) → n < b + 1 → nodeIn K ws (b + n) ≡ nodeIn K vs (b + n)
+  own-node n l = same-at K (Level K b) ws vs alike (b + n) (has-own K b n l)
+
+  node-of : (m : ℕ) → ((p : ℕ) → InNode K (suc k) m p → word ws p ≡ word vs p) → nodeIn K ws m ≡ nodeIn K vs m
+  node-of m f = node-local K vs ws (spotOf K m) (λ p x y. f p (x, y))
+
+  settled-by : (c : Note) (m : ℕ) → nodeIn K ws m ≡ nodeIn K vs m → nodeIn K ws (child m lhs) ≡ nodeIn K vs (child m lhs) → nodeIn K ws (child m rhs) ≡ nodeIn K vs (child m rhs) → settled K c m ws ≡ settled K c m vs
+  unfolding settled
+  settled-by c m e f g = λ j. finish c (e j) (lowElem (f j .places)) (lowElem (g j .places))
+
+  -- the node that waits in the level
+  waiting-same : waits (stageBelow K (suc k) rs i .due) ≡ true → settled K (noteOf (stageBelow K (suc k) rs i .due)) (b + stageBelow K (suc k) rs i .node) ws ≡ settled K (noteOf (stageBelow K (suc k) rs i .due)) (b + stageBelow K (suc k) rs i .node) vs
+  waiting-same e =
+      let q : Stage = stageBelow K (suc k) rs i in
+      let at : WaitsAt (q .due) (q .node) (q .node) = waits-at K (q .due) (q .node) (q .node) e refl in
+      settled-by (noteOf (q .due)) (b + q .node) (own-node (q .node) (waiting-in (q .due) (q .node) b e (below-in K k r rs ws sh len fine i))) (node-of (child (b + q .node) lhs) (same .children (q .node) at lhs))
+      (node-of (child (b + q .node) rhs) (same .children (q .node) at rhs))
+
+  -- the work of the level: at the root the request's ..
+  root-work : i ≡ 0 → work (ruleAt K (suc k) r ws .op) 0 ≡ work (ruleAt K (suc k) t vs .op) 0
+  unfolding firstNode
+  root-work e =
+      let at : b + 0 ≡ 0 = ap (λ (j : ℕ). firstNode j + 0) e ∙ omega arith in
+      let n : nodeIn K ws 0 ≡ nodeIn K vs 0 = subst (λ (m : ℕ). nodeIn K ws m ≡ nodeIn K vs m) at (own-node 0 (omega arith)) in
+      ap₂ (λ (r : Request) (n : Node). work (rule (room K (suc k)) r (rootHeld n) (lowElem (n .places)) .op) 0) (same .asked e) n
+
+  -- .. below it what the record between hands down
+  module _ (g : ℕ) (e : i ≡ suc g) where
+    child-own : (n : ℕ) (s : Side) → n < firstNode g + 1 → nodeIn K ws (child (firstNode g + n) s) ≡ nodeIn K vs (child (firstNode g + n) s)
+    unfolding firstNode
+    child-own n s l = subst (λ (m : ℕ). nodeIn K ws m ≡ nodeIn K vs m) (at s) (own-node (childOf n s) (in-level s))
+      where
+        first : b ≡ below (firstNode g)
+        first = ap firstNode e
+
+        at : (s : Side) → b + childOf n s ≡ child (firstNode g + n) s
+        at lhs = omega (arith, first)
+        at rhs = omega (arith, first)
+
+        in-level : (s : Side) → childOf n s < b + 1
+        in-level lhs = omega (arith, first)
+        in-level rhs = omega (arith, first)
+
+    handed-same : (d : Due) (n : ℕ) → InRange d n (firstNode g) → ((m : ℕ) → WaitsAt d n m → (p : ℕ) → InNode K (suc k) (firstNode g + m) p → word ws p ≡ word vs p) → handed K d n (firstNode g) ws ≡ handed K d n (firstNode g) vs
+    unfolding handed
+    handed-same Nothing n l w = refl
+    handed-same (Put y) n l w = refl
+    handed-same (Fill j) n l w = ap (λ (v : Finished). work (v .op) (childOf n (v .side))) (settled-by (fill j) (firstNode g + n) (node-of (firstNode g + n) (w n refl)) (child-own n lhs l) (child-own n rhs l))
+    handed-same (Swap j x) n l w = ap (λ (v : Finished). work (v .op) (childOf n (v .side))) (settled-by (trial j x) (firstNode g + n) (node-of (firstNode g + n) (w n refl)) (child-own n lhs l) (child-own n rhs l))
+
+  below-is : (j : ℕ) → suc j ≤ k → stageBelow K (suc k) rs j ≡ stageAt rs j
+  below-is j l = ap (λ (b : Bool). cond b (stageAt rs j) noStage) (lt-ltb (suc j) (suc k) (omega arith))
+
+  work-same : (j : ℕ) → i ≡ j → workOf K (suc k) r rs ws j ≡ workOf K (suc k) t qs vs j
+  unfolding workOf
+  work-same zero e = root-work e
+  work-same (suc g) e =
+      let q : Stage = stageAt rs g in
+      handed-same g e (q .due) (q .node) (subst (λ (q : Stage). InRange (q .due) (q .node) (firstNode g)) (below-is g (omega arith)) (below-in K k r rs ws sh len fine g)) (same .waiting g e)
+      ∙ ap (λ (q : Stage). handed K (q .due) (q .node) (firstNode g) vs) (same .above g e)
+
+  reads-words : (p : ℕ) → InLevel K (suc k) i p → word (turned K (suc k) r rs ws .words) p ≡ word (turned K (suc k) t qs vs .words) p
+  reads-words p l =
+      let at : Level K b p = bounds K k r rs ws sh len fine i p l in
+      words-at K k r rs ws sh len fine i p (omega arith) at
+      ∙ level-words K b (workOf K (suc k) r rs ws i) (stageBelow K (suc k) rs i) ws vs alike (own-in K k r rs ws sh len fine i h) waiting-same .same p at
+      ∙ ap₂ (λ (w : Work) (q : Stage). word (levelWords K b w q vs) p) (work-same i refl) (same .below) ∙ sym (words-at K k t qs vs zh lenq fineq i p (omega arith) at)
+
+  reads-record : suc i ≤ k → stageAt (turned K (suc k) r rs ws .records) i ≡ stageAt (turned K (suc k) t qs vs .records) i
+  reads-record l =
+      loads K k r rs ws sh len fine i (omega arith) ∙ ap (λ (q : Stage). levelStage K b (workOf K (suc k) r rs ws i) q ws) (sym (below-is i l))
+      ∙ level-loads K b (workOf K (suc k) r rs ws i) (stageBelow K (suc k) rs i) ws vs alike (own-in K k r rs ws sh len fine i h) waiting-same
+      ∙ ap₂ (λ (w : Work) (q : Stage). levelStage K b w q vs) (work-same i refl) (same .below ∙ ap (λ (b : Bool). cond b (stageAt qs i) noStage) (lt-ltb (suc i) (suc k) (omega arith)))
+      ∙ sym (loads K k t qs vs zh lenq fineq i (omega arith))
+
+pub reads : (K levels : ℕ) (r t : Request) (rs qs : List Stage) (ws vs : List ℕ) → Shape K levels (length ws) → Shape K levels (length vs) → pred levels ≤ length rs → pred levels ≤ length qs
+    → (TurnDamage K levels r rs ws → ⊥) → (TurnDamage K levels t qs vs → ⊥) → (i : ℕ) → i < levels → Reads K levels i r t rs qs ws vs
+    → ((p : ℕ) → InLevel K levels i p → word (turned K levels r rs ws .words) p ≡ word (turned K levels t qs vs .words) p)
+    × (suc i < levels → stageAt (turned K levels r rs ws .records) i ≡ stageAt (turned K levels t qs vs .records) i)
+reads K zero r t rs qs ws vs sh zh len lenq fine fineq i h same = absurd (not-suc-le-zero (sh .some))
+reads K (suc k) r t rs qs ws vs sh zh len lenq fine fineq i h same = (
+  reads-words K k r t rs qs ws vs sh zh len lenq fine fineq i (omega arith) same,
+  λ l. reads-record K k r t rs qs ws vs sh zh len lenq fine fineq i (omega arith) same (omega arith),
+)

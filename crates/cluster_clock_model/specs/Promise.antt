@@ -202,6 +202,10 @@ module _ (K levels : ℕ) where
   abbrev pub InLevel : ℕ → ℕ → Type 0
   InLevel i p = (firstNode i * (2 + K * 4) ≤ p) × (p < firstNode (suc i) * (2 + K * 4))
 
+  -- .. and those of node m
+  abbrev pub InNode : ℕ → ℕ → Type 0
+  InNode m p = (m * (2 + K * 4) ≤ p) × (p < m * (2 + K * 4) + (2 + K * 4))
+
   pub record OneStep (r : Request) (rs : List Stage) (ws : List ℕ) : Type 0 where
     -- "registered reads, writes to the own level only": node n of level i is what the level's own step makes of it, on the words as they stood at the cycle's
     -- start ..
@@ -214,8 +218,7 @@ module _ (K levels : ℕ) where
     pub own : (i : ℕ) → i < levels → (p : ℕ) → (p < firstNode i * (2 + K * 4)) ⊎ (firstNode (suc i) * (2 + K * 4) ≤ p)
         → word (levelWords K (firstNode i) (workOf r rs ws i) (stageBelow rs i) ws) p ≡ word ws p
     -- a node with nothing to do stands ..
-    pub stands : (i n p : ℕ) → i < levels → n < firstNode i + 1 → (Busy r rs ws i n → ⊥) → p < 2 + K * 4
-        → word (turned K levels r rs ws .words) ((firstNode i + n) * (2 + K * 4) + p) ≡ word ws ((firstNode i + n) * (2 + K * 4) + p)
+    pub stands : (i n p : ℕ) → i < levels → n < firstNode i + 1 → (Busy r rs ws i n → ⊥) → InNode (firstNode i + n) p → word (turned K levels r rs ws .words) p ≡ word ws p
     -- .. and so a level with nothing to do changes no word
     pub still : (i p : ℕ) → i < levels → ((n : ℕ) → n < firstNode i + 1 → Busy r rs ws i n → ⊥) → InLevel i p → word (turned K levels r rs ws .words) p ≡ word ws p
     -- no word past the shape's changes
@@ -229,14 +232,15 @@ module _ (K levels : ℕ) where
     -- records past the last level are left alone
     pub spare : (j : ℕ) → pred levels ≤ j → stageAt (turned K levels r rs ws .records) j ≡ stageAt rs j
 
-  -- what level i reads in a cycle: its own words and the record below it; of the node that waits in it the two children; of the level above the record between, and the node
-  -- that waits there (of which the two children are its own). Two machines with the same of it
-  pub record Reads (i : ℕ) (rs qs : List Stage) (ws vs : List ℕ) : Type 0 where
+  -- what level i reads in a cycle: its own words and the record below it; of a node that waits in it the two children; of the level above the record between, and a node
+  -- that waits there, whose two children are its own. The request is the root's alone. Two machines with the same of it
+  pub record Reads (i : ℕ) (r t : Request) (rs qs : List Stage) (ws vs : List ℕ) : Type 0 where
     pub own : (p : ℕ) → InLevel i p → word ws p ≡ word vs p
     pub below : stageBelow rs i ≡ stageBelow qs i
-    pub children : (n : ℕ) → Waits (stageBelow rs i) n → (s : Side) (p : ℕ) → p < 2 + K * 4 → word ws (child (firstNode i + n) s * (2 + K * 4) + p) ≡ word vs (child (firstNode i + n) s * (2 + K * 4) + p)
+    pub children : (n : ℕ) → Waits (stageBelow rs i) n → (s : Side) (p : ℕ) → InNode (child (firstNode i + n) s) p → word ws p ≡ word vs p
+    pub asked : i ≡ 0 → r ≡ t
     pub above : (h : ℕ) → i ≡ suc h → stageAt rs h ≡ stageAt qs h
-    pub waiting : (h : ℕ) → i ≡ suc h → (n : ℕ) → Waits (stageAt rs h) n → (p : ℕ) → p < 2 + K * 4 → word ws ((firstNode h + n) * (2 + K * 4) + p) ≡ word vs ((firstNode h + n) * (2 + K * 4) + p)
+    pub waiting : (h : ℕ) → i ≡ suc h → (n : ℕ) → Waits (stageAt rs h) n → (p : ℕ) → InNode (firstNode h + n) p → word ws p ≡ word vs p
 
 -- an operation's work on its way down: w at level i in this cycle; what it leaves below is done at level i + 1 in the next, whatever is asked then
 unfoldable pub flight : (K levels i : ℕ) → Work → List Request → Machine → Work
