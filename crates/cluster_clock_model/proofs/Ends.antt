@@ -1,5 +1,5 @@
 -- The last level leaves nothing: in a cycle that meets no damage the work there has nothing below it, and a put finds a free place.
-use Prim.Native.Nat.{_*_, _+_, _<_, _≤_, suc, zero, ℕ}
+use Prim.Native.Nat.{_*_, _+_, _<_, suc, ℕ}
 use native.Mathlib.Nat.{pos-of-ne-zero}
 use native.Mathlib.Omega.{arith}
 use mathlib.Core.Bool.{_&&_, _||_, Bool, false, not, true, true≢false}
@@ -12,7 +12,7 @@ use Rattle.clocked_model.specs.Calls.{asks}
 use Rattle.cluster_clock_model.specs.declared.Due.{Due}
 use Rattle.cluster_clock_model.specs.declared.Due.the-variants.{Fill, Nothing, Put, Swap}
 use Rattle.cluster_clock_model.specs.Calls.{askedOk}
-use Rattle.cluster_clock_model.specs.Stage.{below, childOf, handed, lowAt, settled, Work}
+use Rattle.cluster_clock_model.specs.Stage.{below, childOf, handed, lowAt, settled}
 use Rattle.cluster_clock_model.specs.Test.{givesOk, isGap, sane, saneAt, stageOk, waitOk}
 use Rattle.cluster_model.proofs.Pass.{node-count}
 use Rattle.cluster_model.proofs.Places.{no-free}
@@ -28,7 +28,6 @@ use Rattle.promise.specs.Served.{always}
 use Rattle.strip.specs.Answers.{key}
 use Rattle.strip.specs.declared.Element.{Element}
 use Rattle.strip.specs.declared.Request.{Request}
-use Rattle.strip.specs.declared.Request.the-variants.{Idle, Pop, Push, Replace}
 
 -- nothing below a node, and where something is put a free place: nothing is left to be done
 begin-ends : (o : Op) (i : ℕ) (n : Node) → n .left + n .right ≡ 0 → ((y : Element) → o ≡ put y → inside always (n .places) < length (n .places)) → begin o i n .note ≡ nothing

@@ -11,4 +11,5 @@ pub mod Promises
 pub mod Level
 pub mod Ends
 pub mod OneStep
+pub mod Runs
 pub mod Unread

@@ -24,7 +24,7 @@ use Rattle.cluster_clock_model.specs.Stage.{begins, below, childOf, fill
 use Rattle.cluster_clock_model.specs.Test.{stageOk, stagesOk}
 use Rattle.cluster_model.specs.Calls.{rootHeld, rule, ruleAt}
 use Rattle.cluster_model.specs.Heap.{room}
-use Rattle.cluster_model.specs.Node.{begin, Begun, fill, finish, Finished, lhs, low, lowElem, Node, Note, nothing, onto, Op, rhs, Side, trial}
+use Rattle.cluster_model.specs.Node.{begin, Begun, fill, finish, Finished, lhs, low, lowElem, Node, Note, nothing, onto, rhs, Side, trial}
 use Rattle.cluster_model.specs.Promise.{Shape}
 use Rattle.cluster_model.specs.Way.{child, nodeIn, spotOf, touch, works}
 use Rattle.cluster_model.specs.Words.{width, word}
@@ -36,11 +36,11 @@ use Rattle.laws.specs.Tests.{and-left, and-right}
 use Rattle.strip.specs.declared.Request.{Request}
 
 -- ---- levels from a level on: the t-th below it, its record, its work
-abbrev down : ℕ → ℕ → ℕ
+abbrev pub down : ℕ → ℕ → ℕ
 down zero a = a
 down (suc t) a = down t (below a)
 
-abbrev onward : ℕ → ℕ → ℕ
+abbrev pub onward : ℕ → ℕ → ℕ
 onward zero i = i
 onward (suc t) i = onward t (suc i)
 
@@ -57,7 +57,7 @@ further : (t i : ℕ) → i ≤ onward t i
 further zero i = omega arith
 further (suc t) i = omega (arith, further t (suc i))
 
-onward-is : (t i : ℕ) → onward t i ≡ i + t
+pub onward-is : (t i : ℕ) → onward t i ≡ i + t
 onward-is zero i = omega arith
 onward-is (suc t) i = omega (arith, onward-is t (suc i))
 
@@ -65,7 +65,7 @@ down-next : (t a : ℕ) → down t (below a) ≡ below (down t a)
 down-next zero a = refl
 down-next (suc t) a = down-next t (below a)
 
-down-first : (t : ℕ) → down t 0 ≡ firstNode t
+pub down-first : (t : ℕ) → down t 0 ≡ firstNode t
 unfolding firstNode
 down-first zero = refl
 down-first (suc t) = down-next t 0 ∙ ap below (down-first t)
@@ -177,12 +177,12 @@ module _ (K : ℕ) where
   stage-in (suc k) zero a i rs r = r .0
   stage-in (suc k) (suc t) a i rs r = stage-in k t (below a) (suc i) rs (r .1)
 
-  down-fits : (k t a : ℕ) → t ≤ k → spotOf K (down t a) + (down t a + 1) * width K ≤ Spans K k a
+  pub down-fits : (k t a : ℕ) → t ≤ k → spotOf K (down t a) + (down t a + 1) * width K ≤ Spans K k a
   down-fits k zero a h = spans-own K k a
   down-fits zero (suc t) a h = absurd (not-suc-le-zero h)
   down-fits (suc k) (suc t) a h = omega (arith, down-fits k t (below a) (omega arith), spans-next K k a)
 
-  node-fits : (a n len : ℕ) → n < a + 1 → spotOf K a + (a + 1) * width K ≤ len → spotOf K (a + n) + width K ≤ len
+  pub node-fits : (a n len : ℕ) → n < a + 1 → spotOf K a + (a + 1) * width K ≤ len → spotOf K (a + n) + width K ≤ len
   node-fits a n len h g = omega (arith, level-in K (width K) a n h)
 
   -- the level just written leaves the words from the next level on
