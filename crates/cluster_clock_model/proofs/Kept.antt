@@ -156,7 +156,7 @@ module _ (K k : ℕ) (x : Machine) (kept : Kept K k x) where
   unfolding some
   root-some h = ltb-true 0 (inside always (nodeIn K ws 0 .places)) (some-fine K two rs ws (nodes (suc k)) (kept .neat) k 0 0 0 (kept .sound) (omega (arith, kept-held)))
 
-  root-sound : (n : ℕ) → n < 0 + 1 → Inv K (suc k) (treeIn K (suc k) 0 0 rs ws n)
+  pub root-sound : (n : ℕ) → n < 0 + 1 → Inv K (suc k) (treeIn K (suc k) 0 0 rs ws n)
   root-sound zero h = kept .sound
   root-sound (suc n) h = absurd (not-suc-le-zero {n = 0} (omega arith))
 

@@ -9,5 +9,7 @@ pub mod Drain
 pub mod Lost
 pub mod Promises
 pub mod Level
+pub mod Ends
 pub mod OneStep
+pub mod Runs
 pub mod Unread

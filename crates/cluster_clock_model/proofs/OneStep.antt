@@ -3,39 +3,44 @@
 use Prim.Native.Nat.{_*_, _+_, _<_, _≤_, pred, suc, zero, ℕ}
 use native.Mathlib.Nat.{mul-le-mul-right, not-suc-le-zero}
 use native.Mathlib.Omega.{arith}
-use mathlib.Core.Bool.{Bool, cond, false, true}
+use mathlib.Core.Bool.{Bool, cond, false, false≢true, true}
 use mathlib.Core.List.{List}
 use mathlib.Core.Logic.{_⊎_, inl, inr}
 use mathlib.Core.Path.{_∙_, _≡_, ap, ap₂, refl, subst, sym}
 use lib.Dec.{ltb}
 use lib.ListN.{length, length-set, set}
 use lib.Seq.{getD-set-same}
-use borrow.Author.Tests.{ltb-false, ltb-true}
+use borrow.Author.Tests.{lt-ltb, ltb-false, ltb-true}
 use Rattle.cluster_clock_model.proofs.Exactly.{damage-fails, sound, turned-fine}
-use Rattle.cluster_clock_model.proofs.Seen.{filled-length, filled-node, handed-in, InRange, level-in, level-length, level-only, noteSeen, opAt, pass-only, pass-others, Ranged, ranged-set, set-later, Spans, spans-next, spans-own, worked-node}
+use Rattle.cluster_clock_model.proofs.Ends.{root-ends, work-ends}
+use Rattle.cluster_clock_model.proofs.Level.{Has, like-filled, like-worked, same-at, same-begins}
+use Rattle.cluster_clock_model.proofs.Seen.{begins-length, filled-length, filled-node, handed-in, InRange, level-in, level-length, level-only, node-apart, noteSeen, opAt, pass-only, pass-others, Ranged, ranged-set, set-later, settled-length, Spans, spans-next, spans-own, worked-node}
 use Rattle.cluster_clock_model.specs.declared.Due.{Due}
 use Rattle.cluster_clock_model.specs.declared.Due.the-variants.{Fill, Nothing, Put, Swap}
 use Rattle.cluster_clock_model.specs.declared.Stage.{Stage}
-use Rattle.cluster_clock_model.specs.Calls.{askedOk, turned, TurnOutcome, turnRun}
-use Rattle.cluster_clock_model.specs.Promise.{firstNode, OneStep, stageBelow, TurnDamage, workOf}
-use Rattle.cluster_clock_model.specs.Stage.{begins, below, childOf, filled, handed, levelStage, levelWords, loaded, lowAt, noStage, pass, settled, stageAt, work, Work}
+use Rattle.cluster_clock_model.specs.Calls.{askedOk, isNothing, turned, TurnOutcome, turnRun}
+use Rattle.cluster_clock_model.specs.Promise.{Busy, firstNode, GivenAt, InLevel, InNode, OneStep, Reads, stageBelow, TurnDamage, WaitsAt, workOf}
+use Rattle.cluster_clock_model.specs.Stage.{begins, below, childOf, filled, handed, levelStage, levelWords, loaded, lowAt, noStage, noteOf, pass, settled, stageAt, waits, work, Work, worked}
 use Rattle.cluster_clock_model.specs.Test.{stageOk, stagesOk}
-use Rattle.cluster_model.specs.Calls.{ruleAt}
-use Rattle.cluster_model.specs.Node.{begin, Begun, fill, finish, Finished, lhs, low, lowElem, Node, Note, Op, rhs, trial}
+use Rattle.cluster_model.specs.Calls.{rootHeld, rule, ruleAt}
+use Rattle.cluster_model.specs.Heap.{room}
+use Rattle.cluster_model.specs.Node.{begin, Begun, fill, finish, Finished, lhs, low, lowElem, Node, Note, nothing, onto, rhs, Side, trial}
 use Rattle.cluster_model.specs.Promise.{Shape}
-use Rattle.cluster_model.specs.Way.{child, nodeIn, spotOf}
+use Rattle.cluster_model.specs.Way.{child, nodeIn, spotOf, touch, works}
 use Rattle.cluster_model.specs.Words.{width, word}
 use Rattle.cluster_model.proofs.Damages.{is-shape}
+use Rattle.cluster_model.proofs.Pass.{touch-only}
+use Rattle.cluster_model.proofs.Unread.{Alike}
 use Rattle.cluster_model.proofs.Words.{node-local}
 use Rattle.laws.specs.Tests.{and-left, and-right}
 use Rattle.strip.specs.declared.Request.{Request}
 
 -- ---- levels from a level on: the t-th below it, its record, its work
-abbrev down : ℕ → ℕ → ℕ
+abbrev pub down : ℕ → ℕ → ℕ
 down zero a = a
 down (suc t) a = down t (below a)
 
-abbrev onward : ℕ → ℕ → ℕ
+abbrev pub onward : ℕ → ℕ → ℕ
 onward zero i = i
 onward (suc t) i = onward t (suc i)
 
@@ -52,7 +57,7 @@ further : (t i : ℕ) → i ≤ onward t i
 further zero i = omega arith
 further (suc t) i = omega (arith, further t (suc i))
 
-onward-is : (t i : ℕ) → onward t i ≡ i + t
+pub onward-is : (t i : ℕ) → onward t i ≡ i + t
 onward-is zero i = omega arith
 onward-is (suc t) i = omega (arith, onward-is t (suc i))
 
@@ -60,7 +65,7 @@ down-next : (t a : ℕ) → down t (below a) ≡ below (down t a)
 down-next zero a = refl
 down-next (suc t) a = down-next t (below a)
 
-down-first : (t : ℕ) → down t 0 ≡ firstNode t
+pub down-first : (t : ℕ) → down t 0 ≡ firstNode t
 unfolding firstNode
 down-first zero = refl
 down-first (suc t) = down-next t 0 ∙ ap below (down-first t)
@@ -130,28 +135,35 @@ module _ (K : ℕ) where
   stage-from (suc k) zero i rs rs′ g = g i (omega arith)
   stage-from (suc k) (suc t) i rs rs′ g = stage-from k t (suc i) rs rs′ (λ j l. g j (omega arith))
 
-  -- ---- a level's step, seen at node m of the store
-  unfoldable stepAt : Op → Note → ℕ → List ℕ → Begun
-  stepAt o c m ws = begin o (low (nodeIn K ws m .places)) (settled K c m ws .node)
+  -- ---- a level's step, where the words from the level on are the same
+  -- the words of the level whose first node is b
+  abbrev Level : ℕ → ℕ → Type 0
+  Level b p = (spotOf K b ≤ p) × (p < spotOf K b + (b + 1) * width K)
 
-  step-from : (o : Op) (c : Note) (a m : ℕ) (ws ws′ : List ℕ) → From a ws ws′ → a ≤ m → stepAt o c m ws′ ≡ stepAt o c m ws
-  unfolding stepAt
-  step-from o c a m ws ws′ h l =
-      ap₂ (λ (n : Node) (v : Finished). begin o (low (n .places)) (v .node)) (node-from a m ws ws′ h l) (settled-from a m c ws ws′ h l)
+  has-own : (b n : ℕ) → n < b + 1 → Has K (Level b) (b + n)
+  has-own b n h p l g = (at-least (width K) b (b + n) p (omega arith) l, omega (arith, level-in K (width K) b n h))
 
-  level-node : (a : ℕ) (w : Work) (q : Stage) (ws : List ℕ) (n : ℕ) → spotOf K (a + n) + width K ≤ length ws
-      → nodeIn K (levelWords K a w q ws) (a + n) ≡ stepAt (opAt w n) (noteSeen (q .due) (q .node) n) (a + n) ws .node
-  unfolding levelWords stepAt
+  -- on words that agree on the level, where a node that waits comes to the same
+  module _ (b : ℕ) (w : Work) (q : Stage) (ws vs : List ℕ) (a : Alike (Level b) ws vs) (wi : w .node < b + 1) (s : waits (q .due) ≡ true → settled K (noteOf (q .due)) (b + q .node) ws ≡ settled K (noteOf (q .due)) (b + q .node) vs) where
+    level-words : Alike (Level b) (levelWords K b w q ws) (levelWords K b w q vs)
+    unfolding levelWords
+    level-words = like-worked K (Level b) b ws vs a w (filled K b q ws) (filled K b q vs) (like-filled K (Level b) b ws vs a (q .due) (q .node) s) (has-own b (w .node) wi)
+
+    level-loads : levelStage K b w q ws ≡ levelStage K b w q vs
+    unfolding levelStage
+    level-loads = ap (λ (v : Begun). loaded (v .note) (w .node)) (same-begins K (Level b) b ws vs a w (filled K b q ws) (filled K b q vs) (like-filled K (Level b) b ws vs a (q .due) (q .node) s) (has-own b (w .node) wi))
+
+  from-alike : (a b : ℕ) (ws ws′ : List ℕ) → From a ws ws′ → a ≤ b → spotOf K b + (b + 1) * width K ≤ length ws → length ws′ ≡ length ws → Alike (Level b) ws′ ws
+  from-alike a b ws ws′ h l fits e =
+      record { one = λ p x. omega (arith, x .1); other = λ p x. omega (arith, x .1); same = λ p x. h p (at-least (width K) a b p l (x .0)) }
+
+  -- a node of the level, by its own step
+  pub level-node : (a : ℕ) (w : Work) (q : Stage) (ws : List ℕ) (n : ℕ) → spotOf K (a + n) + width K ≤ length ws
+      → nodeIn K (levelWords K a w q ws) (a + n) ≡ begin (opAt w n) (low (nodeIn K ws (a + n) .places)) (settled K (noteSeen (q .due) (q .node) n) (a + n) ws .node) .node
+  unfolding levelWords
   level-node a w q ws n fits =
       worked-node K a n w ws (filled K a q ws) (subst (λ (l : ℕ). spotOf K (a + n) + width K ≤ l) (sym (filled-length K a q ws)) fits)
       ∙ ap (λ (x : Node). begin (opAt w n) (low (nodeIn K ws (a + n) .places)) x .node) (filled-node K a n ws fits (q .due) (q .node))
-
-  -- .. and the record that it loads
-  level-stage : (a : ℕ) (w : Work) (q : Stage) (ws : List ℕ) → spotOf K (a + w .node) + width K ≤ length ws
-      → levelStage K a w q ws ≡ loaded (stepAt (w .op) (noteSeen (q .due) (q .node) (w .node)) (a + w .node) ws .note) (w .node)
-  unfolding levelStage begins stepAt
-  level-stage a w q ws fits =
-      ap (λ (x : Node). loaded (begin (w .op) (low (nodeIn K ws (a + w .node) .places)) x .note) (w .node)) (filled-node K a (w .node) ws fits (q .due) (q .node))
 
   -- ---- the ranges, level by level
   work-in : (k t a : ℕ) (w : Work) (i : ℕ) (rs : List Stage) (ws : List ℕ) → t ≤ k → w .node < a + 1 → Ranged k a i rs → workAt t a w i rs ws .node < down t a + 1
@@ -165,12 +177,12 @@ module _ (K : ℕ) where
   stage-in (suc k) zero a i rs r = r .0
   stage-in (suc k) (suc t) a i rs r = stage-in k t (below a) (suc i) rs (r .1)
 
-  down-fits : (k t a : ℕ) → t ≤ k → spotOf K (down t a) + (down t a + 1) * width K ≤ Spans K k a
+  pub down-fits : (k t a : ℕ) → t ≤ k → spotOf K (down t a) + (down t a + 1) * width K ≤ Spans K k a
   down-fits k zero a h = spans-own K k a
   down-fits zero (suc t) a h = absurd (not-suc-le-zero h)
   down-fits (suc k) (suc t) a h = omega (arith, down-fits k t (below a) (omega arith), spans-next K k a)
 
-  node-fits : (a n len : ℕ) → n < a + 1 → spotOf K a + (a + 1) * width K ≤ len → spotOf K (a + n) + width K ≤ len
+  pub node-fits : (a n len : ℕ) → n < a + 1 → spotOf K a + (a + 1) * width K ≤ len → spotOf K (a + n) + width K ≤ len
   node-fits a n len h g = omega (arith, level-in K (width K) a n h)
 
   -- the level just written leaves the words from the next level on
@@ -181,34 +193,33 @@ module _ (K : ℕ) where
       deep d = omega arith
 
   -- ---- each level
-  pass-each : (k a : ℕ) (w : Work) (i : ℕ) (rs : List Stage) (ws : List ℕ) (t n : ℕ) → t ≤ k → n < down t a + 1 → w .node < a + 1 → Ranged k a i rs → Spans K k a ≤ length ws
-      → nodeIn K (pass K k a w i rs ws .words) (down t a + n) ≡ stepAt (opAt (workAt t a w i rs ws) n) (noteSeen (stageIn k t i rs .due) (stageIn k t i rs .node) n) (down t a + n) ws .node
-  unfolding pass noteSeen stepAt settled finish
-  pass-each zero a w i rs ws zero n h l wi r fits = worked-node K a n w ws ws (node-fits a n (length ws) l (omega (arith, spans-own K zero a)))
-  pass-each zero a w i rs ws (suc t) n h l wi r fits = absurd (not-suc-le-zero h)
-  pass-each (suc k) a w i rs ws zero n h l wi r fits =
+  pass-words : (k a : ℕ) (w : Work) (i : ℕ) (rs : List Stage) (ws : List ℕ) (t p : ℕ) → t ≤ k → Level (down t a) p → w .node < a + 1 → Ranged k a i rs → Spans K k a ≤ length ws
+      → word (pass K k a w i rs ws .words) p ≡ word (levelWords K (down t a) (workAt t a w i rs ws) (stageIn k t i rs) ws) p
+  unfolding pass levelWords filled touch
+  pass-words zero a w i rs ws zero p h l wi r fits = refl
+  pass-words zero a w i rs ws (suc t) p h l wi r fits = absurd (not-suc-le-zero h)
+  pass-words (suc k) a w i rs ws zero p h l wi r fits =
       let q : Stage = stageAt rs i in
-      let g : Work = handed K (q .due) (q .node) a ws in
-      let rs₁ : List Stage = set rs i (levelStage K a w q ws) in
-      let ws₁ : List ℕ = levelWords K a w q ws in
-      node-local K ws₁ (pass K k (below a) g (suc i) rs₁ ws₁ .words) (spotOf K (a + n))
-      (λ j x y. pass-only K k (below a) g (suc i) rs₁ ws₁ (handed-in K (q .due) (q .node) a ws (r .0)) (ranged-set K k (below a) i rs (levelStage K a w q ws) (r .1)) j (inl (omega (arith, level-in K (width K) a n l, deep (width K)))))
-      ∙ level-node a w q ws n (node-fits a n (length ws) l (omega (arith, spans-own K (suc k) a)))
+      pass-only K k (below a) (handed K (q .due) (q .node) a ws) (suc i) (set rs i (levelStage K a w q ws)) (levelWords K a w q ws) (handed-in K (q .due) (q .node) a ws (r .0)) (ranged-set K k (below a) i rs (levelStage K a w q ws) (r .1)) p (inl (omega (arith, l .1, deep (width K))))
     where
       deep : (d : ℕ) → (a + a + 1) * d ≡ a * d + (a + 1) * d
       deep d = omega arith
-  pass-each (suc k) a w i rs ws (suc t) n h l wi r fits =
+  pass-words (suc k) a w i rs ws (suc t) p h l wi r fits =
       let q : Stage = stageAt rs i in
       let g : Work = handed K (q .due) (q .node) a ws in
       let rs₁ : List Stage = set rs i (levelStage K a w q ws) in
       let ws₁ : List ℕ = levelWords K a w q ws in
       let same : From (below a) ws ws₁ = next-from a w q ws wi (r .0) in
       let later : (j : ℕ) → suc i ≤ j → stageAt rs₁ j ≡ stageAt rs j = set-later K rs i (levelStage K a w q ws) in
-      let o : Op = opAt (workAt t (below a) g (suc i) rs₁ ws₁) n in
-      let c : Note = noteSeen (stageIn k t (suc i) rs₁ .due) (stageIn k t (suc i) rs₁ .node) n in
-      pass-each k (below a) g (suc i) rs₁ ws₁ t n (omega arith) l (handed-in K (q .due) (q .node) a ws (r .0)) (ranged-set K k (below a) i rs (levelStage K a w q ws) (r .1)) (omega (arith, spans-next K k a, level-length K a w q ws))
-      ∙ ap (λ (v : Begun). v .node) (step-from o c (below a) (down t (below a) + n) ws ws₁ same (deeper t (below a) n))
-      ∙ ap₂ (λ (w : Work) (q : Stage). stepAt (opAt w n) (noteSeen (q .due) (q .node) n) (down t (below a) + n) ws .node) (work-from t (below a) g (suc i) rs rs₁ ws ws₁ same later) (stage-from k t (suc i) rs rs₁ later)
+      let gi : g .node < below a + 1 = handed-in K (q .due) (q .node) a ws (r .0) in
+      let b : ℕ = down t (below a) in
+      let u : Work = workAt t (below a) g (suc i) rs ws in
+      let v : Stage = stageIn k t (suc i) rs in
+      let wide : Spans K k (below a) ≤ length ws = omega (arith, spans-next K k a) in
+      pass-words k (below a) g (suc i) rs₁ ws₁ t p (omega arith) l gi (ranged-set K k (below a) i rs (levelStage K a w q ws) (r .1)) (omega (arith, wide, level-length K a w q ws))
+      ∙ ap₂ (λ (u : Work) (v : Stage). word (levelWords K b u v ws₁) p) (work-from t (below a) g (suc i) rs rs₁ ws ws₁ same later) (stage-from k t (suc i) rs rs₁ later)
+      ∙ level-words b u v ws₁ ws (from-alike (below a) b ws ws₁ same (omega (arith, deeper t (below a) 0)) (omega (arith, down-fits k t (below a) (omega arith), wide)) (level-length K a w q ws))
+      (work-in k t (below a) g (suc i) rs ws (omega arith) gi (r .1)) (λ e. settled-from (below a) (b + v .node) (noteOf (v .due)) ws ws₁ same (deeper t (below a) (v .node))) .same p l
 
   -- .. and each record
   pass-loads : (k a : ℕ) (w : Work) (i : ℕ) (rs : List Stage) (ws : List ℕ) (t : ℕ) → t < k → w .node < a + 1 → Ranged k a i rs → Spans K k a ≤ length ws → i + k ≤ length rs
@@ -226,18 +237,15 @@ module _ (K : ℕ) where
       let ws₁ : List ℕ = levelWords K a w q ws in
       let same : From (below a) ws ws₁ = next-from a w q ws wi (r .0) in
       let later : (j : ℕ) → suc i ≤ j → stageAt rs₁ j ≡ stageAt rs j = set-later K rs i (levelStage K a w q ws) in
-      let r₁ : Ranged k (below a) (suc i) rs₁ = ranged-set K k (below a) i rs (levelStage K a w q ws) (r .1) in
       let gi : g .node < below a + 1 = handed-in K (q .due) (q .node) a ws (r .0) in
       let b : ℕ = down t (below a) in
       let u : Work = workAt t (below a) g (suc i) rs ws in
       let v : Stage = stageAt rs (onward t (suc i)) in
       let wide : Spans K k (below a) ≤ length ws = omega (arith, spans-next K k a) in
-      let there : spotOf K (b + u .node) + width K ≤ length ws = node-fits b (u .node) (length ws) (work-in k t (below a) g (suc i) rs ws (omega arith) gi (r .1)) (omega (arith, down-fits k t (below a) (omega arith), wide)) in
-      pass-loads k (below a) g (suc i) rs₁ ws₁ t (omega arith) gi r₁ (omega (arith, wide, level-length K a w q ws)) (omega (arith, length-set rs i (levelStage K a w q ws)))
+      pass-loads k (below a) g (suc i) rs₁ ws₁ t (omega arith) gi (ranged-set K k (below a) i rs (levelStage K a w q ws) (r .1)) (omega (arith, wide, level-length K a w q ws)) (omega (arith, length-set rs i (levelStage K a w q ws)))
       ∙ ap₂ (λ (u : Work) (v : Stage). levelStage K b u v ws₁) (work-from t (below a) g (suc i) rs rs₁ ws ws₁ same later) (later (onward t (suc i)) (further t (suc i)))
-      ∙ level-stage b u v ws₁ (subst (λ (l : ℕ). spotOf K (b + u .node) + width K ≤ l) (sym (level-length K a w q ws)) there)
-      ∙ ap (λ (x : Begun). loaded (x .note) (u .node)) (step-from (u .op) (noteSeen (v .due) (v .node) (u .node)) (below a) (b + u .node) ws ws₁ same (deeper t (below a) (u .node)))
-      ∙ sym (level-stage b u v ws there)
+      ∙ level-loads b u v ws₁ ws (from-alike (below a) b ws ws₁ same (omega (arith, deeper t (below a) 0)) (omega (arith, down-fits k t (below a) (omega arith), wide)) (level-length K a w q ws))
+      (work-in k t (below a) g (suc i) rs ws (omega arith) gi (r .1)) (λ e. settled-from (below a) (b + v .node) (noteOf (v .due)) ws ws₁ same (deeper t (below a) (v .node)))
 
   -- ---- by the level's number
   work-is : (t a : ℕ) (w : Work) (i : ℕ) (rs : List Stage) (ws : List ℕ) → workAt (suc t) a w i rs ws ≡ handed K (stageAt rs (onward t i) .due) (stageAt rs (onward t i) .node) (down t a) ws
@@ -265,6 +273,99 @@ module _ (K : ℕ) where
     stage-ranged k (stageAt rs i .due) (stageAt rs i .node) a ws (and-left (stageOk K k (stageAt rs i .due) (stageAt rs i .node) a ws) _ e),
     stages-ranged k (below a) (suc i) rs ws (and-right (stageOk K k (stageAt rs i .due) (stageAt rs i .node) a ws) _ e),
   )
+
+  -- ---- which nodes stand
+  touch-stands : (t : Bool) (ws : List ℕ) (m : ℕ) (x : Node) (n p : ℕ) → length (x .places) ≡ K → (t ≡ true → n ≡ m → ⊥) → spotOf K n ≤ p → p < spotOf K n + width K → word (touch t ws (spotOf K m) x) p ≡ word ws p
+  unfolding touch
+  touch-stands true ws m x n p e h l g = touch-only K true ws (spotOf K m) x e p (node-apart (width K) n m p (h refl) l g)
+  touch-stands false ws m x n p e h l g = refl
+
+  level-stands : (a : ℕ) (w : Work) (q : Stage) (ws : List ℕ) (n p : ℕ) → (works (w .op) ≡ true → n ≡ w .node → ⊥) → (waits (q .due) ≡ true → n ≡ q .node → ⊥)
+      → spotOf K (a + n) ≤ p → p < spotOf K (a + n) + width K → word (levelWords K a w q ws) p ≡ word ws p
+  unfolding levelWords worked filled
+  level-stands a w q ws n p f h l g =
+      touch-stands (works (w .op)) (filled K a q ws) (a + w .node) (begins K a w ws (filled K a q ws) .node) (a + n) p (begins-length K a w ws (filled K a q ws)) (λ t e. f t (omega arith)) l g
+      ∙ touch-stands (waits (q .due)) ws (a + q .node) (settled K (noteOf (q .due)) (a + q .node) ws .node) (a + n) p (settled-length K (noteOf (q .due)) (a + q .node) ws) (λ t e. h t (omega arith)) l g
+
+  -- with nothing to do nothing is written
+  level-still : (a : ℕ) (w : Work) (q : Stage) (ws : List ℕ) → works (w .op) ≡ false → waits (q .due) ≡ false → levelWords K a w q ws ≡ ws
+  unfolding levelWords worked filled touch
+  level-still a w q ws e f =
+      ap (λ (t : Bool). touch t (filled K a q ws) (spotOf K (a + w .node)) (begins K a w ws (filled K a q ws) .node)) e
+      ∙ ap (λ (t : Bool). touch t ws (spotOf K (a + q .node)) (settled K (noteOf (q .due)) (a + q .node) ws .node)) f
+
+  -- whom a record gives something to do
+  handed-given : (d : Due) (m a : ℕ) (ws : List ℕ) (n : ℕ) → works (handed K d m a ws .op) ≡ true → n ≡ handed K d m a ws .node → GivenAt d m n
+  unfolding handed works
+  handed-given Nothing m a ws n t e = absurd (false≢true t)
+  handed-given (Put y) m a ws n t e = e
+  handed-given (Fill j) m a ws n t e = go (settled K (fill j) (a + m) ws .side) e
+    where
+      go : (s : Side) → n ≡ childOf m s → (n ≡ m + m) ⊎ (n ≡ m + m + 1)
+      go lhs e = inl e
+      go rhs e = inr (omega arith)
+  handed-given (Swap j x) m a ws n t e = go (settled K (trial j x) (a + m) ws .side) e
+    where
+      go : (s : Side) → n ≡ childOf m s → (n ≡ m + m) ⊎ (n ≡ m + m + 1)
+      go lhs e = inl e
+      go rhs e = inr (omega arith)
+
+  waits-at : (d : Due) (m n : ℕ) → waits d ≡ true → n ≡ m → WaitsAt d m n
+  waits-at Nothing m n t e = absurd (false≢true t)
+  waits-at (Put y) m n t e = absurd (false≢true t)
+  waits-at (Fill j) m n t e = e
+  waits-at (Swap j x) m n t e = e
+
+  work-busy : (levels : ℕ) (r : Request) (rs : List Stage) (ws : List ℕ) (i n : ℕ) → works (workOf K levels r rs ws i .op) ≡ true → n ≡ workOf K levels r rs ws i .node → Busy K levels r rs ws i n
+  unfolding workOf works
+  work-busy levels r rs ws zero n t e = inl (λ z. false≢true (sym (ap works z) ∙ t))
+  work-busy levels r rs ws (suc i) n t e = inl (handed-given (stageAt rs i .due) (stageAt rs i .node) (firstNode i) ws n t e)
+
+  wait-busy : (levels : ℕ) (r : Request) (rs : List Stage) (ws : List ℕ) (i n : ℕ) → waits (stageBelow K levels rs i .due) ≡ true → n ≡ stageBelow K levels rs i .node → Busy K levels r rs ws i n
+  wait-busy levels r rs ws zero n t e = inr (waits-at (stageBelow K levels rs 0 .due) (stageBelow K levels rs 0 .node) n t e)
+  wait-busy levels r rs ws (suc i) n t e = inr (waits-at (stageBelow K levels rs (suc i) .due) (stageBelow K levels rs (suc i) .node) n t e)
+
+  -- ---- a record of nothing is zeros
+  loaded-zero : (c : Note) (n : ℕ) → loaded c n .due ≡ Nothing → loaded c n .node ≡ 0
+  unfolding loaded isNothing
+  loaded-zero nothing n e = refl
+  loaded-zero (fill j) n e = absurd (false≢true (ap isNothing e))
+  loaded-zero (trial j x) n e = absurd (false≢true (ap isNothing e))
+  loaded-zero (onto s y) n e = absurd (false≢true (ap isNothing e))
+
+  stage-zero : (a : ℕ) (w : Work) (q : Stage) (ws : List ℕ) → levelStage K a w q ws .due ≡ Nothing → levelStage K a w q ws .node ≡ 0
+  unfolding levelStage
+  stage-zero a w q ws e = loaded-zero (begins K a w ws (filled K a q ws) .note) (w .node) e
+
+  -- ---- the last level leaves nothing
+  stage-last : (k a i : ℕ) (rs : List Stage) (ws : List ℕ) → stagesOk K (suc k) a i rs ws ≡ true → stageOk K 0 (stageAt rs (onward k i) .due) (stageAt rs (onward k i) .node) (down k a) ws ≡ true
+  unfolding stagesOk
+  stage-last zero a i rs ws e = and-left (stageOk K 0 (stageAt rs i .due) (stageAt rs i .node) a ws) _ e
+  stage-last (suc k) a i rs ws e = stage-last k (below a) (suc i) rs ws (and-right (stageOk K (suc k) (stageAt rs i .due) (stageAt rs i .node) a ws) _ e)
+
+  ends-stage : (a : ℕ) (w : Work) (ws : List ℕ) → begin (w .op) (low (nodeIn K ws (a + w .node) .places)) (nodeIn K ws (a + w .node)) .note ≡ nothing → levelStage K a w noStage ws ≡ noStage
+  unfolding levelStage begins filled touch loaded
+  ends-stage a w ws e = ap (λ (c : Note). loaded c (w .node)) e
+
+  -- the work of the last level, where the tests are passed
+  last-work : (k : ℕ) (r : Request) (rs : List Stage) (ws : List ℕ) → askedOk K (suc k) r ws ≡ true → stagesOk K k 0 0 rs ws ≡ true → levelStage K (firstNode k) (workOf K (suc k) r rs ws k) noStage ws ≡ noStage
+  unfolding workOf firstNode
+  last-work zero r rs ws asked ok =
+      ends-stage 0 (work (ruleAt K 1 r ws .op) 0) ws (subst (λ (m : ℕ). begin (ruleAt K 1 r ws .op) (low (nodeIn K ws m .places)) (nodeIn K ws m) .note ≡ nothing) (omega arith) (root-ends K r (low (nodeIn K ws 0 .places)) ws asked))
+  last-work (suc k) r rs ws asked ok =
+      let d : Due = stageAt rs k .due in
+      let n : ℕ = stageAt rs k .node in
+      let a : ℕ = firstNode k in
+      let w : Work = handed K d n a ws in
+      let at : stageOk K 0 d n a ws ≡ true = subst (λ (j : ℕ). stageOk K 0 (stageAt rs j .due) (stageAt rs j .node) a ws ≡ true) (onward-is k 0 ∙ omega arith)
+      (subst (λ (b : ℕ). stageOk K 0 (stageAt rs (onward k 0) .due) (stageAt rs (onward k 0) .node) b ws ≡ true) (down-first k) (stage-last k 0 0 rs ws ok)) in
+      ends-stage (below a) w ws (work-ends K d n a (low (nodeIn K ws (below a + w .node) .places)) ws at)
+
+waiting-in : (d : Due) (n a : ℕ) → waits d ≡ true → InRange d n a → n < a + 1
+waiting-in Nothing n a t h = absurd (false≢true t)
+waiting-in (Put y) n a t h = absurd (false≢true t)
+waiting-in (Fill j) n a t h = h
+waiting-in (Swap j x) n a t h = h
 
 -- ONE STEP: a cycle with no damage, of any machine with a good shape and a record for each level from 2
 module _ (K k : ℕ) (r : Request) (rs : List Stage) (ws : List ℕ) (sh : Shape K (suc k) (length ws)) (len : k ≤ length rs) (fine : TurnDamage K (suc k) r rs ws → ⊥) where
@@ -308,13 +409,50 @@ module _ (K k : ℕ) (r : Request) (rs : List Stage) (ws : List ℕ) (sh : Shape
   below-in : (i : ℕ) → InRange (stageBelow K (suc k) rs i .due) (stageBelow K (suc k) rs i .node) (firstNode i)
   below-in i = subst (λ (b : ℕ). InRange (stageBelow K (suc k) rs i .due) (stageBelow K (suc k) rs i .node) b) (down-first i) (subst (λ (q : Stage). InRange (q .due) (q .node) (down i 0)) (stage-is i) (stage-in K k i 0 0 rs ranged))
 
+  -- the level's own step, on its words
+  abbrev stepped : ℕ → List ℕ
+  stepped i = levelWords K (firstNode i) (workOf K (suc k) r rs ws i) (stageBelow K (suc k) rs i) ws
+
+  words-at : (i p : ℕ) → i < suc k → Level K (firstNode i) p → word (turned K (suc k) r rs ws .words) p ≡ word (stepped i) p
+  words-at i p h l =
+      let at : down i 0 ≡ firstNode i = down-first i in
+      ap (λ (v : List ℕ). word v p) words-are
+      ∙ subst (λ (b : ℕ). Level K b p → word (pass K k 0 o 0 rs ws .words) p ≡ word (levelWords K b (workOf K (suc k) r rs ws i) (stageBelow K (suc k) rs i) ws) p) at
+      (λ l. pass-words K k 0 o 0 rs ws i p (omega arith) l (omega arith) ranged wide
+      ∙ ap₂ (λ (w : Work) (q : Stage). word (levelWords K (down i 0) w q ws) p) (works-are K (suc k) r rs ws i) (stage-is i)) l
+
+  loads : (i : ℕ) → suc i < suc k → stageAt (turned K (suc k) r rs ws .records) i ≡ levelStage K (firstNode i) (workOf K (suc k) r rs ws i) (stageAt rs i) ws
+  loads i h =
+      let at : onward i 0 ≡ i = onward-is i 0 ∙ omega arith in
+      ap (λ (v : List Stage). stageAt v i) records-are
+      ∙ subst (λ (j : ℕ). stageAt (pass K k 0 o 0 rs ws .records) j ≡ levelStage K (firstNode i) (workOf K (suc k) r rs ws i) (stageAt rs j) ws) at
+      (pass-loads K k 0 o 0 rs ws i (omega arith) (omega arith) ranged wide (omega arith)
+      ∙ ap₂ (λ (b : ℕ) (w : Work). levelStage K b w (stageAt rs (onward i 0)) ws) (down-first i) (works-are K (suc k) r rs ws i))
+
+  bounds : (i p : ℕ) → InLevel K (suc k) i p → Level K (firstNode i) p
+  unfolding firstNode
+  bounds i p h = (h .0, up (width K) (firstNode i) (h .1))
+    where
+      up : (d b : ℕ) → p < below b * d → p < b * d + (b + 1) * d
+      up d b g = omega (arith, deep d b)
+        where
+          deep : (d b : ℕ) → (b + b + 1) * d ≡ b * d + (b + 1) * d
+          deep d b = omega arith
+
   one-step-at : OneStep K (suc k) r rs ws
   one-step-at =
       record {
-        each = λ i n h l. each i n h l;
+        each = λ i n h l. node-local K (stepped i) (turned K (suc k) r rs ws .words) (spotOf K (firstNode i + n)) (λ p x y. words-at i p h (has-own K (firstNode i) n l p x y));
+        words = λ i p h l. words-at i p h (bounds i p l);
         own = λ i h p g. level-only K (firstNode i) (workOf K (suc k) r rs ws i) (stageBelow K (suc k) rs i) ws (own-in i (omega arith)) (below-in i) p (outside i p g);
+        stands = λ i n p h l quiet g.
+            words-at i p h (has-own K (firstNode i) n l p (g .0) (g .1))
+            ∙ level-stands K (firstNode i) (workOf K (suc k) r rs ws i) (stageBelow K (suc k) rs i) ws n p (λ t e. quiet (work-busy K (suc k) r rs ws i n t e)) (λ t e. quiet (wait-busy K (suc k) r rs ws i n t e)) (g .0) (g .1);
+        still = λ i p h quiet l. words-at i p h (bounds i p l) ∙ ap (λ (v : List ℕ). word v p) (unmoved i (omega arith) quiet);
         past = λ p h. ap (λ (v : List ℕ). word v p) words-are ∙ pass-only K k 0 o 0 rs ws (omega arith) ranged p (inr (omega (arith, h)));
-        loads = λ i h. loads i h;
+        loads = loads;
+        zeros = λ i h e. ap (λ (q : Stage). q .node) (loads i h) ∙ stage-zero K (firstNode i) (workOf K (suc k) r rs ws i) (stageAt rs i) ws (sym (ap (λ (q : Stage). q .due) (loads i h)) ∙ e);
+        last = last-work K k r rs ws (and-left (askedOk K (suc k) r ws) _ sound-is) (and-right (askedOk K (suc k) r ws) _ sound-is);
         spare = λ j h. ap (λ (v : List Stage). stageAt v j) records-are ∙ pass-others K k 0 o 0 rs ws j (inr (omega arith));
       }
     where
@@ -322,26 +460,125 @@ module _ (K k : ℕ) (r : Request) (rs : List Stage) (ws : List ℕ) (sh : Shape
       outside i p (inl h) = inl h
       outside i p (inr h) = inr (next-first K i p h)
 
-      each : (i n : ℕ) → i < suc k → n < firstNode i + 1
-          → nodeIn K (turned K (suc k) r rs ws .words) (firstNode i + n) ≡ nodeIn K (levelWords K (firstNode i) (workOf K (suc k) r rs ws i) (stageBelow K (suc k) rs i) ws) (firstNode i + n)
-      each i n h l =
-          let at : down i 0 ≡ firstNode i = down-first i in
-          let small : n < down i 0 + 1 = subst (λ (b : ℕ). n < b + 1) (sym at) l in
-          let there : spotOf K (down i 0 + n) + width K ≤ length ws = node-fits K (down i 0) n (length ws) small (omega (arith, down-fits K k i 0 (omega arith), wide)) in
-          ap (λ (v : List ℕ). nodeIn K v (firstNode i + n)) words-are
-          ∙ subst (λ (b : ℕ). nodeIn K (pass K k 0 o 0 rs ws .words) (b + n) ≡ nodeIn K (levelWords K b (workOf K (suc k) r rs ws i) (stageBelow K (suc k) rs i) ws) (b + n)) at
-          (pass-each K k 0 o 0 rs ws i n (omega arith) small (omega arith) ranged wide
-          ∙ sym (level-node K (down i 0) (workAt K i 0 o 0 rs ws) (stageIn k i 0 rs) ws n there)
-          ∙ ap₂ (λ (w : Work) (q : Stage). nodeIn K (levelWords K (down i 0) w q ws) (down i 0 + n)) (works-are K (suc k) r rs ws i) (stage-is i))
-
-      loads : (i : ℕ) → suc i < suc k → stageAt (turned K (suc k) r rs ws .records) i ≡ levelStage K (firstNode i) (workOf K (suc k) r rs ws i) (stageAt rs i) ws
-      loads i h =
-          let at : onward i 0 ≡ i = onward-is i 0 ∙ omega arith in
-          ap (λ (v : List Stage). stageAt v i) records-are
-          ∙ subst (λ (j : ℕ). stageAt (pass K k 0 o 0 rs ws .records) j ≡ levelStage K (firstNode i) (workOf K (suc k) r rs ws i) (stageAt rs j) ws) at
-          (pass-loads K k 0 o 0 rs ws i (omega arith) (omega arith) ranged wide (omega arith)
-          ∙ ap₂ (λ (b : ℕ) (w : Work). levelStage K b w (stageAt rs (onward i 0)) ws) (down-first i) (works-are K (suc k) r rs ws i))
+      unmoved : (i : ℕ) → i ≤ k → ((n : ℕ) → n < firstNode i + 1 → Busy K (suc k) r rs ws i n → ⊥) → stepped i ≡ ws
+      unmoved i h quiet =
+          let q : Stage = stageBelow K (suc k) rs i in
+          level-still K (firstNode i) (workOf K (suc k) r rs ws i) q ws (off (works (workOf K (suc k) r rs ws i .op)) (λ t. quiet (workOf K (suc k) r rs ws i .node) (own-in i h) (work-busy K (suc k) r rs ws i _ t refl)))
+          (off (waits (q .due)) (λ t. quiet (q .node) (waiting-in (q .due) (q .node) (firstNode i) t (below-in i)) (wait-busy K (suc k) r rs ws i _ t refl)))
+        where
+          off : (b : Bool) → (b ≡ true → ⊥) → b ≡ false
+          off true f = absurd (f refl)
+          off false f = refl
 
 pub one-step : (K levels : ℕ) (r : Request) (rs : List Stage) (ws : List ℕ) → Shape K levels (length ws) → pred levels ≤ length rs → (TurnDamage K levels r rs ws → ⊥) → OneStep K levels r rs ws
 one-step K zero r rs ws sh len fine = absurd (not-suc-le-zero (sh .some))
 one-step K (suc k) r rs ws sh len fine = one-step-at K k r rs ws sh len fine
+
+-- READS: two cycles with no damage leave the same of level i, words and record, where what it reads is the same
+module _ (K k : ℕ) (r t : Request) (rs qs : List Stage) (ws vs : List ℕ) (sh : Shape K (suc k) (length ws)) (zh : Shape K (suc k) (length vs)) (len : k ≤ length rs) (lenq : k ≤ length qs)
+    (fine : TurnDamage K (suc k) r rs ws → ⊥) (fineq : TurnDamage K (suc k) t qs vs → ⊥) (i : ℕ) (h : i ≤ k) (same : Reads K (suc k) i r t rs qs ws vs) where
+  abbrev b : ℕ
+  b = firstNode i
+
+  fits-in : (us : List ℕ) → Spans K k 0 ≤ length us → spotOf K b + (b + 1) * width K ≤ length us
+  fits-in us g = subst (λ (c : ℕ). spotOf K c + (c + 1) * width K ≤ length us) (down-first i) (omega (arith, down-fits K k i 0 h))
+
+  unbound : (p : ℕ) → Level K b p → InLevel K (suc k) i p
+  unfolding firstNode
+  unbound p l = (l .0, omega (arith, l .1, deep (width K) b))
+    where
+      deep : (d c : ℕ) → (c + c + 1) * d ≡ c * d + (c + 1) * d
+      deep d c = omega arith
+
+  alike : Alike (Level K b) ws vs
+  alike =
+      record {
+        one = λ p l. omega (arith, l .1, fits-in ws (wide K k r rs ws sh len fine));
+        other = λ p l. omega (arith, l .1, fits-in vs (wide K k t qs vs zh lenq fineq));
+        same = λ p l. same .own p (unbound p l);
+      }
+
+  own-node : (n : ℕ) → n < b + 1 → nodeIn K ws (b + n) ≡ nodeIn K vs (b + n)
+  own-node n l = same-at K (Level K b) ws vs alike (b + n) (has-own K b n l)
+
+  node-of : (m : ℕ) → ((p : ℕ) → InNode K (suc k) m p → word ws p ≡ word vs p) → nodeIn K ws m ≡ nodeIn K vs m
+  node-of m f = node-local K vs ws (spotOf K m) (λ p x y. f p (x, y))
+
+  settled-by : (c : Note) (m : ℕ) → nodeIn K ws m ≡ nodeIn K vs m → nodeIn K ws (child m lhs) ≡ nodeIn K vs (child m lhs) → nodeIn K ws (child m rhs) ≡ nodeIn K vs (child m rhs) → settled K c m ws ≡ settled K c m vs
+  unfolding settled
+  settled-by c m e f g = λ j. finish c (e j) (lowElem (f j .places)) (lowElem (g j .places))
+
+  -- the node that waits in the level
+  waiting-same : waits (stageBelow K (suc k) rs i .due) ≡ true → settled K (noteOf (stageBelow K (suc k) rs i .due)) (b + stageBelow K (suc k) rs i .node) ws ≡ settled K (noteOf (stageBelow K (suc k) rs i .due)) (b + stageBelow K (suc k) rs i .node) vs
+  waiting-same e =
+      let q : Stage = stageBelow K (suc k) rs i in
+      let at : WaitsAt (q .due) (q .node) (q .node) = waits-at K (q .due) (q .node) (q .node) e refl in
+      settled-by (noteOf (q .due)) (b + q .node) (own-node (q .node) (waiting-in (q .due) (q .node) b e (below-in K k r rs ws sh len fine i))) (node-of (child (b + q .node) lhs) (same .children (q .node) at lhs))
+      (node-of (child (b + q .node) rhs) (same .children (q .node) at rhs))
+
+  -- the work of the level: at the root the request's ..
+  root-work : i ≡ 0 → work (ruleAt K (suc k) r ws .op) 0 ≡ work (ruleAt K (suc k) t vs .op) 0
+  unfolding firstNode
+  root-work e =
+      let at : b + 0 ≡ 0 = ap (λ (j : ℕ). firstNode j + 0) e ∙ omega arith in
+      let n : nodeIn K ws 0 ≡ nodeIn K vs 0 = subst (λ (m : ℕ). nodeIn K ws m ≡ nodeIn K vs m) at (own-node 0 (omega arith)) in
+      ap₂ (λ (r : Request) (n : Node). work (rule (room K (suc k)) r (rootHeld n) (lowElem (n .places)) .op) 0) (same .asked e) n
+
+  -- .. below it what the record between hands down
+  module _ (g : ℕ) (e : i ≡ suc g) where
+    child-own : (n : ℕ) (s : Side) → n < firstNode g + 1 → nodeIn K ws (child (firstNode g + n) s) ≡ nodeIn K vs (child (firstNode g + n) s)
+    unfolding firstNode
+    child-own n s l = subst (λ (m : ℕ). nodeIn K ws m ≡ nodeIn K vs m) (at s) (own-node (childOf n s) (in-level s))
+      where
+        first : b ≡ below (firstNode g)
+        first = ap firstNode e
+
+        at : (s : Side) → b + childOf n s ≡ child (firstNode g + n) s
+        at lhs = omega (arith, first)
+        at rhs = omega (arith, first)
+
+        in-level : (s : Side) → childOf n s < b + 1
+        in-level lhs = omega (arith, first)
+        in-level rhs = omega (arith, first)
+
+    handed-same : (d : Due) (n : ℕ) → InRange d n (firstNode g) → ((m : ℕ) → WaitsAt d n m → (p : ℕ) → InNode K (suc k) (firstNode g + m) p → word ws p ≡ word vs p) → handed K d n (firstNode g) ws ≡ handed K d n (firstNode g) vs
+    unfolding handed
+    handed-same Nothing n l w = refl
+    handed-same (Put y) n l w = refl
+    handed-same (Fill j) n l w = ap (λ (v : Finished). work (v .op) (childOf n (v .side))) (settled-by (fill j) (firstNode g + n) (node-of (firstNode g + n) (w n refl)) (child-own n lhs l) (child-own n rhs l))
+    handed-same (Swap j x) n l w = ap (λ (v : Finished). work (v .op) (childOf n (v .side))) (settled-by (trial j x) (firstNode g + n) (node-of (firstNode g + n) (w n refl)) (child-own n lhs l) (child-own n rhs l))
+
+  below-is : (j : ℕ) → suc j ≤ k → stageBelow K (suc k) rs j ≡ stageAt rs j
+  below-is j l = ap (λ (b : Bool). cond b (stageAt rs j) noStage) (lt-ltb (suc j) (suc k) (omega arith))
+
+  work-same : (j : ℕ) → i ≡ j → workOf K (suc k) r rs ws j ≡ workOf K (suc k) t qs vs j
+  unfolding workOf
+  work-same zero e = root-work e
+  work-same (suc g) e =
+      let q : Stage = stageAt rs g in
+      handed-same g e (q .due) (q .node) (subst (λ (q : Stage). InRange (q .due) (q .node) (firstNode g)) (below-is g (omega arith)) (below-in K k r rs ws sh len fine g)) (same .waiting g e)
+      ∙ ap (λ (q : Stage). handed K (q .due) (q .node) (firstNode g) vs) (same .above g e)
+
+  reads-words : (p : ℕ) → InLevel K (suc k) i p → word (turned K (suc k) r rs ws .words) p ≡ word (turned K (suc k) t qs vs .words) p
+  reads-words p l =
+      let at : Level K b p = bounds K k r rs ws sh len fine i p l in
+      words-at K k r rs ws sh len fine i p (omega arith) at
+      ∙ level-words K b (workOf K (suc k) r rs ws i) (stageBelow K (suc k) rs i) ws vs alike (own-in K k r rs ws sh len fine i h) waiting-same .same p at
+      ∙ ap₂ (λ (w : Work) (q : Stage). word (levelWords K b w q vs) p) (work-same i refl) (same .below) ∙ sym (words-at K k t qs vs zh lenq fineq i p (omega arith) at)
+
+  reads-record : suc i ≤ k → stageAt (turned K (suc k) r rs ws .records) i ≡ stageAt (turned K (suc k) t qs vs .records) i
+  reads-record l =
+      loads K k r rs ws sh len fine i (omega arith) ∙ ap (λ (q : Stage). levelStage K b (workOf K (suc k) r rs ws i) q ws) (sym (below-is i l))
+      ∙ level-loads K b (workOf K (suc k) r rs ws i) (stageBelow K (suc k) rs i) ws vs alike (own-in K k r rs ws sh len fine i h) waiting-same
+      ∙ ap₂ (λ (w : Work) (q : Stage). levelStage K b w q vs) (work-same i refl) (same .below ∙ ap (λ (b : Bool). cond b (stageAt qs i) noStage) (lt-ltb (suc i) (suc k) (omega arith)))
+      ∙ sym (loads K k t qs vs zh lenq fineq i (omega arith))
+
+pub reads : (K levels : ℕ) (r t : Request) (rs qs : List Stage) (ws vs : List ℕ) → Shape K levels (length ws) → Shape K levels (length vs) → pred levels ≤ length rs → pred levels ≤ length qs
+    → (TurnDamage K levels r rs ws → ⊥) → (TurnDamage K levels t qs vs → ⊥) → (i : ℕ) → i < levels → Reads K levels i r t rs qs ws vs
+    → ((p : ℕ) → InLevel K levels i p → word (turned K levels r rs ws .words) p ≡ word (turned K levels t qs vs .words) p)
+    × (suc i < levels → stageAt (turned K levels r rs ws .records) i ≡ stageAt (turned K levels t qs vs .records) i)
+reads K zero r t rs qs ws vs sh zh len lenq fine fineq i h same = absurd (not-suc-le-zero (sh .some))
+reads K (suc k) r t rs qs ws vs sh zh len lenq fine fineq i h same = (
+  reads-words K k r t rs qs ws vs sh zh len lenq fine fineq i (omega arith) same,
+  λ l. reads-record K k r t rs qs ws vs sh zh len lenq fine fineq i (omega arith) same (omega arith),
+)
