@@ -1,5 +1,6 @@
 -- One spoilt word for each damage test of 01, in a small store: what the calls say then, in 01's numbers. These are definitions.
 use mathlib.Core.List.{List, [], _∷_, map}
+use mathlib.Core.Path.{_≡_}
 use Prim.Native.Nat.{ℕ}
 use lib.ListN.{replicate, set}
 use Rattle.strip.specs.Answers.{countNumber, element, numberOf}
@@ -64,6 +65,16 @@ pub record Row : Type 0 where
 
 abbrev pub row : ℕ → Store → Spoil → List ℕ → Row
 row d s x ns = record { storeys = d; from = s; spoilt = x; says = ns }
+
+-- the store of a row
+abbrev pub at : Row → Store
+at r = spoil (r .spoilt) (r .from)
+
+-- the numbers are these, and whatever is refused leaves every word
+pub record Right (r : Row) : Type 0 where
+  pub says : numbers (small (r .storeys)) (at r) ≡ r .says
+  pub bits : (q : Request) → (numberOf (asked (small (r .storeys)) q (at r) .answer) ≡ 0 → ⊥) → asked (small (r .storeys)) q (at r) .bits ≡ at r .bits
+  pub words : (q : Request) → (numberOf (asked (small (r .storeys)) q (at r) .answer) ≡ 0 → ⊥) → asked (small (r .storeys)) q (at r) .words ≡ at r .words
 
 unfoldable pub spoiltTable : List Row
 spoiltTable =
