@@ -12,8 +12,8 @@ use Rattle.cluster_model.specs.Calls.{shapeOk}
 use Rattle.cluster_model.specs.Heap.{room}
 use Rattle.cluster_model.specs.Promise.{Shape}
 use Rattle.cluster_model.specs.Way.{extent}
-use Rattle.cluster.proofs.Shapes.{extent-nodes, nodes-room, room-nodes}
-use Rattle.cluster.specs.Coded.{Nodes, nodesOf}
+use Rattle.cluster.proofs.Shapes.{extent-nodes, Nodes, nodes-room, room-nodes}
+use Rattle.cluster.specs.Coded.{nodesOf}
 
 module _ (K levels : ℕ) where
   -- room for 5,460 places and two counts for each of at most 2,730 nodes

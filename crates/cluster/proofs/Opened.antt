@@ -16,13 +16,13 @@ use Rattle.cluster_model.specs.Heap.{room}
 use Rattle.cluster_model.specs.Words.{word, width}
 use Rattle.cluster_model.specs.Way.{extent}
 use Rattle.cluster_model.specs.Calls.{shapeOk, outcome, Outcome, cleared, wipe}
-use Rattle.cluster.specs.Coded.{Nodes, heldBy, openedTo, heldDown, popDown, replaceDown}
+use Rattle.cluster.specs.Coded.{heldBy, openedTo, heldDown, popDown, replaceDown}
 use Rattle.cluster_nodes.specs.Seeing.{lowOnly}
 use Rattle.cluster_nodes.specs.Leaf.{elemAt, bareAt, okBy, lookNode, placeIn, Here}
 use Rattle.cluster.specs.Down.{went, takeDown, swapDown, PutReady, TakeReady, TakeMeets, SwapMeets}
 use Rattle.cluster_nodes.proofs.Looks.{within, low-lt}
 use Rattle.cluster.proofs.Downs.{lies-here}
-use Rattle.cluster.proofs.Shapes.{shape-true, shape-here, nodes-here, root-lies, extent-nodes}
+use Rattle.cluster.proofs.Shapes.{Nodes, shape-true, shape-here, nodes-here, root-lies, extent-nodes}
 
 room-suc : (K k : ℕ) → room K k ≤ room K (suc k)
 unfolding room

@@ -3,16 +3,16 @@ use Prim.Native.Nat.{ℕ, zero, suc, _+_, _*_, _-_, _≤_, _<_, _^_, _%_}
 use native.Mathlib.Nat.{not-suc-le-zero, mul-le-mul-right}
 use native.Mathlib.Omega.{arith}
 use mathlib.Core.Path.{_≡_, refl, sym, ap, _∙_, subst}
-use mathlib.Core.Bool.{Bool, true, false, not, _&&_, false≢true}
+use mathlib.Core.Bool.{Bool, true, false, cond, not, _&&_, false≢true}
 use mathlib.Core.List.{List}
-use lib.Dec.{leb}
+use lib.Dec.{leb, ltb}
 use lib.ListN.{length}
-use borrow.Author.Tests.{not-false, le-leb, lt-leb, leb-true, leb-false}
+use borrow.Author.Tests.{not-false, le-leb, le-ltb, lt-leb, lt-ltb, ltb-true, leb-true, leb-false}
 use Rattle.cluster_model.specs.Heap.{room}
 use Rattle.cluster_model.specs.Words.{width}
 use Rattle.cluster_model.specs.Way.{extent}
 use Rattle.cluster_model.specs.Calls.{shapeOk}
-use Rattle.cluster.specs.Coded.{nodesOf, Nodes}
+use Rattle.cluster.specs.Coded.{fewNodes, nodesOf}
 use Rattle.cluster_nodes.specs.Leaf.{Here}
 use Rattle.cluster.specs.Down.{Reach}
 
@@ -27,6 +27,11 @@ nodes-mono i (suc d) = let z : suc d + i ≡ suc (d + i) = omega arith in subst 
 
 pub nodes-up : (i j : ℕ) → i ≤ j → nodesOf i ≤ nodesOf j
 nodes-up i j h = let e : j - i + i ≡ j = omega arith in subst (λ (n : ℕ). nodesOf i ≤ nodesOf n) e (nodes-mono i (j - i))
+
+-- a number of nodes, as far as the limit asks
+pub record Nodes (levels r : ℕ) : Type 0 where
+  pub within : nodesOf levels ≤ 5460 → r ≡ nodesOf levels
+  pub above : 5460 < nodesOf levels → 5460 < r
 
 pub nodes-end : (levels i r : ℕ) → i ≡ levels → r ≡ nodesOf i → Nodes levels r
 nodes-end levels i r e p =
@@ -59,11 +64,22 @@ shift-is (suc (suc (suc (suc (suc (suc (suc (suc (suc (suc (suc zero))))))))))) 
 shift-is (suc (suc (suc (suc (suc (suc (suc (suc (suc (suc (suc (suc zero)))))))))))) h = refl
 shift-is (suc (suc (suc (suc (suc (suc (suc (suc (suc (suc (suc (suc (suc k))))))))))))) h = absurd (not-suc-le-zero {n = k} (omega arith))
 
-pub nodes-shift : (levels p : ℕ) → levels ≤ 12 → p ≡ nodesOf levels + 1 → Nodes levels (p - 1)
-nodes-shift levels p h e = let q : p - 1 ≡ nodesOf levels = omega (arith, e) in nodes-end levels levels (p - 1) refl q
+pub nodes-shift : (levels p : ℕ) → levels ≤ 12 → p ≡ nodesOf levels + 1 → p - 1 ≡ fewNodes levels
+unfolding fewNodes
+nodes-shift levels p h e = rw (le-ltb 12 levels h) (omega (arith, e))
 
-pub nodes-many : (levels : ℕ) → 12 < levels → Nodes levels 8191
-nodes-many levels h = nodes-above levels 13 8191 h (omega arith) many
+pub nodes-many : (levels : ℕ) → 12 < levels → 8191 ≡ fewNodes levels
+unfolding fewNodes
+nodes-many levels h = rw (lt-ltb 12 levels h)
+
+-- within the limit it is 2^levels − 1, and above it where that is
+pub nodes-counted : (levels r : ℕ) → r ≡ fewNodes levels → Nodes levels r
+unfolding fewNodes
+nodes-counted levels r = go (ltb 12 levels) refl
+  where
+    go : (b : Bool) → ltb 12 levels ≡ b → r ≡ cond b 8191 (nodesOf levels) → Nodes levels r
+    go true t e = nodes-above levels 13 r (ltb-true 12 levels t) (omega arith) (e ∙ many)
+    go false t e = nodes-end levels levels r refl e
 
 pub room-nodes : (K k : ℕ) → K * nodesOf k ≡ room K k
 unfolding room nodesOf

@@ -3,7 +3,7 @@ use Prim.Native.Nat.{ℕ, zero, suc, _+_, _*_, _-_, _≤_, _<_}
 use mathlib.Core.Path.{_≡_}
 use mathlib.Core.Bool.{Bool, true, cond}
 use mathlib.Core.List.{List}
-use lib.Dec.{eqb}
+use lib.Dec.{eqb, ltb}
 use lib.ListN.{length}
 use Rattle.strip.specs.Answers.{untagged}
 use Rattle.strip.specs.declared.Element.{Element}
@@ -25,9 +25,9 @@ unfoldable pub nodesOf : ℕ → ℕ
 nodesOf zero = 0
 nodesOf (suc k) = nodesOf k + nodesOf k + 1
 
-pub record Nodes (levels r : ℕ) : Type 0 where
-  pub within : nodesOf levels ≤ 5460 → r ≡ nodesOf levels
-  pub above : 5460 < nodesOf levels → 5460 < r
+-- .. and 2^13 − 1 where there are more levels than any shape has
+unfoldable pub fewNodes : ℕ → ℕ
+fewNodes levels = cond (ltb 12 levels) 8191 (nodesOf levels)
 
 unfoldable pub heldBy : ℕ → List ℕ → Seen → ℕ
 heldBy K ws v = v .count + (word ws (0 * width K) + word ws (0 * width K + 1))

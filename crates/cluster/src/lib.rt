@@ -10,7 +10,7 @@ ghost use Rattle.cluster_model.specs.Calls.{shapeOk, outcome, called, cleared, 
 ghost use Rattle.cluster_nodes.specs.Seeing.{lowOnly};
 ghost use Rattle.cluster_nodes.specs.Leaf.{elemAt, okBy, lookNode, placeIn, Here, Lies};
 ghost use Rattle.cluster.specs.Down.{went, putEnd, TakeReady, PutReady, TakeMeets, SwapMeets, PutMeets};
-ghost use Rattle.cluster.specs.Coded.{nodesOf, Nodes, heldBy, pushDown, replaceDown, Bars};
+ghost use Rattle.cluster.specs.Coded.{nodesOf, fewNodes, heldBy, pushDown, replaceDown, Bars};
 use cluster_nodes::FOUR_LEFT;
 use cluster_nodes::FOUR_RIGHT;
 use cluster_nodes::Seen;
@@ -194,9 +194,9 @@ fn put(s: &mut [u32], k: usize, left: usize, at: usize, limit: usize, x: Element
 
 // ---- the calls
 
-// 2^levels − 1 where that is within the limit, else a number above it. Every call asks for it, so it is a shift and no loop.
+// 2^levels − 1, of more than 12 levels 2^13 − 1, which is above the limit. Every call asks for it, so it is a shift and no loop.
 pub fn nodes(levels: usize) -> usize
-    ensures { λ r. ⌜ Nodes levels r ⌝ }
+    ensures { λ r. ⌜ r ≡ fewNodes levels ⌝ }
 {
     if 12 < levels {
         return 8191;

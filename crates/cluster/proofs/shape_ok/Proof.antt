@@ -1,4 +1,4 @@
-use Rattle.cluster.proofs.Shapes.{shape-low, shape-high, shape-none, shape-above, shape-rest}
+use Rattle.cluster.proofs.Shapes.{nodes-counted, shape-low, shape-high, shape-none, shape-above, shape-rest}
 use native.Mathlib.Omega.{arith}
 use native.Mathlib.Nat.{mul-le-mul-right}
 use borrow.Author.Needs.{needs}
@@ -17,7 +17,7 @@ returns-3 c = shape-none _ _ _ (c .before .before .if1 .left) (c .before .if2 .l
 returns-4 : tie.Need-returns-4
 returns-4 c =
     let else2 = c .before .before .before in let else1 = else2 .before in
-    shape-above _ _ _ (else1 .if1 .left) (else2 .if2 .left) (c .before .before .if3 .left) _ (c .before .nodes .ensures) (c .if4 .taken)
+    shape-above _ _ _ (else1 .if1 .left) (else2 .if2 .left) (c .before .before .if3 .left) _ (nodes-counted _ _ (c .before .nodes .ensures)) (c .if4 .taken)
 
 mul-result : tie.Need-mul-result
 mul-result c = omega (arith, mul-le-mul-right (c .before .nodes .result) (c .before .before .before .if2 .left), c .if4 .left)
@@ -28,7 +28,7 @@ mul-result-3 c = omega (arith, mul-le-mul-right (c .before .nodes .result) (c .b
 returns-5 : tie.Need-returns-5
 returns-5 c =
     let else2 = c .before .before .before in let else1 = else2 .before in
-    shape-rest _ _ _ (else1 .if1 .left) (else2 .if2 .left) (c .before .before .if3 .left) _ (c .before .nodes .ensures) (c .if4 .left)
+    shape-rest _ _ _ (else1 .if1 .left) (else2 .if2 .left) (c .before .before .if3 .left) _ (nodes-counted _ _ (c .before .nodes .ensures)) (c .if4 .left)
 
 pub shape-ok-spec : {M : Type 1} → statement M
 shape-ok-spec = tie.close
