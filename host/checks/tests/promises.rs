@@ -178,8 +178,8 @@ fn public_functions_are_those_of_the_sources() {
         }
         listed.insert(owner);
     }
-    let helpers = part.lines().find(|line| line.starts_with("Helpers ")).expect("a line of helpers");
-    let helpers = words(helpers).into_iter().map(String::from).collect();
+    let helpers = part.split("\n\n").find(|text| text.starts_with("Helpers ")).expect("a list of helpers");
+    let helpers = words(helpers.split(". ").next().unwrap()).into_iter().map(String::from).collect();
     let others = |name: &String| !listed.contains(name) && !sources.public(name).is_empty();
     differ("helpers", &helpers, &sources.crates().into_iter().filter(others).collect(), &mut wrong);
     told(&wrong);
