@@ -21,7 +21,7 @@ use Rattle.strip.specs.declared.Answer.{Answer}
 use Rattle.strip.specs.declared.Count.{Count}
 use Rattle.strip.specs.declared.Request.{Request}
 use Rattle.strip.specs.declared.Request.the-variants.{Pop, Push, Replace}
-use Rattle.trace_model.specs.Example.{cut, cutLengths, cutLengthsSay, cutSays, deep, deepSays, emptied, emptiedSays, example, exampleSays, lengthless, lengthlessSays, lengths, lengthsSay, untaggedOnes, untaggedSays, wide, wideSays}
+use Rattle.trace_model.specs.Example.{cut, cutLengths, cutLengthsSay, cutSays, deep, deepSays, emptied, emptiedSays, example, exampleSays, idleRanked, idleRankedSays, lengthless, lengthlessSays, lengths, lengthsSay, popTagged, popTaggedSays, untaggedOnes, untaggedSays, wide, wideSays}
 use Rattle.trace_model.specs.Program.{traceText}
 use Rattle.tree_model.specs.Calls.{heldCount}
 use Rattle.tree_model.specs.Cases.{caseLengthAnswers, caseLengthAnswersSay, caseLengths, caseLengthsSays}
@@ -190,9 +190,12 @@ table =
     -- .. in version 2, also with length 0
     ∷ plays lengths lengthsSay
     ∷ plays lengthless lengthlessSays
-    -- .. byte by byte: order 4, levels 1, full and code 4; version 2, order 4, levels 3; a record that is cut, of either version
+    -- .. byte by byte: order 4, levels 1, full and code 4; version 2, order 4, levels 3; a record that is cut, of either version; an idle record with a rank, a pop
+    -- with a tag
     ∷ plays wide wideSays
     ∷ plays deep deepSays
     ∷ plays cut cutSays
     ∷ plays cutLengths cutLengthsSay
+    ∷ plays idleRanked idleRankedSays
+    ∷ plays popTagged popTaggedSays
     ∷ []

@@ -1,5 +1,5 @@
 -- Header, records and lines are those of 01 and 02, byte by byte (`specs/Bytes.antt`).
-use Prim.Native.Nat.{_%_, _*_, _+_, _/_, _<_, _≤_, suc, zero, ℕ}
+use Prim.Native.Nat.{_%_, _*_, _+_, _/_, _<_, _^_, _≤_, suc, zero, ℕ}
 use native.Mathlib.Nat.{mul-le-mul-left}
 use native.Mathlib.Omega.{arith}
 use mathlib.Core.Bool.{_&&_, Bool, cond, false, not, true}
@@ -10,6 +10,8 @@ use lib.Dec.{eqb, leb}
 use lib.ListN.{drop, getD, length}
 use borrow.Author.Tests.{eqb-false, eqb-true, le-leb, leb-false, leb-true, ne-eqb}
 use Rattle.clocked_model.specs.Calls.{clearedMachine}
+use Rattle.laws.specs.Means.{Iff}
+use Rattle.laws.specs.Sums.{sumTo}
 use Rattle.laws.specs.Tests.{and-left, and-right, and-true}
 use Rattle.strip.specs.Answers.{element}
 use Rattle.strip.specs.declared.Answer.the-variants.{Done, Out, Refused}
@@ -29,12 +31,16 @@ use Rattle.trace_model.specs.declared.Record.the-variants.{Bad, Good}
 use Rattle.trace_model.specs.declared.Version.{Version}
 use Rattle.trace_model.specs.declared.Version.the-variants.{One, Two}
 use Rattle.tree_model.proofs.Exactly.{shape-is}
+use Rattle.tree_model.proofs.Slice.{capacity}
 use Rattle.tree_model.specs.Calls.{orderOk, shapeOk, slotLimit}
 use Rattle.tree_model.specs.Damage.{room}
 use Rattle.tree_model.specs.Promise as shape
 use Rattle.tree_model.specs.Words.{slotWords}
 
 -- ---- the shapes
+abbrev Order : ℕ → Type 0
+Order m = (m ≡ 2) ⊎ (m ≡ 4) ⊎ (m ≡ 8)
+
 pub trace-shape : (m levels : ℕ) → traceShape m levels ≡ true → shape.Shape m levels storeWords
 unfolding traceShape shapeOk
 trace-shape m levels e =
@@ -52,31 +58,54 @@ room-mono m zero l h = omega arith
 room-mono m (suc k) zero h = absurd (omega arith)
 room-mono m (suc k) (suc l) h = mul-le-mul-left m (omega (arith, room-mono m k l (omega arith)))
 
-levels-most : (m levels top : ℕ) → traceLimit < room m (suc top) → room m levels ≤ traceLimit → levels ≤ top
+levels-most : (m levels top : ℕ) → 4094 < room m (suc top) → room m levels ≤ 4094 → levels ≤ top
 levels-most m levels top more few = go (leb levels top) refl
   where
     go : (b : Bool) → leb levels top ≡ b → levels ≤ top
     go true e = leb-true levels top e
     go false e = absurd (omega (arith, room-mono m (suc top) levels (leb-false levels top e)))
 
+taken-by : (m levels : ℕ) → Order m → 1 ≤ levels → room m levels ≤ 4094 → Taken m levels
+unfolding room
+taken-by m levels order some few =
+    let most : (n top : ℕ) → m ≡ n → 4094 < room n (suc top) → levels ≤ top = λ n top is more. levels-most n levels top more (subst (λ (m : ℕ). room m levels ≤ 4094) is few) in
+    ⊎-elim (λ is. inl (is, some, most 2 11 is (omega arith))) (⊎-elim (λ is. inr (inl (is, some, most 4 5 is (omega arith)))) (λ is. inr (inr (is, some, most 8 3 is (omega arith))))) order
+
+taken-room : (m levels : ℕ) → Taken m levels → Order m × (1 ≤ levels) × (room m levels ≤ 4094)
+unfolding room
+taken-room m levels t =
+    ⊎-elim (λ p. (inl (p .0), p .1, at 2 11 (omega arith) p)) (⊎-elim (λ p. (inr (inl (p .0)), p .1, at 4 5 (omega arith) p)) (λ p. (inr (inr (p .0)), p .1, at 8 3 (omega arith) p))) t
+  where
+    at : (n top : ℕ) → room n top ≤ 4094 → (m ≡ n) × (1 ≤ levels) × (levels ≤ top) → room m levels ≤ 4094
+    at n top few p = subst (λ (m : ℕ). room m levels ≤ 4094) (sym (p .0)) (omega (arith, room-mono n levels top (p .2)))
+
+-- SLOTS: "Shapes up to 4,094 slots", by the sum that 01 gives for the capacity
+pub slots-taken : (m levels : ℕ) → Iff (Taken m levels) (Order m × (1 ≤ levels) × (sumTo levels (λ i. m ^ suc i) ≤ 4094))
+slots-taken m levels =
+    record {
+      to = λ t. let r = taken-room m levels t in (r .0, r .1, subst (λ (n : ℕ). n ≤ 4094) (capacity m levels) (r .2));
+      from = λ r. taken-by m levels (r .0) (r .1) (subst (λ (n : ℕ). n ≤ 4094) (sym (capacity m levels)) (r .2));
+    }
+
+-- .. and those are the ones that the header's test takes
 shape-taken : (m levels : ℕ) → traceShape m levels ≡ true → Taken m levels
-unfolding traceShape room
+unfolding traceShape
 shape-taken m levels e =
     let sh = trace-shape m levels e in
     let few : room m levels ≤ traceLimit = leb-true (room m levels) traceLimit (and-right (leb 1 levels) (leb (room m levels) traceLimit) (and-right (orderOk m) (leb 1 levels && leb (room m levels) traceLimit) e)) in
-    let most : (n top : ℕ) → m ≡ n → traceLimit < room n (suc top) → levels ≤ top = λ n top is more. levels-most n levels top more (subst (λ (m : ℕ). room m levels ≤ traceLimit) is few) in
-    ⊎-elim (λ is. inl (is, sh .some, most 2 11 is (omega arith)))
-    (⊎-elim (λ is. inr (inl (is, sh .some, most 4 5 is (omega arith)))) (λ is. inr (inr (is, sh .some, most 8 3 is (omega arith))))) (sh .order)
+    taken-by m levels (sh .order) (sh .some) (omega arith)
+
+order-taken : (m : ℕ) → Order m → orderOk m ≡ true
+unfolding orderOk
+order-taken m o = ⊎-elim (λ e. ap orderOk e) (⊎-elim (λ e. ap orderOk e) (λ e. ap orderOk e)) o
 
 pub taken-shape : (m levels : ℕ) → Taken m levels → traceShape m levels ≡ true
-unfolding traceShape orderOk room
-taken-shape m levels t = ⊎-elim (λ p. at 2 11 refl (omega arith) p) (⊎-elim (λ p. at 4 5 refl (omega arith) p) (λ p. at 8 3 refl (omega arith) p)) t
-  where
-    at : (n top : ℕ) → orderOk n ≡ true → room n top ≤ traceLimit → (m ≡ n) × (1 ≤ levels) × (levels ≤ top) → traceShape m levels ≡ true
-    at n top ok few p =
-        subst (λ (m : ℕ). traceShape m levels ≡ true) (sym (p .0))
-        (and-true (orderOk n) (leb 1 levels && leb (room n levels) traceLimit) ok
-        (and-true (leb 1 levels) (leb (room n levels) traceLimit) (le-leb 1 levels (p .1)) (le-leb (room n levels) traceLimit (omega (arith, room-mono n levels top (p .2))))))
+unfolding traceShape
+taken-shape m levels t =
+    let r = taken-room m levels t in
+    let few : room m levels ≤ 4094 = r .2 in
+    and-true (orderOk m) (leb 1 levels && leb (room m levels) traceLimit) (order-taken m (r .0))
+    (and-true (leb 1 levels) (leb (room m levels) traceLimit) (le-leb 1 levels (r .1)) (le-leb (room m levels) traceLimit (omega arith)))
 
 -- ---- the header
 -- HEADER: these bytes are read as that version, order and levels ..

@@ -1,4 +1,4 @@
--- 01's worked trace, one of replaces, one of elements without a tag and two of version 2, and what they give; and four of the format, byte by byte.
+-- 01's worked trace, one of replaces, one of elements without a tag and two of version 2, and what they give; and six of the format, byte by byte.
 use Prim.Native.Nat.{ℕ}
 use mathlib.Core.List.{[], _++_, _∷_, List}
 use Rattle.text.specs.Text.{bytesOf}
@@ -122,3 +122,26 @@ cutLengths =
 
 abbrev pub cutLengthsSay : List ℕ
 cutLengthsSay = bytesOf "1 pushed\n2 idle\n3 out 16909060 84281096 151653132\nbad record 4\n"
+
+-- an idle record with a rank, and a pop with a tag, are bad
+abbrev pub idleRanked : List ℕ
+idleRanked =
+    joined
+    ((80 ∷ 70 ∷ 84 ∷ 1 ∷ 0 ∷ 4 ∷ 5 ∷ [])
+    ∷ (0 ∷ 0 ∷ 0 ∷ 0 ∷ 0 ∷ 0 ∷ 0 ∷ 0 ∷ 0 ∷ [])
+    ∷ (0 ∷ 0 ∷ 0 ∷ 0 ∷ 1 ∷ 0 ∷ 0 ∷ 0 ∷ 0 ∷ [])
+    ∷ [])
+
+abbrev pub idleRankedSays : List ℕ
+idleRankedSays = bytesOf "1 idle\nbad record 2\n"
+
+abbrev pub popTagged : List ℕ
+popTagged =
+    joined
+    ((80 ∷ 70 ∷ 84 ∷ 2 ∷ 0 ∷ 8 ∷ 3 ∷ [])
+    ∷ (2 ∷ 0 ∷ 0 ∷ 0 ∷ 0 ∷ 0 ∷ 0 ∷ 0 ∷ 0 ∷ 0 ∷ 0 ∷ 0 ∷ 0 ∷ [])
+    ∷ (2 ∷ 0 ∷ 0 ∷ 0 ∷ 0 ∷ 0 ∷ 0 ∷ 0 ∷ 1 ∷ 0 ∷ 0 ∷ 0 ∷ 0 ∷ [])
+    ∷ [])
+
+abbrev pub popTaggedSays : List ℕ
+popTaggedSays = bytesOf "1 empty\nbad record 2\n"
