@@ -111,10 +111,9 @@ compiled() {
     target "$2"
     "$tools/clang" --target=x86_64-unknown-linux-gnu -S -emit-llvm -Xclang -disable-llvm-passes -x ir "$1" -o "$4.x86.ll" || return 1
     {
-        echo '/^target /d'
-        echo 's/ "target-cpu"="x86-64"//'
-        case $2 in riscv*) echo 's/^define noundef i32 @/define noundef signext i32 @/' ;; esac
-        [ "$3" != -Oz ] || echo 's/^attributes #[0-9]* = { nounwind "probe/&/; s/= { nounwind "/= { minsize optsize nounwind "/'
+        printf '%s\n' '/^target /d' 's/ "target-cpu"="x86-64"//'
+        case $2 in riscv*) printf '%s\n' '/^define internal/!s/^define \(.*\)i32 @/define \1signext i32 @/' ;; esac
+        [ "$3" != -Oz ] || printf '%s\n' '/^attributes .*"probe-stack"/s/ = { /&minsize optsize /'
     } >"$4.sed"
     sed -f "$4.sed" "$4.x86.ll" >"$4.ll"
     if grep -q x86 "$4.ll"; then fail "the module of $1 has more of x86-64 in it than its target lines"; fi
