@@ -331,18 +331,19 @@ fn shaped(store: &mut [u32], order: usize, levels: usize) {
     say_answer(tree::clear(store, order, levels));
 }
 
-// 01's largest shape of each order and today's are taken, one level more refused.
+// Three numbers of levels of one order.
+fn three(store: &mut [u32], order: usize, few: usize, most: usize, more: usize) {
+    shaped(store, order, few);
+    shaped(store, order, most);
+    shaped(store, order, more);
+}
+
+// 01's largest shape of each order and today's are taken, one level more is refused.
 fn edges(store: &mut [u32]) {
     io::write_all(1, b"case 9\n");
-    shaped(store, 4, 6);
-    shaped(store, 4, 8);
-    shaped(store, 4, 9);
-    shaped(store, 2, 11);
-    shaped(store, 2, 15);
-    shaped(store, 2, 16);
-    shaped(store, 8, 4);
-    shaped(store, 8, 5);
-    shaped(store, 8, 6);
+    three(store, 4, 6, 8, 9);
+    three(store, 2, 11, 15, 16);
+    three(store, 8, 4, 5, 6);
     shaped(store, 3, 2);
     shaped(store, 2, 0);
     shaped(store, 2, 18446744073709551615);

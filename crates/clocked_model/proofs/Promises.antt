@@ -14,10 +14,10 @@ use Rattle.clocked_model.proofs.Lost.{at-rest-remains, bag, Going, idle
 use Rattle.clocked_model.proofs.Exactly.{barred, refused-mark}
 use Rattle.clocked_model.proofs.Step.{same-root}
 use Rattle.clocked_model.specs.Calls.{clockedCleared, cycleOutcome, DrainOutcome, drains, fresh, marks, pending, popsOrReplaces, recordCount, clearedMachine, cycled}
-use Rattle.clocked_model.specs.Promise.{callsOf, clock, clockedQueue, cycleAnswers, CycleDamage, idles, Machine, oneByOne, oneByOneWords, Pinned, ran}
+use Rattle.clocked_model.specs.Promise.{callsOf, clock, clockedQueue, cycleAnswers, CycleDamage, idles, Machine, oneByOne, oneByOneWords, ran}
 use Rattle.clocked_model.specs.declared.State.{State}
 use Rattle.laws.specs.Means.{means-off}
-use Rattle.promise.specs.Queue.{leaves, pins}
+use Rattle.promise.specs.Queue.{leaves}
 use Rattle.promise.proofs.Calls.{last-all}
 use Rattle.promise.proofs.InFlight as clocks
 use Rattle.promise.specs.Clock.{drainedBy}
@@ -212,8 +212,3 @@ module _ (m : ℕ) (ws : List ℕ) (rs : List Request) (levels : ℕ) (sh : Shap
 
   pub drained-words : d .words ≡ oneByOneWords m levels rs false (start m levels ws)
   drained-words = drain-state m levels budget s vs .0 ∙ demand-store m ws rs levels sh (d .cycles) at-rest
-
--- PINNED: every public call, for all inputs
-pub pinned : (m levels : ℕ) (s : State) (ws : List ℕ) → Pinned m levels s ws
-pinned m levels s ws =
-    record { cycle = λ r. pins _; push = λ x. pins _; pop = pins _; replace = λ x. pins _; drain = λ b. pins _; clear = pins _; held = pins _ }

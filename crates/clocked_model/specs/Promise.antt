@@ -5,7 +5,7 @@ use mathlib.Core.List.{[], _∷_, List}
 use mathlib.Core.Logic.{_⊎_}
 use mathlib.Core.Path.{_≡_}
 use lib.ListN.{getD, length, replicate}
-use Rattle.clocked_model.specs.Calls.{allLevels, askedOk, clockedCleared, cycleOutcome, CycleOutcome, cycleRun, cycleWork, drainOutcome, DrainOutcome, drains, fresh, fromTwo, ruleNow, marks, pending, popsOrReplaces, cycled, stepsOk}
+use Rattle.clocked_model.specs.Calls.{allLevels, askedOk, cycleOutcome, CycleOutcome, cycleRun, cycleWork, drainOutcome, DrainOutcome, fresh, fromTwo, ruleNow, marks, pending, popsOrReplaces, cycled, stepsOk}
 use Rattle.clocked_model.specs.Cycle.{Works}
 use Rattle.clocked_model.specs.Records.{recordAt, worksOf}
 use Rattle.clocked_model.specs.declared.State.{State}
@@ -15,7 +15,7 @@ use Rattle.promise.specs.Calls.{grants, lastTable}
 use Rattle.promise.specs.Clock.{Clock}
 pub use Rattle.promise.specs.Clock.{runsIdle}
 use Rattle.promise.specs.Table.{stops}
-use Rattle.promise.specs.Queue.{answers, leaves, Pins, step, Step}
+use Rattle.promise.specs.Queue.{answers, leaves, step, Step}
 use Rattle.promise.specs.Refused.{limits, Untagged}
 use Rattle.promise.specs.Served.{hit}
 use Rattle.strip.specs.Answers.{numberOf}
@@ -26,7 +26,7 @@ use Rattle.strip.specs.declared.Refusal.{Refusal}
 use Rattle.strip.specs.declared.Refusal.the-variants.{BadShape, Damaged, NoTag, TooSoon}
 use Rattle.strip.specs.declared.Request.{Request}
 use Rattle.strip.specs.declared.Request.the-variants.{Idle, Pop, Push, Replace}
-use Rattle.tree_model.specs.Calls.{called, heldCount, opOf, outcome, Outcome, rootOf, rootOk, ruling, shapeOk}
+use Rattle.tree_model.specs.Calls.{called, opOf, outcome, Outcome, rootOf, rootOk, ruling, shapeOk}
 use Rattle.tree_model.specs.Damage.{room}
 use Rattle.tree_model.specs.Levels.{idle, Level, Levels, stepLevel, stepWork, top, work}
 use Rattle.tree_model.specs.Node.{low, sumCounts}
@@ -252,13 +252,3 @@ module _ (m levels : ℕ) where
     -- that is what would have been stored without it, less what is answered, and the newcomer
     pub swapped : (o : Element) → clockedQueue m levels (Replace e) x .said ≡ Out o → (i j : ℕ) → Rests i (clockedQueue m levels (Replace e) x .next) → Rests j x
         → (f : Element → Bool) → storedThen i (clockedQueue m levels (Replace e) x .next) f + hit (f o) ≡ storedThen j x f + hit (f e)
-
--- ---- each public call's outcome is one
-pub record Pinned (m levels : ℕ) (s : State) (ws : List ℕ) : Type 0 where
-  pub cycle : (r : Request) → Pins (cycled m levels r s ws)
-  pub push : (x : Element) → Pins (cycled m levels (Push x) s ws)
-  pub pop : Pins (cycled m levels Pop s ws)
-  pub replace : (x : Element) → Pins (cycled m levels (Replace x) s ws)
-  pub drain : (budget : ℕ) → Pins (drains m levels budget s ws)
-  pub clear : Pins (clockedCleared m levels s ws)
-  pub held : Pins (heldCount m levels ws)

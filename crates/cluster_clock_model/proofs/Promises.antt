@@ -19,9 +19,8 @@ use Rattle.cluster_clock_model.proofs.Kept.{is-clock, Kept, kept-answer
 use Rattle.cluster_clock_model.proofs.Lost.{flight-sum}
 use Rattle.cluster_clock_model.proofs.Rest.{calm-sound, rest-stored, rest-tree, start-flying, start-none}
 use Rattle.cluster_clock_model.proofs.Seen.{treeIn}
-use Rattle.cluster_clock_model.specs.declared.Stage.{Stage}
 use Rattle.cluster_clock_model.specs.Calls.{clockHeld, DrainOutcome, drains, quiet, turned}
-use Rattle.cluster_clock_model.specs.Promise.{AtRest, callAnswers, clearedMachine, clock, idles, Machine, machine, machineQueue, Pinned, ran, ranCalls, remaining, turnAnswers, TurnDamage, turnQueue}
+use Rattle.cluster_clock_model.specs.Promise.{AtRest, callAnswers, clearedMachine, clock, idles, Machine, machine, machineQueue, ran, ranCalls, remaining, turnAnswers, TurnDamage, turnQueue}
 use Rattle.cluster_model.specs.Calls.{heldIn, rule, ruleAt}
 use Rattle.cluster_model.specs.Heap.{room, Sound}
 use Rattle.cluster_model.specs.Node.{low, lowElem, Place}
@@ -29,7 +28,7 @@ use Rattle.cluster_model.specs.Promise.{Shape, storedCount}
 use Rattle.cluster_model.specs.Way.{heapIn, nodeIn}
 use Rattle.cluster_model.proofs.Rules.{comes, lowest-is}
 use Rattle.cluster_model.specs.Rules.{IsLowest}
-use Rattle.promise.specs.Queue.{leaves-keep, pins, step}
+use Rattle.promise.specs.Queue.{leaves-keep, step}
 use Rattle.laws.specs.Means.{means-off}
 use Rattle.promise.proofs.Calls.{comes-out, grants-kind, last-each}
 use Rattle.promise.proofs.Kept.{last-alike}
@@ -270,7 +269,3 @@ module _ (K : ℕ) (ws : List ℕ) (rs : List Request) (levels : ℕ) (sh : Shap
 
   pub drained-holds : Holds (storedCount K levels (d .words)) rs (turnAnswers K levels rs ws)
   drained-holds f = rw (drain-state K levels budget (x .records) (x .words) .0) (rested-holds K ws rs levels sh (d .cycles) at-rest f)
-
--- PINNED: every public call, for all inputs
-pub pinned : (K levels : ℕ) (rs : List Stage) (ws : List ℕ) → Pinned K levels rs ws
-pinned K levels rs ws = record { cycle = λ r. pins _; push = λ x. pins _; pop = pins _; replace = λ x. pins _; drain = λ b. pins _; clear = pins _; held = pins _ }

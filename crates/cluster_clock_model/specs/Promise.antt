@@ -14,7 +14,7 @@ use Rattle.clocked_model.specs.Promise.{Asks, isBadShape}
 use Rattle.cluster_clock_model.specs.declared.Due.{Due}
 use Rattle.cluster_clock_model.specs.declared.Due.the-variants.{Fill, Nothing, Put, Swap}
 use Rattle.cluster_clock_model.specs.declared.Stage.{Stage}
-use Rattle.cluster_clock_model.specs.Calls.{askedOk, clockCleared, clockHeld, drainOutcome, DrainOutcome, drains, fresh, pending, turned, turnOutcome, TurnOutcome}
+use Rattle.cluster_clock_model.specs.Calls.{askedOk, drainOutcome, DrainOutcome, drains, fresh, pending, turned, turnOutcome, TurnOutcome}
 use Rattle.cluster_clock_model.specs.Stage.{below, handed, levelStage, levelWords, lowAt, noStage, pass, stageAt, work, Work}
 use Rattle.cluster_clock_model.specs.Test.{saneAt, stagesOk}
 use Rattle.cluster_model.specs.Calls.{heldIn, opOf, ruleAt, shapeOk, wipe}
@@ -25,7 +25,7 @@ use Rattle.cluster_model.specs.Way.{child, extent, nodeIn}
 use Rattle.cluster_model.specs.Words.{word}
 use Rattle.laws.specs.Ladder.{fine, Ladder, rung, stop}
 use Rattle.laws.specs.Sums.{sumTo}
-use Rattle.promise.specs.Queue.{answers, leaves, Pins, step, Step}
+use Rattle.promise.specs.Queue.{answers, leaves, step, Step}
 use Rattle.promise.specs.Refused.{limits, Untagged}
 use Rattle.promise.specs.Served.{hit}
 use Rattle.strip.specs.declared.Answer.{Answer}
@@ -34,7 +34,7 @@ use Rattle.strip.specs.declared.Element.{Element}
 use Rattle.strip.specs.declared.Refusal.{Refusal}
 use Rattle.strip.specs.declared.Refusal.the-variants.{BadShape, Damaged, NoTag}
 use Rattle.strip.specs.declared.Request.{Request}
-use Rattle.strip.specs.declared.Request.the-variants.{Idle, Pop, Push, Replace}
+use Rattle.strip.specs.declared.Request.the-variants.{Idle}
 use Rattle.promise.specs.Drains.{Stuck as StuckAt}
 
 -- ---- the clocked heap as a queue: a list of cycles, each handed the words and the records that the one before left
@@ -299,13 +299,3 @@ SameStage p q = (p .due ≡ q .due) × ((p .due ≡ Nothing → ⊥) → p .node
 pub record Alike (K levels : ℕ) (x y : Machine) : Type 0 where
   pub words : Agree (extent K levels 1) (x .words) (y .words)
   pub stages : (i : ℕ) → i < pred levels → SameStage (stageAt (x .records) i) (stageAt (y .records) i)
-
--- ---- each public call's outcome is one
-pub record Pinned (K levels : ℕ) (rs : List Stage) (ws : List ℕ) : Type 0 where
-  pub cycle : (r : Request) → Pins (turned K levels r rs ws)
-  pub push : (x : Element) → Pins (turned K levels (Push x) rs ws)
-  pub pop : Pins (turned K levels Pop rs ws)
-  pub replace : (x : Element) → Pins (turned K levels (Replace x) rs ws)
-  pub drain : (budget : ℕ) → Pins (drains K levels budget rs ws)
-  pub clear : Pins (clockCleared K levels rs ws)
-  pub held : Pins (clockHeld K levels ws)

@@ -12,7 +12,7 @@ use Rattle.promise.proofs.Calls.{fits-least, last-each, last-fits}
 use Rattle.promise.proofs.Kept as queue
 use Rattle.promise.proofs.Kept.{IsQueue}
 use Rattle.promise.specs.Calls.{grants, lastTable}
-use Rattle.promise.specs.Queue.{answers, pins}
+use Rattle.promise.specs.Queue.{answers}
 use Rattle.promise.specs.Refused.{Untagged}
 use Rattle.promise.specs.Served.{allBrought, allGiven, always, brought, given, Holds, Least, lower, triple}
 use Rattle.promise.specs.Table.{Clear}
@@ -26,7 +26,7 @@ use Rattle.strip.specs.declared.Request.the-variants.{Replace}
 use Rattle.cluster_model.specs.Calls.{called, cleared, heap, heldCount, heldIn, opOf, Outcome, rootOk, rule, ruleAt, wipe}
 use Rattle.cluster_model.specs.Heap.{act, Can, gain, Heap, loss, lowest, many, room, Sound}
 use Rattle.cluster_model.specs.Node.{lowElem, none, Op}
-use Rattle.cluster_model.specs.Promise.{after, clusterQueue, Damage, Pinned, PopThenPush, Shape, start, storedCount, Zeroed}
+use Rattle.cluster_model.specs.Promise.{after, clusterQueue, Damage, PopThenPush, Shape, start, storedCount, Zeroed}
 use Rattle.cluster_model.specs.Way.{extent, heapIn, nodeIn, runWords, wayOk}
 use Rattle.cluster_model.specs.Words.{word}
 use Rattle.cluster_model.proofs.Damages.{is-shape, shape-is}
@@ -257,7 +257,3 @@ module _ (K : ℕ) (ws : List ℕ) (rs : List Request) where
   pub pop-then-push : (levels : ℕ) → Shape K levels (length ws) → (x : Element) → (Untagged (Replace x) → ⊥) → PopThenPush K levels x (after K levels rs ws)
   pop-then-push zero sh x tag = absurd (not-suc-le-zero (sh .some))
   pop-then-push (suc k) sh x tag = kept-replaces K k x tag (after K (suc k) rs ws) (now-kept k sh)
-
--- PINNED: every public call, for all inputs
-pub pinned : (K levels : ℕ) (ws : List ℕ) → Pinned K levels ws
-pinned K levels ws = record { clear = pins _; push = λ x. pins _; pop = pins _; replace = λ x. pins _; held = pins _ }

@@ -13,7 +13,7 @@ use Rattle.strip.specs.declared.Element.{Element}
 use Rattle.strip.specs.declared.Refusal.{Refusal}
 use Rattle.strip.specs.declared.Refusal.the-variants.{BadShape, Damaged, NoTag}
 use Rattle.strip.specs.declared.Request.{Request}
-use Rattle.cluster_model.specs.Calls.{called, cleared, heldCount, heldIn, ruleAt}
+use Rattle.cluster_model.specs.Calls.{called, cleared, heldIn, ruleAt}
 use Rattle.cluster_model.specs.Heap.{room}
 pub use Rattle.cluster_model.specs.Causes.{AnyTo, ChildDamaged, marked, NodeDamaged, PathDamaged, PlaceDamaged, Shape, StepDamaged, Stuck}
 unfoldable pub use Rattle.cluster_model.specs.Causes.{nodes, storedCount}
@@ -59,9 +59,6 @@ start K levels ws = cleared K levels ws .words
 abbrev pub after : ℕ → ℕ → List Request → List ℕ → List ℕ
 after K levels rs ws = leaves (clusterQueue K levels) rs (start K levels ws)
 
--- REPLACE, and that each public call's outcome is one, on the words ws
+-- REPLACE, on the words ws
 abbrev pub PopThenPush : ℕ → ℕ → Element → List ℕ → Type 0
 PopThenPush K levels x ws = calls.PopThenPush (called K levels) (storedCount K levels) x ws
-
-abbrev pub Pinned : ℕ → ℕ → List ℕ → Type 0
-Pinned K levels ws = calls.Pinned (called K levels) (cleared K levels) (heldCount K levels) ws

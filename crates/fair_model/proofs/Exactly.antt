@@ -1,4 +1,4 @@
--- EXACTLY: each refusal is given for its causes and no others, and leaves everything, whatever the words. PINNED: no call has two outcomes.
+-- EXACTLY: each refusal is given for its causes and no others, and leaves everything, whatever the words.
 use Prim.Native.Nat.{_<_, _≤_, pred, ℕ}
 use native.Mathlib.Nat.{pos-of-ne-zero}
 use native.Mathlib.Omega.{arith}
@@ -11,7 +11,6 @@ use borrow.Author.Tests.{eqb-false, eqb-true}
 use Rattle.laws.specs.Fails.{fails-leb}
 use Rattle.laws.specs.Ladder.{climb-by, climb-fine, climb-stop, Exactly, fine, First, Ladder, rung, stop}
 use Rattle.laws.specs.Means.{means-leb}
-use Rattle.promise.specs.Queue.{pins}
 use Rattle.promise.specs.Refused.{refusal-told, zero-told}
 use Rattle.promise.specs.Served.{IsOut}
 use Rattle.promise.specs.Table.{Clear, decided, decided-exactly, each-any, ends, ladder, TableOf, Told}
@@ -29,7 +28,7 @@ use Rattle.tree_model.specs.Damage.{room}
 use Rattle.tree_model.specs.Node.{sumCounts}
 use Rattle.tree_model.specs.Promise.{heldRefusals, refusals}
 use Rattle.fair_model.specs.Calls.{answerNumber, blankState, denied, Desk, desk, emptied, fairNumber, handedOut, nextElement, nextFinish, passedOn, pops, pushes, pushTable, Reply, reply, resets, stateTable, stateWords, told}
-use Rattle.fair_model.specs.Promise.{Call, FairKind, fairQueue, fairRefusals, IsServed, Pinned, pop, push, queued, reset}
+use Rattle.fair_model.specs.Promise.{Call, FairKind, fairQueue, fairRefusals, IsServed, pop, push, queued, reset}
 use Rattle.fair_model.specs.Ranks.{latest}
 use Rattle.fair_model.specs.declared.FairAnswer.the-variants.{Accepted}
 use Rattle.fair_model.specs.declared.FairRefusal.{FairRefusal}
@@ -164,10 +163,6 @@ module _ (m levels : ℕ) (d : Desk) where
   exactly (push f w n t) = exactly-push f w n t
   exactly pop = exactly-pop
   exactly reset = exactly-reset
-
-  -- PINNED: every public call, for all inputs
-  pub pinned : Pinned m levels d
-  pinned = record { push = λ f w n t. pins _; pop = pins _; reset = pins _; held = pins _ }
 
 -- ---- KIND: no call says that it is done and does nothing
 push-kind : (b : Answer) → (numberOf b ≡ 0 → b ≡ Done) → answerNumber (told b) ≡ 0 → told b ≡ Accepted

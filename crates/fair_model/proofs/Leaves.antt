@@ -12,9 +12,9 @@ use Rattle.strip.specs.declared.Refusal.{Refusal}
 use Rattle.strip.specs.declared.Request.{Request}
 use Rattle.strip.specs.declared.Request.the-variants.{Pop, Push}
 use Rattle.tree_model.specs.Calls.{called, Outcome, outcome}
-use Rattle.fair_model.specs.Calls.{blankState, denied, Desk, desk, handedOut, nextElement, nextFinish, passedOn, pops, pushes, resets, stateWords}
+use Rattle.fair_model.specs.Calls.{blankState, Desk, desk, handedOut, nextElement, nextFinish, passedOn, pops, pushes, resets, stateWords}
 use Rattle.fair_model.specs.Promise.{PopLeaves, PushLeaves, ResetLeaves}
-use Rattle.fair_model.specs.Ranks.{flows, Good}
+use Rattle.fair_model.specs.Ranks.{flows}
 use Rattle.fair_model.specs.declared.FairAnswer.{FairAnswer}
 use Rattle.fair_model.specs.declared.FairAnswer.the-variants.{Accepted, Denied, Served}
 use Rattle.fair_model.specs.declared.FairRefusal.{FairRefusal}

@@ -4,7 +4,7 @@ use native.Mathlib.Omega.{arith}
 use mathlib.Core.Bool.{Bool, cond, false, true}
 use mathlib.Core.List.{List}
 use mathlib.Core.Path.{_∙_, _≡_, ap, refl, subst, sym}
-use lib.Dec.{eqb, leb}
+use lib.Dec.{eqb}
 use lib.ListN.{drop, getD, getD-replicate, length, length-append, length-replicate, List·getD-append, replicate}
 use borrow.Author.Tests.{eqb-true, leb-true}
 use Rattle.laws.specs.Ladder.{left-behind}

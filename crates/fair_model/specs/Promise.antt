@@ -8,7 +8,7 @@ use lib.Dec.{leb, ltb}
 use lib.ListN.{getD, length, take}
 use Rattle.laws.specs.Ladder.{fine, Ladder, rung, stop}
 use Rattle.laws.specs.Lists.{All}
-use Rattle.promise.specs.Queue.{leaves, Pins, Step}
+use Rattle.promise.specs.Queue.{leaves, Step}
 use Rattle.promise.specs.Served.{lower, triple}
 use Rattle.strip.specs.Answers.{refusalNumber}
 use Rattle.strip.specs.declared.Answer.the-variants.{Done, Out}
@@ -17,7 +17,7 @@ use Rattle.strip.specs.declared.Refusal.{Refusal}
 use Rattle.strip.specs.declared.Refusal.the-variants.{BadShape}
 use Rattle.strip.specs.declared.Request.{Request}
 use Rattle.strip.specs.declared.Request.the-variants.{Pop, Push}
-use Rattle.tree_model.specs.Calls.{called, heldCount, outcome, rootOf}
+use Rattle.tree_model.specs.Calls.{called, outcome, rootOf}
 use Rattle.tree_model.specs.Damage.{room}
 use Rattle.tree_model.specs.Node.{sumCounts}
 use Rattle.tree_model.specs.Promise.{after, heldRefusals, refusals, Shape, storedCount}
@@ -234,10 +234,3 @@ Alike st vs = (p : ℕ) → p < stateWords → getD st p 0 ≡ getD vs p 0
 -- two outcomes that agree so: the answer, the store and the state
 abbrev pub AlikeReply : Reply → Reply → Type 0
 AlikeReply x y = (x .said ≡ y .said) × (x .next .store ≡ y .next .store) × Alike (x .next .state) (y .next .state)
-
--- ---- each public call's outcome is one
-pub record Pinned (m levels : ℕ) (d : Desk) : Type 0 where
-  pub push : (f w n t : ℕ) → Pins (pushes m levels f w n t d)
-  pub pop : Pins (pops m levels d)
-  pub reset : Pins (resets m levels d)
-  pub held : Pins (heldCount m levels (d .store))

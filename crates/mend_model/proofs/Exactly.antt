@@ -6,7 +6,6 @@ use mathlib.Core.Path.{_∙_, _≡_, refl, sym}
 use lib.ListN.{length}
 use Rattle.laws.specs.Ladder.{climb, climb-fine, Exactly}
 use Rattle.laws.specs.Means.{means-and}
-use Rattle.promise.specs.Queue.{pins}
 use Rattle.promise.specs.Refused.{refusal-told, zero-told}
 use Rattle.strip.specs.declared.Refusal.{Refusal}
 use Rattle.strip.specs.declared.Refusal.the-variants.{BadShape}
@@ -15,7 +14,7 @@ use Rattle.tree_model.specs.Calls.{shapeOk}
 use Rattle.tree_model.specs.Promise.{Shape}
 use Rattle.mend_model.specs.Check.{bareNumber, checked, checkNumber, descended, nodeWhole, walk}
 use Rattle.mend_model.specs.Mend.{Mended, mended, mendedAs, mendNumber}
-use Rattle.mend_model.specs.Promise.{checkRefusals, mendRefusals, Pinned}
+use Rattle.mend_model.specs.Promise.{checkRefusals, mendRefusals}
 use Rattle.mend_model.specs.declared.Bare.the-variants.{No, Unasked, Yes}
 use Rattle.mend_model.specs.declared.Check.the-variants.{Broken, Unchecked}
 use Rattle.mend_model.specs.declared.Mend.the-variants.{Unmended}
@@ -54,7 +53,3 @@ module _ (m levels : ℕ) (ws : List ℕ) where
       climb (λ (o : Mended). mendNumber (o .answer)) (λ (r : Refusal). mendedAs (Unmended r) to) refusal-told _ (Shape m levels (length ws) × Shape m levels (length to)) BadShape _ _
       (means-and (shape-means m levels (length ws)) (shape-means m levels (length to))) (λ sh.
       climb-fine (λ (o : Mended). mendNumber (o .answer)) (λ (r : Refusal). mendedAs (Unmended r) to) _ (λ r e. zero-told r e))
-
--- PINNED: every public call, for all inputs
-pub pinned : (m levels : ℕ) (ws : List ℕ) → Pinned m levels ws
-pinned m levels ws = record { check = pins _; descent = pins _; mend = λ to. pins _ }

@@ -10,7 +10,7 @@ use Rattle.laws.specs.Ladder.{fine, Ladder, rung}
 use Rattle.laws.specs.Lists.{All}
 use Rattle.laws.specs.Means.{Iff}
 use Rattle.laws.specs.Sums.{sumTo}
-use Rattle.promise.specs.Queue.{answers, leaves, Pins}
+use Rattle.promise.specs.Queue.{answers, leaves}
 use Rattle.promise.specs.Served.{allBrought, allGiven, always, Least}
 use Rattle.promise.specs.Refused.{Untagged}
 use Rattle.promise.specs.Tagged.{Tagged}
@@ -29,8 +29,7 @@ use Rattle.tree_model.specs.Promise.{Damage, fourWords, levelAt, PopThenPush, S
 use Rattle.tree_model.specs.Tree.{Sound, treeOf}
 use Rattle.tree_model.specs.Words.{levelsOf}
 use Rattle.tree_model.specs.declared.Slot.{Slot}
-use Rattle.mend_model.specs.Check.{brokenAt, checked, descended, innerOf}
-use Rattle.mend_model.specs.Mend.{mended}
+use Rattle.mend_model.specs.Check.{brokenAt, checked, innerOf}
 use Rattle.mend_model.specs.declared.Check.the-variants.{Whole}
 
 -- ---- 02's sentence, part by part
@@ -131,9 +130,3 @@ withTag f e = f e && not (untagged e)
 
 abbrev pub withoutTag : (Element → Bool) → Element → Bool
 withoutTag f e = f e && untagged e
-
--- ---- each public call's outcome is one
-pub record Pinned (m levels : ℕ) (ws : List ℕ) : Type 0 where
-  pub check : Pins (checked m levels ws)
-  pub descent : Pins (descended m levels ws)
-  pub mend : (to : List ℕ) → Pins (mended m levels ws to)

@@ -9,7 +9,6 @@ use Rattle.promise.proofs.Kept as kept
 use Rattle.promise.proofs.Kept.{IsQueue, Swaps}
 use Rattle.promise.specs.Calls.{Queue}
 use Rattle.promise.specs.Promised.{after, Answers, OneOf, Promised, Replaces}
-use Rattle.promise.specs.Queue.{pins}
 use Rattle.promise.specs.Table.{bars, Clear, Each, ends, needs, stops, Table}
 use Rattle.strip.specs.Answers.{refusalNumber}
 use Rattle.strip.specs.declared.Request.{Request}
@@ -30,7 +29,6 @@ module _ {S : Type 0} (q : Queue S) where
         exactly-held = calls.exactly-held t;
         kind = calls.kind q;
         barred = calls.barred t;
-        pinned = λ s. record { clear = pins _; push = λ x. pins _; pop = pins _; replace = λ x. pins _; held = pins _ };
       }
 
   module _ (Kept : S → Type 0) (is : IsQueue q Kept) (rs : List Request) (s : S) (fits : Clear (q .clearing s)) where

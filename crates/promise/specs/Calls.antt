@@ -7,7 +7,7 @@ use mathlib.Core.Logic.{_⊎_}
 use mathlib.Core.Path.{_≡_}
 use lib.Dec.{eqb, ltb}
 use Rattle.laws.specs.Ladder.{fine, Ladder, stop}
-use Rattle.promise.specs.Queue.{leaves, Pins, step, Step}
+use Rattle.promise.specs.Queue.{leaves, step, Step}
 use Rattle.promise.specs.Refused.{Untagged}
 use Rattle.promise.specs.Served.{hit}
 use Rattle.promise.specs.Table.{bars, decided, ends, ladder, stops, Table}
@@ -172,11 +172,3 @@ module _ {S : Type 0} (calls : Request → S → Outcome S) (stored : S → (Ele
         → stored (calls (Replace x) s .words) f ≡ stored (leaves (stepping calls) (Pop ∷ Push x ∷ []) s) f
     -- that is what was stored, less what is answered, and the newcomer
     pub swapped : (e : Element) → calls (Replace x) s .answer ≡ Out e → (f : Element → Bool) → stored (calls (Replace x) s .words) f + hit (f e) ≡ stored s f + hit (f x)
-
--- ---- each public call's outcome is one
-pub record Pinned {S : Type 0} (calls : Request → S → Outcome S) (clears : S → Outcome S) (counts : S → Count) (s : S) : Type 0 where
-  pub clear : Pins (clears s)
-  pub push : (x : Element) → Pins (calls (Push x) s)
-  pub pop : Pins (calls Pop s)
-  pub replace : (x : Element) → Pins (calls (Replace x) s)
-  pub held : Pins (counts s)

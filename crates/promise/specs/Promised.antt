@@ -5,7 +5,7 @@ use mathlib.Core.List.{List}
 use mathlib.Core.Logic.{_⊎_}
 use mathlib.Core.Path.{_≡_}
 use Rattle.laws.specs.Ladder.{Exactly}
-use Rattle.promise.specs.Calls.{called, cleared, clearRefusals, Damage, heldCount, heldRefusals, left, Outcome, Pinned, PopThenPush, Queue, refusals, stepping}
+use Rattle.promise.specs.Calls.{called, cleared, clearRefusals, Damage, heldCount, heldRefusals, left, Outcome, PopThenPush, Queue, refusals, stepping}
 use Rattle.promise.specs.Queue.{answers, leaves}
 use Rattle.promise.specs.Refused.{Untagged}
 use Rattle.promise.specs.Served.{allBrought, allGiven, always, Holds, Kind, Least, triple}
@@ -33,7 +33,6 @@ module _ {S : Type 0} (q : Queue S) where
     pub exactly-held : (s : S) → Exactly countNumber Unknown (heldCount q s) (heldRefusals q s)
     pub kind : (r : Request) (s : S) → numberOf (called q r s .answer) ≡ 0 → Kind r (called q r s .answer)
     pub barred : (r : Request) (s : S) → Barred r (called q r s .answer)
-    pub pinned : (s : S) → Pinned (called q) (cleared q) (heldCount q) s
 
   -- the words that a list of requests leaves from a cleared store, whatever the words s were, and what it is answered
   abbrev pub after : List Request → S → S

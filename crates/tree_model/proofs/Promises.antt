@@ -14,7 +14,7 @@ use Rattle.promise.proofs.Calls.{fits-least, last-each, last-fits}
 use Rattle.promise.proofs.Kept as queue
 use Rattle.promise.proofs.Kept.{IsQueue}
 use Rattle.promise.specs.Calls.{Fits, grants, lastTable}
-use Rattle.promise.specs.Queue.{answers, leaves, pins}
+use Rattle.promise.specs.Queue.{answers, leaves}
 use Rattle.promise.specs.Refused.{Untagged}
 use Rattle.promise.specs.Served.{allBrought, allGiven, always, brought, given, hit, Holds, Least, lower, same, triple}
 use Rattle.promise.specs.Table.{Clear}
@@ -34,7 +34,7 @@ use Rattle.tree_model.specs.Calls.{called, cleared, heldCount, opOf, Out
 use Rattle.tree_model.specs.Damage.{nodeOk, room}
 use Rattle.tree_model.specs.Levels.{apply, Level, Levels, work}
 use Rattle.tree_model.specs.Node.{low, slotAt, sumCounts, vacant}
-use Rattle.tree_model.specs.Promise.{after, Damage, Pinned, PopThenPush, Shape, start, storedCount, treeQueue, Zeroed}
+use Rattle.tree_model.specs.Promise.{after, Damage, PopThenPush, Shape, start, storedCount, treeQueue, Zeroed}
 use Rattle.tree_model.specs.Serve.{bareLevels, holding, ruled, serve, Store}
 use Rattle.tree_model.specs.Tree.{Can, gain, hang, loss, lowOf, many, own, Sound, Tree, treeOf}
 use Rattle.tree_model.specs.Words.{applyWords, levelOf, levelsOf, nodeOf, size, slotOf, tabulate, wipe}
@@ -396,7 +396,3 @@ module _ (m : ℕ) (ws : List ℕ) (rs : List Request) where
   pub pop-then-push : (levels : ℕ) → Shape m levels (length ws) → (x : Element) → (Untagged (Replace x) → ⊥) → PopThenPush m levels x (after m levels rs ws)
   pop-then-push zero sh x tag = absurd (not-suc-le-zero (sh .some))
   pop-then-push (suc k) sh x tag = kept-replaces m k (after m (suc k) rs ws) (after-kept k sh) x tag
-
--- PINNED: every public call, for all inputs
-pub pinned : (m levels : ℕ) (ws : List ℕ) → Pinned m levels ws
-pinned m levels ws = record { clear = pins _; push = λ x. pins _; pop = pins _; replace = λ x. pins _; held = pins _ }

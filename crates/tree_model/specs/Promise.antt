@@ -14,7 +14,7 @@ use Rattle.strip.specs.declared.Element.{Element}
 use Rattle.strip.specs.declared.Refusal.{Refusal}
 use Rattle.strip.specs.declared.Refusal.the-variants.{BadShape, Damaged, NoTag}
 use Rattle.strip.specs.declared.Request.{Request}
-use Rattle.tree_model.specs.Calls.{called, cleared, heldCount, rootOf, ruleAt}
+use Rattle.tree_model.specs.Calls.{called, cleared, rootOf, ruleAt}
 use Rattle.tree_model.specs.Damage.{room}
 use Rattle.tree_model.specs.Levels.{Level, Levels, work}
 use Rattle.tree_model.specs.Node.{sumCounts}
@@ -77,9 +77,6 @@ start m levels ws = cleared m levels ws .words
 abbrev pub after : ℕ → ℕ → List Request → List ℕ → List ℕ
 after m levels rs ws = leaves (treeQueue m levels) rs (start m levels ws)
 
--- REPLACE, and that each public call's outcome is one, on the words ws
+-- REPLACE, on the words ws
 abbrev pub PopThenPush : ℕ → ℕ → Element → List ℕ → Type 0
 PopThenPush m levels x ws = calls.PopThenPush (called m levels) (storedCount (room m levels)) x ws
-
-abbrev pub Pinned : ℕ → ℕ → List ℕ → Type 0
-Pinned m levels ws = calls.Pinned (called m levels) (cleared m levels) (heldCount m levels) ws
