@@ -13,7 +13,8 @@ use lib.ListN.{length, length-set, set}
 use borrow.Author.Tests.{eqb-true, le-ltb, lt-ltb}
 use Rattle.cluster_clock_model.proofs.Fine.{fit-packed, Sounds, sounds-next}
 use Rattle.cluster_clock_model.proofs.Kept.{Kept, root-sound}
-use Rattle.cluster_clock_model.proofs.OneStep.{down, down-first, down-fits, level-node, node-fits, one-step, onward, onward-is}
+use Rattle.cluster_clock_model.proofs.OneStep.{one-step}
+use Rattle.cluster_clock_model.proofs.Passes.{down, down-first, down-fits, level-node, node-fits, onward, onward-is}
 use Rattle.cluster_clock_model.proofs.Promises.{kept-undamaged, next-kept, ran-kept}
 use Rattle.cluster_clock_model.proofs.Flight.{noteBelow, within}
 use Rattle.cluster_clock_model.proofs.Seen.{noteSeen, opAt, treeIn}
