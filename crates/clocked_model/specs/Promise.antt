@@ -15,6 +15,7 @@ use Rattle.promise.specs.Calls.{grants, lastTable}
 use Rattle.promise.specs.Clock.{Clock}
 pub use Rattle.promise.specs.Clock.{runsIdle}
 use Rattle.promise.specs.Table.{stops}
+use Rattle.promise.specs.Flight as flights
 use Rattle.promise.specs.Queue.{answers, leaves, step, Step}
 use Rattle.promise.specs.Refused.{limits, Untagged}
 use Rattle.promise.specs.Served.{hit}
@@ -217,9 +218,8 @@ pub record OneStep (m levels : ℕ) (r : Request) (s : State) (ws : List ℕ) : 
   pub spare : (j : ℕ) → fromTwo levels ≤ j → getD (cycled m levels r s ws .state .records) j idle ≡ getD (s .records) j idle
 
 -- an operation's work on its way down: w at level i in this cycle, what it leaves at level i + 1 in the next, whatever is asked then
-unfoldable pub flight : (m levels i : ℕ) → Work → List Request → Machine → Work
-flight m levels i w [] x = w
-flight m levels i w (r ∷ rs) x = flight m levels (suc i) (leaveBelow m levels (x .words) i w) rs (clockedQueue m levels r x .next)
+abbrev pub flight : (m levels i : ℕ) → Work → List Request → Machine → Work
+flight m levels = flights.flight (clockedQueue m levels) (λ i w x y. leaveBelow m levels (x .words) i w)
 
 -- ---- what is never read. Two machines are alike where they agree on the words of the shape, on the work of the records of its levels, and on the
 -- mark: words behind, records past the last level, and numbers that a record's kind does not use may differ

@@ -10,6 +10,7 @@ pub mod Lost
 pub mod Promises
 pub mod Level
 pub mod Ends
+pub mod Passes
 pub mod OneStep
 pub mod Runs
 pub mod Unread

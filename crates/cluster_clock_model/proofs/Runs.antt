@@ -1,7 +1,7 @@
 -- Over runs from a cleared machine: in every cycle each level does its one step; an operation's last write falls within as many cycles as there are levels; and a gap made
 -- in one cycle is filled in the next.
 use Prim.Native.Nat.{_*_, _+_, _<_, _≤_, suc, zero, ℕ}
-use native.Mathlib.Nat.{add-zero, le-of-suc-le-suc, not-suc-le-zero, zero-add}
+use native.Mathlib.Nat.{le-of-suc-le-suc, not-suc-le-zero, zero-add}
 use native.Mathlib.Decide.{ℕ-discrete}
 use native.Mathlib.Omega.{arith}
 use mathlib.Core.Bool.{Bool, cond, false, false≢true, true}
@@ -13,13 +13,14 @@ use lib.ListN.{length, length-set, set}
 use borrow.Author.Tests.{eqb-true, le-ltb, lt-ltb}
 use Rattle.cluster_clock_model.proofs.Fine.{fit-packed, Sounds, sounds-next}
 use Rattle.cluster_clock_model.proofs.Kept.{Kept, root-sound}
-use Rattle.cluster_clock_model.proofs.OneStep.{down, down-first, down-fits, level-node, node-fits, one-step, onward, onward-is}
+use Rattle.cluster_clock_model.proofs.OneStep.{one-step}
+use Rattle.cluster_clock_model.proofs.Passes.{down, down-first, down-fits, level-node, node-fits, onward, onward-is}
 use Rattle.cluster_clock_model.proofs.Promises.{kept-undamaged, next-kept, ran-kept}
 use Rattle.cluster_clock_model.proofs.Flight.{noteBelow, within}
 use Rattle.cluster_clock_model.proofs.Seen.{noteSeen, opAt, treeIn}
 use Rattle.cluster_model.proofs.Levels.{opIf}
 use Rattle.cluster_clock_model.specs.declared.Stage.{Stage}
-use Rattle.cluster_clock_model.specs.Promise.{Filled, firstNode, flight, Machine, OneStep, ran, stageBelow, turnQueue, workOf}
+use Rattle.cluster_clock_model.specs.Promise.{Filled, firstNode, flight, leaveBelow, Machine, OneStep, ran, stageBelow, turnQueue, workOf}
 use Rattle.cluster_clock_model.specs.Stage.{below, childOf, handed, levelStage, lowAt, noStage, settled, stageAt, Work}
 use Rattle.cluster_model.proofs.Pass.{node-count}
 use Rattle.cluster_model.proofs.Places.{gap-has, inside-length, inside-put, low-is, place-here, place-other, place-same}
@@ -28,6 +29,7 @@ use Rattle.cluster_model.specs.Node.{Bag, begin, fewer, fill, fillFrom, finish,
 use Rattle.cluster_model.specs.Promise.{Shape}
 use Rattle.cluster_model.specs.Way.{child, nodeIn, spotOf, works}
 use Rattle.cluster_model.specs.Words.{width}
+use Rattle.promise.specs.Flight as flights
 use Rattle.promise.specs.Queue.{leaves}
 use Rattle.promise.specs.Served.{always}
 use Rattle.strip.specs.declared.Element.{Element}
@@ -46,38 +48,19 @@ module _ (K k : ℕ) where
 
   -- ---- LAST WRITE: what level i leaves is the work of level i + 1 in the next cycle
   handed-down : (r t : Request) (x : Machine) (i : ℕ) → Kept K k x → suc i ≤ k
-      → let y = turnQueue K (suc k) r x .next in let q = levelStage K (firstNode i) (workOf K (suc k) r (x .records) (x .words) i) (stageBelow K (suc k) (x .records) i) (x .words) in
-      workOf K (suc k) t (y .records) (y .words) (suc i) ≡ handed K (q .due) (q .node) (firstNode i) (y .words)
+      → let y = turnQueue K (suc k) r x .next in workOf K (suc k) t (y .records) (y .words) (suc i) ≡ leaveBelow K (suc k) i (workOf K (suc k) r (x .records) (x .words) i) x y
   unfolding workOf
   handed-down r t x i kept h =
       let y : Machine = turnQueue K (suc k) r x .next in
       ap (λ (q : Stage). handed K (q .due) (q .node) (firstNode i) (y .words))
       (kept-step r x kept .loads i (omega arith) ∙ ap (λ (q : Stage). levelStage K (firstNode i) (workOf K (suc k) r (x .records) (x .words) i) q (x .words)) (sym (below-is (x .records) i h)))
 
-  flies : (rs : List Request) (r t : Request) (x : Machine) (i : ℕ) → Kept K k x → suc (i + length rs) ≤ k
-      → let z = leaves (turnQueue K (suc k)) (r ∷ rs) x in workOf K (suc k) t (z .records) (z .words) (suc (i + length rs)) ≡ flight K (suc k) i (workOf K (suc k) r (x .records) (x .words) i) (r ∷ rs) x
-  unfolding leaves flight
-  flies [] r t x i kept h =
-      let y : Machine = turnQueue K (suc k) r x .next in
-      ap (λ (j : ℕ). workOf K (suc k) t (y .records) (y .words) (suc j)) (add-zero i) ∙ handed-down r t x i kept (omega arith)
-  flies (s ∷ rs) r t x i kept h =
-      let y : Machine = turnQueue K (suc k) r x .next in
-      let z : Machine = leaves (turnQueue K (suc k)) (s ∷ rs) y in
-      let at : suc (i + suc (length rs)) ≡ suc (suc i + length rs) = omega arith in
-      ap (workOf K (suc k) t (z .records) (z .words)) at ∙ flies rs s t y (suc i) (next-kept K k r x kept) (omega arith)
-      ∙ ap (λ (w : Work). flight K (suc k) (suc i) w (s ∷ rs) y) (handed-down r s x i kept (omega arith))
-
-  ends-in : (rs : List Request) (r : Request) (x : Machine) (i : ℕ) → Kept K k x → i + length rs ≡ k → flight K (suc k) i (workOf K (suc k) r (x .records) (x .words) i) (r ∷ rs) x .op ≡ none
-  unfolding flight handed
-  ends-in [] r x i kept h =
-      let e : i ≡ k = omega arith in
-      let y : Machine = turnQueue K (suc k) r x .next in
-      ap (λ (i : ℕ). let q = levelStage K (firstNode i) (workOf K (suc k) r (x .records) (x .words) i) (stageBelow K (suc k) (x .records) i) (x .words) in handed K (q .due) (q .node) (firstNode i) (y .words) .op) e
-      ∙ ap (λ (q : Stage). handed K (q .due) (q .node) (firstNode k) (y .words) .op)
+  -- the last level leaves nothing
+  last-none : (r : Request) (x : Machine) → Kept K k x → leaveBelow K (suc k) k (workOf K (suc k) r (x .records) (x .words) k) x (turnQueue K (suc k) r x .next) .op ≡ none
+  unfolding handed
+  last-none r x kept =
+      ap (λ (q : Stage). handed K (q .due) (q .node) (firstNode k) (turnQueue K (suc k) r x .next .words) .op)
       (ap (λ (q : Stage). levelStage K (firstNode k) (workOf K (suc k) r (x .records) (x .words) k) q (x .words)) (below-last (x .records)) ∙ kept-step r x kept .last)
-  ends-in (s ∷ rs) r x i kept h =
-      let y : Machine = turnQueue K (suc k) r x .next in
-      ap (λ (w : Work). flight K (suc k) (suc i) w (s ∷ rs) y .op) (sym (handed-down r s x i kept (omega arith))) ∙ ends-in rs s y (suc i) (next-kept K k r x kept) (omega arith)
 
 -- ONE STEP, in every cycle of any list of cycles from the cleared machine
 pub one-step-run : (K levels : ℕ) (ws : List ℕ) (rs : List Request) → Shape K levels (length ws) → (r : Request) → OneStep K levels r (ran K levels rs ws .records) (ran K levels rs ws .words)
@@ -92,13 +75,16 @@ in-flight K zero ws before sh r after t h = absurd (not-suc-le-zero (sh .some))
 in-flight K (suc k) ws before sh r after t h =
     let x : Machine = ran K (suc k) before ws in
     let z : Machine = leaves (turnQueue K (suc k)) (r ∷ after) x in
-    ap (λ (j : ℕ). workOf K (suc k) t (z .records) (z .words) (suc j)) (sym (zero-add (length after))) ∙ flies K k after r t x 0 (ran-kept K ws before k sh) (omega arith)
+    ap (λ (j : ℕ). workOf K (suc k) t (z .records) (z .words) (suc j)) (sym (zero-add (length after)))
+    ∙ flights.flies (turnQueue K (suc k)) (leaveBelow K (suc k)) (Kept K k) (next-kept K k) (λ r x. workOf K (suc k) r (x .records) (x .words)) k (handed-down K k) after r t x 0 (ran-kept K ws before k sh) (omega arith)
 
 -- .. and after as many cycles as there are levels nothing of it is left to do: its last write falls within them, its own cycle included
 pub last-write : (K levels : ℕ) (ws : List ℕ) (before : List Request) → Shape K levels (length ws) → (r : Request) (after : List Request) → length (r ∷ after) ≡ levels
     → let x = ran K levels before ws in flight K levels 0 (workOf K levels r (x .records) (x .words) 0) (r ∷ after) x .op ≡ none
 last-write K zero ws before sh r after h = absurd (not-suc-le-zero (sh .some))
-last-write K (suc k) ws before sh r after h = ends-in K k after r (ran K (suc k) before ws) 0 (ran-kept K ws before k sh) (omega arith)
+last-write K (suc k) ws before sh r after h =
+    flights.ends (turnQueue K (suc k)) (leaveBelow K (suc k)) (Kept K k) (next-kept K k) (λ r x. workOf K (suc k) r (x .records) (x .words)) k (handed-down K k) (λ w. w .op ≡ none) (last-none K k) after r
+    (ran K (suc k) before ws) 0 (ran-kept K ws before k sh) (omega arith)
 
 -- ---- GAPS
 -- a node with all places marked has none, and one with a single gap has one

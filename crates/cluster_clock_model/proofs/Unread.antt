@@ -13,7 +13,7 @@ use borrow.Author.Tests.{ltb-false, ltb-true}
 use Rattle.clocked_model.specs.Calls.{asks, isRefused}
 use Rattle.cluster_clock_model.proofs.Exactly.{sound, turned-damaged, turned-either, turned-fine, turned-length}
 use Rattle.cluster_clock_model.proofs.Level.{Has, like-filled, like-worked, same-begins}
-use Rattle.cluster_clock_model.proofs.OneStep.{stages-ranged}
+use Rattle.cluster_clock_model.proofs.Passes.{stages-ranged}
 use Rattle.cluster_clock_model.proofs.Seen.{handed-in, InRange, level-in, pass-others, pass-records, Ranged, ranged-set, set-later, Spans, spans-next, spans-own}
 use Rattle.cluster_clock_model.specs.declared.Due.{Due}
 use Rattle.cluster_clock_model.specs.declared.Due.the-variants.{Fill, Nothing, Put, Swap}

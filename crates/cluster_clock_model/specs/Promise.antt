@@ -2,7 +2,7 @@
 -- is held in the middle of any work.
 use Prim.Native.Nat.{_*_, _+_, _<_, _≤_, pred, suc, zero, ℕ}
 use mathlib.Core.Bool.{_&&_, Bool, cond, false, not}
-use mathlib.Core.List.{[], _∷_, List}
+use mathlib.Core.List.{List}
 use mathlib.Core.Logic.{_⊎_}
 use mathlib.Core.Path.{_≡_}
 use lib.Dec.{ltb}
@@ -25,6 +25,7 @@ use Rattle.cluster_model.specs.Way.{child, extent, nodeIn}
 use Rattle.cluster_model.specs.Words.{word}
 use Rattle.laws.specs.Ladder.{fine, Ladder, rung, stop}
 use Rattle.laws.specs.Sums.{sumTo}
+use Rattle.promise.specs.Flight as flights
 use Rattle.promise.specs.Queue.{answers, leaves, step, Step}
 use Rattle.promise.specs.Refused.{limits, Untagged}
 use Rattle.promise.specs.Served.{hit}
@@ -242,13 +243,13 @@ module _ (K levels : ℕ) where
     pub above : (h : ℕ) → i ≡ suc h → stageAt rs h ≡ stageAt qs h
     pub waiting : (h : ℕ) → i ≡ suc h → (n : ℕ) → Waits (stageAt rs h) n → (p : ℕ) → InNode (firstNode h + n) p → word ws p ≡ word vs p
 
--- an operation's work on its way down: w at level i in this cycle; what it leaves below is done at level i + 1 in the next, whatever is asked then
-unfoldable pub flight : (K levels i : ℕ) → Work → List Request → Machine → Work
-flight K levels i w [] x = w
-flight K levels i w (r ∷ rs) x =
-    let q = levelStage K (firstNode i) w (stageBelow K levels (x .records) i) (x .words) in
-    let y = turnQueue K levels r x .next in
-    flight K levels (suc i) (handed K (q .due) (q .node) (firstNode i) (y .words)) rs y
+-- what the work w of level i leaves below, in a cycle that leads from x to y, is what the record gives level i + 1 to do in y
+abbrev pub leaveBelow : ℕ → ℕ → ℕ → Work → Machine → Machine → Work
+leaveBelow K levels i w x y = let q = levelStage K (firstNode i) w (stageBelow K levels (x .records) i) (x .words) in handed K (q .due) (q .node) (firstNode i) (y .words)
+
+-- an operation's work on its way down: w at level i in this cycle, what it leaves at level i + 1 in the next, whatever is asked then
+abbrev pub flight : (K levels i : ℕ) → Work → List Request → Machine → Work
+flight K levels = flights.flight (turnQueue K levels) (leaveBelow K levels)
 
 -- "a gap filled from below one cycle later": place j of node m, empty in ws with something below it, is not in vs; and where no put is done there in that cycle, it has the
 -- lowest of one of the two children as they stood
