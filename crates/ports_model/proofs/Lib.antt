@@ -20,6 +20,7 @@ pub mod Served
 pub mod Unread
 pub mod Cases
 pub mod Edge
+pub mod Spoilt
 pub mod Lies
 pub mod Bounded
 pub mod Shown
