@@ -72,6 +72,7 @@ module _ (s : Shape) (p : ℕ) (b w : List ℕ) where
   same Pop = refl
   same (Replace e) = refl
 
+  -- so where a call is not refused the facts of its table hold, in their order: shape and port, and then as in the bucket queue
   pub goes : (q : Request) → Goes said (λ x. refused x b w) (callTable s p b w q) (done s p b w q) (asked s p q (store b w))
   goes q = record { told = told q; is = same q; done = grants-zero q _; number = λ x. refl }
 

@@ -17,6 +17,7 @@ pub mod Frame
 pub mod OnePort
 pub mod Kind
 pub mod Served
+pub mod Counted
 pub mod Unread
 pub mod Cases
 pub mod Edge
