@@ -67,6 +67,7 @@ module _ (k : Lay) (b w : List ℕ) where
   same Pop = refl
   same (Replace e) = refl
 
+  -- so where a call is not refused the facts of its table hold, in their order: of a push shape, rank, tag, whole, room, bucket; of a pop shape, whole, some, bucket; of a replace shape, rank, tag, whole, some, bucket, and whole and bucket as after the pop
   pub goes : (q : Request) → Goes said (λ x. refused x b w) (callTable k b w q) (done k b w q) (asked k q (store b w))
   goes q = record { told = told q; is = same q; done = grants-zero q _; number = λ x. refl }
 

@@ -12,7 +12,7 @@ use Rattle.strip.specs.declared.Answer.the-variants.{Done}
 use Rattle.strip.specs.declared.Request.{Request}
 use Rattle.strip.specs.declared.Request.the-variants.{Idle, Push, Pop, Replace}
 use Rattle.bucket_model.specs.Layout.{word}
-use Rattle.bucket_model.specs.Calls.{outcome, refused, fill, popFound, pushFound, replaceJoined}
+use Rattle.bucket_model.specs.Calls.{Outcome, outcome, refused, fill, popFound, pushFound, replaceJoined}
 use Rattle.bucket_model.specs.Causes.{Exactly, ExactlyCount}
 use Rattle.bucket_model.specs.Plain.{store}
 use Rattle.bucket_model.proofs.Exactly.{said, tag-means}
@@ -72,8 +72,13 @@ module _ (s : Shape) (p : ℕ) (b w : List ℕ) where
   same Pop = refl
   same (Replace e) = refl
 
+  -- so where a call is not refused the facts of its table hold, in their order: shape and port, and then as in the bucket queue
   pub goes : (q : Request) → Goes said (λ x. refused x b w) (callTable s p b w q) (done s p b w q) (asked s p q (store b w))
   goes q = record { told = told q; is = same q; done = grants-zero q _; number = λ x. refl }
+
+  -- a refused call leaves every word
+  pub stands : (q : Request) → (said (asked s p q (store b w)) ≡ 0 → ⊥) → (asked s p q (store b w) .bits ≡ b) × (asked s p q (store b w) .words ≡ w)
+  stands q = tabled.either (goes q) (λ (o : Outcome). (said o ≡ 0 → ⊥) → (o .bits ≡ b) × (o .words ≡ w)) (λ x n. (refl, refl)) (λ t n. absurd (n (goes q .done)))
 
   pub exactly-pop : Exactly (popped s p b w) b w (callTable s p b w Pop)
   unfolding asked

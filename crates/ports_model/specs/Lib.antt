@@ -8,3 +8,4 @@ pub mod Runs
 pub mod Promise
 pub mod Cases
 pub mod Edge
+pub mod Spoilt
