@@ -74,7 +74,7 @@ all_but() {
     done
 }
 
-# The kit by links, but for its clang: that one keeps the module and then is the kit's. Sets `tools`, the folder of the kit's compiler.
+# The kit's folder, its part for this machine, and the folder of its compiler.
 kit() {
     have rt || fail 'the library is proved and built by rt, the command of the Rattle kit, and rt is not on the path'
     kit=$(dirname "$(dirname "$(rt doc)")")
@@ -82,26 +82,25 @@ kit() {
     tools=$kit/$on/toolchain/bin
     [ -x "$tools/clang" ] || fail "there is no compiler $tools/clang in the Rattle kit"
 }
-keeping() { # MODULE
-    rm -rf "$LIB/kit"
-    all_but on "$kit" "$LIB/kit" && all_but toolchain "$kit/$on" "$LIB/kit/$on" &&
-        all_but bin "$kit/$on/toolchain" "$LIB/kit/$on/toolchain" && all_but clang "$tools" "$LIB/kit/$on/toolchain/bin" || return 1
-    {
-        printf '#!/bin/sh\nfor word; do case $word in *.bc) cp "$word" "%s" || exit 1 ;; esac; done\n' "$1"
-        printf 'exec "%s/clang" "$@"\n' "$tools"
-    } >"$LIB/kit/$on/toolchain/bin/clang"
-    chmod +x "$LIB/kit/$on/toolchain/bin/clang"
-}
 
-# Proves the library and keeps its module, if that was not done yet.
-module() {
-    if fresh "$LIB/card.bc" && fresh target/staticlib/libcard.a; then return; fi
+# Proves and builds FILE with `rt WORDS`, and keeps the module of it: kept MODULE FILE WORDS.. The kit is the same one by links, but for its
+# clang, which keeps what it is handed and then is the kit's.
+kept() {
+    kept_module=$1 kept_file=$2 kept_kit=$(pwd)/$LIB/kit
+    shift 2
     kit
-    keeping "$(pwd)/$LIB/card.new" || fail 'the kit cannot be linked to'
-    rm -f "$LIB/card.bc" "$LIB/card.new" target/staticlib/libcard.a
-    RATTLE_HOME=$(pwd)/$LIB/kit made target/staticlib/libcard.a lib staticlib card || exit 1
-    rm -rf "$LIB/kit"
-    mv "$LIB/card.new" "$LIB/card.bc" || fail "the prover's compiler was handed no module"
+    rm -rf "$kept_kit" "$kept_module" "$kept_file" "$LIB/new.bc"
+    all_but on "$kit" "$kept_kit" && all_but toolchain "$kit/$on" "$kept_kit/$on" &&
+        all_but bin "$kit/$on/toolchain" "$kept_kit/$on/toolchain" && all_but clang "$tools" "$kept_kit/$on/toolchain/bin" ||
+        fail 'the kit cannot be linked to'
+    {
+        printf '#!/bin/sh\nfor word; do case $word in *.bc) cp "$word" "%s" || exit 1 ;; esac; done\n' "$(pwd)/$LIB/new.bc"
+        printf 'exec "%s/clang" "$@"\n' "$tools"
+    } >"$kept_kit/$on/toolchain/bin/clang"
+    chmod +x "$kept_kit/$on/toolchain/bin/clang"
+    RATTLE_HOME=$kept_kit made "$kept_file" lib "$@" || exit 1
+    rm -rf "$kept_kit"
+    mv "$LIB/new.bc" "$kept_module" || fail "the prover's compiler was handed no module"
 }
 
 # Compiles a module for a target: compiled MODULE TARGET LEVEL OBJECT. Its lines about x86-64 go, and nothing else in it is about a
@@ -129,17 +128,26 @@ for_target() {
     [ "$2" = -O3 ] || made_lib=$LIB/$1$2/libcard.a
     folder=$(dirname "$made_lib")
     if fresh "$made_lib" && [ -z "$(find host/lib.sh -newer "$made_lib")" ]; then return; fi
-    module
+    if ! fresh "$LIB/card.bc" || ! fresh target/staticlib/libcard.a; then kept "$LIB/card.bc" target/staticlib/libcard.a staticlib card; fi
     mkdir -p "$folder" || exit 1
     if [ "$1$2" = x86_64-linux-O3 ]; then
         cp target/staticlib/libcard.a "$made_lib.new" || exit 1
     else
+        printf 'lib: %s: the proved module through another back end of the compiler, which is trusted as the one for x86-64 is\n' "$1" >&2
         rm -f "$made_lib.new"
         compiled "$LIB/card.bc" "$1" "$2" "$folder/card.o" && "$tools/llvm-ar" rcs "$made_lib.new" "$folder/card.o" ||
             fail "the module is not compiled for $1"
         rm "$folder/card.o"
     fi
     mv "$made_lib.new" "$made_lib"
+}
+
+# The compiler of a target's programs is there, and what runs them.
+ready() { # TARGET
+    target "$1"
+    # shellcheck disable=SC2086
+    have "${cc%% *}" || install_packages $from || fail "$1: there is no compiler ${cc%% *} (Debian's packages: $from)"
+    [ -z "$run" ] || have "${run%% *}" || install_packages "$emulator" || fail "$1: there is no emulator ${run%% *} (Debian's package: $emulator)"
 }
 
 # The trace program for a target with a system under it, from the object that `rt check play` leaves, or from its module: that is kept
@@ -154,108 +162,15 @@ play() {
         made target/bin/play lib check play || exit 1
     else
         if ! fresh "$LIB/play.bc"; then
-            kit
-            keeping "$(pwd)/$LIB/play.new" || fail 'the kit cannot be linked to'
-            rm -f "$LIB/play.new" target/bin/play target/stamp/play
-            RATTLE_HOME=$(pwd)/$LIB/kit made target/bin/play lib check play || exit 1
-            rm -rf "$LIB/kit"
-            mv "$LIB/play.new" "$LIB/play.bc" || fail "the prover's compiler was handed no module"
+            # else rt takes it for done
+            rm -f target/stamp/play
+            kept "$LIB/play.bc" target/bin/play check play
         fi
         object=$folder/play.o
         compiled "$LIB/play.bc" "$1" -O3 "$object" || fail "the trace program is not compiled for $1"
     fi
     $cc "$object" -o "$folder/play" || fail "the trace program is not linked for $1"
     echo "$folder/play"
-}
-
-# A program in C on the library: program FOLDER SOURCE.
-program() {
-    beside='' name=$(basename "$2" .c)
-    [ -z "$bare" ] || beside="-ffreestanding -nostdlib -Wl,-z,noexecstack -T host/examples/bare/$bare.ld -Ihost/examples/bare host/examples/bare/start.c host/examples/bare/few.c"
-    # shellcheck disable=SC2086
-    ${cc} -std=gnu99 -O2 -Wall -Wextra -Werror -Ihost "$2" $beside "$1/libcard.a" ${bare:+-lgcc} -Wl,--gc-sections -o "$1/$name" >&2 ||
-        fail "$2 is not compiled for $1"
-}
-
-# Runs a program of a target and prints what it writes: ran FILE.
-ran() {
-    if [ -z "$bare" ]; then
-        $run "$1"
-    else
-        # shellcheck disable=SC2086
-        timeout 900 $run -nographic -monitor none -serial none -chardev stdio,id=out -semihosting-config enable=on,target=native,chardev=out -kernel "$1"
-    fi
-}
-
-# Whether a program of the library writes what a file has: same TARGET PROGRAM FILE.
-same() {
-    ran "$folder/$2" >"$folder/$2.out" && cmp -s "$folder/$2.out" "$3" && return
-    diff "$3" "$folder/$2.out" >&2
-    fail "$1: $2 does not write what $3 has"
-}
-
-# Whether no call takes more stack than the page says, and none much less; a page with no column of this name says
-# nothing: stack NAME.
-stack() {
-    ran "$folder/stack" >"$folder/stack.out" || fail "$1: the measure of the stack does not run"
-    awk -v column="$1" -F '[|` ]+' '
-        NR == FNR && $2 == "Call" { for (i = 3; i < NF; i++) if ($i == column) at = i; next }
-        NR == FNR { if (at && $2 ~ /^card_/) page[$2] = $at; next }
-        { split($0, row, " ") }
-        at && (!(row[1] in page) || row[2] > page[row[1]] || (page[row[1]] - row[2] > 64 && 4 * row[2] < 3 * page[row[1]])) {
-            print "lib: " column ": " row[1] " takes " row[2] " bytes of stack, and docs/FIRMWARE.md says " page[row[1]]
-            bad = 1
-        }
-        END { exit bad }' docs/FIRMWARE.md "$folder/stack.out" >&2 || exit 1
-}
-
-# The compiler of a target's programs is there, and what runs them.
-ready() { # TARGET
-    target "$1"
-    # shellcheck disable=SC2086
-    have "${cc%% *}" || install_packages $from || fail "$1: there is no compiler ${cc%% *} (Debian's packages: $from)"
-    [ -z "$run" ] || have "${run%% *}" || install_packages "$emulator" || fail "$1: there is no emulator ${run%% *} (Debian's package: $emulator)"
-}
-
-check() { # TARGET LEVEL
-    ready "$1"
-    for_target "$1" "$2"
-    folder=$(dirname "$made_lib")
-    if "${cc%%gcc*}nm" "$made_lib" | grep -q ' [bBcCdD] '; then fail "$1: the library has words of its own, and its pages say that it has none"; fi
-    for source in host/checks/c/soak.c host/examples/pops.c host/checks/c/stack.c; do program "$folder" "$source"; done
-    same "$1" soak host/checks/c/soak.txt
-    same "$1" pops host/examples/pops.txt
-    stack "$1${2#-O3}"
-    printf '%s%s: soak %s; the example and the stack as their pages have them\n' "$1" "${2#-O3}" "$(sed -n 's/^clocked cluster: //p' "$folder/soak.out")"
-}
-
-# The bytes of code that a program gets of the library which calls these functions: bytes FUNCTION..
-bytes() {
-    called=''
-    for function; do called="$called -Wl,-u,$function"; done
-    # shellcheck disable=SC2086
-    $cc -nostdlib -static -Wl,-e,"$1" -Wl,--gc-sections,--unresolved-symbols=ignore-all $called "$made_lib" -o "$folder/part" &&
-        "${cc%%gcc*}size" "$folder/part" | awk 'NR == 2 { print $1 }'
-    rm -f "$folder/part"
-}
-
-size() { # TARGET LEVEL
-    ready "$1"
-    for_target "$1" "$2"
-    folder=$(dirname "$made_lib")
-    all=$("${cc%%gcc*}nm" "$made_lib" | sed -n 's/.* T \(card_.*\)/\1/p')
-    for part in tree 'tree_\(check\|mend\)' cluster bucket ports fair clocked clocked_cluster; do
-        # what a queue's name begins may be another's: the tree's own calls are all but check and mend, the clocked tree's not the heap's
-        names=$(echo "$all" | grep "^card_$part" | grep -v _words)
-        case $part in
-        tree) names=$(echo "$names" | grep -v 'check\|mend') ;;
-        clocked) names=$(echo "$names" | grep -v cluster) ;;
-        esac
-        # shellcheck disable=SC2086
-        printf '%s%s %s %s\n' "$1" "${2#-O3}" "$(echo "$part" | sed 's/_.(.*/ check and mend/')" "$(bytes $names)"
-    done
-    # shellcheck disable=SC2086
-    printf '%s%s all %s\n' "$1" "${2#-O3}" "$(bytes $all)"
 }
 
 level=-O3 task=''
@@ -270,6 +185,7 @@ while [ $# -gt 0 ]; do
 done
 if [ -n "$task" ]; then
     [ $# -gt 0 ] || usage
+    . host/lib_check.sh
     for one; do "$task" "$one" "$level"; done
 else
     [ $# -le 1 ] || usage

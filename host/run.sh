@@ -48,9 +48,10 @@ if [ -n "$x86" ]; then
     # the x86-64 library itself, in a folder of its own, since another compiler makes its programs; the soak was one of the checks
     (
         CARD_LIB=$root/$("$root/host/lib.sh" x86_64-linux) && x86_tools || exit 1
-        test_of --target-dir target/x86 -p checks --test c
+        x86_test() { $CARGO test --offline --no-fail-fast --target-dir target/x86 "$@"; }
+        x86_test -p checks --test c
         programs=$?
-        test_of --target-dir target/x86 --target "$CARD_TARGET" -p compare --test library -- --brief && [ "$programs" -eq 0 ]
+        x86_test --target "$CARD_TARGET" -p compare --test library -- --brief && [ "$programs" -eq 0 ]
     ) || status=1
 fi
 exit $status
