@@ -39,7 +39,7 @@ fi
 export CARD_LIB PLAY
 
 cd host || exit 2
-test_of() { $CARGO test --offline --no-fail-fast "$@"; }
+. ./beside.sh
 if [ -z "$CARD_TARGET" ]; then
     test_of --workspace
 else
