@@ -9,9 +9,10 @@
 #   # fails: fn push_full
 #   # fails: push-full proofs/Exactly.antt
 #
-# (A mistake's line may also do without the word: `# a full queue answers empty`.) A line is printed for each that did not fail, and the
-# last one is 'N passed, M failed', a named failure being one. It must fail by a fact of its own. A law or function that could not be
-# checked because another one failed has not failed itself, nor has one that no longer has the shape which its proof was written for.
+# (The word `mistake:` may be left out, the file may stand in brackets, and several names in one line with commas between them.) A line
+# is printed for each that did not fail, and the last one is 'N passed, M failed', a named failure being one. It must fail by a fact of its
+# own. A law or function that could not be checked because another one failed has not failed itself, nor has one that no longer has the
+# shape which its proof was written for.
 
 function problem(text) {
     printf "must-fail %s/%s: %s\n", crate, label, text
@@ -21,10 +22,12 @@ function problem(text) {
 # The edit. After a replacement a comment begins the next mistake; of a mistake the first comment counts.
 part == 1 && /^# fails: / {
     if (mistake == "") problem("no mistake is named for '" $0 "'")
-    n++
-    must[n] = substr($0, 10)
-    gsub(/[()]/, "", must[n])
-    told[n] = mistake
+    gsub(/[()]/, "")
+    k = split(substr($0, 10), names, /, */)
+    for (i = 1; i <= k; i++) {
+        must[++n] = names[i]
+        told[n] = mistake
+    }
     named = 1
     next
 }

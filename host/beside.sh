@@ -30,13 +30,16 @@ parts_of() {
     done
 }
 
+# The comparison of the library is by far the longest, and one thread: it begins first.
+longest_first() { awk '/--test library/ { print; next } { rest = rest $0 "\n" } END { printf "%s", rest }'; }
+
 # What each prints is shown once all have ended, one after the other.
 test_of() {
     $CARGO test --offline --no-run "$@" || return 1
     said=$(mktemp -d) || return 1
     export said
     # shellcheck disable=SC2016
-    parts_of "$@" | nl -n rz | xargs -P "$(nproc)" -L 1 sh -c 'n=$1 && shift && $CARGO test --offline --no-fail-fast "$@" >"$said/$n" 2>&1' sh
+    parts_of "$@" | longest_first | nl -n rz | xargs -P "$(nproc)" -L 1 sh -c 'n=$1 && shift && $CARGO test --offline --no-fail-fast "$@" >"$said/$n" 2>&1' sh
     ended=$?
     cat "$said"/*
     rm -rf "$said"

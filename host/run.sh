@@ -23,6 +23,8 @@ tools || {
     echo 'host: FAILED: compilers and, where one is needed, an emulator'
     exit 1
 }
+# what needs no library is compiled while the library is proved
+(cd host && $CARGO test --offline --no-run -p models -p trace_text -p checks >/dev/null 2>&1) &
 if [ -n "${CARD_LIB:-}" ]; then
     echo "host: the static library is taken from CARD_LIB: $CARD_LIB"
 else
@@ -38,6 +40,7 @@ fi
 [ $# -eq 0 ] || export CARD_SEED="$1"
 export CARD_LIB PLAY
 
+wait
 cd host || exit 2
 . ./beside.sh
 if [ -z "$CARD_TARGET" ]; then
