@@ -29,6 +29,8 @@ x86=
     exit 1
 }
 [ -z "${CARD_LIB:-}" ] || echo "host: the static library is taken from CARD_LIB: $CARD_LIB"
+# what needs no library is compiled while the library is proved
+(cd host && $CARGO test --offline --no-run -p models -p trace_text -p checks >/dev/null 2>&1) &
 library . || exit 1
 if [ -n "${PLAY:-}" ]; then
     echo "host: the trace program is taken from PLAY: $PLAY"
@@ -39,9 +41,10 @@ fi
 [ $# -eq 0 ] || export CARD_SEED="$1"
 export PLAY
 
+wait
 root=$(pwd)
 cd host || exit 2
-test_of() { $CARGO test --offline --no-fail-fast "$@"; }
+. ./beside.sh
 test_of --workspace
 status=$?
 if [ -n "$x86" ]; then
