@@ -17,6 +17,7 @@
  *
  * A slice is a pointer and then its length in words, that of records in records. The pointer must
  * really have so many, aligned as usual; it may be NULL where the length is 0. The slices of one call must not overlap.
+ * A length is a number of 64 bits on every machine (card_len), also where a pointer has 32.
  * Everything else is tested: no store's content and no number makes a call unsafe. Longer slices
  * are taken; what lies behind the words in use is neither read nor written.
  *
@@ -37,6 +38,13 @@
 #ifdef __cplusplus
 extern "C" {
 #endif
+
+/* A length in words or records. On a machine of 64 bits it is what size_t is there. */
+typedef uint64_t card_len;
+
+/* The version of this header, and that of the library which is linked: where they differ, the header is not this library's. */
+#define CARD_VERSION 1u
+uint32_t card_version(void);
 
 #define CARD_OK 0u
 #define CARD_BAD_SHAPE 1u
@@ -74,7 +82,7 @@ uint32_t card_tree_words(uint32_t order, uint32_t levels);
 uint32_t card_cluster_words(uint32_t places, uint32_t levels);
 
 /* The state of fair ranks. */
-size_t card_fair_words(void);
+card_len card_fair_words(void);
 
 /* A bucket queue's words of 64 bits. */
 uint32_t card_bucket_bits(uint32_t storeys);
@@ -116,40 +124,40 @@ uint32_t card_ports_words(uint32_t storeys, uint32_t nodes, uint32_t ports);
  */
 
 /* Empties the tree: 4 * capacity words of zero. Never refused 2. */
-uint32_t card_tree_clear(uint32_t *store, size_t store_len, uint32_t order, uint32_t levels);
+uint32_t card_tree_clear(uint32_t *store, card_len store_len, uint32_t order, uint32_t levels);
 
 /* Takes an element in. Refused 7 with tag 0, 5 where the tree is full. */
-uint32_t card_tree_push(uint32_t *store, size_t store_len, uint32_t order, uint32_t levels,
+uint32_t card_tree_push(uint32_t *store, card_len store_len, uint32_t order, uint32_t levels,
                         uint32_t rank, uint32_t tag, uint32_t length);
 
 /* Gives the element of lowest rank in out[0] to out[2]. Refused 6 where nothing is held. */
-uint32_t card_tree_pop(uint32_t *store, size_t store_len, uint32_t order, uint32_t levels,
-                       uint32_t *out, size_t out_len);
+uint32_t card_tree_pop(uint32_t *store, card_len store_len, uint32_t order, uint32_t levels,
+                       uint32_t *out, card_len out_len);
 
 /* A pop, and then a push of the new element: gives the element of lowest rank in out[0] to out[2],
    even if the new rank is lower. Works on a full tree. Refused 7 with tag 0, 6 where nothing is
    held. */
-uint32_t card_tree_replace(uint32_t *store, size_t store_len, uint32_t order, uint32_t levels,
+uint32_t card_tree_replace(uint32_t *store, card_len store_len, uint32_t order, uint32_t levels,
                            uint32_t rank, uint32_t tag, uint32_t length, uint32_t *out,
-                           size_t out_len);
+                           card_len out_len);
 
 /* Gives the number of held elements in out[0]. */
-uint32_t card_tree_held(const uint32_t *store, size_t store_len, uint32_t order, uint32_t levels,
-                        uint32_t *out, size_t out_len);
+uint32_t card_tree_held(const uint32_t *store, card_len store_len, uint32_t order, uint32_t levels,
+                        uint32_t *out, card_len out_len);
 
 /* Whether no slot of a tree's store is broken: out[0] 1 and out[1] 0, or else 0 and the number of the
    first broken slot, from 0 in slice order. Broken is a slot with a count not 0 whose count is not
    one plus the counts of the node under it, or whose rank is below that of the slot above it; and a
    slot with count 0 with another word not 0, or with a count under it that is not 0. A clocked tree's
    store passes once nothing is pending. */
-uint32_t card_tree_check(const uint32_t *store, size_t store_len, uint32_t order, uint32_t levels,
-                         uint32_t *out, size_t out_len);
+uint32_t card_tree_check(const uint32_t *store, card_len store_len, uint32_t order, uint32_t levels,
+                         uint32_t *out, card_len out_len);
 
 /* Clears the second store and pushes into it, in slice order, every slot of the first with a count
    not 0; slots with tag 0 are skipped, out[0] says how many. The first store is left alone. What is
    written always passes the check. Refused 1 for either store, before anything is written. */
-uint32_t card_tree_mend(const uint32_t *from, size_t from_len, uint32_t *to, size_t to_len,
-                        uint32_t order, uint32_t levels, uint32_t *out, size_t out_len);
+uint32_t card_tree_mend(const uint32_t *from, card_len from_len, uint32_t *to, card_len to_len,
+                        uint32_t order, uint32_t levels, uint32_t *out, card_len out_len);
 
 /*
  * Fair ranks: a tree whose ranks come from weights, for up to 64 flows. Beside the tree's store there
@@ -166,24 +174,24 @@ uint32_t card_tree_mend(const uint32_t *from, size_t from_len, uint32_t *to, siz
 
 /* Sets the clock and all finishes to 0. Of the store it reads the root alone. Refused 1 for a short
    state; as card_tree_held is refused, 1 or 2; 11 while anything is held. A refusal changes nothing. */
-uint32_t card_fair_reset(uint32_t *state, size_t state_len, const uint32_t *store, size_t store_len,
+uint32_t card_fair_reset(uint32_t *state, card_len state_len, const uint32_t *store, card_len store_len,
                          uint32_t order, uint32_t levels);
 
 /* Takes a strip of a flow in. Refused 9, before all else, for a flow above 63, a weight of 0 or above
    1024, a length of 0 or above 9216; 1 for a short state; 10 where its finish is above 4294967295;
    then as card_tree_push refuses it. A refusal changes nothing. */
-uint32_t card_fair_push(uint32_t *state, size_t state_len, uint32_t *store, size_t store_len,
+uint32_t card_fair_push(uint32_t *state, card_len state_len, uint32_t *store, card_len store_len,
                         uint32_t order, uint32_t levels, uint32_t flow, uint32_t weight,
                         uint32_t tag, uint32_t length);
 
 /* Gives the strip of lowest rank in out[0] to out[2], and the clock becomes its rank. Refused 6 where
    nothing is held. */
-uint32_t card_fair_pop(uint32_t *state, size_t state_len, uint32_t *store, size_t store_len,
-                       uint32_t order, uint32_t levels, uint32_t *out, size_t out_len);
+uint32_t card_fair_pop(uint32_t *state, card_len state_len, uint32_t *store, card_len store_len,
+                       uint32_t order, uint32_t levels, uint32_t *out, card_len out_len);
 
 /* Gives the number of held strips in out[0], as card_tree_held. */
-uint32_t card_fair_held(const uint32_t *store, size_t store_len, uint32_t order, uint32_t levels,
-                        uint32_t *out, size_t out_len);
+uint32_t card_fair_held(const uint32_t *store, card_len store_len, uint32_t order, uint32_t levels,
+                        uint32_t *out, card_len out_len);
 
 /*
  * The cluster heap beside the tree: a binary heap with K places in each node, K from 2 to 16, levels
@@ -194,24 +202,24 @@ uint32_t card_fair_held(const uint32_t *store, size_t store_len, uint32_t order,
  */
 
 /* Empties the heap: all words of its nodes zero. Never refused 2. */
-uint32_t card_cluster_clear(uint32_t *store, size_t store_len, uint32_t places, uint32_t levels);
+uint32_t card_cluster_clear(uint32_t *store, card_len store_len, uint32_t places, uint32_t levels);
 
 /* Takes an element in. Refused 7 with tag 0, 5 where the heap is full. */
-uint32_t card_cluster_push(uint32_t *store, size_t store_len, uint32_t places, uint32_t levels,
+uint32_t card_cluster_push(uint32_t *store, card_len store_len, uint32_t places, uint32_t levels,
                            uint32_t rank, uint32_t tag, uint32_t length);
 
 /* Gives the element of lowest rank in out[0] to out[2]. Refused 6 where nothing is held. */
-uint32_t card_cluster_pop(uint32_t *store, size_t store_len, uint32_t places, uint32_t levels,
-                          uint32_t *out, size_t out_len);
+uint32_t card_cluster_pop(uint32_t *store, card_len store_len, uint32_t places, uint32_t levels,
+                          uint32_t *out, card_len out_len);
 
 /* A pop, and then a push of the new element, as card_tree_replace. */
-uint32_t card_cluster_replace(uint32_t *store, size_t store_len, uint32_t places, uint32_t levels,
+uint32_t card_cluster_replace(uint32_t *store, card_len store_len, uint32_t places, uint32_t levels,
                               uint32_t rank, uint32_t tag, uint32_t length, uint32_t *out,
-                              size_t out_len);
+                              card_len out_len);
 
 /* Gives the number of held elements in out[0]. */
-uint32_t card_cluster_held(const uint32_t *store, size_t store_len, uint32_t places,
-                           uint32_t levels, uint32_t *out, size_t out_len);
+uint32_t card_cluster_held(const uint32_t *store, card_len store_len, uint32_t places,
+                           uint32_t levels, uint32_t *out, card_len out_len);
 
 /*
  * The bucket queue: first in first out within a rank, a pool of 1 to 65536 nodes. With two storeys
@@ -222,31 +230,31 @@ uint32_t card_cluster_held(const uint32_t *store, size_t store_len, uint32_t pla
  */
 
 /* Empties the queue and makes the chain of free nodes. Never refused 2. */
-uint32_t card_bucket_clear(uint64_t *bits, size_t bits_len, uint32_t *words, size_t words_len,
+uint32_t card_bucket_clear(uint64_t *bits, card_len bits_len, uint32_t *words, card_len words_len,
                            uint32_t storeys, uint32_t nodes);
 
 /* Takes an element in, behind those of its rank. Refused 4 above the last rank, 7 with tag 0, 5
    where no node is free. */
-uint32_t card_bucket_push(uint64_t *bits, size_t bits_len, uint32_t *words, size_t words_len,
+uint32_t card_bucket_push(uint64_t *bits, card_len bits_len, uint32_t *words, card_len words_len,
                           uint32_t storeys, uint32_t nodes, uint32_t rank, uint32_t tag,
                           uint32_t length);
 
 /* Gives the first element of the lowest rank in out[0] to out[2]. Refused 6 where nothing is
    held. */
-uint32_t card_bucket_pop(uint64_t *bits, size_t bits_len, uint32_t *words, size_t words_len,
-                         uint32_t storeys, uint32_t nodes, uint32_t *out, size_t out_len);
+uint32_t card_bucket_pop(uint64_t *bits, card_len bits_len, uint32_t *words, card_len words_len,
+                         uint32_t storeys, uint32_t nodes, uint32_t *out, card_len out_len);
 
 /* A pop, and then a push of the new element: gives the first element of the lowest rank in out[0]
    to out[2], even if the new rank is lower. Works on a full queue. Refused 4 above the last rank,
    7 with tag 0, 6 where nothing is held. */
-uint32_t card_bucket_replace(uint64_t *bits, size_t bits_len, uint32_t *words, size_t words_len,
+uint32_t card_bucket_replace(uint64_t *bits, card_len bits_len, uint32_t *words, card_len words_len,
                              uint32_t storeys, uint32_t nodes, uint32_t rank, uint32_t tag,
-                             uint32_t length, uint32_t *out, size_t out_len);
+                             uint32_t length, uint32_t *out, card_len out_len);
 
 /* Gives the number of held elements in out[0]. */
-uint32_t card_bucket_held(const uint64_t *bits, size_t bits_len, const uint32_t *words,
-                          size_t words_len, uint32_t storeys, uint32_t nodes, uint32_t *out,
-                          size_t out_len);
+uint32_t card_bucket_held(const uint64_t *bits, card_len bits_len, const uint32_t *words,
+                          card_len words_len, uint32_t storeys, uint32_t nodes, uint32_t *out,
+                          card_len out_len);
 
 /*
  * Several ports on one pool: 1 to 16 bucket queues, numbered from 0, each with ranks, bits and lists of
@@ -260,34 +268,34 @@ uint32_t card_bucket_held(const uint64_t *bits, size_t bits_len, const uint32_t 
 /* Empties all ports, makes the chain of free nodes and fixes the limits: port p's floor is limits[2p],
    its ceiling limits[2p + 1]. Refused 1 also where the limits are too few, a floor is above its ceiling
    or the floors are more than the nodes. Never refused 2. */
-uint32_t card_ports_clear(uint64_t *bits, size_t bits_len, uint32_t *words, size_t words_len,
+uint32_t card_ports_clear(uint64_t *bits, card_len bits_len, uint32_t *words, card_len words_len,
                           uint32_t storeys, uint32_t nodes, uint32_t ports, const uint32_t *limits,
-                          size_t limits_len);
+                          card_len limits_len);
 
 /* Takes an element in at a port, behind those of its rank. Refused 8 for a port that there is not, 4
    above the last rank, 7 with tag 0. Refused 5 where the port holds its floor or more and either holds
    its ceiling, or the nodes less the larger of held and floor of each port come to none. */
-uint32_t card_ports_push(uint64_t *bits, size_t bits_len, uint32_t *words, size_t words_len,
+uint32_t card_ports_push(uint64_t *bits, card_len bits_len, uint32_t *words, card_len words_len,
                          uint32_t storeys, uint32_t nodes, uint32_t ports, uint32_t port,
                          uint32_t rank, uint32_t tag, uint32_t length);
 
 /* Gives the port's first element of its lowest rank in out[0] to out[2]. Refused 8 for a port that there
    is not, 6 where the port holds nothing. */
-uint32_t card_ports_pop(uint64_t *bits, size_t bits_len, uint32_t *words, size_t words_len,
+uint32_t card_ports_pop(uint64_t *bits, card_len bits_len, uint32_t *words, card_len words_len,
                         uint32_t storeys, uint32_t nodes, uint32_t ports, uint32_t port,
-                        uint32_t *out, size_t out_len);
+                        uint32_t *out, card_len out_len);
 
 /* A pop, and then a push of the new element at the same port, which needs no room. Refused 8 for a port
    that there is not, 4 above the last rank, 7 with tag 0, 6 where the port holds nothing. */
-uint32_t card_ports_replace(uint64_t *bits, size_t bits_len, uint32_t *words, size_t words_len,
+uint32_t card_ports_replace(uint64_t *bits, card_len bits_len, uint32_t *words, card_len words_len,
                             uint32_t storeys, uint32_t nodes, uint32_t ports, uint32_t port,
                             uint32_t rank, uint32_t tag, uint32_t length, uint32_t *out,
-                            size_t out_len);
+                            card_len out_len);
 
 /* Gives the number of elements that the port holds in out[0]. Refused 8 for a port that there is not. */
-uint32_t card_ports_held(const uint64_t *bits, size_t bits_len, const uint32_t *words,
-                         size_t words_len, uint32_t storeys, uint32_t nodes, uint32_t ports,
-                         uint32_t port, uint32_t *out, size_t out_len);
+uint32_t card_ports_held(const uint64_t *bits, card_len bits_len, const uint32_t *words,
+                         card_len words_len, uint32_t storeys, uint32_t nodes, uint32_t ports,
+                         uint32_t port, uint32_t *out, card_len out_len);
 
 /*
  * The same tree, worked by clock cycles. Beside the store there are a pending record for each level
@@ -318,26 +326,26 @@ typedef char card_record_layout[sizeof(struct card_record) == 5 * sizeof(uint32_
                                     : -1];
 
 /* Empties the tree: store and records zero, mark off. Reads neither records nor mark. */
-uint32_t card_clocked_clear(uint32_t *store, size_t store_len, uint32_t order, uint32_t levels,
-                            struct card_record *records, size_t records_len, uint32_t *mark,
-                            size_t mark_len);
+uint32_t card_clocked_clear(uint32_t *store, card_len store_len, uint32_t order, uint32_t levels,
+                            struct card_record *records, card_len records_len, uint32_t *mark,
+                            card_len mark_len);
 
 /* Runs one cycle with a request: 0 idle, 1 push, 2 pop, 3 replace. The operation is answered in
    its own cycle. Refused 3, 5, 6 or 7 it runs as an idle cycle. */
-uint32_t card_clocked_cycle(uint32_t *store, size_t store_len, uint32_t order, uint32_t levels,
-                            struct card_record *records, size_t records_len, uint32_t *mark,
-                            size_t mark_len, uint32_t request, uint32_t rank, uint32_t tag,
-                            uint32_t length, uint32_t *out, size_t out_len);
+uint32_t card_clocked_cycle(uint32_t *store, card_len store_len, uint32_t order, uint32_t levels,
+                            struct card_record *records, card_len records_len, uint32_t *mark,
+                            card_len mark_len, uint32_t request, uint32_t rank, uint32_t tag,
+                            uint32_t length, uint32_t *out, card_len out_len);
 
 /* Runs idle cycles until nothing is pending or the budget is spent: out[0] the cycles run, out[1]
    1 where work is left. */
-uint32_t card_clocked_drain(uint32_t *store, size_t store_len, uint32_t order, uint32_t levels,
-                            struct card_record *records, size_t records_len, uint32_t *mark,
-                            size_t mark_len, uint32_t budget, uint32_t *out, size_t out_len);
+uint32_t card_clocked_drain(uint32_t *store, card_len store_len, uint32_t order, uint32_t levels,
+                            struct card_record *records, card_len records_len, uint32_t *mark,
+                            card_len mark_len, uint32_t budget, uint32_t *out, card_len out_len);
 
 /* Gives the number of held elements in out[0]. Reads the root alone, no record. */
-uint32_t card_clocked_held(const uint32_t *store, size_t store_len, uint32_t order, uint32_t levels,
-                           uint32_t *out, size_t out_len);
+uint32_t card_clocked_held(const uint32_t *store, card_len store_len, uint32_t order, uint32_t levels,
+                           uint32_t *out, card_len out_len);
 
 /*
  * The cluster heap, worked by clock cycles: nothing is ever too soon, and there is no mark. Beside the
@@ -369,28 +377,28 @@ typedef char card_cluster_record_layout[sizeof(struct card_cluster_record) == 6 
                                             : -1];
 
 /* Empties the heap: store and records zero. Reads no record. */
-uint32_t card_clocked_cluster_clear(uint32_t *store, size_t store_len, uint32_t places,
+uint32_t card_clocked_cluster_clear(uint32_t *store, card_len store_len, uint32_t places,
                                     uint32_t levels, struct card_cluster_record *records,
-                                    size_t records_len);
+                                    card_len records_len);
 
 /* Runs one cycle with a request: 0 idle, 1 push, 2 pop, 3 replace. The operation is answered in its own
    cycle, whatever the cycle before did. Refused 5, 6 or 7 it runs as an idle cycle. */
-uint32_t card_clocked_cluster_cycle(uint32_t *store, size_t store_len, uint32_t places,
+uint32_t card_clocked_cluster_cycle(uint32_t *store, card_len store_len, uint32_t places,
                                     uint32_t levels, struct card_cluster_record *records,
-                                    size_t records_len, uint32_t request, uint32_t rank,
-                                    uint32_t tag, uint32_t length, uint32_t *out, size_t out_len);
+                                    card_len records_len, uint32_t request, uint32_t rank,
+                                    uint32_t tag, uint32_t length, uint32_t *out, card_len out_len);
 
 /* Runs idle cycles until nothing is pending or the budget is spent: out[0] the cycles run, out[1] 1
    where work is left. Levels less one are always enough. */
-uint32_t card_clocked_cluster_drain(uint32_t *store, size_t store_len, uint32_t places,
+uint32_t card_clocked_cluster_drain(uint32_t *store, card_len store_len, uint32_t places,
                                     uint32_t levels, struct card_cluster_record *records,
-                                    size_t records_len, uint32_t budget, uint32_t *out,
-                                    size_t out_len);
+                                    card_len records_len, uint32_t budget, uint32_t *out,
+                                    card_len out_len);
 
 /* Gives the number of held elements in out[0], in the middle of any work too. Reads the root alone, no
    record. */
-uint32_t card_clocked_cluster_held(const uint32_t *store, size_t store_len, uint32_t places,
-                                   uint32_t levels, uint32_t *out, size_t out_len);
+uint32_t card_clocked_cluster_held(const uint32_t *store, card_len store_len, uint32_t places,
+                                   uint32_t levels, uint32_t *out, card_len out_len);
 
 #ifdef __cplusplus
 }

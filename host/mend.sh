@@ -8,10 +8,5 @@
 set -u
 here=$(cd "$(dirname "$0")" && pwd) || exit 2
 . "$here/tools.sh"
-tools || exit 1
-if [ -z "${CARD_LIB:-}" ]; then
-    (cd "$here/.." && made target/staticlib/libcard.a mend staticlib card) || exit 1
-    CARD_LIB=$here/../target/staticlib/libcard.a
-    export CARD_LIB
-fi
-exec $CARGO run --release --offline --quiet --manifest-path "$here/Cargo.toml" ${CARD_TARGET:+--target "$CARD_TARGET"} -p mend_store -- "$@"
+tools && library "$here/.." || exit 1
+exec $CARGO run --release --offline --quiet --manifest-path "$here/Cargo.toml" -p mend_store -- "$@"

@@ -18,10 +18,9 @@ case ${1:-} in
 - | /*) file=$1 ;;
 *) file=$here/$1 ;;
 esac
-tools || exit 1
-[ -n "${CARD_LIB:-}" ] || made target/staticlib/libcard.a plot staticlib card || exit 1
+tools && library . || exit 1
 draw() {
-    $CARGO run --offline --quiet --manifest-path host/Cargo.toml ${CARD_TARGET:+--target "$CARD_TARGET"} -p card_host --example fair
+    $CARGO run --offline --quiet --manifest-path host/Cargo.toml -p card_host --example fair
 }
 if [ "$file" = - ]; then
     draw

@@ -6,6 +6,9 @@
 # The library and the trace program are proved and built first, if that was not done yet. The same seed makes the same calls. What
 # passed and failed is counted by cargo, part by part (`test result: ..`); the gate adds the parts up.
 #
+# On an Arm machine that is the library which host/lib.sh makes for it, so that two million calls run as fast as the machine does; the soak,
+# the programs in C and a shorter comparison are then run once more on the library for x86-64, by an emulator.
+#
 # CARD_LIB and PLAY name a static library and a trace program that are there already; each is then used as it is, and a line says so.
 set -u
 cd "$(dirname "$0")/.." || exit 2
@@ -19,16 +22,16 @@ case $#$* in
     exit 2
     ;;
 esac
-tools || {
+x86=
+[ -n "${CARD_LIB:-}" ] || [ "$(uname -m)" = x86_64 ] || x86=yes
+{ tools && runner && { [ -z "$x86" ] || (x86_tools); }; } || {
     echo 'host: FAILED: compilers and, where one is needed, an emulator'
     exit 1
 }
-if [ -n "${CARD_LIB:-}" ]; then
-    echo "host: the static library is taken from CARD_LIB: $CARD_LIB"
-else
-    made target/staticlib/libcard.a host staticlib card || exit 1
-    CARD_LIB=$(pwd)/target/staticlib/libcard.a
-fi
+[ -z "${CARD_LIB:-}" ] || echo "host: the static library is taken from CARD_LIB: $CARD_LIB"
+# what needs no library is compiled while the library is proved
+(cd host && $CARGO test --offline --no-run -p models -p trace_text -p checks >/dev/null 2>&1) &
+library . || exit 1
 if [ -n "${PLAY:-}" ]; then
     echo "host: the trace program is taken from PLAY: $PLAY"
 else
@@ -36,15 +39,22 @@ else
     PLAY=$(pwd)/target/bin/play
 fi
 [ $# -eq 0 ] || export CARD_SEED="$1"
-export CARD_LIB PLAY
+export PLAY
 
+wait
+root=$(pwd)
 cd host || exit 2
-test_of() { $CARGO test --offline --no-fail-fast "$@"; }
-if [ -z "$CARD_TARGET" ]; then
-    test_of --workspace
-else
-    # what links the library is for x86-64 and run by the emulator, the rest is this machine's own
-    test_of -p card_host -p compare -p mend_store -p logic -p bench --target "$CARD_TARGET"
-    linked=$?
-    test_of -p models -p trace_text -p checks && [ "$linked" -eq 0 ]
+. ./beside.sh
+test_of --workspace
+status=$?
+if [ -n "$x86" ]; then
+    # the x86-64 library itself, in a folder of its own, since another compiler makes its programs; the soak was one of the checks
+    (
+        CARD_LIB=$root/$("$root/host/lib.sh" x86_64-linux) && x86_tools || exit 1
+        x86_test() { $CARGO test --offline --no-fail-fast --target-dir target/x86 "$@"; }
+        x86_test -p checks --test c
+        programs=$?
+        x86_test --target "$CARD_TARGET" -p compare --test library -- --brief && [ "$programs" -eq 0 ]
+    ) || status=1
 fi
+exit $status

@@ -1,61 +1,67 @@
-# Sourced by the scripts of this folder: the compilers that they need, and how the library's programs are built and run here.
+# Sourced by the scripts of this folder: the compilers that they need, and what is made before they begin.
 #
-# The library is for x86-64. On an x86-64 machine its programs run as they are; on an Arm machine they are compiled for x86-64 and run
-# by an emulator. What is missing is installed from Debian's packages (as root). After `tools`:
-#
-#   CARGO                cargo, with a rustc of 1.63 or later
-#   CARD_CC, CARD_CXX    compilers of x86-64 programs
-#   CARD_TARGET          empty, or what is handed to cargo as --target for crates that link the library
-#   RUNNER               empty, or the emulator
+# What links the library is compiled for the machine at hand, over the library that host/lib.sh makes for it. The trace program is for
+# x86-64: on an Arm machine an emulator runs it. What is missing is installed from Debian's packages (as root).
 
 have() { command -v "$1" >/dev/null 2>&1; }
 installed() { dpkg-query -W -f '${Status}\n' "$1" 2>/dev/null | grep -q '^install ok installed$'; }
-install_packages() { { apt-get update -q && apt-get install -q -y --no-install-recommends "$@"; } >&2; }
+install_packages() {
+    [ "$(id -u)" = 0 ] && have apt-get || return 1
+    { apt-get update -q && apt-get install -q -y --no-install-recommends "$@"; } >&2
+}
 
+# Compilers for the machine at hand: CARGO, with a rustc of 1.63 or later, and CARD_CC and CARD_CXX.
 tools() {
     case $(uname -m) in
-    x86_64)
-        have cargo && have rustc && have gcc && have g++ || install_packages cargo rustc gcc g++ libc6-dev || return 1
-        CARGO=cargo
-        CARD_CC=gcc
-        CARD_CXX=g++
-        CARD_TARGET=
-        RUNNER=
-        ;;
-    aarch64)
-        # Debian's own compiler, since it has the standard library for both machines
-        if ! { [ -x /usr/bin/rustc ] && [ -x /usr/bin/cargo ] && have gcc && have x86_64-linux-gnu-gcc && have x86_64-linux-gnu-g++ &&
-            have qemu-x86_64 && installed libstd-rust-dev:amd64 && installed libc6-dev:amd64; }; then
-            dpkg --add-architecture amd64 || return 1
-            install_packages cargo rustc gcc libc6-dev libstd-rust-dev:amd64 gcc-x86-64-linux-gnu g++-x86-64-linux-gnu libc6-dev:amd64 qemu-user || return 1
-        fi
-        CARGO=/usr/bin/cargo
-        RUSTC=/usr/bin/rustc
-        RUSTDOC=/usr/bin/rustdoc
-        CARD_CC="x86_64-linux-gnu-gcc -static"
-        CARD_CXX="x86_64-linux-gnu-g++ -static"
-        CARD_TARGET=x86_64-unknown-linux-gnu
-        RUNNER=qemu-x86_64
-        CARGO_TARGET_X86_64_UNKNOWN_LINUX_GNU_LINKER=x86_64-linux-gnu-gcc
-        CARGO_TARGET_X86_64_UNKNOWN_LINUX_GNU_RUNNER=$RUNNER
-        CARGO_TARGET_X86_64_UNKNOWN_LINUX_GNU_RUSTFLAGS="-C target-feature=+crt-static"
-        export RUSTC RUSTDOC CARGO_TARGET_X86_64_UNKNOWN_LINUX_GNU_LINKER CARGO_TARGET_X86_64_UNKNOWN_LINUX_GNU_RUNNER
-        export CARGO_TARGET_X86_64_UNKNOWN_LINUX_GNU_RUSTFLAGS
-        ;;
+    x86_64 | aarch64) ;;
     *)
         printf 'neither x86-64 nor aarch64: %s\n' "$(uname -m)" >&2
         return 1
         ;;
     esac
-    export CARGO CARD_CC CARD_CXX CARD_TARGET RUNNER
+    have cargo && have rustc && have gcc && have g++ || install_packages cargo rustc gcc g++ libc6-dev || return 1
+    CARGO=cargo
+    CARD_CC=gcc
+    CARD_CXX=g++
+    export CARGO CARD_CC CARD_CXX
 }
 
-# An emulator alone, for a program that is built already.
+# RUNNER: what runs an x86-64 program. Nothing on an x86-64 machine, else an emulator; the C library that the program loads is there too.
 runner() {
     RUNNER=
-    [ "$(uname -m)" = x86_64 ] && return
+    export RUNNER
+    [ "$(uname -m)" != x86_64 ] || return 0
     RUNNER=qemu-x86_64
-    have "$RUNNER" || install_packages qemu-user
+    have "$RUNNER" && [ -e /lib64/ld-linux-x86-64.so.2 ] && return
+    dpkg --add-architecture amd64 && install_packages qemu-user libc6:amd64
+}
+
+# On an Arm machine, for the x86-64 library itself: the same names for compilers of x86-64 programs, CARD_RUNNER for what runs them, and
+# CARD_TARGET, which is handed to cargo as --target. The cargo is Debian's own, since it has the standard library for both machines.
+x86_tools() {
+    if ! { [ -x /usr/bin/rustc ] && [ -x /usr/bin/cargo ] && have x86_64-linux-gnu-gcc && have x86_64-linux-gnu-g++ && have qemu-x86_64 &&
+        installed libstd-rust-dev:amd64 && installed libc6-dev:amd64; }; then
+        dpkg --add-architecture amd64 || return 1
+        install_packages cargo rustc libstd-rust-dev:amd64 gcc-x86-64-linux-gnu g++-x86-64-linux-gnu libc6-dev:amd64 qemu-user || return 1
+    fi
+    CARGO=/usr/bin/cargo
+    RUSTC=/usr/bin/rustc
+    RUSTDOC=/usr/bin/rustdoc
+    CARD_CC="x86_64-linux-gnu-gcc -static"
+    CARD_CXX="x86_64-linux-gnu-g++ -static"
+    CARD_RUNNER=qemu-x86_64
+    CARD_TARGET=x86_64-unknown-linux-gnu
+    CARGO_TARGET_X86_64_UNKNOWN_LINUX_GNU_LINKER=x86_64-linux-gnu-gcc
+    CARGO_TARGET_X86_64_UNKNOWN_LINUX_GNU_RUNNER=$CARD_RUNNER
+    CARGO_TARGET_X86_64_UNKNOWN_LINUX_GNU_RUSTFLAGS="-C target-feature=+crt-static"
+    export CARGO RUSTC RUSTDOC CARD_CC CARD_CXX CARD_RUNNER CARGO_TARGET_X86_64_UNKNOWN_LINUX_GNU_LINKER
+    export CARGO_TARGET_X86_64_UNKNOWN_LINUX_GNU_RUNNER CARGO_TARGET_X86_64_UNKNOWN_LINUX_GNU_RUSTFLAGS
+}
+
+# CARD_LIB: the library for the machine at hand, made first if that was not done yet, or the one that CARD_LIB names already: library ROOT.
+library() {
+    if [ -z "${CARD_LIB:-}" ]; then CARD_LIB=$(cd "$1" && library_path=$(host/lib.sh) && echo "$(pwd)/$library_path") || return 1; fi
+    export CARD_LIB
 }
 
 # Whether what `rt` made is there and no source is newer.

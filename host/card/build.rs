@@ -1,44 +1,42 @@
-//! Finds the static library, or has it built, and tells cargo where it lies.
+//! Finds the static library for the target that cargo builds for, or has it made, and tells cargo where it lies.
 //!
-//! `CARD_LIB` names a `libcard.a`. Where it is not set, the library is `target/staticlib/libcard.a` of this repository; if that is
-//! missing or older than the library's sources, `rt staticlib card` proves and builds it, which takes some minutes the first time.
+//! `CARD_LIB` names a `libcard.a`, whatever the target is. Where it is not set, the library is `target/lib/TARGET/libcard.a` of this
+//! repository: `host/lib.sh TARGET` makes it where it is missing or older than its sources, and proves it then, which takes some minutes.
 
 use std::path::{Path, PathBuf};
-use std::process::{exit, Command};
-use std::time::SystemTime;
+use std::process::{exit, Command, Stdio};
 
 /// Ends the build with a plain word about what is missing.
 fn missing(what: &str) -> ! {
     eprintln!("card_host: {what}");
-    eprintln!("card_host: the static library is built by `rt staticlib card` in the repository's folder (rt is the Rattle kit's");
-    eprintln!(
-        "card_host: command), or CARD_LIB names a libcard.a that was built elsewhere. It is for x86-64 on Linux."
-    );
+    eprintln!("card_host: the static library is made by `host/lib.sh TARGET` in the repository's folder (it needs rt, the command of the");
+    eprintln!("card_host: Rattle kit), or CARD_LIB names a libcard.a that was made elsewhere");
     exit(1)
 }
 
-/// When a file or anything in a folder was last changed.
-fn changed(path: &Path) -> SystemTime {
-    let own = path.metadata().and_then(|m| m.modified()).unwrap_or(SystemTime::UNIX_EPOCH);
-    let below = path.read_dir().into_iter().flatten().flatten().map(|entry| changed(&entry.path()));
-    below.fold(own, SystemTime::max)
+/// What `host/lib.sh` calls a target of cargo's.
+fn name(triple: &str) -> Option<&'static str> {
+    let of = |processor: &str, system: &str| triple.starts_with(processor) && triple.contains(system);
+    Some(match triple {
+        _ if of("x86_64", "-linux-") => "x86_64-linux",
+        _ if of("aarch64", "-linux-") => "aarch64-linux",
+        _ if of("riscv64", "-linux-") => "riscv64-linux",
+        _ if of("armv7", "-linux-") && triple.ends_with("hf") => "armv7-linux",
+        "thumbv7em-none-eabi" => "thumbv7em-none",
+        "riscv32imac-unknown-none-elf" => "riscv32-none",
+        _ => return None,
+    })
 }
 
-/// The repository's own library, proved and built by `rt` where it is missing or old.
-fn own(root: &Path) -> PathBuf {
-    let library = root.join("target/staticlib/libcard.a");
-    let sources = changed(&root.join("crates")).max(changed(&root.join("crates.txt")));
-    if library.exists() && changed(&library) >= sources {
-        return library;
-    }
-    println!("card_host: {} is missing or old: rt staticlib card", library.display());
-    match Command::new("rt").args(["staticlib", "card"]).current_dir(root).status() {
-        Ok(status) if status.success() && library.exists() => library,
-        Ok(status) => missing(&format!("`rt staticlib card` ended with {status} and made no library")),
-        Err(error) => missing(&format!(
-            "{} is missing or older than its sources, and rt cannot be run: {error}",
-            library.display()
-        )),
+/// The repository's own library, made where it is missing or old.
+fn own(root: &Path, triple: &str) -> PathBuf {
+    let target = name(triple).unwrap_or_else(|| missing(&format!("host/lib.sh makes no library for {triple}")));
+    let mut script = Command::new("sh");
+    script.arg(root.join("host/lib.sh")).arg(target).stderr(Stdio::inherit());
+    match script.output() {
+        Ok(output) if output.status.success() => root.join(String::from_utf8_lossy(&output.stdout).trim()),
+        Ok(output) => missing(&format!("`host/lib.sh {target}` ended with {}", output.status)),
+        Err(error) => missing(&format!("`host/lib.sh {target}` cannot be run: {error}")),
     }
 }
 
@@ -46,10 +44,6 @@ fn main() {
     let root = Path::new(env!("CARGO_MANIFEST_DIR")).join("../..").canonicalize().expect("the repository's folder");
     println!("cargo:rerun-if-env-changed=CARD_LIB");
     println!("cargo:rerun-if-changed=build.rs");
-    let target = std::env::var("TARGET").unwrap_or_default();
-    if !(target.starts_with("x86_64") && target.contains("linux")) {
-        missing(&format!("the target is {target}"));
-    }
     let library = match std::env::var_os("CARD_LIB") {
         Some(path) => {
             let path = PathBuf::from(path);
@@ -61,7 +55,7 @@ fn main() {
         None => {
             println!("cargo:rerun-if-changed={}", root.join("crates").display());
             println!("cargo:rerun-if-changed={}", root.join("crates.txt").display());
-            own(&root)
+            own(&root, &std::env::var("TARGET").unwrap_or_default())
         }
     };
     println!("cargo:rerun-if-changed={}", library.display());

@@ -24,7 +24,7 @@ use Rattle.tree_model.specs.Damage.{room}
 use Rattle.tree_model.specs.Promise as tree-says
 
 -- both answer a replace that they take as a pop
-tree-pop : (m k : ℕ) (x : Element) (ws : List ℕ) → tree.Kept m k ws → numberOf (called m (suc k) (Replace x) ws .answer) ≡ 0
+pub tree-pop : (m k : ℕ) (x : Element) (ws : List ℕ) → tree.Kept m k ws → numberOf (called m (suc k) (Replace x) ws .answer) ≡ 0
     → called m (suc k) (Replace x) ws .answer ≡ called m (suc k) Pop ws .answer
 tree-pop m k x ws kept e = tree.kept-replaces m k ws kept x (λ u. tree-exactly.barred m (suc k) (Replace x) ws u e) .answer
 

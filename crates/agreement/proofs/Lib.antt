@@ -1,3 +1,4 @@
 pub mod Ranks
 pub mod Agreement
+pub mod Refusals
 pub mod Clocked

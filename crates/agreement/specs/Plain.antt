@@ -7,7 +7,7 @@ use lib.Dec.{eqb, ltb}
 use lib.ListN.{length}
 use Rattle.laws.specs.Lists.{All}
 use Rattle.promise.specs.Queue.{step, Step}
-use Rattle.strip.specs.Answers.{numberOf, untagged}
+use Rattle.strip.specs.Answers.{numberOf, rankOf, untagged}
 use Rattle.strip.specs.declared.Answer.{Answer}
 use Rattle.strip.specs.declared.Request.{Request}
 use Rattle.strip.specs.declared.Request.the-variants.{Idle, Pop, Push, Replace}
@@ -45,3 +45,11 @@ numbered (suc n) r l = step (suc n, 0) l
 -- number and rank, of a list with room for c
 unfoldable pub plainly : ℕ → Request → List ℕ → Step (ℕ × ℕ) (List ℕ)
 plainly c r l = numbered (numberFor c r (length l)) r l
+
+-- what is answered: the number, and the rank
+abbrev pub numberRank : Answer → ℕ × ℕ
+numberRank a = (numberOf a, rankOf a)
+
+-- none of these numbers is 5
+abbrev pub Unfull : List (ℕ × ℕ) → Type 0
+Unfull said = All (λ a. a .0 ≡ 5 → ⊥) said

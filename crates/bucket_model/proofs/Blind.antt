@@ -5,15 +5,17 @@ use mathlib.Core.List.{List, [], _∷_, map}
 use Prim.Native.Nat.{ℕ}
 use lib.Dec.{ltb}
 use lib.ListN.{length, length-map}
+use Rattle.promise.specs.Table.{decided-same, ends, needs}
 use Rattle.strip.specs.Answers.{untagged}
 use Rattle.strip.specs.declared.Element.{Element}
+use Rattle.strip.specs.declared.Refusal.{Refusal}
 use Rattle.strip.specs.declared.Refusal.the-variants.{BadRank, Full, NoTag}
 use Rattle.strip.specs.declared.Answer.the-variants.{Done, Refused}
 use Rattle.strip.specs.declared.Count.the-variants.{Held}
 use Rattle.strip.specs.declared.Request.the-variants.{Idle, Push, Pop, Replace}
 use Rattle.bucket_model.specs.Layout.{Lay, Laid}
 use Rattle.bucket_model.specs.Causes.{Shaped}
-use Rattle.bucket_model.specs.Plain.{Call, ask, held, Said, answered, counted, Step, step, says, after, start, insert, tagged, roomy, plainPop, plainReplace, plain, plainWith, plainSays, plainAfter, stored}
+use Rattle.bucket_model.specs.Plain.{Call, ask, held, Said, answered, counted, Step, step, says, after, start, insert, plainPop, plainReplace, plain, plainWith, plainSays, plainAfter, stored}
 use Rattle.bucket_model.specs.Promise.{shortCall, shortSaid, Blind}
 use Rattle.promise.specs.Lengths.{short}
 use Rattle.bucket_model.proofs.Promises.{answers, keeps}
@@ -21,10 +23,9 @@ use Rattle.bucket_model.proofs.Promises.{answers, keeps}
 abbrev shortStep : Step (List Element) → Step (List Element)
 shortStep x = step (shortSaid (x .said)) (map short (x .next))
 
--- a test that reads no length goes the same way
-branch : (t : Bool) (x y v z : Step (List Element)) → v ≡ shortStep x → z ≡ shortStep y → cond t v z ≡ shortStep (cond t x y)
-branch true x y v z p q = p
-branch false x y v z p q = q
+-- a refusal leaves the list
+abbrev denied : List Element → Refusal → Step (List Element)
+denied l x = step (answered (Refused x)) l
 
 insert-short : (e : Element) (l : List Element) → insert (short e) (map short l) ≡ map short (insert e l)
 insert-short e [] = refl
@@ -48,17 +49,13 @@ plain-short : (k : Lay) (c : Call) (l : List Element) → plain k (shortCall c) 
 unfolding plainWith untagged
 plain-short k (ask Idle) l = refl
 plain-short k (ask (Push e)) l =
-    let put = step (answered Done) (insert e l) in
-    let put′ = step (answered Done) (insert (short e) (map short l)) in
-    let full = step (answered (Refused Full)) in
     rw (length-map l short)
-    (branch (ltb (e .rank .0) (k .ranks)) (tagged e l (roomy (ltb (length l) (k .nodes)) l put)) (step (answered (Refused BadRank)) l) (tagged (short e) (map short l) (roomy (ltb (length l) (k .nodes)) (map short l) put′)) (step (answered (Refused BadRank)) (map short l))
-    (branch (not (untagged e)) (roomy (ltb (length l) (k .nodes)) l put) (step (answered (Refused NoTag)) l) (roomy (ltb (length l) (k .nodes)) (map short l) put′) (step (answered (Refused NoTag)) (map short l))
-    (branch (ltb (length l) (k .nodes)) put (full l) put′ (full (map short l)) (ap (step (answered Done)) (insert-short e l)) refl) refl) refl)
+    (decided-same (λ (x : Step (List Element)). x) shortStep (denied (map short l)) (denied l) (needs BadRank (ltb (e .rank .0) (k .ranks)) (Unit {0}) (needs NoTag (not (untagged e)) (Unit {0}) (needs Full (ltb (length l) (k .nodes)) (Unit {0}) ends)))
+    (step (answered Done) (insert (short e) (map short l))) (step (answered Done) (insert e l)) (λ x. refl) (ap (step (answered Done)) (insert-short e l)))
 plain-short k (ask Pop) l = pop-short l
 plain-short k (ask (Replace e)) l =
-    branch (ltb (e .rank .0) (k .ranks)) (tagged e l (plainReplace e l)) (step (answered (Refused BadRank)) l) (tagged (short e) (map short l) (plainReplace (short e) (map short l))) (step (answered (Refused BadRank)) (map short l))
-    (branch (not (untagged e)) (plainReplace e l) (step (answered (Refused NoTag)) l) (plainReplace (short e) (map short l)) (step (answered (Refused NoTag)) (map short l)) (replace-short e l) refl) refl
+    decided-same (λ (x : Step (List Element)). x) shortStep (denied (map short l)) (denied l) (needs BadRank (ltb (e .rank .0) (k .ranks)) (Unit {0}) (needs NoTag (not (untagged e)) (Unit {0}) ends))
+    (plainReplace (short e) (map short l)) (plainReplace e l) (λ x. refl) (replace-short e l)
 plain-short k held l = ap (λ (n : ℕ). step (counted (Held n)) (map short l)) (length-map l short)
 
 says-short : (k : Lay) (cs : List Call) (l : List Element) → plainSays k (map shortCall cs) (map short l) ≡ map shortSaid (plainSays k cs l)

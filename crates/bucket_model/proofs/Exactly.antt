@@ -1,95 +1,91 @@
--- Every call is refused exactly when the table says so, and then leaves everything behind.
-use mathlib.Core.Path.{_≡_}
-use mathlib.Core.Bool.{Bool, cond, not}
+-- Every call is refused exactly when the table says so, and then leaves everything behind; and what else follows of every call from the table that decides it.
+use mathlib.Core.Path.{_≡_, refl}
+use mathlib.Core.Bool.{not}
 use mathlib.Core.List.{List}
-use Prim.Native.Nat.{ℕ, _<_}
-use lib.Dec.{ltb, eqb}
-use Rattle.laws.specs.Ladder as ladder
-use Rattle.laws.specs.Ladder.{Ladder, fine, rung}
+use Prim.Native.Nat.{ℕ}
 use Rattle.laws.specs.Means.{Means, means-ltb, means-eqb, means-not}
-use Rattle.promise.specs.Refused.{refusal-told, zero-told, Untagged, untagged-means}
-use Rattle.strip.specs.Answers.{untagged, numberOf, countNumber}
+use Rattle.promise.proofs.Calls.{grants-zero}
+use Rattle.promise.proofs.Tabled as tabled
+use Rattle.promise.proofs.Tabled.{Goes}
+use Rattle.promise.specs.Refused.{untagged-means}
+use Rattle.promise.specs.Table.{Table, Told, decided, ends}
+use Rattle.strip.specs.Answers.{untagged, numberOf}
 use Rattle.strip.specs.declared.Element.{Element}
-use Rattle.strip.specs.declared.Refusal.{Refusal}
-use Rattle.strip.specs.declared.Refusal.the-variants.{BadShape, Damaged, BadRank, Full, Empty, NoTag}
-use Rattle.strip.specs.declared.Answer.the-variants.{Done, Out}
-use Rattle.strip.specs.declared.Count.the-variants.{Held, Unknown}
-use Rattle.strip.specs.declared.Request.the-variants.{Push, Replace}
-use Rattle.bucket_model.specs.Layout.{Lay, word}
-use Rattle.bucket_model.specs.Storeys.{lowestRank}
-use Rattle.bucket_model.specs.Calls.{Outcome, outcome, refused, isShaped, isWhole, cleared, heldCount, popFound, popped, pushFound, pushed, replaceJoined, replaceFound, replaced, lowestOf, roomOf, roomAfter}
-use Rattle.bucket_model.specs.Causes.{Shaped, Whole, PopFit, PushFit, Some, clearLadder, heldLadder, popLadder, pushLadder, bitsAfter, wordsAfter, replaceLadder, Exactly, ExactlyCount}
+use Rattle.strip.specs.declared.Answer.the-variants.{Done}
+use Rattle.strip.specs.declared.Request.{Request}
+use Rattle.strip.specs.declared.Request.the-variants.{Idle, Push, Pop, Replace}
+use Rattle.bucket_model.specs.Layout.{Lay, bitWords, storeWords, word}
+use Rattle.bucket_model.specs.Calls.{Outcome, outcome, refused, fill, blankWord, cleared, heldCount, popFound, popped, pushFound, pushed, replaceJoined, replaceFound, replaced}
+use Rattle.bucket_model.specs.Causes.{clearTable, heldTable, giveTable, roomAfterTable, bitsAfter, wordsAfter, callTable, done, Exactly, ExactlyCount}
+use Rattle.bucket_model.specs.Plain.{store, asked}
 use Rattle.bucket_model.proofs.Facts.{shape-means, whole-means, pop-means, push-means, room-means}
 
--- ---- one rung of a call that leaves b and w behind
+-- the number that a call says
+abbrev pub said : Outcome → ℕ
+said o = numberOf (o .answer)
 
-module _ (b w : List ℕ) where
-  pub step : (t : Bool) (P : Type 0) (x : Refusal) (o : Outcome) (l : Ladder Refusal) → Means t P → (P → Exactly o b w l) → Exactly (cond t o (refused x b w)) b w (rung x P l)
-  step = ladder.climb (λ (o : Outcome). numberOf (o .answer)) (λ (r : Refusal). refused r b w) refusal-told
-
-  pub done : (b′ w′ : List ℕ) → Exactly (outcome Done b′ w′) b w fine
-  done b′ w′ = ladder.climb-fine (λ (o : Outcome). numberOf (o .answer)) (λ (r : Refusal). refused r b w) (outcome Done b′ w′) zero-told
-
-  pub out : (x : Element) (b′ w′ : List ℕ) → Exactly (outcome (Out x) b′ w′) b w fine
-  out x b′ w′ = ladder.climb-fine (λ (o : Outcome). numberOf (o .answer)) (λ (r : Refusal). refused r b w) (outcome (Out x) b′ w′) zero-told
-
--- ---- the table
+-- 7, of a push and of a replace
+pub tag-means : (e : Element) → Means (not (untagged e)) (e .tag .0 ≡ 0 → ⊥)
+tag-means e = means-not (untagged-means e)
 
 module _ (k : Lay) (b w : List ℕ) where
-  pub exactly-clear : Exactly (cleared k b w) b w (clearLadder k b w)
+  pub goes-clear : Goes said (λ x. refused x b w) (clearTable k b w) (outcome Done (fill (λ j. 0) (bitWords k) b) (fill (blankWord k) (storeWords k) w)) (cleared k b w)
   unfolding cleared
-  exactly-clear = step b w (isShaped k b w) (Shaped k b w) BadShape _ fine (shape-means k b w) (λ _. done b w _ _)
+  goes-clear = record { told = (shape-means k b w, λ _. tt); is = refl; done = refl; number = λ x. refl }
 
-  pub exactly-held : ExactlyCount (heldCount k b w) (heldLadder k b w)
+  pub exactly-clear : Exactly (cleared k b w) b w (clearTable k b w)
+  exactly-clear = tabled.exactly goes-clear
+
+  pub exactly-held : ExactlyCount (heldCount k b w) (heldTable k b w)
   unfolding heldCount
-  exactly-held =
-      let climb = ladder.climb countNumber (λ (r : Refusal). Unknown r) refusal-told in
-      climb (isShaped k b w) (Shaped k b w) BadShape _ _ (shape-means k b w)
-      (λ _. climb (isWhole k b w) (Whole k b w) Damaged _ _ (whole-means k b w)
-      (λ _. ladder.climb-fine countNumber (λ (r : Refusal). Unknown r) (Held (word w (k .held))) zero-told))
+  exactly-held = tabled.exactly {a = heldTable k b w} (record { told = (shape-means k b w, λ _. (whole-means k b w, λ _. tt)); is = refl; done = refl; number = λ x. refl })
 
-  some-means : Means (not (eqb (word w (k .held)) 0)) (Some k b w)
-  some-means = means-not (means-eqb (word w (k .held)) 0)
+  -- ---- push, pop and replace, and asking for nothing: every test stands for its fact, and the calls are decided by the table
 
-  pub exactly-pop : Exactly (popped k b w) b w (popLadder k b w)
-  unfolding popped popFound
-  exactly-pop =
-      step b w (isShaped k b w) (Shaped k b w) BadShape _ _ (shape-means k b w)
-      (λ _. step b w (isWhole k b w) (Whole k b w) Damaged _ _ (whole-means k b w)
-      (λ _. step b w (not (eqb (word w (k .held)) 0)) (Some k b w) Empty _ _ some-means
-      (λ _. step b w (lowestOf k b w .good) (PopFit k b w (lowestRank k b)) Damaged _ fine (pop-means k b w) (λ _. out b w _ _ _))))
+  give-told : (a : Table) → Told a → Told (giveTable k b w a)
+  give-told a t = (whole-means k b w, λ _. (means-not (means-eqb (word w (k .held)) 0), λ _. (pop-means k b w, λ _. t)))
 
-  module _ (e : Element) where
-    abbrev r : ℕ
-    r = e .rank .0
+  told : (q : Request) → Told (callTable k b w q)
+  told Idle = tt
+  told (Push e) = (
+    shape-means k b w,
+    λ _. (
+      means-ltb (e .rank .0) (k .ranks),
+      λ _. (tag-means e, λ _. (whole-means k b w, λ _. (means-not (means-eqb (word w (k .held)) (k .nodes)), λ _. (push-means k b w (e .rank .0), λ _. tt)))),
+    ),
+  )
+  told Pop = (shape-means k b w, λ _. give-told ends tt)
+  told (Replace e) = (
+    shape-means k b w,
+    λ _. (means-ltb (e .rank .0) (k .ranks), λ _. (tag-means e, λ _. give-told (roomAfterTable k b w e ends) (room-means k (bitsAfter k b w) (wordsAfter k b w) (e .rank .0), λ _. tt))),
+  )
 
-    -- 7, of a push and of a replace
-    tag-means : Means (not (untagged e)) (e .tag .0 ≡ 0 → ⊥)
-    tag-means = means-not (untagged-means e)
+  same : (q : Request) → asked k q (store b w) ≡ decided (λ x. refused x b w) (callTable k b w q) (done k b w q)
+  unfolding asked popped popFound pushed pushFound replaced replaceFound replaceJoined
+  same Idle = refl
+  same (Push e) = refl
+  same Pop = refl
+  same (Replace e) = refl
 
-    pub exactly-push : Exactly (pushed k b w e) b w (pushLadder k b w e)
-    unfolding pushed pushFound
-    exactly-push =
-        step b w (isShaped k b w) (Shaped k b w) BadShape _ _ (shape-means k b w)
-        (λ _. step b w (ltb r (k .ranks)) (r < k .ranks) BadRank _ _ (means-ltb r (k .ranks))
-        (λ _. step b w (not (untagged e)) (Untagged (Push e) → ⊥) NoTag _ _ tag-means
-        (λ _. step b w (isWhole k b w) (Whole k b w) Damaged _ _ (whole-means k b w)
-        (λ _. step b w (not (eqb (word w (k .held)) (k .nodes))) (word w (k .held) ≡ k .nodes → ⊥) Full _ _ (means-not (means-eqb (word w (k .held)) (k .nodes)))
-        (λ _. step b w (roomOf k b w r .good) (PushFit k b w r) Damaged _ fine (push-means k b w r) (λ _. done b w _ _))))))
+  -- so where a call is not refused the facts of its table hold, in their order: of a push shape, rank, tag, whole, room, bucket; of a pop shape, whole, some, bucket; of a replace shape, rank, tag, whole, some, bucket, and whole and bucket as after the pop
+  pub goes : (q : Request) → Goes said (λ x. refused x b w) (callTable k b w q) (done k b w q) (asked k q (store b w))
+  goes q = record { told = told q; is = same q; done = grants-zero q _; number = λ x. refl }
 
-    abbrev b1 : List ℕ
-    b1 = bitsAfter k b w
+  -- a refused call leaves every word
+  pub stands : (q : Request) → (said (asked k q (store b w)) ≡ 0 → ⊥) → (asked k q (store b w) .bits ≡ b) × (asked k q (store b w) .words ≡ w)
+  stands q = tabled.either (goes q) (λ (o : Outcome). (said o ≡ 0 → ⊥) → (o .bits ≡ b) × (o .words ≡ w)) (λ x n. (refl, refl)) (λ p n. absurd (n (goes q .done)))
 
-    abbrev w1 : List ℕ
-    w1 = wordsAfter k b w
+  pub exactly : (q : Request) → Exactly (asked k q (store b w)) b w (callTable k b w q)
+  exactly q = tabled.exactly (goes q)
 
-    pub exactly-replace : Exactly (replaced k b w e) b w (replaceLadder k b w e)
-    unfolding replaced replaceFound replaceJoined
-    exactly-replace =
-        step b w (isShaped k b w) (Shaped k b w) BadShape _ _ (shape-means k b w)
-        (λ _. step b w (ltb r (k .ranks)) (r < k .ranks) BadRank _ _ (means-ltb r (k .ranks))
-        (λ _. step b w (not (untagged e)) (Untagged (Replace e) → ⊥) NoTag _ _ tag-means
-        (λ _. step b w (isWhole k b w) (Whole k b w) Damaged _ _ (whole-means k b w)
-        (λ _. step b w (not (eqb (word w (k .held)) 0)) (Some k b w) Empty _ _ some-means
-        (λ _. step b w (lowestOf k b w .good) (PopFit k b w (lowestRank k b)) Damaged _ _ (pop-means k b w)
-        (λ _. step b w (roomAfter k b1 w1 r .good) (Whole k b1 w1 × PushFit k b1 w1 r) Damaged _ fine (room-means k b1 w1 r) (λ _. out b w _ _ _)))))))
+  pub exactly-pop : Exactly (popped k b w) b w (callTable k b w Pop)
+  unfolding asked
+  exactly-pop = exactly Pop
+
+  pub exactly-push : (e : Element) → Exactly (pushed k b w e) b w (callTable k b w (Push e))
+  unfolding asked
+  exactly-push e = exactly (Push e)
+
+  pub exactly-replace : (e : Element) → Exactly (replaced k b w e) b w (callTable k b w (Replace e))
+  unfolding asked
+  exactly-replace e = exactly (Replace e)

@@ -29,3 +29,4 @@ pub mod Served
 pub mod Spare
 pub mod Blind
 pub mod Shown
+pub mod Spoilt

@@ -1,6 +1,6 @@
 -- What the bucket queue promises, wherever its words are laid out and however many storeys it has.
 use mathlib.Core.Path.{_≡_, sym, ap, subst, _∙_}
-use mathlib.Core.Bool.{Bool, true, false, cond, not}
+use mathlib.Core.Bool.{Bool, false}
 use mathlib.Core.List.{List, [], _∷_, _++_}
 use Prim.Native.Nat.{ℕ, _+_, _<_}
 use native.Mathlib.Omega.{arith}
@@ -11,14 +11,14 @@ use Rattle.laws.specs.Means.{means-off}
 use Rattle.promise.specs.Refused.{Untagged, untagged-means}
 use Rattle.strip.specs.Answers.{untagged}
 use Rattle.strip.specs.declared.Element.{Element}
-use Rattle.strip.specs.declared.Refusal.the-variants.{BadRank, Full, Empty, NoTag}
+use Rattle.strip.specs.declared.Refusal.the-variants.{Empty}
 use Rattle.strip.specs.declared.Answer.the-variants.{Done, Out, Refused}
 use Rattle.strip.specs.declared.Request.the-variants.{Idle, Push, Pop, Replace}
 use Rattle.bucket_model.specs.Layout.{Lay, Laid, queue, word, headAt, tailAt}
 use Rattle.bucket_model.specs.Calls.{Outcome, outcome, Lowest, lowestOf, takenBits, takenWords, roomOf, joinedBits, joinedWords, popped}
 use Rattle.bucket_model.specs.Causes.{Shaped}
-use Rattle.bucket_model.specs.Plain.{Call, ask, held, answered, saidNumber, Step, step, Store, store, asked, called, says, after, start, Reached, insert, tagged, roomy, plainReplace, plain, plainWith, plainSays, plainAfter, stored, brought, gone, ofRank, times, Sorted, FirstOut, Reused}
-use Rattle.bucket_model.proofs.Sorted.{Through, through}
+use Rattle.bucket_model.specs.Plain.{Call, ask, held, answered, saidNumber, Store, store, asked, called, says, after, start, Reached, plain, plainWith, plainSays, plainAfter, stored, brought, gone, ofRank, times, Sorted, FirstOut, Reused}
+use Rattle.bucket_model.proofs.Sorted.{Does, plain-either, Through, through}
 use Rattle.bucket_model.proofs.Facts.{pop-means, pop-way, low-is}
 use Rattle.bucket_model.proofs.Taken.{free-after}
 use Rattle.bucket_model.proofs.Joined.{joined-tail}
@@ -34,32 +34,15 @@ queue-laid d n b w h = laid-of d n (omega (arith, h .two))
 
 -- ---- the plain list is never damaged
 
-abbrev pub Sane : Step (List Element) → Type 0
-Sane x = saidNumber (x .said) ≡ 2 → ⊥
-
-sane-either : (t : Bool) (x y : Step (List Element)) → Sane x → Sane y → Sane (cond t x y)
-sane-either true x y p q = p
-sane-either false x y p q = q
-
-sane-replace : (e : Element) (l : List Element) → Sane (plainReplace e l)
-sane-replace e [] = λ p. omega arith
-sane-replace e (x ∷ l) = λ p. omega arith
-
-pub plain-sane : (ranks : ℕ) (room : Bool) (c : Call) (l : List Element) → Sane (plainWith ranks room c l)
-unfolding plainWith
-plain-sane ranks room (ask Idle) l = λ e. omega arith
-plain-sane ranks room (ask (Push e)) l =
-    let yes = step (answered Done) (insert e l) in
-    let put = roomy room l yes in
-    sane-either (ltb (e .rank .0) ranks) (tagged e l put) (step (answered (Refused BadRank)) l)
-    (sane-either (not (untagged e)) put (step (answered (Refused NoTag)) l)
-    (sane-either room yes (step (answered (Refused Full)) l) (λ e. omega arith) (λ e. omega arith)) (λ e. omega arith)) (λ e. omega arith)
-plain-sane ranks room (ask Pop) [] = λ e. omega arith
-plain-sane ranks room (ask Pop) (x ∷ l) = λ e. omega arith
-plain-sane ranks room (ask (Replace e)) l =
-    sane-either (ltb (e .rank .0) ranks) (tagged e l (plainReplace e l)) (step (answered (Refused BadRank)) l)
-    (sane-either (not (untagged e)) (plainReplace e l) (step (answered (Refused NoTag)) l) (sane-replace e l) (λ e. omega arith)) (λ e. omega arith)
-plain-sane ranks room held l = λ e. omega arith
+pub plain-sane : (ranks : ℕ) (room : Bool) (c : Call) (l : List Element) → saidNumber (plainWith ranks room c l .said) ≡ 2 → ⊥
+plain-sane ranks room c l = plain-either ranks room c l (λ x. saidNumber (x .said) ≡ 2 → ⊥) (λ x n. n) (go c)
+  where
+    go : (c : Call) → Does c l (λ x. saidNumber (x .said) ≡ 2 → ⊥)
+    go (ask Idle) = λ e. omega arith
+    go (ask (Push x)) = λ e. omega arith
+    go (ask Pop) = λ x m i e. omega arith
+    go (ask (Replace x)) = λ y m i e. omega arith
+    go held = λ e. omega arith
 
 plain-undamaged : (k : Lay) (cs : List Call) (l : List Element) → All (λ s. saidNumber s ≡ 2 → ⊥) (plainSays k cs l)
 unfolding plainSays
@@ -88,13 +71,13 @@ module _ (k : Lay) (laid : Laid k) where
     pub in-order : Sorted (stored k (after k cs (start k b w) .words))
     in-order = whole-run .sorted
 
-    -- of each rank, what came in is what went out and then what is held, in this order
-    pub fifo : (r : ℕ) → ofRank r (brought cs (says k cs (start k b w))) ≡ ofRank r (gone (says k cs (start k b w))) ++ ofRank r (stored k (after k cs (start k b w) .words))
+    -- of each rank, what came in is what went out and then what is held, in this order; by 01's numbers
+    pub fifo : (r : ℕ) → ofRank r (brought cs (says k cs (start k b w))) ≡ ofRank r (gone cs (says k cs (start k b w))) ++ ofRank r (stored k (after k cs (start k b w) .words))
     unfolding ofRank
     fifo r = whole-run .fifo r
 
     -- every element is in the store as often as it went in and has not come out: so many pass any test
-    pub holds : (f : Element → Bool) → times f (brought cs (says k cs (start k b w))) ≡ times f (gone (says k cs (start k b w))) + times f (stored k (after k cs (start k b w) .words))
+    pub holds : (f : Element → Bool) → times f (brought cs (says k cs (start k b w))) ≡ times f (gone cs (says k cs (start k b w))) + times f (stored k (after k cs (start k b w) .words))
     unfolding times
     holds f = omega (arith, whole-run .holds f)
 

@@ -1,194 +1,93 @@
 -- Replace is a pop, and then a push on the store that the pop leaves, word for word: for all inputs.
 use mathlib.Core.Path.{_≡_, refl, sym, ap, _∙_}
-use mathlib.Core.Bool.{Bool, true, false, cond, not}
+use mathlib.Core.Bool.{true}
 use mathlib.Core.List.{List}
 use mathlib.Core.Logic.{inl, inr, ⊎-elim}
 use Prim.Native.Nat.{ℕ, _<_}
 use native.Mathlib.Omega.{arith}
-use borrow.Author.Tests.{not-true}
-use lib.Dec.{ltb, eqb}
-use Rattle.laws.specs.Ladder.{First}
-use Rattle.laws.specs.Means.{Iff, means-not, means-eqb, means-ltb}
+use Rattle.laws.specs.Ladder.{First, fine}
+use Rattle.laws.specs.Means.{Iff}
+use Rattle.promise.proofs.Tabled.{Passed, granted, passes}
 use Rattle.promise.specs.Refused.{Untagged}
-use Rattle.strip.specs.Answers.{untagged, numberOf, refusalNumber}
+use Rattle.promise.specs.Table.{ladder}
+use Rattle.strip.specs.Answers.{numberOf, refusalNumber}
 use Rattle.strip.specs.declared.Element.{Element}
-use Rattle.strip.specs.declared.Refusal.{Refusal}
 use Rattle.strip.specs.declared.Refusal.the-variants.{BadShape, Damaged, BadRank, Empty, NoTag}
-use Rattle.strip.specs.declared.Answer.the-variants.{Done, Out, Refused}
+use Rattle.strip.specs.declared.Answer.{Answer}
+use Rattle.strip.specs.declared.Answer.the-variants.{Done, Out}
 use Rattle.strip.specs.declared.Request.the-variants.{Push, Pop, Replace}
-use Rattle.bucket_model.specs.Layout.{Lay, Laid, word}
-use Rattle.bucket_model.specs.Calls.{Outcome, outcome, refused, isShaped, isWhole, lowestOf, given, takenBits, takenWords, popFound, popped, roomOf, roomAfter, joinedBits, joinedWords, pushFound, pushed, replaceJoined, replaceFound, replaced}
-use Rattle.bucket_model.specs.Causes.{Shaped, Whole, Some, popLadder, replaceLadder}
-use Rattle.bucket_model.specs.Plain.{Store, asked, Reached}
+use Rattle.bucket_model.specs.Layout.{Lay, Laid}
+use Rattle.bucket_model.specs.Calls.{Outcome, outcome, isWhole, lowestOf, given, Room, roomOf, roomAfter, joinedBits, joinedWords}
+use Rattle.bucket_model.specs.Causes.{Shaped, Whole, Some, bitsAfter, wordsAfter, callTable}
+use Rattle.bucket_model.specs.Plain.{Store, store, asked, Reached}
 use Rattle.bucket_model.specs.Promise.{popLeaves}
-use Rattle.bucket_model.proofs.Exactly.{exactly-pop, exactly-replace}
-use Rattle.bucket_model.proofs.Returns as told
-use Rattle.bucket_model.proofs.Facts.{shape-means, whole-means, push-means, room-means}
+use Rattle.bucket_model.proofs.Exactly.{exactly-pop, exactly-replace, goes}
+use Rattle.bucket_model.proofs.Facts.{whole-means}
 use Rattle.bucket_model.proofs.Taken.{held-after}
 use Rattle.bucket_model.proofs.Queue.{shaped-after}
 use Rattle.bucket_model.proofs.Pop.{taken-length, taken-bits-length}
 use Rattle.bucket_model.proofs.Promises.{reuse}
-
--- a call that is not refused has passed its test
-abbrev Granted : Outcome → Type 0
-Granted o = (r : Refusal) → o .answer ≡ Refused r → ⊥
-
-passed : (b w : List ℕ) (t : Bool) (o : Outcome) (x : Refusal) → Granted (cond t o (refused x b w)) → (t ≡ true) × (cond t o (refused x b w) ≡ o) × Granted o
-passed b w true o x g = (refl, refl, g)
-passed b w false o x g = absurd (g x refl)
-
-out-granted : (x : Element) (o : Outcome) → o .answer ≡ Out x → Granted o
-out-granted x o e r f = let p : Out x ≡ Refused r = sym e ∙ f in let z : _≡_ {A = ℕ} 0 1 = cc in omega arith
-
-done-granted : (o : Outcome) → o .answer ≡ Done → Granted o
-done-granted o e r f = let p : Done ≡ Refused r = sym e ∙ f in let z : _≡_ {A = ℕ} 0 1 = cc in omega arith
-
-out-same : (x y : Element) → Out x ≡ Out y → x ≡ y
-out-same x y e = cc
 
 -- the bucket as replace reads it is the bucket as push reads it
 same-room : (k : Lay) (b w : List ℕ) (e : Element) → isWhole k b w ≡ true → roomAfter k b w (e .rank .0) ≡ roomOf k b w (e .rank .0)
 unfolding roomAfter
 same-room k b w e t = simp t
 
-module _ (k : Lay) (b w : List ℕ) where
-  -- what a pop that gives x has tested
-  record Gives (x : Element) : Type 0 where
-    shaped : isShaped k b w ≡ true
-    whole : isWhole k b w ≡ true
-    some : word w (k .held) ≡ 0 → ⊥
-    good : lowestOf k b w .good ≡ true
-    is : given k w (lowestOf k b w) ≡ x
-
-  gives : (x : Element) → popped k b w .answer ≡ Out x → Gives x
-  unfolding popped popFound
-  gives x e =
-      let p = passed b w (isShaped k b w) _ _ (out-granted x (popped k b w) e) in
-      let q = passed b w (isWhole k b w) _ _ (p .2) in
-      let r = passed b w (not (eqb (word w (k .held)) 0)) _ _ (q .2) in
-      let g = passed b w (lowestOf k b w .good) _ _ (r .2) in
-      record {
-        shaped = p .0;
-        whole = q .0;
-        some = means-not (means-eqb (word w (k .held)) 0) .says (r .0);
-        good = g .0;
-        is = out-same _ _ (ap (λ (o : Outcome). o .answer) (sym (p .1 ∙ q .1 ∙ r .1 ∙ g .1)) ∙ e);
-      }
-
-  -- .. a push that is done
-  record Takes (e : Element) : Type 0 where
-    ranked : e .rank .0 < k .ranks
-    tagged : untagged e ≡ false
-    whole : isWhole k b w ≡ true
-    good : roomOf k b w (e .rank .0) .good ≡ true
-    is : pushed k b w e ≡ outcome Done (joinedBits k b e (roomOf k b w (e .rank .0))) (joinedWords k w e (roomOf k b w (e .rank .0)))
-
-  takes : (e : Element) → pushed k b w e .answer ≡ Done → Takes e
-  unfolding pushed pushFound
-  takes e d =
-      let p = passed b w (isShaped k b w) _ _ (done-granted (pushed k b w e) d) in
-      let l = passed b w (ltb (e .rank .0) (k .ranks)) _ _ (p .2) in
-      let t = passed b w (not (untagged e)) _ _ (l .2) in
-      let q = passed b w (isWhole k b w) _ _ (t .2) in
-      let r = passed b w (not (eqb (word w (k .held)) (k .nodes))) _ _ (q .2) in
-      let g = passed b w (roomOf k b w (e .rank .0) .good) _ _ (r .2) in
-      record {
-        ranked = means-ltb (e .rank .0) (k .ranks) .says (l .0);
-        tagged = not-true (untagged e) (t .0);
-        whole = q .0;
-        good = g .0;
-        is = p .1 ∙ l .1 ∙ t .1 ∙ q .1 ∙ r .1 ∙ g .1;
-      }
-
-  -- the store as after the pop
-  abbrev B : List ℕ
-  B = takenBits k b (lowestOf k b w)
-
-  abbrev W : List ℕ
-  W = takenWords k w (lowestOf k b w)
-
-  -- .. and a replace that gives x
-  record Swaps (e x : Element) : Type 0 where
-    gives : Gives x
-    ranked : e .rank .0 < k .ranks
-    tagged : untagged e ≡ false
-    good : roomAfter k B W (e .rank .0) .good ≡ true
-
-  swaps : (e x : Element) → replaced k b w e .answer ≡ Out x → Swaps e x
-  unfolding replaced replaceFound replaceJoined
-  swaps e x a =
-      let p = passed b w (isShaped k b w) _ _ (out-granted x (replaced k b w e) a) in
-      let l = passed b w (ltb (e .rank .0) (k .ranks)) _ _ (p .2) in
-      let n = passed b w (not (untagged e)) _ _ (l .2) in
-      let q = passed b w (isWhole k b w) _ _ (n .2) in
-      let r = passed b w (not (eqb (word w (k .held)) 0)) _ _ (q .2) in
-      let g = passed b w (lowestOf k b w .good) _ _ (r .2) in
-      let t = passed b w (roomAfter k B W (e .rank .0) .good) _ _ (g .2) in
-      record {
-        gives =
-            record {
-              shaped = p .0;
-              whole = q .0;
-              some = means-not (means-eqb (word w (k .held)) 0) .says (r .0);
-              good = g .0;
-              is = out-same _ _ (ap (λ (o : Outcome). o .answer) (sym (p .1 ∙ l .1 ∙ n .1 ∙ q .1 ∙ r .1 ∙ g .1 ∙ t .1)) ∙ a);
-            };
-        ranked = means-ltb (e .rank .0) (k .ranks) .says (l .0);
-        tagged = not-true (untagged e) (n .0);
-        good = t .0;
-      }
-
-  pop-leaves : (x : Element) → Gives x → popped k b w ≡ outcome (Out x) (takenBits k b (lowestOf k b w)) (takenWords k w (lowestOf k b w))
-  pop-leaves x g = sym (told.pop-out k b w (g .shaped) (g .whole) (g .some) (lowestOf k b w) refl x _ _ (g .good) (sym (g .is)) refl refl)
-
-  -- a push on what a pop leaves
-  push-leaves : (x e : Element) → Gives x → pushed k (popped k b w .bits) (popped k b w .words) e ≡ pushed k (takenBits k b (lowestOf k b w)) (takenWords k w (lowestOf k b w)) e
-  push-leaves x e g = ap (λ (o : Outcome). pushed k (o .bits) (o .words) e) (pop-leaves x g)
-
-  -- that push is done where the replace gives something
-  push-taken : Laid k → (e x : Element) → Swaps e x → pushed k B W e .answer ≡ Done
-  push-taken laid e x u =
-      let low = lowestOf k b w in
-      let s = shape-means k b w .says (u .gives .shaped) in
-      let h = whole-means k b w .says (u .gives .whole) in
-      let t = room-means k B W (e .rank .0) .says (u .good) in
-      ap (λ (o : Outcome). o .answer)
-      (sym (told.push-done k B W e
-      (shape-means k B W .holds (shaped-after k b w B W (taken-bits-length k b low) (taken-length k w low) s))
-      (u .ranked) (u .tagged) (whole-means k B W .holds (t .0)) (λ z. u .gives .some (omega (arith, held-after k laid w low (s .words), h .held≤)))
-      (roomOf k B W (e .rank .0)) refl _ _ (push-means k B W (e .rank .0) .holds (t .1)) refl refl))
-
-module _ (k : Lay) (s : Store) (e x : Element) where
+module _ (k : Lay) (s : Store) where
   abbrev b : List ℕ
   b = s .bits
 
   abbrev w : List ℕ
   w = s .words
 
-  -- what a replace gives is what a pop gives
-  pub replace-answers : asked k (Replace e) s .answer ≡ Out x → asked k Pop s .answer ≡ Out x
-  unfolding asked
-  replace-answers a = ap (λ (o : Outcome). o .answer) (pop-leaves k b w x (swaps k b w e x a .gives))
+  -- the store as after the pop
+  abbrev B : List ℕ
+  B = bitsAfter k (s .bits) (s .words)
 
-  -- "a replace is a pop and then a push": the pop's answer, and what the push leaves of the store that the pop left, wherever that push is done
-  pub replace-both : asked k Pop s .answer ≡ Out x → asked k (Push e) (popLeaves k s) .answer ≡ Done → asked k (Replace e) s ≡ outcome (Out x) (asked k (Push e) (popLeaves k s) .bits) (asked k (Push e) (popLeaves k s) .words)
-  unfolding asked
-  replace-both a d =
-      let g = gives k b w x a in
-      let u = push-leaves k b w x e g in
-      both g (takes k (B k b w) (W k b w) e (sym (ap (λ (o : Outcome). o .answer) u) ∙ d)) ∙ sym (ap (λ (o : Outcome). outcome (Out x) (o .bits) (o .words)) u)
-    where
-      both : Gives k b w x → Takes k (takenBits k b (lowestOf k b w)) (takenWords k w (lowestOf k b w)) e
-          → replaced k b w e ≡ outcome (Out x) (pushed k (takenBits k b (lowestOf k b w)) (takenWords k w (lowestOf k b w)) e .bits) (pushed k (takenBits k b (lowestOf k b w)) (takenWords k w (lowestOf k b w)) e .words)
-      both g t =
-          let bits = ap (λ (o : Outcome). o .bits) (t .is) in
-          let words = ap (λ (o : Outcome). o .words) (t .is) in
-          sym (told.replace-out k b w e (g .shaped) (t .ranked) (t .tagged) (g .whole) (g .some) (lowestOf k b w) refl (g .good) (roomOf k (B k b w) (W k b w) (e .rank .0)) (sym (same-room k (B k b w) (W k b w) e (t .whole))) x (B k b w) (W k b w) _ _ (t .good) (sym (g .is)) refl refl bits words)
+  abbrev W : List ℕ
+  W = wordsAfter k (s .bits) (s .words)
 
-  -- .. and it is done exactly where the replace gives something
-  pub replace-pushes : Laid k → asked k (Replace e) s .answer ≡ Out x → asked k (Push e) (popLeaves k s) .answer ≡ Done
-  unfolding asked
-  replace-pushes laid a = let u = swaps k b w e x a in ap (λ (o : Outcome). o .answer) (push-leaves k b w x e (u .gives)) ∙ push-taken k b w laid e x u
+  pop-leaves : Passed (callTable k (s .bits) (s .words) Pop) → popLeaves k s ≡ store (bitsAfter k (s .bits) (s .words)) (wordsAfter k (s .bits) (s .words))
+  pop-leaves p = ap (λ (o : Outcome). store (o .bits) (o .words)) (passes (goes k b w Pop) p)
+
+  module _ (e x : Element) where
+    -- what a replace that gives something has asked: a pop asks no more
+    swaps : asked k (Replace e) s .answer ≡ Out x → Passed (callTable k (s .bits) (s .words) (Replace e))
+    swaps a = granted (goes k b w (Replace e)) (ap numberOf a)
+
+    abbrev as-pop : Passed (callTable k (s .bits) (s .words) (Replace e)) → Passed (callTable k (s .bits) (s .words) Pop)
+    as-pop p = let g = p .1 .1 .1 in (p .0, (g .0, (g .1 .0, (g .1 .1 .0, tt))))
+
+    -- what a replace gives is what a pop gives
+    pub replace-answers : asked k (Replace e) s .answer ≡ Out x → asked k Pop s .answer ≡ Out x
+    replace-answers a =
+        ap (λ (o : Outcome). o .answer) (passes (goes k b w Pop) (as-pop (swaps a))) ∙ sym (ap (λ (o : Outcome). o .answer) (passes (goes k b w (Replace e)) (swaps a))) ∙ a
+
+    -- "a replace is a pop and then a push": the pop's answer, and what the push leaves of the store that the pop left, wherever that push is done
+    pub replace-both : asked k Pop s .answer ≡ Out x → asked k (Push e) (popLeaves k s) .answer ≡ Done → asked k (Replace e) s ≡ outcome (Out x) (asked k (Push e) (popLeaves k s) .bits) (asked k (Push e) (popLeaves k s) .words)
+    replace-both a d =
+        let p = granted (goes k b w Pop) (ap numberOf a) in
+        let l = pop-leaves p in
+        let t = granted (goes k B W (Push e)) (ap (λ (v : Store). numberOf (asked k (Push e) v .answer)) (sym l) ∙ ap numberOf d) in
+        let h = t .1 .1 .1 in
+        passes (goes k b w (Replace e)) (p .0, (t .1 .0, (t .1 .1 .0, (p .1 .0, (p .1 .1 .0, (p .1 .1 .1 .0, ((h .0, h .1 .1 .0), tt)))))))
+        ∙ ap (λ (v : Room). outcome (Out (given k w (lowestOf k b w))) (joinedBits k B e v) (joinedWords k W e v)) (same-room k B W e (whole-means k B W .holds (h .0)))
+        ∙ ap (λ (y : Answer). outcome y (joinedBits k B e (roomOf k B W (e .rank .0))) (joinedWords k W e (roomOf k B W (e .rank .0)))) (sym (ap (λ (o : Outcome). o .answer) (passes (goes k b w Pop) p)) ∙ a)
+        ∙ ap (λ (o : Outcome). outcome (Out x) (o .bits) (o .words)) (sym (passes (goes k B W (Push e)) t))
+        ∙ ap (λ (v : Store). outcome (Out x) (asked k (Push e) v .bits) (asked k (Push e) v .words)) (sym l)
+
+    -- .. and it is done exactly where the replace gives something
+    pub replace-pushes : Laid k → asked k (Replace e) s .answer ≡ Out x → asked k (Push e) (popLeaves k s) .answer ≡ Done
+    replace-pushes laid a =
+        let p = swaps a in
+        let g = p .1 .1 .1 in
+        let low = lowestOf k b w in
+        let h = g .1 .1 .1 .0 in
+        ap (λ (v : Store). asked k (Push e) v .answer) (pop-leaves (as-pop p))
+        ∙ ap (λ (o : Outcome). o .answer) (passes (goes k B W (Push e)) (
+          shaped-after k b w B W (taken-bits-length k b low) (taken-length k w low) (p .0),
+          (p .1 .0, (p .1 .1 .0, (h .0, ((λ z. g .1 .0 (omega (arith, held-after k laid w low (p .0 .words), g .0 .held≤))), (h .1, tt))))),
+        ))
 
 -- .. so on a store that the queue's own calls lead to always
 pub replace-swaps : (k : Lay) → Laid k → (s : Store) (e x : Element) → Reached k s → e .rank .0 < k .ranks → (Untagged (Replace e) → ⊥) → asked k Pop s .answer ≡ Out x
@@ -214,11 +113,11 @@ module _ (k : Lay) (b w : List ℕ) where
   abbrev Bare : Type 0
   Bare = Shaped k b w × Whole k b w × (Some k b w → ⊥)
 
-  pop-bare : First (popLadder k b w) Empty → Bare
+  pop-bare : First (ladder (callTable k b w Pop) fine) Empty → Bare
   pop-bare u =
       ⊎-elim (λ v. absurd (no-shape (v .1))) (λ x. ⊎-elim (λ v. absurd (no-damage (v .1))) (λ y. ⊎-elim (λ v. (x .0, y .0, v .0)) (λ z. ⊎-elim (λ v. absurd (no-damage (v .1))) (λ v. absurd (v .1)) (z .1)) (y .1)) (x .1)) u
 
-  replace-bare : (e : Element) → First (replaceLadder k b w e) Empty → Bare
+  replace-bare : (e : Element) → First (ladder (callTable k b w (Replace e)) fine) Empty → Bare
   replace-bare e u =
       ⊎-elim (λ v. absurd (no-shape (v .1)))
       (λ x. ⊎-elim (λ v. absurd (no-rank (v .1)))

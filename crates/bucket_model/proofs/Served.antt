@@ -1,23 +1,22 @@
 -- What goes in and out and what is least, in 01's numbers: by the number of an answer, its rank, its tag and its length.
 use mathlib.Core.Path.{_≡_, refl, sym, ap, _∙_}
-use mathlib.Core.Bool.{Bool, true, false, cond, not}
+use mathlib.Core.Bool.{Bool, true, false, cond}
 use mathlib.Core.List.{List, [], _∷_}
-use Prim.Native.Nat.{ℕ, _+_, _≤_}
+use Prim.Native.Nat.{ℕ, zero, suc, _+_, _≤_}
 use native.Mathlib.Omega.{arith}
 use borrow.Author.Tests.{le-ltb}
 use lib.Dec.{ltb}
 use lib.ListN.{length}
 use Rattle.laws.specs.Lists.{All}
 use Rattle.laws.specs.Means.{means-off}
-use Rattle.laws.specs.Tests.{cond-both}
+use Rattle.promise.proofs.Kept.{none-moved}
 use Rattle.promise.specs.Queue as served
 use Rattle.promise.specs.Served.{hit, lower, given, brought, all-sum, Least, IsOut}
 use Rattle.promise.specs.Served as said
 use Rattle.promise.specs.Refused.{untagged-means}
 use Rattle.promise.specs.Tagged.{Barred, Tagged, tagged-by}
-use Rattle.strip.specs.Answers.{untagged, rankOf, countNumber, countOf}
+use Rattle.strip.specs.Answers.{untagged, numberOf, rankOf, countNumber, countOf}
 use Rattle.strip.specs.declared.Element.{Element}
-use Rattle.strip.specs.declared.Refusal.the-variants.{BadRank, Full, NoTag}
 use Rattle.strip.specs.declared.Answer.{Answer}
 use Rattle.strip.specs.declared.Answer.the-variants.{Done, Out, Refused}
 use Rattle.strip.specs.declared.Count.{Count}
@@ -28,10 +27,10 @@ use Rattle.bucket_model.specs.Layout.{Lay, Laid}
 use Rattle.bucket_model.specs.Calls.{heldCount}
 use Rattle.bucket_model.specs.Causes.{Shaped}
 use Rattle.bucket_model.specs.Plain as listed
-use Rattle.bucket_model.specs.Plain.{Call, ask, held, says, brings, came, Said, answered, counted, Step, step, Store, store, asked, called, start, Reached, insert, tagged, roomy, plainPop, plainReplace, plain, plainWith, stored, times}
+use Rattle.bucket_model.specs.Plain.{Call, ask, held, says, ifDone, brings, came, Said, answered, counted, Step, step, Store, store, asked, called, start, Reached, plain, plainWith, stored, times}
 use Rattle.bucket_model.specs.Promise.{bucketQueue, storedBy}
 use Rattle.bucket_model.proofs.Kind.{kind, barred}
-use Rattle.bucket_model.proofs.Sorted.{times-append, times-insert}
+use Rattle.bucket_model.proofs.Sorted.{Does, plain-either, times-append, times-insert}
 use Rattle.bucket_model.proofs.Queue.{alone, Holds}
 use Rattle.bucket_model.proofs.Runs.{stored-is, calls, Agree}
 use Rattle.bucket_model.proofs.Promises.{start-holds, reached-holds, least, holds}
@@ -47,58 +46,43 @@ hit-is false = refl
 
 -- ---- on the plain list, call by call
 
-module _ (l : List Element) (f : Element → Bool) where
-  abbrev pub Sums : Request → Step (List Element) → Type 0
-  Sums q x = times f (x .next) + given q (answerOf (x .said)) f ≡ times f l + brought q (answerOf (x .said)) f
-
-  sum-push : (ranks : ℕ) (room : Bool) (e : Element) → Sums (Push e) (plainWith ranks room (ask (Push e)) l)
-  unfolding plainWith
-  sum-push ranks room e =
-      let put = roomy room l (step (answered Done) (insert e l)) in
-      cond-both (Sums (Push e)) (ltb (e .rank .0) ranks) (tagged e l put) (step (answered (Refused BadRank)) l)
-      (λ _. cond-both (Sums (Push e)) (not (untagged e)) put (step (answered (Refused NoTag)) l)
-      (λ _. cond-both (Sums (Push e)) room (step (answered Done) (insert e l)) (step (answered (Refused Full)) l) (λ _. omega (arith, times-insert f e l, hit-is (f e))) (λ _. refl)) (λ _. refl)) (λ _. refl)
-
-sum-pop : (l : List Element) (f : Element → Bool) → Sums l f Pop (plainPop l)
-unfolding times
-sum-pop [] f = refl
-sum-pop (x ∷ l) f = omega (arith, hit-is (f x))
-
-sum-replace : (e : Element) (l : List Element) (f : Element → Bool) → Sums l f (Replace e) (plainReplace e l)
-unfolding times
-sum-replace e [] f = refl
-sum-replace e (x ∷ l) f = omega (arith, times-insert f e l, hit-is (f e), hit-is (f x))
+abbrev pub Sums : List Element → (Element → Bool) → Request → Step (List Element) → Type 0
+Sums l f q x = times f (x .next) + given q (answerOf (x .said)) f ≡ times f l + brought q (answerOf (x .said)) f
 
 pub sums : (ranks : ℕ) (room : Bool) (q : Request) (l : List Element) (f : Element → Bool) → Sums l f q (plainWith ranks room (ask q) l)
-unfolding plainWith
-sums ranks room Idle l f = refl
-sums ranks room (Push e) l f = sum-push l f ranks room e
-sums ranks room Pop l f = sum-pop l f
-sums ranks room (Replace e) l f =
-    cond-both (Sums l f (Replace e)) (ltb (e .rank .0) ranks) (tagged e l (plainReplace e l)) (step (answered (Refused BadRank)) l)
-    (λ _. cond-both (Sums l f (Replace e)) (not (untagged e)) (plainReplace e l) (step (answered (Refused NoTag)) l) (λ _. sum-replace e l f) (λ _. refl)) (λ _. refl)
+unfolding times
+sums ranks room q l f = plain-either ranks room (ask q) l (Sums l f q) (λ x n. none-moved q x (times f l) f) (go q)
+  where
+    go : (q : Request) → Does (ask q) l (Sums l f q)
+    go Idle = refl
+    go (Push e) = omega (arith, times-insert f e l, hit-is (f e))
+    go Pop = λ x m i. rw i (omega (arith, hit-is (f x)))
+    go (Replace e) = λ x m i. rw i (omega (arith, times-insert f e m, hit-is (f e), hit-is (f x)))
 
 -- ---- an element without a tag
 
-none-in : (e : Element) → (e .tag .0 ≡ 0 → ⊥) → times untagged (e ∷ []) ≡ 0
+none-in : (e : Element) (n : ℕ) → (e .tag .0 ≡ 0 → n ≡ 0 → ⊥) → times untagged (ifDone n e) ≡ 0
 unfolding times
-none-in e n = rw (means-off (untagged-means e) n) refl
+none-in e zero b = rw (means-off (untagged-means e) (λ u. b u refl)) refl
+none-in e (suc n) b = refl
 
 pub none-brings : (q : Request) (a : Answer) → Barred q a → times untagged (brings q a) ≡ 0
 unfolding times
 none-brings Idle a b = refl
-none-brings (Push e) Done b = none-in e (λ u. b u refl)
-none-brings (Push e) (Out x) b = refl
-none-brings (Push e) (Refused r) b = refl
+none-brings (Push e) a b = none-in e (numberOf a) b
 none-brings Pop a b = refl
-none-brings (Replace e) Done b = refl
-none-brings (Replace e) (Out x) b = none-in e (λ u. b u refl)
-none-brings (Replace e) (Refused r) b = refl
+none-brings (Replace e) a b = none-in e (numberOf a) b
 
 pub none-lower : (r : ℕ) (l : List Element) → All (λ y. r ≤ y .rank .0) l → times (lower r) l ≡ 0
 unfolding times
 none-lower r [] a = refl
 none-lower r (y ∷ l) a = rw (le-ltb (y .rank .0) r (a .0)) (omega (arith, none-lower r l (a .1)))
+
+-- an answer that is an element has its rank
+pub least-out : (many : (Element → Bool) → ℕ) (a : Answer) → IsOut a → ((x : Element) → a ≡ Out x → many (lower (x .rank .0)) ≡ 0) → many (lower (rankOf a)) ≡ 0
+least-out many Done o f = absurd o
+least-out many (Out x) o f = f x refl
+least-out many (Refused r) o f = absurd o
 
 -- ---- on the words
 
@@ -154,18 +138,9 @@ module _ (k : Lay) (laid : Laid k) where
   pub served-least : (s : Store) → Reached k s → (q : Request) → Least (storedBy k s) q (asked k q s .answer)
   served-least s h Idle = tt
   served-least s h (Push e) = tt
-  served-least s h Pop = λ n. go (asked k Pop s .answer) refl (kind k Pop s n)
-    where
-      go : (a : Answer) → asked k Pop s .answer ≡ a → IsOut a → storedBy k s (lower (rankOf a)) ≡ 0
-      go Done p o = absurd o
-      go (Refused r) p o = absurd o
-      go (Out x) p o = none-lower (x .rank .0) (stored k (s .words)) (least k laid s x h p .lowest)
-  served-least s h (Replace e) = λ n. go (asked k (Replace e) s .answer) refl (kind k (Replace e) s n)
-    where
-      go : (a : Answer) → asked k (Replace e) s .answer ≡ a → IsOut a → storedBy k s (lower (rankOf a)) ≡ 0
-      go Done p o = absurd o
-      go (Refused r) p o = absurd o
-      go (Out x) p o = none-lower (x .rank .0) (stored k (s .words)) (least k laid s x h (replace-answers k s e x p) .lowest)
+  served-least s h Pop = λ n. least-out (storedBy k s) (asked k Pop s .answer) (kind k Pop s n) (λ x p. none-lower (x .rank .0) (stored k (s .words)) (least k laid s x h p .lowest))
+  served-least s h (Replace e) = λ n.
+      least-out (storedBy k s) (asked k (Replace e) s .answer) (kind k (Replace e) s n) (λ x p. none-lower (x .rank .0) (stored k (s .words)) (least k laid s x h (replace-answers k s e x p) .lowest))
 
   -- held says how many are held: number 0, and so many
   counted-same : (c d : Count) → counted c ≡ counted d → c ≡ d

@@ -2,20 +2,24 @@
 use mathlib.Core.Path.{_≡_, refl, sym, ap, subst, _∙_}
 use mathlib.Core.Bool.{Bool, true, false, cond, not}
 use mathlib.Core.List.{List, [], _∷_, _++_, append-assoc, append-nil}
-use Prim.Native.Nat.{ℕ, suc, _+_, _≤_, _<_}
+use Prim.Native.Nat.{ℕ, zero, suc, _+_, _≤_, _<_}
 use native.Mathlib.Decide.{ℕ-discrete, decLt}
 use native.Mathlib.Omega.{arith}
 use borrow.Author.Tests.{lt-ltb, le-ltb, ne-eqb}
 use lib.Dec.{ltb, eqb}
 use lib.ListN.{length}
 use Rattle.laws.specs.Lists.{All, all-map}
-use Rattle.strip.specs.Answers.{untagged}
+use Rattle.promise.specs.Refused.{zero-told}
+use Rattle.promise.specs.Table.{decided-either, ends, needs}
+use Rattle.strip.specs.Answers.{blank, refusalNumber, untagged}
 use Rattle.strip.specs.declared.Element.{Element}
-use Rattle.strip.specs.declared.Refusal.the-variants.{BadRank, Full, NoTag}
-use Rattle.strip.specs.declared.Answer.the-variants.{Done, Refused}
+use Rattle.strip.specs.declared.Refusal.{Refusal}
+use Rattle.strip.specs.declared.Refusal.the-variants.{BadRank, Full, Empty, NoTag}
+use Rattle.strip.specs.declared.Answer.the-variants.{Done, Out, Refused}
+use Rattle.strip.specs.declared.Count.the-variants.{Held}
 use Rattle.strip.specs.declared.Request.the-variants.{Idle, Push, Pop, Replace}
 use Rattle.bucket_model.specs.Layout.{Lay}
-use Rattle.bucket_model.specs.Plain.{Call, ask, held, Said, answered, Step, step, insert, tagged, roomy, plainPop, plainReplace, plain, plainWith, plainSays, plainAfter, came, went, brought, gone, ofRank, times, Sorted}
+use Rattle.bucket_model.specs.Plain.{Call, ask, held, Said, answered, counted, Step, step, insert, plainReplace, plain, plainWith, plainSays, plainAfter, ifDone, came, went, brought, gone, ofRank, times, Sorted}
 
 -- ---- the elements of a rank
 
@@ -90,13 +94,40 @@ insert-rank r e (x ∷ l) s = elim (decLt (e .rank .0) (x .rank .0)) [
         rank-append r (x ∷ []) (insert e l) ∙ ap (λ (m : List Element). ofRank r (x ∷ []) ++ m) ih
         ∙ sym (append-assoc (ofRank r (x ∷ [])) (ofRank r l) (ofRank r (e ∷ []))) ∙ ap (λ (m : List Element). m ++ ofRank r (e ∷ [])) (sym (rank-append r (x ∷ []) l))
 
--- ---- one step
+-- ---- one call
+
+-- P of what a call does that is not refused
+abbrev pub Does : Call → List Element → (Step (List Element) → Type 0) → Type 0
+Does (ask Idle) l P = P (step (answered Done) l)
+Does (ask (Push e)) l P = P (step (answered Done) (insert e l))
+Does (ask Pop) l P = (x : Element) (m : List Element) → l ≡ x ∷ m → P (step (answered (Out x)) m)
+Does (ask (Replace e)) l P = (x : Element) (m : List Element) → l ≡ x ∷ m → P (step (answered (Out x)) (insert e m))
+Does held l P = P (step (counted (Held (length l))) l)
+
+-- what is so of that, and of every refusal but 2, which leaves the list, is so of every call
+pub plain-either : (ranks : ℕ) (room : Bool) (c : Call) (l : List Element) (P : Step (List Element) → Type 0) → ((x : Refusal) → (refusalNumber x ≡ 2 → ⊥) → P (step (answered (Refused x)) l)) → Does c l P
+    → P (plainWith ranks room c l)
+unfolding plainWith
+plain-either ranks room (ask Idle) l P f h = h
+plain-either ranks room (ask (Push e)) l P f h =
+    decided-either (λ x. step (answered (Refused x)) l) P (needs BadRank (ltb (e .rank .0) ranks) (Unit {0}) (needs NoTag (not (untagged e)) (Unit {0}) (needs Full room (Unit {0}) ends)))
+    (step (answered Done) (insert e l)) (f BadRank (λ n. omega arith), (f NoTag (λ n. omega arith), (f Full (λ n. omega arith), tt))) (λ _. h)
+plain-either ranks room (ask Pop) [] P f h = f Empty (λ n. omega arith)
+plain-either ranks room (ask Pop) (x ∷ l) P f h = h x l refl
+plain-either ranks room (ask (Replace e)) l P f h =
+    decided-either (λ x. step (answered (Refused x)) l) P (needs BadRank (ltb (e .rank .0) ranks) (Unit {0}) (needs NoTag (not (untagged e)) (Unit {0}) ends))
+    (plainReplace e l) (f BadRank (λ n. omega arith), (f NoTag (λ n. omega arith), tt)) (λ _. go l refl)
+  where
+    go : (m : List Element) → l ≡ m → P (plainReplace e l)
+    go [] i = rw i (subst (λ (m : List Element). P (step (answered (Refused Empty)) m)) i (f Empty (λ n. omega arith)))
+    go (x ∷ m) i = rw i (h x m i)
+plain-either ranks room held l P f h = h
 
 -- in order again; of each rank what was there, with what came behind it, is what went and then what is there; and nothing is lost
 pub record Kept (c : Call) (l : List Element) (x : Step (List Element)) : Type 0 where
   pub sorted : Sorted (x .next)
-  pub fifo : (r : ℕ) → ofRank r l ++ ofRank r (came c (x .said)) ≡ ofRank r (went (x .said)) ++ ofRank r (x .next)
-  pub holds : (g : Element → Bool) → times g l + times g (came c (x .said)) ≡ times g (went (x .said)) + times g (x .next)
+  pub fifo : (r : ℕ) → ofRank r l ++ ofRank r (came c (x .said)) ≡ ofRank r (went c (x .said)) ++ ofRank r (x .next)
+  pub holds : (g : Element → Bool) → times g l + times g (came c (x .said)) ≡ times g (went c (x .said)) + times g (x .next)
 
 rank-still : (r : ℕ) (l : List Element) → ofRank r l ++ ofRank r [] ≡ ofRank r [] ++ ofRank r l
 rank-still r l = rw (rank-nil r) (append-nil (ofRank r l))
@@ -110,8 +141,16 @@ times-insert g e (x ∷ l) = go (ltb (e .rank .0) (x .rank .0)) (times-insert g 
     go true ih = refl
     go false ih = omega arith
 
+-- what is refused brings nothing in, and gives nothing out
+if-refused : (x : Refusal) (e : Element) → ifDone (refusalNumber x) e ≡ []
+if-refused x e = go (refusalNumber x) refl
+  where
+    go : (n : ℕ) → refusalNumber x ≡ n → ifDone n e ≡ []
+    go zero i = absurd (zero-told x (sym i))
+    go (suc n) i = refl
+
 -- a step that says no
-kept-no : (c : Call) (l : List Element) (x : Step (List Element)) → Sorted l → came c (x .said) ≡ [] → went (x .said) ≡ [] → x .next ≡ l → Kept c l x
+kept-no : (c : Call) (l : List Element) (x : Step (List Element)) → Sorted l → came c (x .said) ≡ [] → went c (x .said) ≡ [] → x .next ≡ l → Kept c l x
 unfolding times
 kept-no c l x s a b e =
     record {
@@ -119,11 +158,6 @@ kept-no c l x s a b e =
       fifo = λ r. rw (a, b, e) (rank-still r l);
       holds = λ g. rw (a, b, e) (omega arith);
     }
-
--- a step taken only where a test holds, and else refused
-kept-if : (c : Call) (l : List Element) (t : Bool) (x y : Step (List Element)) → Kept c l x → Kept c l y → Kept c l (cond t x y)
-kept-if c l true x y p q = p
-kept-if c l false x y p q = q
 
 kept-push : (e : Element) (l : List Element) → Sorted l → Kept (ask (Push e)) l (step (answered Done) (insert e l))
 unfolding times
@@ -134,20 +168,18 @@ kept-push e l s =
       holds = λ g. omega (arith, times-insert g e l);
     }
 
-kept-pop : (l : List Element) → Sorted l → Kept (ask Pop) l (plainPop l)
+kept-pop : (x : Element) (l : List Element) → Sorted (x ∷ l) → Kept (ask Pop) (x ∷ l) (step (answered (Out x)) l)
 unfolding times
-kept-pop [] s = kept-no (ask Pop) [] (plainPop []) s refl refl refl
-kept-pop (x ∷ l) s =
+kept-pop x l s =
     record {
       sorted = s .1;
       fifo = λ r. ap (λ (m : List Element). ofRank r (x ∷ l) ++ m) (rank-nil r) ∙ append-nil (ofRank r (x ∷ l)) ∙ rank-append r (x ∷ []) l;
       holds = λ g. omega arith;
     }
 
-kept-replace : (e : Element) (l : List Element) → Sorted l → Kept (ask (Replace e)) l (plainReplace e l)
+kept-replace : (e x : Element) (l : List Element) → Sorted (x ∷ l) → Kept (ask (Replace e)) (x ∷ l) (step (answered (Out x)) (insert e l))
 unfolding times
-kept-replace e [] s = kept-no (ask (Replace e)) [] (plainReplace e []) s refl refl refl
-kept-replace e (x ∷ l) s =
+kept-replace e x l s =
     record {
       sorted = insert-sorted e l (s .1);
       fifo = λ r.
@@ -158,21 +190,28 @@ kept-replace e (x ∷ l) s =
     }
 
 pub plain-kept : (ranks : ℕ) (room : Bool) (c : Call) (l : List Element) → Sorted l → Kept c l (plainWith ranks room c l)
-unfolding plainWith
-plain-kept ranks room (ask Idle) l s = kept-no (ask Idle) l (plainWith ranks room (ask Idle) l) s refl refl refl
-plain-kept ranks room (ask (Push e)) l s =
-    let put = roomy room l (step (answered Done) (insert e l)) in
-    kept-if (ask (Push e)) l (ltb (e .rank .0) ranks) (tagged e l put) (step (answered (Refused BadRank)) l)
-    (kept-if (ask (Push e)) l (not (untagged e)) put (step (answered (Refused NoTag)) l)
-    (kept-if (ask (Push e)) l room (step (answered Done) (insert e l)) (step (answered (Refused Full)) l) (kept-push e l s) (kept-no (ask (Push e)) l (step (answered (Refused Full)) l) s refl refl refl))
-    (kept-no (ask (Push e)) l (step (answered (Refused NoTag)) l) s refl refl refl))
-    (kept-no (ask (Push e)) l (step (answered (Refused BadRank)) l) s refl refl refl)
-plain-kept ranks room (ask Pop) l s = kept-pop l s
-plain-kept ranks room (ask (Replace e)) l s =
-    kept-if (ask (Replace e)) l (ltb (e .rank .0) ranks) (tagged e l (plainReplace e l)) (step (answered (Refused BadRank)) l)
-    (kept-if (ask (Replace e)) l (not (untagged e)) (plainReplace e l) (step (answered (Refused NoTag)) l) (kept-replace e l s) (kept-no (ask (Replace e)) l (step (answered (Refused NoTag)) l) s refl refl refl))
-    (kept-no (ask (Replace e)) l (step (answered (Refused BadRank)) l) s refl refl refl)
-plain-kept ranks room held l s = kept-no held l (plainWith ranks room held l) s refl refl refl
+plain-kept ranks room c l s = plain-either ranks room c l (Kept c l) (λ x n. kept-no c l (step (answered (Refused x)) l) s (none-in c x) (none-out c x) refl) (does c)
+  where
+    none-in : (c : Call) (x : Refusal) → came c (answered (Refused x)) ≡ []
+    none-in (ask Idle) x = refl
+    none-in (ask (Push e)) x = if-refused x e
+    none-in (ask Pop) x = refl
+    none-in (ask (Replace e)) x = if-refused x e
+    none-in held x = refl
+
+    none-out : (c : Call) (x : Refusal) → went c (answered (Refused x)) ≡ []
+    none-out (ask Idle) x = refl
+    none-out (ask (Push e)) x = refl
+    none-out (ask Pop) x = if-refused x blank
+    none-out (ask (Replace e)) x = if-refused x blank
+    none-out held x = refl
+
+    does : (c : Call) → Does c l (Kept c l)
+    does (ask Idle) = kept-no (ask Idle) l (step (answered Done) l) s refl refl refl
+    does (ask (Push e)) = kept-push e l s
+    does (ask Pop) = λ x m i. rw i (kept-pop x m (subst Sorted i s))
+    does (ask (Replace e)) = λ x m i. rw i (kept-replace e x m (subst Sorted i s))
+    does held = kept-no held l (step (counted (Held (length l))) l) s refl refl refl
 
 -- ---- any list of calls
 
@@ -183,8 +222,8 @@ times-append g (x ∷ xs) ys = omega (arith, times-append g xs ys)
 
 pub record Through (cs : List Call) (ss : List Said) (l m : List Element) : Type 0 where
   pub sorted : Sorted m
-  pub fifo : (r : ℕ) → ofRank r l ++ ofRank r (brought cs ss) ≡ ofRank r (gone ss) ++ ofRank r m
-  pub holds : (g : Element → Bool) → times g l + times g (brought cs ss) ≡ times g (gone ss) + times g m
+  pub fifo : (r : ℕ) → ofRank r l ++ ofRank r (brought cs ss) ≡ ofRank r (gone cs ss) ++ ofRank r m
+  pub holds : (g : Element → Bool) → times g l + times g (brought cs ss) ≡ times g (gone cs ss) + times g m
 
 -- one call, and then the others
 pub through-step : (c : Call) (cs : List Call) (ss : List Said) (l m : List Element) (x : Step (List Element)) → Kept c l x → Through cs ss (x .next) m → Through (c ∷ cs) (x .said ∷ ss) l m
@@ -194,12 +233,12 @@ through-step c cs ss l m x y t =
       sorted = t .sorted;
       fifo = λ r.
           let A = ofRank r (brought cs ss) in
-          rw (rank-append r (came c (x .said)) (brought cs ss), rank-append r (went (x .said)) (gone ss))
+          rw (rank-append r (came c (x .said)) (brought cs ss), rank-append r (went c (x .said)) (gone cs ss))
           (sym (append-assoc (ofRank r l) (ofRank r (came c (x .said))) A) ∙ ap (λ (z : List Element). z ++ A) (y .fifo r)
-          ∙ append-assoc (ofRank r (went (x .said))) (ofRank r (x .next)) A ∙ ap (λ (z : List Element). ofRank r (went (x .said)) ++ z) (t .fifo r)
-          ∙ sym (append-assoc (ofRank r (went (x .said))) (ofRank r (gone ss)) (ofRank r m)));
+          ∙ append-assoc (ofRank r (went c (x .said))) (ofRank r (x .next)) A ∙ ap (λ (z : List Element). ofRank r (went c (x .said)) ++ z) (t .fifo r)
+          ∙ sym (append-assoc (ofRank r (went c (x .said))) (ofRank r (gone cs ss)) (ofRank r m)));
       holds = λ g.
-          rw (times-append g (came c (x .said)) (brought cs ss), times-append g (went (x .said)) (gone ss))
+          rw (times-append g (came c (x .said)) (brought cs ss), times-append g (went c (x .said)) (gone cs ss))
           (omega (arith, y .holds g, t .holds g));
     }
 

@@ -1,24 +1,26 @@
 -- The words past the end of each part: no call touches them.
 use mathlib.Core.Path.{_≡_, refl, ap, _∙_}
-use mathlib.Core.Bool.{Bool, true, false, cond, not}
+use mathlib.Core.Bool.{true, false}
 use mathlib.Core.List.{List, [], _∷_}
 use mathlib.Core.Logic.{_⊎_, inr}
 use Prim.Native.Nat.{ℕ, zero, suc, _+_, _^_, _≤_, _<_}
 use native.Mathlib.Nat.{pow-suc, not-suc-le-zero, le-of-suc-le-suc}
 use native.Mathlib.Omega.{arith}
-use borrow.Author.Tests.{ltb-true}
-use lib.Dec.{eqb, ltb}
+use lib.Dec.{eqb}
 use lib.ListN.{length}
 use Rattle.laws.specs.Tests.{cond-path}
 use Rattle.bitmap.specs.Bits as word64
-use Rattle.strip.specs.Answers.{untagged}
+use Rattle.promise.proofs.Tabled.{either}
 use Rattle.strip.specs.declared.Element.{Element}
-use Rattle.strip.specs.declared.Answer.{Answer}
+use Rattle.strip.specs.declared.Refusal.{Refusal}
+use Rattle.strip.specs.declared.Request.the-variants.{Push, Pop, Replace}
 use Rattle.bucket_model.specs.Layout.{Lay, Laid, bitWords, storeWords, wordsOf, word}
 use Rattle.bucket_model.specs.Storeys.{storeysFrom, find, marked, lowestRank}
-use Rattle.bucket_model.specs.Calls.{Outcome, outcome, fillFrom, fill, blankWord, cleared, Lowest, Room, lowestOf, takenWords, takenBits, roomOf, roomWith, roomAfter, joinedBits, popFound, popped, pushFound, pushed, replaceFound, replaceJoined, replaced, isShaped, isWhole}
-use Rattle.bucket_model.specs.Causes.{Whole, Opens, Untouched}
-use Rattle.bucket_model.proofs.Facts.{shape-means, whole-means, pop-means, pop-way, low-is, low-rank, push-means, room-means}
+use Rattle.bucket_model.specs.Calls.{refused, fillFrom, fill, blankWord, cleared, Lowest, Room, lowestOf, takenWords, takenBits, roomOf, roomWith, roomAfter, joinedBits, popped, pushed, replaced}
+use Rattle.bucket_model.specs.Causes.{Opens, bitsAfter, wordsAfter, Untouched}
+use Rattle.bucket_model.specs.Plain.{asked}
+use Rattle.bucket_model.proofs.Exactly.{goes, goes-clear}
+use Rattle.bucket_model.proofs.Facts.{pop-means, pop-way, low-is, low-rank}
 use Rattle.bucket_model.proofs.Fill.{fill-length}
 use Rattle.bucket_model.proofs.Taken.{taken-past, free-after}
 use Rattle.bucket_model.proofs.Joined.{joined-past}
@@ -47,14 +49,12 @@ find-lt b o (suc d) f w =
     let i = word64.lowest 64 (word b (o + wordsOf d + find b (storeysFrom o d))) (omega (arith, w .1)) (f (o + wordsOf d + find b (storeysFrom o d))) in
     omega (arith, i .within, pow-suc 64 d)
 
--- a call leaves everything behind, unless a test holds
-guard : (k : Lay) (b w : List ℕ) (t : Bool) (x : Outcome) (a : Answer) → (t ≡ true → Untouched k b w x) → Untouched k b w (cond t x (outcome a b w))
-guard k b w true x a f = f refl
-guard k b w false x a f = record { bits-long = refl; words-long = refl; bits-rest = λ i l. refl; words-rest = λ i l. refl }
+-- a refused call leaves everything behind
+stays : (k : Lay) (b w : List ℕ) (x : Refusal) → Untouched k b w (refused x b w)
+stays k b w x = record { bits-long = refl; words-long = refl; bits-rest = λ i l. refl; words-rest = λ i l. refl }
 
 pub rest-clear : (k : Lay) (b w : List ℕ) → Untouched k b w (cleared k b w)
-unfolding cleared
-rest-clear k b w = guard k b w (isShaped k b w) _ _ (λ s. record {
+rest-clear k b w = either (goes-clear k b w) (Untouched k b w) (stays k b w) (λ p. record {
   bits-long = fill-length (λ j. 0) (bitWords k) b;
   words-long = fill-length (blankWord k) (storeWords k) w;
   bits-rest = fill-past (λ j. 0) (bitWords k) b;
@@ -78,28 +78,14 @@ module _ (k : Lay) (laid : Laid k) where
   -- ---- call by call
 
   module _ (b w : List ℕ) where
-    module _ (e : Element) (l : e .rank .0 < k .ranks) (h : Whole k b w) where
-      abbrev to : Room
-      to = roomOf k b w (e .rank .0)
-
-      push-found-rest : Untouched k b w (pushFound k b w e to)
-      unfolding pushFound roomWith
-      push-found-rest = guard k b w (to .good) _ _ (λ g. record {
-        bits-long = joined-bits-length k b e to;
-        words-long = joined-length k w e to;
-        bits-rest = λ i m. joined-bits-away b e to i l (inr m);
-        words-rest = λ i m. joined-past k laid w e to l (h .free≤) (push-means k b w (e .rank .0) .says g .tail≤) i m;
-      })
-
     pub rest-push : (e : Element) → Untouched k b w (pushed k b w e)
-    unfolding pushed
-    rest-push e =
-        guard k b w (isShaped k b w) _ _
-        (λ s. guard k b w (ltb (e .rank .0) (k .ranks)) _ _
-        (λ l. guard k b w (not (untagged e)) _ _
-        (λ t. guard k b w (isWhole k b w) _ _
-        (λ h. guard k b w (not (eqb (word w (k .held)) (k .nodes))) _ _
-        (λ z. push-found-rest e (ltb-true (e .rank .0) (k .ranks) l) (whole-means k b w .says h))))))
+    unfolding asked roomWith
+    rest-push e = let to = roomOf k b w (e .rank .0) in either (goes k b w (Push e)) (Untouched k b w) (stays k b w) (λ p. record {
+      bits-long = joined-bits-length k b e to;
+      words-long = joined-length k w e to;
+      bits-rest = λ i m. joined-bits-away b e to i (p .1 .0) (inr m);
+      words-rest = λ i m. joined-past k laid w e to (p .1 .0) (p .1 .1 .1 .0 .free≤) (p .1 .1 .1 .1 .1 .0 .tail≤) i m;
+    })
 
     module _ (fits : (i : ℕ) → word b i < 2 ^ 64) where
       abbrev low : Lowest
@@ -115,55 +101,24 @@ module _ (k : Lay) (laid : Laid k) where
       low-past : storeWords k ≤ length w → lowestOf k b w .good ≡ true → (i : ℕ) → storeWords k ≤ i → word (takenWords k w (lowestOf k b w)) i ≡ word w i
       low-past s g = taken-past k laid w low s (low-lt g) (low-head g .0) (low-head g .1)
 
-      pop-found-rest : storeWords k ≤ length w → Untouched k b w (popFound k b w (lowestOf k b w))
-      unfolding popFound
-      pop-found-rest s = guard k b w (low .good) _ _ (λ g. record {
+      pub rest-pop : Untouched k b w (popped k b w)
+      unfolding asked
+      rest-pop = either (goes k b w Pop) (Untouched k b w) (stays k b w) (λ p. let g = pop-means k b w .holds (p .1 .1 .1 .0) in record {
         bits-long = taken-bits-length k b low;
         words-long = taken-length k w low;
         bits-rest = λ i h. taken-bits-away b low i (low-lt g) (inr h);
-        words-rest = low-past s g;
+        words-rest = low-past (p .0 .words) g;
       })
 
-      pub rest-pop : Untouched k b w (popped k b w)
-      unfolding popped
-      rest-pop =
-          guard k b w (isShaped k b w) _ _
-          (λ s. guard k b w (isWhole k b w) _ _
-          (λ h. guard k b w (not (eqb (word w (k .held)) 0)) _ _ (λ z. pop-found-rest (shape-means k b w .says s .words))))
-
-      module _ (e : Element) (l : e .rank .0 < k .ranks) (words : storeWords k ≤ length w) where
-        abbrev B : List ℕ
-        B = takenBits k b (lowestOf k b w)
-
-        abbrev W : List ℕ
-        W = takenWords k w (lowestOf k b w)
-
-        abbrev room : Room
-        room = roomAfter k B W (e .rank .0)
-
-        room-tail : room .good ≡ true → room .tail ≤ k .nodes
-        unfolding roomAfter roomWith
-        room-tail g = room-means k B W (e .rank .0) .says g .1 .tail≤
-
-        replace-joined-rest : low .good ≡ true → Untouched k b w (replaceJoined k b w e low room)
-        unfolding replaceJoined
-        replace-joined-rest g = guard k b w (room .good) _ _ (λ h. record {
-          bits-long = joined-bits-length k B e room ∙ taken-bits-length k b low;
-          words-long = joined-length k W e room ∙ taken-length k w low;
-          bits-rest = λ i j. joined-bits-away B e room i l (inr j) ∙ taken-bits-away b low i (low-lt g) (inr j);
-          words-rest = λ i j. joined-past k laid W e room l (rw (free-after k laid w low words) (low-head g .1)) (room-tail h) i j ∙ low-past words g i j;
-        })
-
-        replace-found-rest : Untouched k b w (replaceFound k b w e low)
-        unfolding replaceFound
-        replace-found-rest = guard k b w (low .good) _ _ replace-joined-rest
-
       pub rest-replace : (e : Element) → Untouched k b w (replaced k b w e)
-      unfolding replaced
+      unfolding asked roomAfter roomWith
       rest-replace e =
-          guard k b w (isShaped k b w) _ _
-          (λ s. guard k b w (ltb (e .rank .0) (k .ranks)) _ _
-          (λ l. guard k b w (not (untagged e)) _ _
-          (λ t. guard k b w (isWhole k b w) _ _
-          (λ h. guard k b w (not (eqb (word w (k .held)) 0)) _ _
-          (λ z. replace-found-rest e (ltb-true (e .rank .0) (k .ranks) l) (shape-means k b w .says s .words))))))
+          let B = bitsAfter k b w in
+          let W = wordsAfter k b w in
+          let to = roomAfter k B W (e .rank .0) in
+          either (goes k b w (Replace e)) (Untouched k b w) (stays k b w) (λ p. let f = p .1 .1 .1 .1 .1 in let g = pop-means k b w .holds (f .0) in record {
+            bits-long = joined-bits-length k B e to ∙ taken-bits-length k b low;
+            words-long = joined-length k W e to ∙ taken-length k w low;
+            bits-rest = λ i j. joined-bits-away B e to i (p .1 .0) (inr j) ∙ taken-bits-away b low i (low-lt g) (inr j);
+            words-rest = λ i j. joined-past k laid W e to (p .1 .0) (rw (free-after k laid w low (p .0 .words)) (low-head g .1)) (f .1 .0 .1 .tail≤) i j ∙ low-past (p .0 .words) g i j;
+          })

@@ -1,25 +1,29 @@
 -- The table "When a queue says no" in facts: what a sound call may count on, and for each call what it asks in turn, with the refusal where it does not hold. These are definitions.
+use mathlib.Core.Bool.{not}
 use mathlib.Core.Path.{_≡_}
 use mathlib.Core.List.{List, [], _∷_}
 use Prim.Native.Nat.{ℕ, _+_, _/_, _%_, _≤_, _<_}
+use lib.Dec.{eqb, ltb}
 use lib.ListN.{length}
-use Rattle.laws.specs.Ladder as ladder
-use Rattle.laws.specs.Ladder.{Ladder, fine, rung}
+use Rattle.laws.specs.Ladder as laws
+use Rattle.laws.specs.Ladder.{fine}
 use Rattle.laws.specs.Means.{Iff}
 use Rattle.bitmap.specs.Bits.{bitAt}
+use Rattle.promise.specs.Calls.{grants}
 use Rattle.promise.specs.Refused.{Untagged}
-use Rattle.strip.specs.Answers.{numberOf, countNumber}
+use Rattle.promise.specs.Table.{Table, ends, needs, ladder}
+use Rattle.strip.specs.Answers.{untagged, numberOf, countNumber}
 use Rattle.strip.specs.declared.Element.{Element}
 use Rattle.strip.specs.declared.Refusal.{Refusal}
 use Rattle.strip.specs.declared.Refusal.the-variants.{BadShape, Damaged, BadRank, Full, Empty, NoTag}
 use Rattle.strip.specs.declared.Request.{Request}
-use Rattle.strip.specs.declared.Request.the-variants.{Push, Replace}
+use Rattle.strip.specs.declared.Request.the-variants.{Idle, Push, Pop, Replace}
 use Rattle.strip.specs.declared.Count.{Count}
 use Rattle.strip.specs.declared.Count.the-variants.{Unknown}
 use Rattle.bucket_model.specs.Layout.{Lay, pool, leastStoreys, mostStoreys, bitWords, storeWords, word, headAt, tailAt}
 use Rattle.bucket_model.specs.Storeys.{Storey, storeysAt, wordOf, find, lowestRank}
 use Rattle.bucket_model.specs.Checks.{nextOf}
-use Rattle.bucket_model.specs.Calls.{Outcome, refused, lowestOf, takenBits, takenWords}
+use Rattle.bucket_model.specs.Calls.{Outcome, outcome, refused, isShaped, isWhole, lowestOf, given, takenBits, takenWords, roomOf, roomAfter, joinedBits, joinedWords}
 
 -- ---- 1, bad shape: "N or a slice length outside the above", or another depth than "both"
 
@@ -80,37 +84,40 @@ pub record JoinFit (k : Lay) (used : ℕ) (b w : List ℕ) (r : ℕ) : Type 0 wh
 abbrev pub PushFit : Lay → List ℕ → List ℕ → ℕ → Type 0
 PushFit k b w r = JoinFit k (word w (k .held)) b w r
 
--- ---- the table, call by call: "For the bucket queue: 1, 4, 2, then 5 or 6"
+-- ---- the table, call by call: "For the bucket queue: 1, 4, 2, then 5 or 6". A line is a refusal, the test that a call makes, and what it asks by it
 
 module _ (k : Lay) (b w : List ℕ) where
   abbrev pub Some : Type 0
   Some = word w (k .held) ≡ 0 → ⊥
 
-  abbrev pub clearLadder : Ladder Refusal
-  clearLadder = rung BadShape (Shaped k b w) fine
+  -- 1, of every call
+  abbrev pub shapeTable : Table → Table
+  shapeTable a = needs BadShape (isShaped k b w) (Shaped k b w) a
 
-  abbrev pub heldLadder : Ladder Refusal
-  heldLadder = rung BadShape (Shaped k b w) (rung Damaged (Whole k b w) fine)
+  -- 2, of the whole queue
+  abbrev pub wholeTable : Table → Table
+  wholeTable a = needs Damaged (isWhole k b w) (Whole k b w) a
 
-  -- what a pop and a replace ask alike: 2 of the whole queue, 6, and "a pop with held above 0, also tests its bucket"
-  abbrev pub giveLadder : Ladder Refusal → Ladder Refusal
-  giveLadder l = rung Damaged (Whole k b w) (rung Empty Some (rung Damaged (PopFit k b w (lowestRank k b)) l))
+  abbrev pub clearTable : Table
+  clearTable = shapeTable ends
 
-  abbrev pub popLadder : Ladder Refusal
-  popLadder = rung BadShape (Shaped k b w) (giveLadder fine)
+  abbrev pub heldTable : Table
+  heldTable = shapeTable (wholeTable ends)
 
   -- what a push and a replace ask alike of their newcomer: 4, and 7, which "comes after 4 in the bucket queue"
-  abbrev pub takeLadder : Request → Element → Ladder Refusal → Ladder Refusal
-  takeLadder q e l = rung BadRank (e .rank .0 < k .ranks) (rung NoTag (Untagged q → ⊥) l)
+  abbrev pub newTable : Request → Element → Table → Table
+  newTable q e a = needs BadRank (ltb (e .rank .0) (k .ranks)) (e .rank .0 < k .ranks) (needs NoTag (not (untagged e)) (Untagged q → ⊥) a)
+
+  -- what a pop and a replace ask alike: 2 of the whole queue, 6, and "a pop with held above 0, also tests its bucket"
+  abbrev pub giveTable : Table → Table
+  giveTable a = wholeTable (needs Empty (not (eqb (word w (k .held)) 0)) Some (needs Damaged (lowestOf k b w .good) (PopFit k b w (lowestRank k b)) a))
 
   -- "A push with held below N"
-  abbrev pub pushLadder : Element → Ladder Refusal
-  pushLadder e =
-      rung BadShape (Shaped k b w)
-      (takeLadder (Push e) e
-      (rung Damaged (Whole k b w)
-      (rung Full (word w (k .held) ≡ k .nodes → ⊥)
-      (rung Damaged (PushFit k b w (e .rank .0)) fine))))
+  abbrev pub roomTable : Element → Table → Table
+  roomTable e a =
+      wholeTable
+      (needs Full (not (eqb (word w (k .held)) (k .nodes))) (word w (k .held) ≡ k .nodes → ⊥)
+      (needs Damaged (roomOf k b w (e .rank .0) .good) (PushFit k b w (e .rank .0)) a))
 
   -- the store as after the pop
   abbrev pub bitsAfter : List ℕ
@@ -119,21 +126,40 @@ module _ (k : Lay) (b w : List ℕ) where
   abbrev pub wordsAfter : List ℕ
   wordsAfter = takenWords k w (lowestOf k b w)
 
-  -- "The order of checks puts replace's 6 with pop's"; behind the pop's tests "it then makes all the push's on the store as after the pop"
-  abbrev pub replaceLadder : Element → Ladder Refusal
-  replaceLadder e =
-      rung BadShape (Shaped k b w)
-      (takeLadder (Replace e) e
-      (giveLadder
-      (rung Damaged (Whole k bitsAfter wordsAfter × PushFit k bitsAfter wordsAfter (e .rank .0)) fine)))
+  -- "it then makes all the push's on the store as after the pop"
+  abbrev pub roomAfterTable : Element → Table → Table
+  roomAfterTable e a = needs Damaged (roomAfter k bitsAfter wordsAfter (e .rank .0) .good) (Whole k bitsAfter wordsAfter × PushFit k bitsAfter wordsAfter (e .rank .0)) a
 
--- the columns "Exactly when" and "Left behind": a refusal's number is that of the first rung that does not hold, and where a rung does not hold there is its refusal, and everything is left behind
-abbrev pub Exactly : Outcome → List ℕ → List ℕ → Ladder Refusal → Type 0
-Exactly o b w l = ladder.Exactly (λ (o : Outcome). numberOf (o .answer)) (λ (r : Refusal). refused r b w) o l
+  -- "The order of checks puts replace's 6 with pop's"; asking for nothing is never refused
+  abbrev pub callTable : Request → Table
+  callTable Idle = ends
+  callTable (Push e) = shapeTable (newTable (Push e) e (roomTable e ends))
+  callTable Pop = shapeTable (giveTable ends)
+  callTable (Replace e) = shapeTable (newTable (Replace e) e (giveTable (roomAfterTable e ends)))
+
+  -- what is done where nothing refuses
+  abbrev pub bitsDone : Request → List ℕ
+  bitsDone Idle = b
+  bitsDone (Push e) = joinedBits k b e (roomOf k b w (e .rank .0))
+  bitsDone Pop = bitsAfter
+  bitsDone (Replace e) = joinedBits k bitsAfter e (roomAfter k bitsAfter wordsAfter (e .rank .0))
+
+  abbrev pub wordsDone : Request → List ℕ
+  wordsDone Idle = w
+  wordsDone (Push e) = joinedWords k w e (roomOf k b w (e .rank .0))
+  wordsDone Pop = wordsAfter
+  wordsDone (Replace e) = joinedWords k wordsAfter e (roomAfter k bitsAfter wordsAfter (e .rank .0))
+
+  abbrev pub done : Request → Outcome
+  done q = outcome (grants q (given k w (lowestOf k b w))) (bitsDone q) (wordsDone q)
+
+-- the columns "Exactly when" and "Left behind": a refusal's number is that of the first line of the table that does not hold, and where a line does not hold there is its refusal, and everything is left behind
+abbrev pub Exactly : Outcome → List ℕ → List ℕ → Table → Type 0
+Exactly o b w a = laws.Exactly (λ (o : Outcome). numberOf (o .answer)) (λ (r : Refusal). refused r b w) o (ladder a fine)
 
 -- .. and for held, which writes nothing
-abbrev pub ExactlyCount : Count → Ladder Refusal → Type 0
-ExactlyCount c l = ladder.Exactly countNumber (λ (r : Refusal). Unknown r) c l
+abbrev pub ExactlyCount : Count → Table → Type 0
+ExactlyCount c a = laws.Exactly countNumber Unknown c (ladder a fine)
 
 -- ---- the rest of longer slices
 

@@ -7,3 +7,4 @@ pub mod Causes
 pub mod Plain
 pub mod Promise
 pub mod Filled
+pub mod Spoilt

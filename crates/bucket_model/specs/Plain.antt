@@ -6,7 +6,7 @@ use Prim.Native.Nat.{ℕ, zero, suc, _+_, _≤_}
 use lib.Dec.{ltb, eqb}
 use lib.ListN.{length, replicate}
 use Rattle.laws.specs.Lists.{All}
-use Rattle.strip.specs.Answers.{untagged, numberOf, countNumber}
+use Rattle.strip.specs.Answers.{untagged, numberOf, elementOf, countNumber}
 use Rattle.strip.specs.declared.Element.{Element}
 use Rattle.strip.specs.declared.Refusal.the-variants.{BadRank, Full, Empty, NoTag}
 use Rattle.strip.specs.declared.Answer.{Answer}
@@ -152,39 +152,35 @@ inOrder m i (suc n) = elements i (m i) ++ inOrder m (suc i) n
 unfoldable pub stored : Lay → List ℕ → List Element
 stored k w = inOrder (lane k w) 0 (k .ranks)
 
--- ---- what goes in and out
+-- ---- what goes in and out, by the number of an answer: 0 is no refusal
 
--- what an answered request has brought in
-abbrev pub onDone : Element → Answer → List Element
-onDone e Done = e ∷ []
-onDone e (Out x) = []
-onDone e (Refused r) = []
+abbrev pub ifDone : ℕ → Element → List Element
+ifDone zero e = e ∷ []
+ifDone (suc n) e = []
 
-abbrev pub onOut : Element → Answer → List Element
-onOut e Done = []
-onOut e (Out x) = e ∷ []
-onOut e (Refused r) = []
-
+-- what a request has brought in
 abbrev pub brings : Request → Answer → List Element
 brings Idle a = []
-brings (Push e) a = onDone e a
+brings (Push e) a = ifDone (numberOf a) e
 brings Pop a = []
-brings (Replace e) a = onOut e a
+brings (Replace e) a = ifDone (numberOf a) e
+
+-- .. and what it has given out: a pop and a replace the answer's rank, tag and length
+abbrev pub gives : Request → Answer → List Element
+gives Idle a = []
+gives (Push e) a = []
+gives Pop a = ifDone (numberOf a) (elementOf a)
+gives (Replace e) a = ifDone (numberOf a) (elementOf a)
 
 abbrev pub came : Call → Said → List Element
 came (ask q) (answered a) = brings q a
 came (ask q) (counted c) = []
 came held s = []
 
--- what it has given out
-abbrev pub gave : Answer → List Element
-gave Done = []
-gave (Out x) = x ∷ []
-gave (Refused r) = []
-
-abbrev pub went : Said → List Element
-went (answered a) = gave a
-went (counted c) = []
+abbrev pub went : Call → Said → List Element
+went (ask q) (answered a) = gives q a
+went (ask q) (counted c) = []
+went held s = []
 
 -- .. over a list of calls, by what was said to them
 unfoldable pub brought : List Call → List Said → List Element
@@ -192,9 +188,10 @@ brought [] ss = []
 brought (c ∷ cs) [] = []
 brought (c ∷ cs) (s ∷ ss) = came c s ++ brought cs ss
 
-unfoldable pub gone : List Said → List Element
-gone [] = []
-gone (s ∷ ss) = went s ++ gone ss
+unfoldable pub gone : List Call → List Said → List Element
+gone [] ss = []
+gone (c ∷ cs) [] = []
+gone (c ∷ cs) (s ∷ ss) = went c s ++ gone cs ss
 
 -- the elements of a rank, in their order
 unfoldable pub ofRank : ℕ → List Element → List Element

@@ -11,6 +11,7 @@ mod clock;
 pub mod pool;
 pub mod repair;
 mod stages;
+mod version;
 pub mod weights;
 
 use card_out::OUT;

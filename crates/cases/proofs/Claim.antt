@@ -15,6 +15,7 @@ use Rattle.laws.specs.Lists.{All}
 use Rattle.promise.specs.Queue.{answers, leaves}
 use Rattle.strip.specs.declared.Answer.{Answer}
 use Rattle.strip.specs.Answers.{blank, key, untagged, precedes}
+use Rattle.trace_model.proofs.Example.{worked, worked-format, worked-lengthless, worked-lengths, worked-replaces, worked-untagged}
 use Rattle.tree_model.proofs.Cases.{case-length-answers, case-lengths}
 use Rattle.tree_model.proofs.Edge.{eight-four, eight-past, eight-taken, four-past, four-six, four-taken, none-refused, three-refused, two-eleven, two-past, two-taken}
 use Rattle.tree_model.specs.Calls.{called, cleared, heldCount, orderOk, rule, shapeOk}
@@ -26,4 +27,4 @@ use Rattle.tree_model.specs.Words.{applyWords, levelOf, levelsOf, nodeOf, size,
 pub cases : All Right table
 unfolding table blank key precedes untagged vacant isEmpty slotAt seek every firstEmpty leastCount lowest low sumCounts keep pass putBy putMove takeBy takeMove swapBy swapMove opMove isNothing top work levelMove stepWork slotOf write wipe tabulate nodeOf size levelOf levelsOf stepWords applyWords room isBlank slotOk nodeOk hasRoom hasSome readOk lifts stepOk workOk pathOk orderOk shapeOk rule called cleared heldCount leaves answers
 cases =
-    ((refl, refl, refl), ((refl, refl, refl), ((refl, refl, refl), ((refl, refl, refl), ((refl, refl, refl), (clock.case-6, ((refl, refl, refl), ((refl, refl, refl), (ap (map told) clock.case-empty, (clock.case-lost, ((refl, refl, refl), (ap (map told) case8-holds, (ap (map told) case8-three, ((pop-case-bits, pop-case-words), ((replace-case-bits, replace-case-words), ((refl, refl, refl), ((refl, refl, refl), (ap (map told) clock.case-untagged, (ap (map told) tag-case, (ap (map told) spoilt-case, (case-lengths, (ap (map told) case-length-answers, (clock.case-lengths, (ap (map told) clock.case-length-answers, (ap (map told) length-case, (case-cluster, (ap (λ (l : List (List Answer)). map told (getD l 0 [])) case-cluster-answers, (ap (λ (l : List (List Answer)). map told (getD l 1 [])) case-cluster-answers, (fair.case-served, (fair.case-fair, (fair.case-words, (fair.case-spent, (fair.case-reset, (fair.case-limits, (case-clock, (case-flight, (ap (map told) case-flight-answers, (case-tie, (ap (map told) case-tie-answers, (refl, (refl, (refl, (four-six, (four-taken, (four-past, (two-eleven, (two-taken, (two-past, (eight-four, (eight-taken, (eight-past, (three-refused, (none-refused, (cluster.one-refused, (cluster.two-taken, (cluster.sixteen-taken, (cluster.seventeen-refused, (cluster.two-most, (cluster.two-past, (cluster.five-most, (cluster.five-past, (cluster.sixteen-most, (cluster.sixteen-past, tt)))))))))))))))))))))))))))))))))))))))))))))))))))))))))))))))
+    ((refl, refl, refl), ((refl, refl, refl), ((refl, refl, refl), ((refl, refl, refl), ((refl, refl, refl), (clock.case-6, ((refl, refl, refl), ((refl, refl, refl), (ap (map told) clock.case-empty, (clock.case-lost, ((refl, refl, refl), (ap (map told) case8-holds, (ap (map told) case8-three, ((pop-case-bits, pop-case-words), ((replace-case-bits, replace-case-words), ((refl, refl, refl), ((refl, refl, refl), (ap (map told) clock.case-untagged, (ap (map told) tag-case, (ap (map told) spoilt-case, (case-lengths, (ap (map told) case-length-answers, (clock.case-lengths, (ap (map told) clock.case-length-answers, (ap (map told) length-case, (case-cluster, (ap (λ (l : List (List Answer)). map told (getD l 0 [])) case-cluster-answers, (ap (λ (l : List (List Answer)). map told (getD l 1 [])) case-cluster-answers, (fair.case-served, (fair.case-fair, (fair.case-words, (fair.case-spent, (fair.case-reset, (fair.case-limits, (case-clock, (case-flight, (ap (map told) case-flight-answers, (case-tie, (ap (map told) case-tie-answers, (refl, (refl, (refl, (four-six, (four-taken, (four-past, (two-eleven, (two-taken, (two-past, (eight-four, (eight-taken, (eight-past, (three-refused, (none-refused, (cluster.one-refused, (cluster.two-taken, (cluster.sixteen-taken, (cluster.seventeen-refused, (cluster.two-most, (cluster.two-past, (cluster.five-most, (cluster.five-past, (cluster.sixteen-most, (cluster.sixteen-past, (worked, (worked-replaces, (worked-untagged, (worked-lengths, (worked-lengthless, (worked-format .0, (worked-format .1, (worked-format .2, (worked-format .3, (worked-format .4, (worked-format .5, tt))))))))))))))))))))))))))))))))))))))))))))))))))))))))))))))))))))))))))

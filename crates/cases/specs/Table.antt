@@ -1,4 +1,4 @@
--- 01's worked cases that are marked (P), those that 02 adds, and case 9, as one table.
+-- 01's worked cases that are marked (P), those that 02 adds, case 9 and the worked traces, as one table.
 use Prim.Native.Nat.{ℕ}
 use mathlib.Core.List.{[], _++_, _∷_, List, map}
 use mathlib.Core.Path.{_≡_}
@@ -21,6 +21,8 @@ use Rattle.strip.specs.declared.Answer.{Answer}
 use Rattle.strip.specs.declared.Count.{Count}
 use Rattle.strip.specs.declared.Request.{Request}
 use Rattle.strip.specs.declared.Request.the-variants.{Pop, Push, Replace}
+use Rattle.trace_model.specs.Example.{cut, cutLengths, cutLengthsSay, cutSays, deep, deepSays, emptied, emptiedSays, example, exampleSays, idleRanked, idleRankedSays, lengthless, lengthlessSays, lengths, lengthsSay, popTagged, popTaggedSays, untaggedOnes, untaggedSays, wide, wideSays}
+use Rattle.trace_model.specs.Program.{traceText}
 use Rattle.tree_model.specs.Calls.{heldCount}
 use Rattle.tree_model.specs.Cases.{caseLengthAnswers, caseLengthAnswersSay, caseLengths, caseLengthsSays}
 use Rattle.tree_model.specs.Edge.{Edge}
@@ -36,7 +38,8 @@ toldHeld c = (countNumber c, countOf c)
 
 -- a row: what is asked of a cleared queue, what it says, the words it leaves, and what held says then. A slice to begin with is garbage, and longer
 -- than needed. `bucketOn` asks it of a store that was not cleared, `bucketWords` of two storeys. `edge` and `clusterEdge` have a shape's capacity and the number of a clear on any words that hold it. `wordsAre`,
--- `pendingAre`, `answersAre` and `sums` hold a model crate's own case to what it should be: words, the record of level 2 with the words, answers, and counts
+-- `pendingAre`, `answersAre` and `sums` hold a model crate's own case to what it should be: words, the record of level 2 with the words, answers, and counts. `plays` has the bytes of
+-- a trace, and those that the program writes for it
 pub data Row : Type 0 where
   tree : (order levels : ℕ) (requests : List Request) (said : List (ℕ × ℕ × ℕ × ℕ)) (left : List ℕ) (held : ℕ × ℕ) → Row
   held : (order levels : ℕ) (words : List ℕ) (said : ℕ × ℕ) → Row
@@ -49,6 +52,7 @@ pub data Row : Type 0 where
   bucket : (storeys nodes : ℕ) (requests : List Request) (said : List (ℕ × ℕ × ℕ × ℕ)) → Row
   bucketOn : (storeys nodes : ℕ) (store : Store) (requests : List Request) (said : List (ℕ × ℕ × ℕ × ℕ)) → Row
   bucketWords : (nodes : ℕ) (requests : List Request) (bits words : List (ℕ × ℕ)) → Row
+  plays : (trace text : List ℕ) → Row
 
 abbrev pub garbage : ℕ → List ℕ
 garbage n = replicate n 9
@@ -67,6 +71,7 @@ Right (sums counts says) = counts ≡ says
 Right (bucket d n rs said) = map told (bucketAnswers (queue d n) rs) ≡ said
 Right (bucketOn d n s rs said) = map told (answersFrom (queue d n) rs s) ≡ said
 Right (bucketWords n rs bits words) = (filled 0 (leftBy n rs .bits) ≡ bits) × (filled 0 (leftBy n rs .words) ≡ words)
+Right (plays t s) = traceText t ≡ s
 
 -- "Tree cases have order 2, levels 2, capacity 6. Store A is cleared, then push 5/50, 3/30, 8/80, 1/10"
 abbrev pub A : List Request
@@ -178,4 +183,19 @@ table =
     ∷ clusterEdge 5 11 10235 45034 1
     ∷ clusterEdge 16 8 4080 16830 0
     ∷ clusterEdge 16 9 8176 33726 1
+    -- 01's worked trace; replaces, and tag 0
+    ∷ plays example exampleSays
+    ∷ plays emptied emptiedSays
+    ∷ plays untaggedOnes untaggedSays
+    -- .. in version 2, also with length 0
+    ∷ plays lengths lengthsSay
+    ∷ plays lengthless lengthlessSays
+    -- .. byte by byte: order 4, levels 1, full and code 4; version 2, order 4, levels 3; a record that is cut, of either version; an idle record with a rank, a pop
+    -- with a tag
+    ∷ plays wide wideSays
+    ∷ plays deep deepSays
+    ∷ plays cut cutSays
+    ∷ plays cutLengths cutLengthsSay
+    ∷ plays idleRanked idleRankedSays
+    ∷ plays popTagged popTaggedSays
     ∷ []

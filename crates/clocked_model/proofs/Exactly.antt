@@ -8,7 +8,7 @@ use Rattle.clocked_model.proofs.Step.{idle-ruling}
 use Rattle.clocked_model.proofs.Turn.{cycle-length}
 use Rattle.clocked_model.specs.Calls.{allLevels, askedOk, asks, CycleOutcome, cycleOutcome, cycleWork, ruleMarked, ruleNow, isRefused, marks, popsOrReplaces, stepsOk, cycled, cycleRun}
 use Rattle.clocked_model.specs.Cycle.{cycleOk, Works}
-use Rattle.clocked_model.specs.Promise.{Asks, clock, clockedQueue, CycleDamage, cycleLeft, cycleRefusals, hasRun, Machine, machine, PopsOrReplaces, runsIdle, WorksDamaged}
+use Rattle.clocked_model.specs.Promise.{Asks, clock, clockedQueue, CycleDamage, cycleLeft, cycleRefusals, hasRun, Machine, machine, PopsOrReplaces, WorksDamaged}
 use Rattle.clocked_model.specs.declared.State.{State}
 use Rattle.laws.specs.Fails.{Fails, fails-and, fails-or, fails-true}
 use Rattle.laws.specs.Ladder.{Exactly, left-behind, rung, stop}
@@ -21,7 +21,7 @@ use Rattle.promise.proofs.Clock.{Ticks}
 use Rattle.promise.proofs.Drains.{exactly-as}
 use Rattle.promise.specs.Calls as calls
 use Rattle.promise.specs.Calls.{left, Outcome}
-use Rattle.promise.specs.Clock.{cycleLeft as clock-left, cycling}
+use Rattle.promise.specs.Clock.{cycleLeft as clock-left, cycling, runsIdle}
 use Rattle.promise.specs.Refused.{IsPush, zero-told}
 use Rattle.promise.specs.Served.{Kind}
 use Rattle.promise.specs.Table.{bars, decided-either, decided-same, ends, needs}
@@ -177,7 +177,7 @@ module _ (m levels : ℕ) where
       λ i. step (Refused n) (machine (record { records = o .state .records; mark = e i }) (o .words))
 
   -- its cycle is the clock's
-  pub same : (r : Request) (x : Machine) → clockedQueue m levels r x ≡ cycling (clock m levels) r x
+  same : (r : Request) (x : Machine) → clockedQueue m levels r x ≡ cycling (clock m levels) r x
   unfolding cycled cycleRun ruleMarked rule
   same r x =
       decided-same asStep (λ (o : Outcome Machine). step (o .answer) (o .words)) (λ n. cycleOutcome (Refused n) (x .words) (x .state)) (left x)
@@ -185,17 +185,17 @@ module _ (m levels : ℕ) where
       (decided-same (λ (g : Ruling). asStep (cycleRun m levels r g (x .state) (x .words))) (λ (g : calls.Ruling Request). step (g .answer) (clock m levels .moves (g .op) x))
       (λ n. ruling (Refused n) Nothing) (λ n. calls.ruling (Refused n) Idle) (clock m levels .late r x) _ _ (refused-as r x) refl)
 
-  pub timed : Ticks (clock m levels)
+  pub timed : Ticks (clock m levels) (clockedQueue m levels)
   timed =
       record {
+        same = same;
         shape = λ x. shape-means m levels (length (x .words));
         torn = λ r x. damage-fails m levels r (x .state) (x .words);
+        root = λ x. node-fails (room m (pred levels)) (rootOf m (x .words));
         late = λ r x e f. (
           soon-means (x .state .mark) r,
           λ n. last-told r _ _ (λ p. root-limit m levels (x .words) (shape-is m levels (length (x .words)) e .some) (rw (push-asks r p) at (and-left (askedOk m levels r (x .words)) _ f))),
         );
-        shut = refl;
-        jammed = refl;
         idles = λ r x. (refl, last-all (λ n. runsIdle n ≡ true) refl refl refl r _ _);
         free = λ x. (not-soon (x .state .mark), (refl, tt));
         calm = λ r x f.
@@ -218,7 +218,7 @@ module _ (m levels : ℕ) (r : Request) (s : State) (ws : List ℕ) where
       (λ l. Exactly said (cycleLeft m levels s ws) (cycled m levels r s ws) (rung BadShape (Shape m levels (length ws)) (stop Damaged (CycleDamage m levels r s ws) (stop TooSoon (PopsOrReplaces r × (s .mark ≡ true)) l)))) r
       (sumCounts (rootOf m ws)) (room m levels)
       (exactly-as (λ (o : Outcome Machine). numberOf (o .answer)) (clock-left (clock m levels) (clockedQueue m levels) (machine s ws)) (shown m levels) said (λ o. refl) _ _
-      (clocks.exactly-cycle (clock m levels) (clockedQueue m levels) (same m levels) (timed m levels) r (machine s ws)))
+      (clocks.exactly-cycle (timed m levels) r (machine s ws)))
 
   -- LEFT BEHIND: 1 and 2 everything, mark and records too; 3, 5, 6 and 7 "cycle runs as idle"
   pub stands : (n : Refusal) → said (cycled m levels r s ws) ≡ refusalNumber n → cycled m levels r s ws ≡ cycleLeft m levels s ws n
@@ -226,11 +226,11 @@ module _ (m levels : ℕ) (r : Request) (s : State) (ws : List ℕ) where
 
   -- KIND: of a cycle that is not refused a push and an idle request answer done, a pop and a replace an element
   pub kind : numberOf (cycled m levels r s ws .answer) ≡ 0 → Kind r (cycled m levels r s ws .answer)
-  kind = clocks.kind (clock m levels) (clockedQueue m levels) (same m levels) (λ r x. grants-kind r _) r (machine s ws)
+  kind = clocks.kind (timed m levels) (λ r x. grants-kind r _) r (machine s ws)
 
   -- BARRED: an element without a tag is never let in, whatever stands in the machine
   pub barred : Barred r (cycled m levels r s ws .answer)
-  barred = clocks.barred (clock m levels) (clockedQueue m levels) (same m levels) (timed m levels) r (machine s ws) (λ u d. last-tags r _ _ u (d .1))
+  barred = clocks.barred (timed m levels) r (machine s ws) (λ u d. last-tags r _ _ u (d .1))
 
 -- ---- MARK: rows 1 and 2 aside, it is on exactly if an operation was asked for and not refused
 accepts-mean : (a : Answer) → Iff (not (isRefused a) ≡ true) (Unit {0} × (numberOf a ≡ 0))

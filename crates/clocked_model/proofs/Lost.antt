@@ -9,7 +9,7 @@ use lib.ListN.{length}
 use Rattle.clocked_model.proofs.Balance.{at-rest-none, balance, carried-is, carriedBy, gives-work, ruled-sums, Serves, slots-are, slotSum, struck-is, struck-there, struckBy}
 use Rattle.clocked_model.proofs.Demand.{fresh-quiet, idles-done, idles-in-step, settled-words, start-in-step}
 use Rattle.clocked_model.proofs.Drain.{drains-as}
-use Rattle.clocked_model.proofs.Exactly.{same, timed}
+use Rattle.clocked_model.proofs.Exactly.{timed}
 use Rattle.clocked_model.proofs.Step.{in-step, InStep, root-fine, same-shape, spaced-whole, step-answer, steps-fine, ticks, words-then, works-then}
 use Rattle.clocked_model.specs.Calls.{askedOk, CycleOutcome, cycleRun, cycleWork, DrainOutcome, fresh, popsOrReplaces, pending, recordCount, ruleNow}
 use Rattle.clocked_model.specs.Cycle.{cycleOk, cycleWorks}
@@ -17,8 +17,8 @@ use Rattle.clocked_model.specs.Lost.{asked, Call, callAnswers, carried, 
 use Rattle.clocked_model.specs.Promise.{clearedMachine, clock, clockedQueue, idles, Machine, machine, oneByOne}
 use Rattle.clocked_model.specs.Records.{worksOf}
 use Rattle.laws.specs.Tests.{and-right, and-true}
-use Rattle.promise.proofs.Clock as clocks
-use Rattle.promise.proofs.Clock.{Bag, IsClock, Lowest}
+use Rattle.promise.proofs.InFlight as clocks
+use Rattle.promise.proofs.InFlight.{Bag, IsClock, Lowest}
 use Rattle.promise.proofs.Kept.{none-least}
 use Rattle.promise.specs.Clock.{calls, cycle, drain}
 use Rattle.promise.specs.Queue.{step}
@@ -123,14 +123,14 @@ module _ (m k : ℕ) where
   sounds : (r : Request) (x : Machine) → Going m k x → clock m (suc k) .soundOk r x ≡ true
   sounds r x g = and-true (askedOk m (suc k) r (x .words)) _ (root-fine m k _ _ (g .0) (g .1) r) (steps-fine m k _ _ (g .0) (g .1) r)
 
-  pub is-clock : IsClock (clock m (suc k)) (Going m k)
-  is-clock = clocks.is-clock-by (clock m (suc k)) (clockedQueue m (suc k)) (same m (suc k)) (timed m (suc k)) (Going m k) shaped sounds (λ r x g. (_, in-step m k _ _ (g .0) (g .1) r))
+  pub is-clock : IsClock (clock m (suc k)) (clockedQueue m (suc k)) (Going m k)
+  is-clock = clocks.is-clock-by (timed m (suc k)) (Going m k) shaped sounds (λ r x g. (_, in-step m k _ _ (g .0) (g .1) r))
 
   pub bag : Bag (clock m (suc k)) (Going m k) (λ r. r) (remaining m (suc k))
-  bag = clocks.bag-by (clock m (suc k)) (clockedQueue m (suc k)) (same m (suc k)) (timed m (suc k)) (Going m k) shaped sounds (λ r. r) (remaining m (suc k)) refl (λ r x g f. cycle-sum m k x (g .0) (g .1) r f)
+  bag = clocks.bag-by (timed m (suc k)) (Going m k) shaped sounds (λ r. r) (remaining m (suc k)) refl (λ r x g f. cycle-sum m k x (g .0) (g .1) r f)
 
   pub idles-sum : (n : ℕ) (x : Machine) → Going m k x → (f : Element → Bool) → remaining m (suc k) (idles m (suc k) n (x .state) (x .words)) f ≡ remaining m (suc k) x f
-  idles-sum = clocks.idles-sum (clock m (suc k)) (clockedQueue m (suc k)) (same m (suc k)) (Going m k) is-clock (λ r. r) (remaining m (suc k)) bag
+  idles-sum = clocks.idles-sum is-clock bag
 
   pub settles : (x : Machine) → Going m k x → pending m (suc k) (idles m (suc k) k (x .state) (x .words) .state) ≡ false
   settles x g = idles-done m k _ _ (g .0) (g .1)
@@ -153,7 +153,7 @@ module _ (m k : ℕ) where
       go false = kept-least m k vs (i .kept) r
 
   pub lowest : Lowest (clock m (suc k)) (Going m k) (λ r. r) (remaining m (suc k))
-  lowest = clocks.lowest-by (clock m (suc k)) (clockedQueue m (suc k)) (same m (suc k)) (timed m (suc k)) (Going m k) shaped sounds (λ r. r) (remaining m (suc k)) (λ r x g. beside-least r x (g .0) (g .1))
+  lowest = clocks.lowest-by (timed m (suc k)) (Going m k) shaped sounds (λ r. r) (remaining m (suc k)) (λ r x g. beside-least r x (g .0) (g .1))
 
   -- cycles and drains are the clock's
   alike : (c : Call) (x : Machine) → machineQueue m (suc k) c x ≡ calls (clock m (suc k)) (clockedQueue m (suc k)) c x
@@ -170,10 +170,10 @@ module _ (m : ℕ) (ws : List ℕ) (cs : List Call) where
   nothing-lost zero sh = absurd (not-suc-le-zero (sh .some))
   nothing-lost (suc k) sh =
       let go : Going m k (clearedMachine m (suc k) ws) = (_, start-in-step m k ws sh) in
-      let i : Going m k (ranCalls m (suc k) cs ws) = clocks.calls-kept (clock m (suc k)) (clockedQueue m (suc k)) (same m (suc k)) (Going m k) (is-clock m k) (machineQueue m (suc k)) (alike m k) cs _ go in
+      let i : Going m k (ranCalls m (suc k) cs ws) = clocks.calls-kept (is-clock m k) (machineQueue m (suc k)) (alike m k) cs _ go in
       record {
         there = λ f. in-step-there m k (ranCalls m (suc k) cs ws) (i .0) (i .1) f;
-        remains = clocks.nothing-lost (clock m (suc k)) (clockedQueue m (suc k)) (same m (suc k)) (Going m k) (is-clock m k) (machineQueue m (suc k)) (alike m k) (λ r. r) (remaining m (suc k)) (bag m k) _ go (start-remains m k ws sh) cs;
+        remains = clocks.nothing-lost (is-clock m k) (machineQueue m (suc k)) (alike m k) (bag m k) _ go (start-remains m k ws sh) cs;
       }
 
   -- .. so each triple as often

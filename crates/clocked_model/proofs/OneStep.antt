@@ -10,16 +10,17 @@ use mathlib.Core.Path.{_∙_, _≡_, ap, ap₂, refl, subst, sym}
 use lib.ListN.{getD, length, length-set, set}
 use lib.Seq.{getD-set-other, getD-set-same}
 use Rattle.clocked_model.proofs.Demand.{ran-in-step}
-use Rattle.clocked_model.proofs.Exactly.{no-damage-sound, sound-no-damage, cycled-fine}
-use Rattle.clocked_model.proofs.Promises.{shape-kept, undamaged}
-use Rattle.clocked_model.proofs.Step.{in-step, InStep, root-fine, steps-fine}
+use Rattle.clocked_model.proofs.Exactly.{no-damage-sound, cycled-fine}
+use Rattle.clocked_model.proofs.Lost.{Going, is-clock}
 use Rattle.clocked_model.proofs.Turn.{after-before, after-past, landed-recorded, plain-rest, recorded-work, words-cycle}
 use Rattle.clocked_model.specs.Calls.{askedOk, CycleOutcome, cycleWork, ruleNow, stepsOk, cycled, cycleRun}
 use Rattle.clocked_model.specs.Cycle.{cycleLevels, cycleOk, cycleWords, Works}
 use Rattle.clocked_model.specs.Promise.{clockedQueue, CycleDamage, firstSlot, flight, leaveBelow, levelNow, levelWork, Machine, OneStep, ran, Recorded}
 use Rattle.clocked_model.specs.Records.{landed, recordAt, recordsAfter, worksOf}
 use Rattle.clocked_model.specs.declared.State.{State}
-use Rattle.laws.specs.Tests.{and-left, and-right, and-true}
+use Rattle.laws.specs.Tests.{and-left, and-right}
+use Rattle.promise.proofs.InFlight.{kept-undamaged, next-kept}
+use Rattle.promise.specs.Flight.{ends, flies}
 use Rattle.promise.specs.Queue.{leaves, Step}
 use Rattle.strip.specs.declared.Answer.{Answer}
 use Rattle.strip.specs.declared.Request.{Request}
@@ -205,51 +206,25 @@ one-step m (suc k) r s ws sh len d =
       spare = λ j h. ap (λ (c : CycleOutcome). getD (c .state .records) j idle) (here m k r s ws sh len d) ∙ after-past m k _ 0 (s .records) (under m k ws 0 1) j (omega arith);
     }
 
+module _ (m k : ℕ) where
+  going-step : (r : Request) (x : Machine) → Going m k x → OneStep m (suc k) r (x .state) (x .words)
+  going-step r x g = one-step m (suc k) r (x .state) (x .words) (subst (Shape m (suc k)) (sym (g .1 .same-length)) (g .1 .kept .shape)) (g .1 .records) (kept-undamaged (is-clock m k) r x g)
+
 -- .. so in every cycle of any list of cycles from the cleared machine
 pub one-step-run : (m levels : ℕ) (ws : List ℕ) (rs : List Request) → Shape m levels (length ws) → (r : Request) → OneStep m levels r (ran m levels rs ws .state) (ran m levels rs ws .words)
 one-step-run m zero ws rs sh r = absurd (not-suc-le-zero (sh .some))
-one-step-run m (suc k) ws rs sh r = one-step m (suc k) r _ _ (shape-kept m ws rs (suc k) sh) (ran-in-step m ws rs k sh .records) (undamaged m ws rs (suc k) sh r)
+one-step-run m (suc k) ws rs sh r = going-step m k r (ran m (suc k) rs ws) (_, ran-in-step m ws rs k sh)
 
 -- ---- LAST WRITE: "its last write falls within L cycles, its own included", whatever is asked after it
 module _ (m k : ℕ) where
   abbrev queue : Request → Machine → Step Answer Machine
   queue = clockedQueue m (suc k)
 
-  -- what keeps the cycles going: some tree beside is in step
-  abbrev Going : Machine → Type 0
-  Going x = (vs : List ℕ) × InStep m k (x .state) (x .words) vs
-
-  going-on : (r : Request) (x : Machine) → Going x → Going (queue r x .next)
-  going-on r x (vs, i) = (_, in-step m k (x .state) (x .words) vs i r)
-
-  going-step : (r : Request) (x : Machine) → Going x → OneStep m (suc k) r (x .state) (x .words)
-  going-step r x (vs, i) =
-      one-step m (suc k) r (x .state) (x .words) (subst (Shape m (suc k)) (sym (i .same-length)) (i .kept .shape)) (i .records)
-      (sound-no-damage m (suc k) r _ _ (and-true (askedOk m (suc k) r (x .words)) _ (root-fine m k _ _ _ i r) (steps-fine m k _ _ _ i r)))
-
   -- what level i leaves is the work of level i + 1 in the next cycle
-  handed-down : (r : Request) (x : Machine) (i : ℕ) → Going x → suc i < suc k
-      → recordAt (queue r x .next .state .records) i ≡ leaveBelow m (suc k) (x .words) i (levelWork m (suc k) r (x .state) (x .words) i)
+  handed-down : (r t : Request) (x : Machine) (i : ℕ) → Going m k x → suc i ≤ k
+      → levelWork m (suc k) t (queue r x .next .state) (queue r x .next .words) (suc i) ≡ leaveBelow m (suc k) (x .words) i (levelWork m (suc k) r (x .state) (x .words) i)
   unfolding recordAt
-  handed-down r x i go h = recorded-work _ _ _ (plain-rest m _ _ _) (going-step r x go .records i h)
-
-  flies : (rs : List Request) (r : Request) (x : Machine) (i : ℕ) → Going x → suc (i + length rs) < suc k
-      → recordAt (leaves queue (r ∷ rs) x .state .records) (i + length rs) ≡ flight m (suc k) i (levelWork m (suc k) r (x .state) (x .words) i) (r ∷ rs) x
-  unfolding leaves flight
-  flies [] r x i go h = ap (recordAt (queue r x .next .state .records)) (add-zero i) ∙ handed-down r x i go (omega arith)
-  flies (r₁ ∷ rs) r x i go h =
-      let at : i + suc (length rs) ≡ suc i + length rs = omega arith in
-      ap (recordAt (leaves queue rs (queue r₁ (queue r x .next) .next) .state .records)) at ∙ flies rs r₁ (queue r x .next) (suc i) (going-on r x go) (omega arith)
-      ∙ ap (λ (w : Work). flight m (suc k) (suc i) w (r₁ ∷ rs) (queue r x .next)) (handed-down r x i go (omega arith))
-
-  ends-in : (rs : List Request) (r : Request) (x : Machine) (i : ℕ) → Going x → suc (i + length rs) ≡ suc k → flight m (suc k) i (levelWork m (suc k) r (x .state) (x .words) i) (r ∷ rs) x .op ≡ Nothing
-  unfolding flight
-  ends-in [] r x i go h =
-      let e : i ≡ k = omega arith in
-      ap (λ (i : ℕ). leaveBelow m (suc k) (x .words) i (levelWork m (suc k) r (x .state) (x .words) i) .op) e ∙ going-step r x go .last
-  ends-in (r₁ ∷ rs) r x i go h =
-      ap (λ (w : Work). flight m (suc k) (suc i) w (r₁ ∷ rs) (queue r x .next) .op) (sym (handed-down r x i go (omega arith)))
-      ∙ ends-in rs r₁ (queue r x .next) (suc i) (going-on r x go) (omega arith)
+  handed-down r t x i go h = recorded-work _ _ _ (plain-rest m _ _ _) (going-step m k r x go .records i (omega arith))
 
 -- an operation asked after any list of cycles is done at level n + 1 in the n-th cycle after its own, whatever is asked in between ..
 pub in-flight : (m levels : ℕ) (ws : List ℕ) (before : List Request) → Shape m levels (length ws) → (r : Request) (after : List Request) → suc (length after) < levels
@@ -258,10 +233,13 @@ pub in-flight : (m levels : ℕ) (ws : List ℕ) (before : List Request) → Sha
 in-flight m zero ws before sh r after h = absurd (not-suc-le-zero (sh .some))
 in-flight m (suc k) ws before sh r after h =
     ap (recordAt (leaves (clockedQueue m (suc k)) (r ∷ after) (ran m (suc k) before ws) .state .records)) (sym (zero-add (length after)))
-    ∙ flies m k after r (ran m (suc k) before ws) 0 (_, ran-in-step m ws before k sh) (omega arith)
+    ∙ flies (clockedQueue m (suc k)) (λ i w x y. leaveBelow m (suc k) (x .words) i w) (Going m k) (next-kept (is-clock m k)) (λ r x. levelWork m (suc k) r (x .state) (x .words)) k (handed-down m k) after r r (ran m (suc k) before ws) 0
+    (_, ran-in-step m ws before k sh) (omega arith)
 
 -- .. and after as many cycles as there are levels nothing of it is left to do
 pub last-write : (m levels : ℕ) (ws : List ℕ) (before : List Request) → Shape m levels (length ws) → (r : Request) (after : List Request) → length (r ∷ after) ≡ levels
     → let x = ran m levels before ws in flight m levels 0 (levelWork m levels r (x .state) (x .words) 0) (r ∷ after) x .op ≡ Nothing
 last-write m zero ws before sh r after h = absurd (not-suc-le-zero (sh .some))
-last-write m (suc k) ws before sh r after h = ends-in m k after r (ran m (suc k) before ws) 0 (_, ran-in-step m ws before k sh) (omega arith)
+last-write m (suc k) ws before sh r after h =
+    ends (clockedQueue m (suc k)) (λ i w x y. leaveBelow m (suc k) (x .words) i w) (Going m k) (next-kept (is-clock m k)) (λ r x. levelWork m (suc k) r (x .state) (x .words)) k (handed-down m k) (λ w. w .op ≡ Nothing)
+    (λ r x go. going-step m k r x go .last) after r (ran m (suc k) before ws) 0 (_, ran-in-step m ws before k sh) (omega arith)

@@ -9,9 +9,9 @@ use mathlib.Core.Logic.{_⊎_, inl, inr}
 use mathlib.Core.Path.{_∙_, _≡_, ap, refl, subst, sym}
 use lib.ListN.{length}
 use Rattle.clocked_model.proofs.Demand.{demand-idles, demand-store, fresh-mark, fresh-quiet, ran-in-step, start-in-step}
-use Rattle.clocked_model.proofs.Drain.{drain-state, drains-as, good, waiting}
+use Rattle.clocked_model.proofs.Drain.{drain-state, drains-as}
 use Rattle.clocked_model.proofs.Lost.{at-rest-remains, bag, Going, idles-sum, is-clock, lowest, settles, start-remains}
-use Rattle.clocked_model.proofs.Exactly.{barred, refused-mark, same}
+use Rattle.clocked_model.proofs.Exactly.{barred, refused-mark}
 use Rattle.clocked_model.proofs.Step.{same-root}
 use Rattle.clocked_model.specs.Calls.{clockedCleared, cycleOutcome, DrainOutcome, drains, fresh, marks, pending, popsOrReplaces, recordCount, clearedMachine, cycled}
 use Rattle.clocked_model.specs.Promise.{callsOf, clock, clockedQueue, cycleAnswers, CycleDamage, idles, Machine, oneByOne, oneByOneWords, ran}
@@ -19,8 +19,9 @@ use Rattle.clocked_model.specs.declared.State.{State}
 use Rattle.laws.specs.Means.{means-off}
 use Rattle.promise.specs.Queue.{leaves}
 use Rattle.promise.proofs.Calls.{last-all}
-use Rattle.promise.proofs.Clock as clocks
-use Rattle.promise.specs.Drains.{Drained, drainsBy}
+use Rattle.promise.proofs.InFlight as clocks
+use Rattle.promise.specs.Clock.{drainedBy}
+use Rattle.promise.specs.Drains.{Drained}
 use Rattle.clocked_model.specs.Lost.{remaining}
 use Rattle.promise.specs.Served.{allBrought, allGiven, always, Holds, Least, least-same, same as same-pair, triple}
 use Rattle.promise.specs.Tagged.{Tagged, tagged-by}
@@ -99,14 +100,14 @@ module _ (m : ℕ) (ws : List ℕ) (rs : List Request) where
   -- UNDAMAGED: no cycle is refused for damage, and none for the shape
   pub undamaged : (levels : ℕ) → Shape m levels (length ws) → (r : Request) → CycleDamage m levels r (ran m levels rs ws .state) (ran m levels rs ws .words) → ⊥
   undamaged zero sh r = absurd (not-suc-le-zero (sh .some))
-  undamaged (suc k) sh r = clocks.kept-undamaged (clock m (suc k)) (clockedQueue m (suc k)) (same m (suc k)) (Going m k) (is-clock m k) r (ran m (suc k) rs ws) (going k sh)
+  undamaged (suc k) sh r = clocks.kept-undamaged (is-clock m k) r (ran m (suc k) rs ws) (going k sh)
 
   -- .. so that only 0, 3, 5, 6 and 7 are answered
   pub numbers : (levels : ℕ) → Shape m levels (length ws) → (r : Request)
       → let n = numberOf (cycled m levels r (ran m levels rs ws .state) (ran m levels rs ws .words) .answer) in (n ≡ 0) ⊎ (n ≡ 3) ⊎ (n ≡ 5) ⊎ (n ≡ 6) ⊎ (n ≡ 7)
   numbers zero sh r = absurd (not-suc-le-zero (sh .some))
   numbers (suc k) sh r =
-      clocks.kept-numbers (clock m (suc k)) (clockedQueue m (suc k)) (same m (suc k)) (Going m k) (is-clock m k) r (ran m (suc k) rs ws) (going k sh) (λ n. (n ≡ 0) ⊎ (n ≡ 3) ⊎ (n ≡ 5) ⊎ (n ≡ 6) ⊎ (n ≡ 7)) (inl refl)
+      clocks.kept-numbers (is-clock m k) r (ran m (suc k) rs ws) (going k sh) (λ n. (n ≡ 0) ⊎ (n ≡ 3) ⊎ (n ≡ 5) ⊎ (n ≡ 6) ⊎ (n ≡ 7)) (inl refl)
       (inr (inl refl), last-all (λ x. let n = refusalNumber x in (n ≡ 0) ⊎ (n ≡ 3) ⊎ (n ≡ 5) ⊎ (n ≡ 6) ⊎ (n ≡ 7)) (inr (inr (inr (inr refl)))) (inr (inr (inl refl))) (inr (inr (inr (inl refl)))) r _ _)
 
   pub shape-kept : (levels : ℕ) → Shape m levels (length ws) → Shape m levels (length (ran m levels rs ws .words))
@@ -122,7 +123,7 @@ module _ (m : ℕ) (ws : List ℕ) (rs : List Request) where
       omega (
         arith,
         rested k sh n e f,
-        clocks.all-held (clock m (suc k)) (clockedQueue m (suc k)) (same m (suc k)) (Going m k) (is-clock m k) (remaining m (suc k)) (bag m k) _ (_, start-in-step m k ws sh) (start-remains m k ws sh) rs f,
+        clocks.all-held (is-clock m k) (bag m k) _ (_, start-in-step m k ws sh) (start-remains m k ws sh) rs f,
       )
 
   -- .. so each pair as often
@@ -146,7 +147,7 @@ module _ (m : ℕ) (ws : List ℕ) (rs : List Request) where
   least zero sh n e r = absurd (not-suc-le-zero (sh .some))
   least (suc k) sh n e r =
       least-same (remaining m (suc k) (ran m (suc k) rs ws)) (storedCount (room m (suc k)) (at-rest-after (suc k) n)) (rested k sh n e) r _
-      (clocks.cycle-least (clock m (suc k)) (clockedQueue m (suc k)) (same m (suc k)) (Going m k) (is-clock m k) (λ r. r) (remaining m (suc k)) (lowest m k) r (ran m (suc k) rs ws) (going k sh))
+      (clocks.cycle-least (is-clock m k) (lowest m k) r (ran m (suc k) rs ws) (going k sh))
 
   -- the call held answers, once idled, how many are stored
   pub held-says : (levels : ℕ) → Shape m levels (length ws) → (n : ℕ) → Idled levels n
@@ -173,7 +174,7 @@ module _ (m : ℕ) (ws : List ℕ) (rs : List Request) where
 module _ (m : ℕ) (ws : List ℕ) (rs : List Request) (budget : ℕ) where
   -- the clock's own drain
   abbrev by-clock : ℕ → Drained Machine
-  by-clock levels = drainsBy (clockedQueue m levels) (waiting m levels) (good m levels (ran m levels rs ws)) budget (ran m levels rs ws)
+  by-clock levels = drainedBy (clock m levels) (clockedQueue m levels) budget (ran m levels rs ws)
 
   -- .. is done, within levels - 1 cycles, and leaves no work
   comes-to : (levels : ℕ) → Shape m levels (length ws) → pred levels ≤ budget
@@ -181,10 +182,10 @@ module _ (m : ℕ) (ws : List ℕ) (rs : List Request) (budget : ℕ) where
   comes-to zero sh enough = absurd (not-suc-le-zero (sh .some))
   comes-to (suc k) sh enough =
       let go = going m ws rs k sh in (
-        clocks.drained-fine (clock m (suc k)) (clockedQueue m (suc k)) (same m (suc k)) (Going m k) (is-clock m k) k (settles m k) (ran m (suc k) rs ws) go budget enough,
-        clocks.drained-few (clock m (suc k)) (clockedQueue m (suc k)) (same m (suc k)) (Going m k) (is-clock m k) k (settles m k) (ran m (suc k) rs ws) go budget enough,
-        clocks.drained-left (clock m (suc k)) (clockedQueue m (suc k)) (same m (suc k)) (Going m k) (is-clock m k) k (settles m k) (ran m (suc k) rs ws) go budget enough,
-        clocks.drained-rest (clock m (suc k)) (clockedQueue m (suc k)) (same m (suc k)) (Going m k) (is-clock m k) k (settles m k) (ran m (suc k) rs ws) go budget enough,
+        clocks.drained-fine (is-clock m k) k (settles m k) (ran m (suc k) rs ws) go budget enough,
+        clocks.drained-few (is-clock m k) k (settles m k) (ran m (suc k) rs ws) go budget enough,
+        clocks.drained-left (is-clock m k) k (settles m k) (ran m (suc k) rs ws) go budget enough,
+        clocks.drained-rest (is-clock m k) k (settles m k) (ran m (suc k) rs ws) go budget enough,
       )
 
 module _ (m : ℕ) (ws : List ℕ) (rs : List Request) (levels : ℕ) (sh : Shape m levels (length ws)) (budget : ℕ) (enough : pred levels ≤ budget) where

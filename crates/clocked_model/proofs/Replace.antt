@@ -8,7 +8,6 @@ use mathlib.Core.Path.{_∙_, _≡_, ap, refl, subst, sym}
 use lib.ListN.{length}
 use borrow.Author.Tests.{lt-ltb}
 use Rattle.clocked_model.proofs.Demand.{ran-in-step}
-use Rattle.clocked_model.proofs.Exactly.{same}
 use Rattle.clocked_model.proofs.Lost.{at-rest-remains, bag, Going, idles-sum, is-clock, remains-beside, settles}
 use Rattle.clocked_model.proofs.Step.{same-root}
 use Rattle.clocked_model.specs.Calls.{popsOrReplaces}
@@ -16,8 +15,8 @@ use Rattle.clocked_model.specs.Lost.{remaining}
 use Rattle.clocked_model.specs.Promise.{clock, clockedQueue, idles, Machine, PopThenPush, ran, Rests, storedThen}
 use Rattle.laws.specs.Means.{means-off}
 use Rattle.promise.proofs.Calls.{grants-kind}
-use Rattle.promise.proofs.Clock as clocks
-use Rattle.promise.proofs.Clock.{Swaps}
+use Rattle.promise.proofs.InFlight as clocks
+use Rattle.promise.proofs.InFlight.{Swaps}
 use Rattle.promise.proofs.Kept.{last-alike}
 use Rattle.promise.specs.Calls as calls
 use Rattle.promise.specs.Calls.{outcome, Outcome}
@@ -62,14 +61,14 @@ module _ (m k : ℕ) where
       go true = refl
       go false = last-alike (λ r. r) e (low (rootOf m (x .words))) (sumCounts (rootOf m (x .words))) (room m (suc k)) (means-off (untagged-means e) tag)
 
-  swaps : Swaps (clock m (suc k)) queue (same m (suc k)) (Going m k) (is-clock m k) (remaining m (suc k)) (bag m k)
+  swaps : Swaps (is-clock m k) (bag m k)
   swaps =
       record {
         kinds = λ r x. grants-kind r _;
         alike = λ e x g tag. alike e x tag;
         room = λ e x g tag c. (
           push-soon (clock m (suc k) .moves Pop x .state .mark) e,
-          (means-off (untagged-means e) tag, (lt-ltb _ (room m (suc k)) (clocks.popped-less (clock m (suc k)) queue (same m (suc k)) (Going m k) (is-clock m k) (remaining m (suc k)) (bag m k) counts (room m (suc k)) few x g c), tt)),
+          (means-off (untagged-means e) tag, (lt-ltb _ (room m (suc k)) (clocks.popped-less (is-clock m k) (bag m k) counts (room m (suc k)) few x g c), tt)),
         );
       }
 
@@ -79,10 +78,10 @@ module _ (m k : ℕ) where
 
   module _ (e : Element) (tag : Untagged (Replace e) → ⊥) (x : Machine) (g : Going m k x) where
     by-clock : calls.PopThenPush (λ r x. outcome (queue r x .said) (queue r x .next)) (remaining m (suc k)) e x
-    by-clock = clocks.pop-then-push (clock m (suc k)) queue (same m (suc k)) (Going m k) (is-clock m k) (remaining m (suc k)) (bag m k) swaps e tag x g
+    by-clock = clocks.pop-then-push (is-clock m k) (bag m k) swaps e tag x g
 
     next : (r : Request) (y : Machine) → Going m k y → Going m k (queue r y .next)
-    next = clocks.next-kept (clock m (suc k)) queue (same m (suc k)) (Going m k) (is-clock m k)
+    next = clocks.next-kept (is-clock m k)
 
     pub going-replaces : PopThenPush m (suc k) e x
     unfolding leaves

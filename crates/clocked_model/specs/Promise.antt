@@ -13,7 +13,9 @@ use Rattle.laws.specs.Ladder.{fine, Ladder, rung, stop}
 use Rattle.laws.specs.Sums.{sumTo}
 use Rattle.promise.specs.Calls.{grants, lastTable}
 use Rattle.promise.specs.Clock.{Clock}
+pub use Rattle.promise.specs.Clock.{runsIdle}
 use Rattle.promise.specs.Table.{stops}
+use Rattle.promise.specs.Flight as flights
 use Rattle.promise.specs.Queue.{answers, leaves, step, Step}
 use Rattle.promise.specs.Refused.{limits, Untagged}
 use Rattle.promise.specs.Served.{hit}
@@ -22,7 +24,7 @@ use Rattle.strip.specs.declared.Answer.{Answer}
 use Rattle.strip.specs.declared.Answer.the-variants.{Done, Out, Refused}
 use Rattle.strip.specs.declared.Element.{Element}
 use Rattle.strip.specs.declared.Refusal.{Refusal}
-use Rattle.strip.specs.declared.Refusal.the-variants.{BadPort, BadRank, BadShape, Damaged, Empty, Full, NoTag, TooSoon}
+use Rattle.strip.specs.declared.Refusal.the-variants.{BadShape, Damaged, NoTag, TooSoon}
 use Rattle.strip.specs.declared.Request.{Request}
 use Rattle.strip.specs.declared.Request.the-variants.{Idle, Pop, Push, Replace}
 use Rattle.tree_model.specs.Calls.{called, opOf, outcome, Outcome, rootOf, rootOk, ruling, shapeOk}
@@ -116,18 +118,6 @@ CycleDamage m levels r s ws =
     (Asks r × NodeDamaged (room m (pred levels)) (rootOf m ws))
     ⊎ WorksDamaged m (allLevels levels) (cycleWork m levels (ruleNow m levels r s ws .op) s) (levelsOf m (allLevels levels) ws 0 1)
 
--- column "Left behind": after 1 and 2 "everything, mark and records too"; after the others the "cycle runs as idle", after 7 too: "a clocked refusal
--- counts as an idle cycle"
-abbrev pub runsIdle : Refusal → Bool
-runsIdle BadShape = false
-runsIdle Damaged = false
-runsIdle TooSoon = true
-runsIdle BadRank = true
-runsIdle Full = true
-runsIdle Empty = true
-runsIdle NoTag = true
-runsIdle BadPort = true
-
 -- ---- what this tree brings to a clock
 abbrev pub clock : ℕ → ℕ → Clock Request Machine
 clock m levels =
@@ -139,7 +129,6 @@ clock m levels =
       soundOk = λ r x. askedOk m levels r (x .words) && stepsOk m levels (ruleNow m levels r (x .state) (x .words) .op) (x .state) (x .words);
       Torn = λ r x. CycleDamage m levels r (x .state) (x .words);
       late = λ r x. stops TooSoon (x .state .mark && popsOrReplaces r) (PopsOrReplaces r × (x .state .mark ≡ true)) (lastTable r (sumCounts (rootOf m (x .words))) (room m levels));
-      runsIdle = runsIdle;
       gives = λ r x. grants r (low (rootOf m (x .words)));
       moves = λ r x. let o = cycleRun m levels r (ruling (grants r (low (rootOf m (x .words)))) (opOf r)) (x .state) (x .words) in machine (o .state) (o .words);
       rootOk = λ x. rootOk m levels (x .words);
@@ -158,7 +147,7 @@ cycleRefusals m levels r s ws =
     (stop NoTag (Untagged r)
     (limits r (sumCounts (rootOf m ws)) (room m levels) fine))))
 
--- .. so that a cycle with this answer has run
+-- column "Left behind" (`runsIdle` of `promise`): a cycle with this answer has run
 abbrev pub hasRun : Answer → Bool
 hasRun Done = true
 hasRun (Out e) = true
@@ -229,9 +218,8 @@ pub record OneStep (m levels : ℕ) (r : Request) (s : State) (ws : List ℕ) : 
   pub spare : (j : ℕ) → fromTwo levels ≤ j → getD (cycled m levels r s ws .state .records) j idle ≡ getD (s .records) j idle
 
 -- an operation's work on its way down: w at level i in this cycle, what it leaves at level i + 1 in the next, whatever is asked then
-unfoldable pub flight : (m levels i : ℕ) → Work → List Request → Machine → Work
-flight m levels i w [] x = w
-flight m levels i w (r ∷ rs) x = flight m levels (suc i) (leaveBelow m levels (x .words) i w) rs (clockedQueue m levels r x .next)
+abbrev pub flight : (m levels i : ℕ) → Work → List Request → Machine → Work
+flight m levels = flights.flight (clockedQueue m levels) (λ i w x y. leaveBelow m levels (x .words) i w)
 
 -- ---- what is never read. Two machines are alike where they agree on the words of the shape, on the work of the records of its levels, and on the
 -- mark: words behind, records past the last level, and numbers that a record's kind does not use may differ

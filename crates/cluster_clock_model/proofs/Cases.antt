@@ -2,7 +2,7 @@
 use mathlib.Core.Path.{_≡_, refl}
 use Rattle.clocked_model.specs.Calls.{asks}
 use Rattle.cluster_clock_model.specs.Calls.{fresh, turned, turnRun}
-use Rattle.cluster_clock_model.specs.Cases.{caseClock, caseClockSays, caseFlight, caseFlightAnswers, caseFlightAnswersSay, caseFlightSays, caseTie, caseTieAnswers, caseTieAnswersSay, caseTieSays}
+use Rattle.cluster_clock_model.specs.Cases.{caseClock, caseClockSays, caseFlight, caseFlightAnswers, caseFlightAnswersSay, caseFlightSays, caseGap, caseGapSays, caseTie, caseTieAnswers, caseTieAnswersSay, caseTieSays}
 use Rattle.cluster_clock_model.specs.Stage.{begins, filled, handed, levelStage, levelWords, loaded, settled, worked}
 use Rattle.cluster_clock_model.specs.Stage as stages
 use Rattle.cluster_clock_model.specs.Test.{givesOk, isGap, sane, saneAt, stageOk, stagesOk, waitOk}
@@ -33,3 +33,7 @@ case-tie = refl
 pub case-tie-answers : caseTieAnswers ≡ caseTieAnswersSay
 unfolding caseTieAnswers answers leaves blank key precedes untagged cleared rootHeld rule shapeOk wipe room begin fewer fillFrom finish free freeHere high highElem highHere inside keep low lowElem lowerSide lowHere nothingBelow pass placeAt putBy seek swapBy takeBy trialBy trialFrom extent neatTo roomy some touch works lengthIn markOf neatPlace nodeOf placeBy placeOf rankIn rowOf tagIn writeNode writePlace writeRow asks fresh turned turnRun stages.pass begins filled handed levelStage levelWords loaded settled worked givesOk isGap sane saneAt stageOk stagesOk waitOk
 case-tie-answers = refl
+
+pub case-gap : caseGap ≡ caseGapSays
+unfolding caseGap leaves blank key precedes untagged cleared rootHeld rule shapeOk wipe room begin fewer fillFrom finish free freeHere high highElem highHere inside keep low lowElem lowerSide lowHere nothingBelow pass placeAt putBy seek swapBy takeBy trialBy trialFrom extent neatTo roomy some touch works lengthIn markOf neatPlace nodeOf placeBy placeOf rankIn rowOf tagIn writeNode writePlace writeRow asks fresh turned turnRun stages.pass begins filled handed levelStage levelWords loaded settled worked givesOk isGap sane saneAt stageOk stagesOk waitOk
+case-gap = refl

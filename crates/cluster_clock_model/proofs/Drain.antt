@@ -2,89 +2,46 @@
 use Prim.Native.Nat.{_+_, _<_, _≤_, pred, suc, zero, ℕ}
 use native.Mathlib.Nat.{not-suc-le-zero}
 use native.Mathlib.Omega.{arith}
-use mathlib.Core.Bool.{Bool, cond, false, not, true}
+use mathlib.Core.Bool.{false, not, true}
 use mathlib.Core.List.{List}
-use mathlib.Core.Logic.{_⊎_, inl}
+use mathlib.Core.Logic.{inl}
 use mathlib.Core.Path.{_∙_, _≡_, ap, refl, subst, sym}
 use lib.ListN.{length, length-set, set}
 use lib.Seq.{getD-set-same}
-use Rattle.cluster_clock_model.proofs.Exactly.{same, ticks}
+use Rattle.cluster_clock_model.proofs.Exactly.{ticks}
 use Rattle.cluster_clock_model.proofs.Seen.{pass-others, pass-records, set-later}
 use Rattle.cluster_clock_model.specs.declared.Due.{Due}
 use Rattle.cluster_clock_model.specs.declared.Due.the-variants.{Nothing}
 use Rattle.cluster_clock_model.specs.declared.Stage.{Stage}
-use Rattle.cluster_clock_model.specs.Calls.{drainFrom, drainOutcome, DrainOutcome, drains, isNothing, pending, quiet, turned, TurnOutcome, turnRun}
-use Rattle.cluster_clock_model.specs.Promise.{clock, drainLeft, drainRefusals, idles, Jams, Machine, machine, TurnDamage, turnQueue}
+use Rattle.cluster_clock_model.specs.Calls.{drainFrom, drainOutcome, DrainOutcome, drains, isNothing, pending, quiet, turned, turnRun}
+use Rattle.cluster_clock_model.specs.Promise.{clock, drainLeft, drainRefusals, idles, Jams, Machine, machine, turnQueue}
 use Rattle.cluster_clock_model.specs.Stage.{begins, below, filled, handed, levelStage, levelWords, loaded, noStage, pass, stageAt, work, Work}
 use Rattle.cluster_model.specs.Calls.{shapeOk}
 use Rattle.cluster_model.specs.Node.{begin, low, none, Op}
 use Rattle.cluster_model.specs.Promise.{Shape}
 use Rattle.cluster_model.specs.Way.{nodeIn}
 use Rattle.laws.specs.Ladder.{Exactly, left-behind}
-use Rattle.laws.specs.Means.{Means}
 use Rattle.laws.specs.Tests.{and-true}
-use Rattle.promise.proofs.Clock as clocks
+use Rattle.promise.proofs.Clock.{idle-ran}
 use Rattle.promise.proofs.Drains as drain
-use Rattle.promise.specs.Drains.{behind, capped, Close, drainBy, drained, Drained, drainsBy, isRefused}
-use Rattle.promise.specs.Queue.{Step, step}
+use Rattle.promise.specs.Clock.{drainedBy}
+use Rattle.promise.specs.Drains.{capped, Close, drained, Drained}
+use Rattle.promise.specs.Queue.{Step}
 use Rattle.strip.specs.Answers.{numberOf, refusalNumber}
 use Rattle.strip.specs.declared.Answer.{Answer}
 use Rattle.strip.specs.declared.Answer.the-variants.{Done, Refused}
 use Rattle.strip.specs.declared.Refusal.{Refusal}
-use Rattle.strip.specs.declared.Refusal.the-variants.{BadShape, Damaged}
-use Rattle.strip.specs.declared.Request.{Request}
+use Rattle.strip.specs.declared.Refusal.the-variants.{BadShape}
 use Rattle.strip.specs.declared.Request.the-variants.{Idle}
 
--- ---- this machine's drain is the drain of any machine
+-- ---- this machine's drain is its clock's (`promise/proofs/Drains.antt`): what follows is said of it under the law's words
 module _ (K levels : ℕ) where
-  abbrev pub queue : Request → Machine → Step Answer Machine
-  queue = turnQueue K levels
-
-  abbrev pub waiting : Machine → Bool
-  waiting x = pending K levels (x .records)
-
-  abbrev pub Jam : Machine → Type 0
-  Jam x = TurnDamage K levels Idle (x .records) (x .words)
-
-  abbrev pub good : Machine → Bool
-  good x = shapeOk K levels (length (x .words))
-
-  abbrev Fits : Machine → Type 0
-  Fits x = Shape K levels (length (x .words))
-
-  means : (x : Machine) → Means (good x) (Fits x)
-  means = ticks K levels .shape
-
-  keeps : (r : Request) (x : Machine) → good (queue r x .next) ≡ good x
-  keeps = clocks.ticking (clock K levels) queue (same K levels) (ticks K levels)
-
-  idling : (x : Machine) → good x ≡ true → (queue Idle x .said ≡ Done) ⊎ ((queue Idle x ≡ step (Refused Damaged) x) × Jam x)
-  idling = clocks.idling (clock K levels) queue (same K levels) (ticks K levels)
-
-  jams : (x : Machine) → good x ≡ true → Jam x → numberOf (queue Idle x .said) ≡ 0 → ⊥
-  jams = clocks.jams (clock K levels) queue (same K levels) (ticks K levels)
-
-  abbrev pub shown : Drained Machine → DrainOutcome
+  abbrev shown : Drained Machine → DrainOutcome
   shown d = drainOutcome (d .answer) (d .cycles) (d .left) (d .state .words) (d .state .records)
-
-  drain-as : (b n : ℕ) (rs : List Stage) (ws : List ℕ) → drainFrom K levels b n rs ws ≡ shown (drainBy queue waiting b n (machine rs ws))
-  unfolding drainFrom drainBy
-  drain-as zero n rs ws = refl
-  drain-as (suc b) n rs ws = go (pending K levels rs) (isRefused (turned K levels Idle rs ws .answer)) (drain-as b (suc n) (turned K levels Idle rs ws .records) (turned K levels Idle rs ws .words))
-    where
-      o : TurnOutcome
-      o = turned K levels Idle rs ws
-
-      go : (p q : Bool) → drainFrom K levels b (suc n) (o .records) (o .words) ≡ shown (drainBy queue waiting b (suc n) (machine (o .records) (o .words)))
-          → cond p (cond q (drainOutcome (o .answer) n true (o .words) (o .records)) (drainFrom K levels b (suc n) (o .records) (o .words))) (drainOutcome Done n false ws rs)
-          ≡ shown (cond {A = Drained Machine} p (cond {A = Drained Machine} q (drained (o .answer) n true (machine (o .records) (o .words))) (drainBy queue waiting b (suc n) (machine (o .records) (o .words)))) (drained Done n false (machine rs ws)))
-      go true true ih = refl
-      go true false ih = ih
-      go false q ih = refl
 
   -- how a drain with the budget b of the machine x ends
   abbrev pub Ended : ℕ → Machine → DrainOutcome → Type 0
-  Ended b x d = Close queue waiting Jam b (d .cycles) x (drained (d .answer) (d .cycles) (d .left) (machine (d .records) (d .words)))
+  Ended b x d = Close (turnQueue K levels) (clock K levels .pending) (clock K levels .Torn Idle) b (d .cycles) x (drained (d .answer) (d .cycles) (d .left) (machine (d .records) (d .words)))
 
   module _ (b : ℕ) (rs : List Stage) (ws : List ℕ) where
     abbrev x : Machine
@@ -93,13 +50,10 @@ module _ (K levels : ℕ) where
     abbrev d : DrainOutcome
     d = drains K levels b rs ws
 
-    pub drains-as : d ≡ shown (drainsBy queue waiting (good x) b x)
-    unfolding drains
-    drains-as = go (good x)
-      where
-        go : (t : Bool) → cond t (drainFrom K levels b 0 rs ws) (drainOutcome (Refused BadShape) 0 false ws rs) ≡ shown (drainsBy queue waiting t b x)
-        go true = drain-as b 0 rs ws
-        go false = refl
+    pub drains-as : d ≡ shown (drainedBy (clock K levels) (turnQueue K levels) b x)
+    unfolding drains drainFrom
+    drains-as =
+        drain.drains-shown (turnQueue K levels) (clock K levels .pending) shown (λ b n x. drainFrom K levels b n (x .records) (x .words)) (λ n x. refl) (λ b n x. refl) (clock K levels .shapeOk x) b x
 
     pub drain-bad : shapeOk K levels (length ws) ≡ false → drains K levels b rs ws ≡ drainOutcome (Refused BadShape) 0 false ws rs
     unfolding drains
@@ -107,51 +61,48 @@ module _ (K levels : ℕ) where
 
     -- DRAIN-STATE: "The state left is that of exactly so many idle cycles", whatever is drained
     pub drain-state : (drains K levels b rs ws .words ≡ idles K levels (drains K levels b rs ws .cycles) x .words) × (drains K levels b rs ws .records ≡ idles K levels (drains K levels b rs ws .cycles) x .records)
-    drain-state = let e = drain.drain-state queue waiting Jam good Fits means keeps idling jams b x in rw drains-as (ap (λ (y : Machine). y .words) e, ap (λ (y : Machine). y .records) e)
+    drain-state = let e = drain.drain-state (ticks K levels) b x in rw drains-as (ap (λ (y : Machine). y .words) e, ap (λ (y : Machine). y .records) e)
 
     -- DRAIN-NEEDED: "none is run once nothing is pending", and none past the budget
     pub drain-needed : (j : ℕ) → j < drains K levels b rs ws .cycles → pending K levels (idles K levels j x .records) ≡ true
-    drain-needed = rw drains-as (drain.drain-needed queue waiting Jam good Fits means keeps idling jams b x)
+    drain-needed = rw drains-as (drain.drain-needed (ticks K levels) b x)
 
     pub drain-within : drains K levels b rs ws .cycles ≤ b
-    drain-within = rw drains-as (drain.drain-within queue waiting Jam good Fits means keeps idling jams b x)
+    drain-within = rw drains-as (drain.drain-within (ticks K levels) b x)
 
     -- DRAIN-RAN: each of the cycles reported ran unrefused
     pub drain-ran : (j : ℕ) → j < drains K levels b rs ws .cycles → numberOf (turned K levels Idle (idles K levels j x .records) (idles K levels j x .words) .answer) ≡ 0
-    drain-ran = rw drains-as (drain.drain-ran queue waiting Jam good Fits means keeps idling jams b x)
+    drain-ran = rw drains-as (drain.drain-ran (ticks K levels) b x)
 
     -- KIND: a drain that is not refused is done
     pub drain-kind : numberOf (drains K levels b rs ws .answer) ≡ 0 → drains K levels b rs ws .answer ≡ Done
-    drain-kind = rw drains-as (drain.drain-kind queue waiting Jam good Fits means keeps idling jams b x)
+    drain-kind = rw drains-as (drain.drain-kind (ticks K levels) b x)
 
     -- DRAIN-STOPS: the cycle after exactly so many idle cycles is the one that meets damage
     pub drain-stops : numberOf (drains K levels b rs ws .answer) ≡ 2 → Jams K levels b (drains K levels b rs ws .cycles) x
-    drain-stops = rw drains-as (drain.drain-stops queue waiting Jam good Fits means keeps idling jams b x)
+    drain-stops = rw drains-as (drain.drain-stops (ticks K levels) b x)
 
     module _ (sh : Shape K levels (length ws)) where
       -- "whether work is left"
       pub drain-left : drains K levels b rs ws .left ≡ pending K levels (drains K levels b rs ws .records)
-      drain-left = rw drains-as (drain.drain-left queue waiting Jam good Fits means keeps idling jams b x sh)
+      drain-left = rw drains-as (drain.drain-left (ticks K levels) b x sh)
 
       -- with work left and no damage the budget is spent
       pub drain-spent : numberOf (drains K levels b rs ws .answer) ≡ 0 → drains K levels b rs ws .left ≡ true → drains K levels b rs ws .cycles ≡ b
-      drain-spent = rw drains-as (drain.drain-spent queue waiting Jam good Fits means keeps idling jams b x sh)
+      drain-spent = rw drains-as (drain.drain-spent (ticks K levels) b x sh)
 
       -- DRAIN-EXACT: where no cycle is refused and n idle cycles are those until nothing is pending, the count is n capped by the budget
       pub drain-exact : numberOf (drains K levels b rs ws .answer) ≡ 0 → (n : ℕ) → pending K levels (idles K levels n x .records) ≡ false
           → ((j : ℕ) → j < n → pending K levels (idles K levels j x .records) ≡ true) → drains K levels b rs ws .cycles ≡ capped b n
-      drain-exact = rw drains-as (drain.drain-count queue waiting Jam good Fits means keeps idling jams b x sh)
+      drain-exact = rw drains-as (drain.drain-count (ticks K levels) b x sh)
 
       -- DRAIN-ENDS: done, with no work left or the budget spent; or stopped at 2 with work left, where the cycle after exactly so many meets damage
       pub drain-ends : Ended b x (drains K levels b rs ws)
-      drain-ends = rw drains-as (drain.drain-ends queue waiting Jam good Fits means keeps idling jams b x sh)
+      drain-ends = rw drains-as (drain.drain-ends (ticks K levels) b x sh)
 
     -- EXACTLY: a drain is refused for the shape, or where an idle cycle within the budget meets damage, and leaves behind what the rule says
     pub exactly-drain : Exactly (λ (d : DrainOutcome). numberOf (d .answer)) (drainLeft K levels (drains K levels b rs ws .cycles) rs ws) (drains K levels b rs ws) (drainRefusals K levels b rs ws)
-    exactly-drain =
-        rw drains-as
-        (drain.exactly-as (λ (d : Drained Machine). numberOf (d .answer)) (behind queue (drainsBy queue waiting (good x) b x .cycles) x) shown (λ d. numberOf (d .answer)) (λ d. refl) (drainsBy queue waiting (good x) b x) _
-        (drain.exactly-drain queue waiting Jam good Fits means keeps idling jams b x))
+    exactly-drain = rw drains-as (drain.exactly-as _ _ shown (λ d. numberOf (d .answer)) (λ d. refl) _ _ (drain.exactly-drain (ticks K levels) b x))
 
     -- "Drain stops at 2 and reports the cycles already run, work left; at 1 it reports 0 and no work left"
     pub drain-refused : (n : Refusal) → numberOf (drains K levels b rs ws .answer) ≡ refusalNumber n → drains K levels b rs ws ≡ drainLeft K levels (drains K levels b rs ws .cycles) rs ws n
@@ -214,15 +165,11 @@ lead-quiet zero (suc k) i rs h l = absurd (not-suc-le-zero h)
 lead-quiet (suc j) (suc k) i rs h l = and-true _ _ (ap isNothing (l .0)) (lead-quiet j k (suc i) rs (omega arith) (l .1))
 
 module _ (K levels : ℕ) where
-  -- an idle cycle that is not refused has run
-  idle-ran : (x : Machine) → numberOf (turned K levels Idle (x .records) (x .words) .answer) ≡ 0 → turnQueue K levels Idle x ≡ step Done (clock K levels .moves Idle x)
-  idle-ran = clocks.idle-ran (clock K levels) (turnQueue K levels) (same K levels) (ticks K levels)
-
   lead-next : (j : ℕ) (x : Machine) → numberOf (turned K levels Idle (x .records) (x .words) .answer) ≡ 0 → pred levels ≤ length (x .records) → Lead j (pred levels) 0 (x .records)
       → (pred levels ≤ length (turned K levels Idle (x .records) (x .words) .records)) × Lead (suc j) (pred levels) 0 (turned K levels Idle (x .records) (x .words) .records)
   unfolding turnRun
   lead-next j x z len l =
-      subst (λ (s : Step Answer Machine). (pred levels ≤ length (s .next .records)) × Lead (suc j) (pred levels) 0 (s .next .records)) (sym (idle-ran x z)) (
+      subst (λ (s : Step Answer Machine). (pred levels ≤ length (s .next .records)) × Lead (suc j) (pred levels) 0 (s .next .records)) (sym (idle-ran (ticks K levels) x z)) (
         subst (λ (n : ℕ). pred levels ≤ n) (sym (pass-records K (pred levels) 0 (work none 0) 0 (x .records) (x .words))) len,
         pass-lead K j (pred levels) 0 (work none 0) 0 (x .records) (x .words) refl (omega arith) l,
       )
@@ -231,18 +178,18 @@ module _ (K levels : ℕ) where
   abbrev led : ℕ → Machine → Type 0
   led j x = (pred levels ≤ length (x .records)) × Lead j (pred levels) 0 (x .records)
 
-  more-led : (j : ℕ) (x : Machine) → numberOf (queue K levels Idle x .said) ≡ 0 → led j x → led (suc j) (queue K levels Idle x .next)
+  more-led : (j : ℕ) (x : Machine) → numberOf (turnQueue K levels Idle x .said) ≡ 0 → led j x → led (suc j) (turnQueue K levels Idle x .next)
   more-led j x z l = lead-next j x z (l .0) (l .1)
 
-  all-led : (x : Machine) → led (pred levels) x → waiting K levels x ≡ false
+  all-led : (x : Machine) → led (pred levels) x → pending K levels (x .records) ≡ false
   all-led x l = ap not (lead-quiet (pred levels) (pred levels) 0 (x .records) (omega arith) (l .1))
 
   pub idles-quiet : (x : Machine) → pred levels ≤ length (x .records) → ((t : ℕ) → t < pred levels → numberOf (turned K levels Idle (idles K levels t x .records) (idles K levels t x .words) .answer) ≡ 0)
       → pending K levels (idles K levels (pred levels) x .records) ≡ false
-  idles-quiet x len = drain.idles-quiet (queue K levels) (waiting K levels) (Jam K levels) (good K levels) (Fits K levels) (means K levels) (keeps K levels) (idling K levels) (jams K levels) (pred levels) led more-led all-led x (len, tt)
+  idles-quiet x len = drain.idles-quiet (ticks K levels) (pred levels) led more-led all-led x (len, tt)
 
   -- DRAIN-FEW: whatever the machine and the budget, no more cycles are run than there are levels from 2
   pub drain-few : (b : ℕ) (rs : List Stage) (ws : List ℕ) → pred levels ≤ length rs → drains K levels b rs ws .cycles ≤ pred levels
   drain-few b rs ws len =
       rw (drains-as K levels b rs ws)
-      (drain.drain-few (queue K levels) (waiting K levels) (Jam K levels) (good K levels) (Fits K levels) (means K levels) (keeps K levels) (idling K levels) (jams K levels) (pred levels) led more-led all-led b (machine rs ws) (len, tt))
+      (drain.drain-few (ticks K levels) (pred levels) led more-led all-led b (machine rs ws) (len, tt))

@@ -10,7 +10,6 @@ use lib.ListN.{length}
 use borrow.Author.Tests.{eqb-false, eqb-true, leb-true}
 use Rattle.clocked_model.proofs.Exactly.{asks-fails}
 use Rattle.clocked_model.specs.Calls.{asks}
-use Rattle.clocked_model.specs.Promise.{runsIdle}
 use Rattle.cluster_clock_model.proofs.Seen.{pass-length}
 use Rattle.cluster_clock_model.specs.declared.Due.{Due}
 use Rattle.cluster_clock_model.specs.declared.Due.the-variants.{Fill, Nothing, Put, Swap}
@@ -40,7 +39,7 @@ use Rattle.promise.proofs.Clock.{Ticks}
 use Rattle.promise.proofs.Drains.{exactly-as}
 use Rattle.promise.specs.Calls as calls
 use Rattle.promise.specs.Calls.{lastTable, left, Outcome}
-use Rattle.promise.specs.Clock.{cycleLeft, cycling}
+use Rattle.promise.specs.Clock.{cycleLeft, cycling, runsIdle}
 use Rattle.promise.specs.Refused.{IsPush}
 use Rattle.promise.specs.Served.{always, Kind}
 use Rattle.promise.specs.Table.{bars, decided-either, decided-same, ends, needs}
@@ -200,7 +199,7 @@ module _ (K levels : ℕ) where
   shown o = turnOutcome (o .answer) (o .words .words) (o .words .records)
 
   -- its cycle is the clock's
-  pub same : (r : Request) (x : Machine) → turnQueue K levels r x ≡ cycling (clock K levels) r x
+  same : (r : Request) (x : Machine) → turnQueue K levels r x ≡ cycling (clock K levels) r x
   unfolding turned turnRun rule
   same r x =
       decided-same asStep (λ (o : Outcome Machine). step (o .answer) (o .words)) (λ n. turnOutcome (Refused n) (x .words) (x .records)) (left x)
@@ -215,14 +214,14 @@ module _ (K levels : ℕ) where
   push-root Pop ws p e = absurd p
   push-root (Replace x) ws p e = absurd p
 
-  pub ticks : Ticks (clock K levels)
+  pub ticks : Ticks (clock K levels) (turnQueue K levels)
   ticks =
       record {
+        same = same;
         shape = λ x. shape-means K levels (length (x .words));
         torn = λ r x. damage-fails K levels r (x .records) (x .words);
+        root = λ x. torn-fails K (room K (pred levels)) (x .words) 0;
         late = λ r x e f. last-told r _ _ (λ p. root-limit K levels (x .words) (shape-is K levels (length (x .words)) e .some) (push-root r (x .words) p (and-left (askedOk K levels r (x .words)) _ f)));
-        shut = refl;
-        jammed = refl;
         idles = λ r x. last-all (λ n. runsIdle n ≡ true) refl refl refl r _ _;
         free = λ x. (refl, tt);
         calm = λ r x f. idle-sound K levels (x .records) (x .words) (and-right (askedOk K levels r (x .words)) _ f);
@@ -240,7 +239,7 @@ module _ (K levels : ℕ) (r : Request) (rs : List Stage) (ws : List ℕ) where
   exactly-cycle =
       last-ladder (λ l. Exactly said (turnLeft K levels rs ws) (turned K levels r rs ws) (rung BadShape (Shape K levels (length ws)) (stop Damaged (TurnDamage K levels r rs ws) l))) r (heldIn K levels ws) (room K levels)
       (exactly-as (λ (o : Outcome Machine). numberOf (o .answer)) (cycleLeft (clock K levels) (turnQueue K levels) (machine rs ws)) (shown K levels) said (λ o. refl) _ _
-      (clocks.exactly-cycle (clock K levels) (turnQueue K levels) (same K levels) (ticks K levels) r (machine rs ws)))
+      (clocks.exactly-cycle (ticks K levels) r (machine rs ws)))
 
   -- LEFT BEHIND: 1 and 2 everything, records too; 5, 6 and 7 "cycle runs as idle"
   pub stands : (n : Refusal) → said (turned K levels r rs ws) ≡ refusalNumber n → turned K levels r rs ws ≡ turnLeft K levels rs ws n
@@ -248,15 +247,17 @@ module _ (K levels : ℕ) (r : Request) (rs : List Stage) (ws : List ℕ) where
 
   -- KIND: of a cycle that is not refused a push and an idle request answer done, a pop and a replace an element
   pub kind : numberOf (turned K levels r rs ws .answer) ≡ 0 → Kind r (turned K levels r rs ws .answer)
-  kind = clocks.kind (clock K levels) (turnQueue K levels) (same K levels) (λ r x. grants-kind r _) r (machine rs ws)
+  kind = clocks.kind (ticks K levels) (λ r x. grants-kind r _) r (machine rs ws)
 
   -- BARRED: an element without a tag is never let in, whatever stands in the machine
   pub barred : Barred r (turned K levels r rs ws .answer)
-  barred = clocks.barred (clock K levels) (turnQueue K levels) (same K levels) (ticks K levels) r (machine rs ws) (last-tags r _ _)
+  barred = clocks.barred (ticks K levels) r (machine rs ws) (last-tags r _ _)
 
   -- NEVER TOO SOON: no cycle is refused 3
   pub never-soon : numberOf (turned K levels r rs ws .answer) ≡ 3 → ⊥
-  never-soon = clocks.never (clock K levels) (turnQueue K levels) (same K levels) (ticks K levels) 3 (λ e. omega arith) (λ e. omega arith) (λ e. omega arith) r (machine rs ws) (last-all (λ n. refusalNumber n ≡ 3 → ⊥) (λ e. omega arith) (λ e. omega arith) (λ e. omega arith) r _ _)
+  never-soon =
+      clocks.numbered (ticks K levels) (λ n. n ≡ 3 → ⊥) r (machine rs ws) (λ e. omega arith) (λ e. omega arith) (λ e. omega arith)
+      (last-all (λ n. refusalNumber n ≡ 3 → ⊥) (λ e. omega arith) (λ e. omega arith) (λ e. omega arith) r _ _)
 
 -- ---- held and clear
 module _ (K levels : ℕ) (ws : List ℕ) where
@@ -266,7 +267,7 @@ module _ (K levels : ℕ) (ws : List ℕ) where
 
   pub exactly-held : Exactly countNumber Unknown (clockHeld K levels ws) (heldRefusals K levels ws)
   unfolding clockHeld
-  exactly-held = clocks.exactly-held (clock K levels) (ticks K levels) (λ x. torn-fails K (room K (pred levels)) (x .words) 0) (machine fresh ws)
+  exactly-held = clocks.exactly-held (ticks K levels) (machine fresh ws)
 
   -- CLEAR: zeros, and nothing pending, whatever records are handed over; refused it leaves everything, the records too
   pub clear-taken : (rs : List Stage) → Shape K levels (length ws) → clockCleared K levels rs ws ≡ turnOutcome Done (start K levels ws) fresh

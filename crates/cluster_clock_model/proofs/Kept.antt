@@ -18,11 +18,11 @@ use Rattle.cluster_clock_model.proofs.Flight.{cycle, cycles, Inv, lowOf
 use Rattle.cluster_clock_model.proofs.Seen.{begins-length, commutes, handed-in, InRange, level-length, node-apart, noteSeen, pass-length, pass-others, pass-records, Ranged, ranged-set, settled-length, Spans, treeIn, filled-length}
 use Rattle.cluster_clock_model.specs.declared.Stage.{Stage}
 use Rattle.cluster_clock_model.specs.Calls.{askedOk, turned, TurnOutcome, turnRun}
-use Rattle.cluster_clock_model.specs.Promise.{clock, Machine}
+use Rattle.cluster_clock_model.specs.Promise.{clock, Machine, turnQueue}
 use Rattle.cluster_clock_model.specs.Stage.{begins, below, childOf, filled, handed, levelStage, levelWords, loaded, noStage, noteOf, pass, settled, stageAt, waits, work, Work, worked}
 use Rattle.cluster_clock_model.specs.Test.{saneAt, stagesOk}
 use Rattle.cluster_model.specs.Calls.{heldIn, opOf, rootHeld, ruleAt}
-use Rattle.cluster_model.specs.Heap.{Can, gain, loss, room}
+use Rattle.cluster_model.specs.Heap.{Can, room}
 use Rattle.cluster_model.specs.Node.{fill, inside, lhs, lowElem, Node, Note, nothing, onto, rhs, trial}
 use Rattle.cluster_model.specs.Promise.{nodes, Shape}
 use Rattle.cluster_model.specs.Way.{extent, nodeIn, some, spotOf, touch, works}
@@ -31,17 +31,17 @@ use Rattle.cluster_model.proofs.Damages.{is-shape}
 use Rattle.cluster_model.proofs.Neat.{neat-row}
 use Rattle.cluster_model.proofs.NeatLevels.{touch-written}
 use Rattle.cluster_model.proofs.Pass.{touch-only}
+use Rattle.cluster_model.proofs.Serve.{can-do, moves}
 use Rattle.cluster_model.proofs.Slice.{node-total, slice}
 use Rattle.laws.specs.Tests.{and-true, or-right}
 use Rattle.promise.proofs.Calls.{fits-least, last-fits}
-use Rattle.promise.proofs.Clock.{IsClock}
-use Rattle.promise.specs.Calls.{Fits, grants, lastTable}
+use Rattle.promise.proofs.InFlight.{IsClock}
+use Rattle.promise.specs.Calls.{grants, lastTable}
 use Rattle.promise.specs.Served.{always, brought, given, Least, lower}
 use Rattle.promise.specs.Table.{Clear}
 use Rattle.strip.specs.Answers.{key}
 use Rattle.strip.specs.declared.Element.{Element}
 use Rattle.strip.specs.declared.Request.{Request}
-use Rattle.strip.specs.declared.Request.the-variants.{Idle, Pop, Push, Replace}
 
 -- ---- neat words stay neat
 module _ (K : ℕ) where
@@ -156,7 +156,7 @@ module _ (K k : ℕ) (x : Machine) (kept : Kept K k x) where
   unfolding some
   root-some h = ltb-true 0 (inside always (nodeIn K ws 0 .places)) (some-fine K two rs ws (nodes (suc k)) (kept .neat) k 0 0 0 (kept .sound) (omega (arith, kept-held)))
 
-  root-sound : (n : ℕ) → n < 0 + 1 → Inv K (suc k) (treeIn K (suc k) 0 0 rs ws n)
+  pub root-sound : (n : ℕ) → n < 0 + 1 → Inv K (suc k) (treeIn K (suc k) 0 0 rs ws n)
   root-sound zero h = kept .sound
   root-sound (suc n) h = absurd (not-suc-le-zero {n = 0} (omega arith))
 
@@ -176,13 +176,7 @@ module _ (K k : ℕ) (x : Machine) (kept : Kept K k x) where
     y = clock K (suc k) .moves r x
 
     can : Can (room K (suc k)) (opOf r) inFlight
-    can = go r (last-fits r (heldIn K (suc k) ws) (room K (suc k)) c)
-      where
-        go : (r : Request) → Fits r (heldIn K (suc k) ws) (room K (suc k)) → Can (room K (suc k)) (opOf r) inFlight
-        go Idle f = tt
-        go (Push x) f = omega (arith, kept-held)
-        go Pop f = omega (arith, kept-held)
-        go (Replace x) f = omega (arith, kept-held)
+    can = can-do (room K (suc k)) (heldIn K (suc k) ws) inFlight kept-held r (last-fits r (heldIn K (suc k) ws) (room K (suc k)) c)
 
     -- the tree goes by a cycle
     move-flight : treeIn K (suc k) 0 0 (y .records) (y .words) 0 ≡ cycle (suc k) (opOf r) flightOf
@@ -199,24 +193,15 @@ module _ (K k : ℕ) (x : Machine) (kept : Kept K k x) where
           sound = subst (Inv K (suc k)) (sym move-flight) (cycles K two (suc k) (opOf r) flightOf (kept .sound) can .sound);
         }
 
-    moved : (f : Element → Bool) → (loss (opOf r) top f ≡ given r (grants r top) f) × (gain (opOf r) f ≡ brought r (grants r top) f)
-    moved f = go r
-      where
-        go : (r : Request) → (loss (opOf r) top f ≡ given r (grants r top) f) × (gain (opOf r) f ≡ brought r (grants r top) f)
-        go Idle = (refl, refl)
-        go (Push x) = (refl, refl)
-        go Pop = (refl, refl)
-        go (Replace x) = (refl, refl)
-
     pub move-sum : (f : Element → Bool) → within f (suc k) (treeIn K (suc k) 0 0 (y .records) (y .words) 0) + given r (grants r top) f ≡ inFlight f + brought r (grants r top) f
     unfolding lowOf treeIn
-    move-sum f = rw move-flight (omega (arith, cycles K two (suc k) (opOf r) flightOf (kept .sound) can .sum f, moved f))
+    move-sum f = rw move-flight (omega (arith, cycles K two (suc k) (opOf r) flightOf (kept .sound) can .sum f, moves top f r))
 
     pub move-least : Least inFlight r (grants r top)
     move-least = fits-least inFlight r (heldIn K (suc k) ws) (room K (suc k)) top (last-fits r (heldIn K (suc k) ws) (room K (suc k)) c) root-least
 
 -- it is a clock
-pub is-clock : (K k : ℕ) → IsClock (clock K (suc k)) (Kept K k)
+pub is-clock : (K k : ℕ) → IsClock (clock K (suc k)) (turnQueue K (suc k)) (Kept K k)
 is-clock K k =
     record {
       ticks = ticks K (suc k);

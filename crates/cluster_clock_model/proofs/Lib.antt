@@ -8,5 +8,9 @@ pub mod Exactly
 pub mod Drain
 pub mod Lost
 pub mod Promises
+pub mod Level
+pub mod Ends
+pub mod Passes
 pub mod OneStep
+pub mod Runs
 pub mod Unread

@@ -1,270 +1,42 @@
--- Each level does its own step, on the words and the records as they stood at the cycle's start, and writes no other: what the pass leaves at a level is what that
--- level's step alone would leave there.
+-- Each level does its own step, on the words and the records as they stood at the cycle's start, and writes no other; and it reads no more than its own level, the nodes that
+-- wait in it and above it, and their children.
 use Prim.Native.Nat.{_*_, _+_, _<_, _≤_, pred, suc, zero, ℕ}
-use native.Mathlib.Nat.{mul-le-mul-right, not-suc-le-zero}
+use native.Mathlib.Nat.{not-suc-le-zero}
 use native.Mathlib.Omega.{arith}
-use mathlib.Core.Bool.{Bool, cond, false, true}
+use mathlib.Core.Bool.{Bool, cond, false, false≢true, true}
 use mathlib.Core.List.{List}
 use mathlib.Core.Logic.{_⊎_, inl, inr}
 use mathlib.Core.Path.{_∙_, _≡_, ap, ap₂, refl, subst, sym}
 use lib.Dec.{ltb}
-use lib.ListN.{length, length-set, set}
-use lib.Seq.{getD-set-same}
-use borrow.Author.Tests.{ltb-false, ltb-true}
+use lib.ListN.{length}
+use borrow.Author.Tests.{lt-ltb, ltb-false, ltb-true}
 use Rattle.cluster_clock_model.proofs.Exactly.{damage-fails, sound, turned-fine}
-use Rattle.cluster_clock_model.proofs.Seen.{filled-length, filled-node, handed-in, InRange, level-in, level-length, level-only, noteSeen, opAt, pass-only, pass-others, Ranged, ranged-set, set-later, Spans, spans-next, spans-own, worked-node}
+use Rattle.cluster_clock_model.proofs.Level.{same-at}
+use Rattle.cluster_clock_model.proofs.Seen.{InRange, level-only, pass-only, pass-others, Ranged, Spans}
 use Rattle.cluster_clock_model.specs.declared.Due.{Due}
 use Rattle.cluster_clock_model.specs.declared.Due.the-variants.{Fill, Nothing, Put, Swap}
 use Rattle.cluster_clock_model.specs.declared.Stage.{Stage}
 use Rattle.cluster_clock_model.specs.Calls.{askedOk, turned, TurnOutcome, turnRun}
-use Rattle.cluster_clock_model.specs.Promise.{firstNode, OneStep, stageBelow, TurnDamage, workOf}
-use Rattle.cluster_clock_model.specs.Stage.{begins, below, childOf, filled, handed, levelStage, levelWords, loaded, lowAt, noStage, pass, settled, stageAt, work, Work}
-use Rattle.cluster_clock_model.specs.Test.{stageOk, stagesOk}
-use Rattle.cluster_model.specs.Calls.{ruleAt}
-use Rattle.cluster_model.specs.Node.{begin, Begun, fill, finish, Finished, lhs, low, lowElem, Node, Note, Op, rhs, trial}
+use Rattle.cluster_clock_model.specs.Promise.{Busy, firstNode, InLevel, InNode, OneStep, Reads, stageBelow, TurnDamage, WaitsAt, workOf}
+use Rattle.cluster_clock_model.specs.Stage.{below, childOf, handed, levelStage, levelWords, noStage, noteOf, pass, settled, stageAt, waits, work, Work}
+use Rattle.cluster_model.specs.Calls.{rootHeld, rule, ruleAt}
+use Rattle.cluster_model.specs.Heap.{room}
+use Rattle.cluster_model.specs.Node.{fill, finish, Finished, lhs, lowElem, Node, Note, rhs, Side, trial}
 use Rattle.cluster_model.specs.Promise.{Shape}
-use Rattle.cluster_model.specs.Way.{child, nodeIn, spotOf}
+use Rattle.cluster_model.specs.Way.{child, nodeIn, spotOf, works}
 use Rattle.cluster_model.specs.Words.{width, word}
 use Rattle.cluster_model.proofs.Damages.{is-shape}
+use Rattle.cluster_model.proofs.Unread.{Alike}
 use Rattle.cluster_model.proofs.Words.{node-local}
 use Rattle.laws.specs.Tests.{and-left, and-right}
 use Rattle.strip.specs.declared.Request.{Request}
+use Rattle.cluster_clock_model.proofs.Passes.{down, down-first, down-fits, has-own, last-work, Level, level-loads, level-stands, level-still, level-words, next-first, onward, onward-is, pass-loads, pass-words, stage-here, stage-in, stage-none, stage-zero, stageIn, stages-ranged, wait-busy, waits-at, work-busy, work-in, works-are}
 
--- ---- levels from a level on: the t-th below it, its record, its work
-abbrev down : ℕ → ℕ → ℕ
-down zero a = a
-down (suc t) a = down t (below a)
-
-abbrev onward : ℕ → ℕ → ℕ
-onward zero i = i
-onward (suc t) i = onward t (suc i)
-
-abbrev stageIn : ℕ → ℕ → ℕ → List Stage → Stage
-stageIn zero t i rs = noStage
-stageIn (suc k) zero i rs = stageAt rs i
-stageIn (suc k) (suc t) i rs = stageIn k t (suc i) rs
-
-deeper : (t a n : ℕ) → a ≤ down t a + n
-deeper zero a n = omega arith
-deeper (suc t) a n = let h : below a ≤ down t (below a) + n = deeper t (below a) n in omega arith
-
-further : (t i : ℕ) → i ≤ onward t i
-further zero i = omega arith
-further (suc t) i = omega (arith, further t (suc i))
-
-onward-is : (t i : ℕ) → onward t i ≡ i + t
-onward-is zero i = omega arith
-onward-is (suc t) i = omega (arith, onward-is t (suc i))
-
-down-next : (t a : ℕ) → down t (below a) ≡ below (down t a)
-down-next zero a = refl
-down-next (suc t) a = down-next t (below a)
-
-down-first : (t : ℕ) → down t 0 ≡ firstNode t
-unfolding firstNode
-down-first zero = refl
-down-first (suc t) = down-next t 0 ∙ ap below (down-first t)
-
-stage-here : (k t i : ℕ) (rs : List Stage) → t < k → stageIn k t i rs ≡ stageAt rs (onward t i)
-stage-here zero t i rs h = absurd (not-suc-le-zero h)
-stage-here (suc k) zero i rs h = refl
-stage-here (suc k) (suc t) i rs h = stage-here k t (suc i) rs (omega arith)
-
-stage-none : (k t i : ℕ) (rs : List Stage) → k ≤ t → stageIn k t i rs ≡ noStage
-stage-none zero t i rs h = refl
-stage-none (suc k) zero i rs h = absurd (not-suc-le-zero h)
-stage-none (suc k) (suc t) i rs h = stage-none k t (suc i) rs (omega arith)
-
-next-first : (K i p : ℕ) → firstNode (suc i) * (2 + K * 4) ≤ p → spotOf K (firstNode i) + (firstNode i + 1) * width K ≤ p
-unfolding firstNode
-next-first K i p h = go (width K) (firstNode i) h
-  where
-    go : (d b : ℕ) → below b * d ≤ p → b * d + (b + 1) * d ≤ p
-    go d b h = omega arith
-
-module _ (K : ℕ) where
-  abbrev workAt : ℕ → ℕ → Work → ℕ → List Stage → List ℕ → Work
-  workAt zero a w i rs ws = w
-  workAt (suc t) a w i rs ws = workAt t (below a) (handed K (stageAt rs i .due) (stageAt rs i .node) a ws) (suc i) rs ws
-
-  -- ---- what a level reads: its own words and those after it
-  abbrev From : ℕ → List ℕ → List ℕ → Type 0
-  From a ws ws′ = (j : ℕ) → spotOf K a ≤ j → word ws′ j ≡ word ws j
-
-  at-least : (d a m i : ℕ) → a ≤ m → m * d ≤ i → a * d ≤ i
-  at-least d a m i h g = omega (arith, mul-le-mul-right d h)
-
-  node-from : (a m : ℕ) (ws ws′ : List ℕ) → From a ws ws′ → a ≤ m → nodeIn K ws′ m ≡ nodeIn K ws m
-  node-from a m ws ws′ h l = node-local K ws ws′ (spotOf K m) (λ j g g′. h j (at-least (width K) a m j l g))
-
-  from-below : (a : ℕ) (ws ws′ : List ℕ) → From a ws ws′ → From (below a) ws ws′
-  from-below a ws ws′ h j l = h j (at-least (width K) a (below a) j (omega arith) l)
-
-  low-from : (a m : ℕ) (ws ws′ : List ℕ) → From a ws ws′ → a ≤ m → lowAt K ws′ m ≡ lowAt K ws m
-  low-from a m ws ws′ h l = ap (λ (n : Node). lowElem (n .places)) (node-from a m ws ws′ h l)
-
-  settled-from : (a m : ℕ) (c : Note) (ws ws′ : List ℕ) → From a ws ws′ → a ≤ m → settled K c m ws′ ≡ settled K c m ws
-  unfolding settled
-  settled-from a m c ws ws′ h l =
-      let p : nodeIn K ws′ m ≡ nodeIn K ws m = node-from a m ws ws′ h l in
-      let q : lowAt K ws′ (child m lhs) ≡ lowAt K ws (child m lhs) = low-from a (child m lhs) ws ws′ h (omega arith) in
-      let r : lowAt K ws′ (child m rhs) ≡ lowAt K ws (child m rhs) = low-from a (child m rhs) ws ws′ h (omega arith) in
-      λ i. finish c (p i) (q i) (r i)
-
-  handed-from : (a : ℕ) (d : Due) (p : ℕ) (ws ws′ : List ℕ) → From a ws ws′ → handed K d p a ws′ ≡ handed K d p a ws
-  unfolding handed
-  handed-from a Nothing p ws ws′ h = refl
-  handed-from a (Put y) p ws ws′ h = refl
-  handed-from a (Fill j) p ws ws′ h = ap (λ (v : Finished). work (v .op) (childOf p (v .side))) (settled-from a (a + p) (fill j) ws ws′ h (omega arith))
-  handed-from a (Swap j x) p ws ws′ h = ap (λ (v : Finished). work (v .op) (childOf p (v .side))) (settled-from a (a + p) (trial j x) ws ws′ h (omega arith))
-
-  work-from : (t a : ℕ) (w : Work) (i : ℕ) (rs rs′ : List Stage) (ws ws′ : List ℕ) → From a ws ws′ → ((j : ℕ) → i ≤ j → stageAt rs′ j ≡ stageAt rs j) → workAt t a w i rs′ ws′ ≡ workAt t a w i rs ws
-  work-from zero a w i rs rs′ ws ws′ h g = refl
-  work-from (suc t) a w i rs rs′ ws ws′ h g =
-      let q : Stage = stageAt rs i in
-      let e : handed K (stageAt rs′ i .due) (stageAt rs′ i .node) a ws′ ≡ handed K (q .due) (q .node) a ws = ap (λ (q : Stage). handed K (q .due) (q .node) a ws′) (g i (omega arith)) ∙ handed-from a (q .due) (q .node) ws ws′ h in
-      work-from t (below a) (handed K (stageAt rs′ i .due) (stageAt rs′ i .node) a ws′) (suc i) rs rs′ ws ws′ (from-below a ws ws′ h) (λ j l. g j (omega arith)) ∙ ap (λ (w : Work). workAt t (below a) w (suc i) rs ws) e
-
-  stage-from : (k t i : ℕ) (rs rs′ : List Stage) → ((j : ℕ) → i ≤ j → stageAt rs′ j ≡ stageAt rs j) → stageIn k t i rs′ ≡ stageIn k t i rs
-  stage-from zero t i rs rs′ g = refl
-  stage-from (suc k) zero i rs rs′ g = g i (omega arith)
-  stage-from (suc k) (suc t) i rs rs′ g = stage-from k t (suc i) rs rs′ (λ j l. g j (omega arith))
-
-  -- ---- a level's step, seen at node m of the store
-  unfoldable stepAt : Op → Note → ℕ → List ℕ → Begun
-  stepAt o c m ws = begin o (low (nodeIn K ws m .places)) (settled K c m ws .node)
-
-  step-from : (o : Op) (c : Note) (a m : ℕ) (ws ws′ : List ℕ) → From a ws ws′ → a ≤ m → stepAt o c m ws′ ≡ stepAt o c m ws
-  unfolding stepAt
-  step-from o c a m ws ws′ h l =
-      ap₂ (λ (n : Node) (v : Finished). begin o (low (n .places)) (v .node)) (node-from a m ws ws′ h l) (settled-from a m c ws ws′ h l)
-
-  level-node : (a : ℕ) (w : Work) (q : Stage) (ws : List ℕ) (n : ℕ) → spotOf K (a + n) + width K ≤ length ws
-      → nodeIn K (levelWords K a w q ws) (a + n) ≡ stepAt (opAt w n) (noteSeen (q .due) (q .node) n) (a + n) ws .node
-  unfolding levelWords stepAt
-  level-node a w q ws n fits =
-      worked-node K a n w ws (filled K a q ws) (subst (λ (l : ℕ). spotOf K (a + n) + width K ≤ l) (sym (filled-length K a q ws)) fits)
-      ∙ ap (λ (x : Node). begin (opAt w n) (low (nodeIn K ws (a + n) .places)) x .node) (filled-node K a n ws fits (q .due) (q .node))
-
-  -- .. and the record that it loads
-  level-stage : (a : ℕ) (w : Work) (q : Stage) (ws : List ℕ) → spotOf K (a + w .node) + width K ≤ length ws
-      → levelStage K a w q ws ≡ loaded (stepAt (w .op) (noteSeen (q .due) (q .node) (w .node)) (a + w .node) ws .note) (w .node)
-  unfolding levelStage begins stepAt
-  level-stage a w q ws fits =
-      ap (λ (x : Node). loaded (begin (w .op) (low (nodeIn K ws (a + w .node) .places)) x .note) (w .node)) (filled-node K a (w .node) ws fits (q .due) (q .node))
-
-  -- ---- the ranges, level by level
-  work-in : (k t a : ℕ) (w : Work) (i : ℕ) (rs : List Stage) (ws : List ℕ) → t ≤ k → w .node < a + 1 → Ranged k a i rs → workAt t a w i rs ws .node < down t a + 1
-  work-in k zero a w i rs ws h wi r = wi
-  work-in zero (suc t) a w i rs ws h wi r = absurd (not-suc-le-zero h)
-  work-in (suc k) (suc t) a w i rs ws h wi r =
-      work-in k t (below a) (handed K (stageAt rs i .due) (stageAt rs i .node) a ws) (suc i) rs ws (omega arith) (handed-in K (stageAt rs i .due) (stageAt rs i .node) a ws (r .0)) (r .1)
-
-  stage-in : (k t a i : ℕ) (rs : List Stage) → Ranged k a i rs → InRange (stageIn k t i rs .due) (stageIn k t i rs .node) (down t a)
-  stage-in zero t a i rs r = tt
-  stage-in (suc k) zero a i rs r = r .0
-  stage-in (suc k) (suc t) a i rs r = stage-in k t (below a) (suc i) rs (r .1)
-
-  down-fits : (k t a : ℕ) → t ≤ k → spotOf K (down t a) + (down t a + 1) * width K ≤ Spans K k a
-  down-fits k zero a h = spans-own K k a
-  down-fits zero (suc t) a h = absurd (not-suc-le-zero h)
-  down-fits (suc k) (suc t) a h = omega (arith, down-fits k t (below a) (omega arith), spans-next K k a)
-
-  node-fits : (a n len : ℕ) → n < a + 1 → spotOf K a + (a + 1) * width K ≤ len → spotOf K (a + n) + width K ≤ len
-  node-fits a n len h g = omega (arith, level-in K (width K) a n h)
-
-  -- the level just written leaves the words from the next level on
-  next-from : (a : ℕ) (w : Work) (q : Stage) (ws : List ℕ) → w .node < a + 1 → InRange (q .due) (q .node) a → From (below a) ws (levelWords K a w q ws)
-  next-from a w q ws wi r j l = level-only K a w q ws wi r j (inr (omega (arith, deep (width K))))
-    where
-      deep : (d : ℕ) → (a + a + 1) * d ≡ a * d + (a + 1) * d
-      deep d = omega arith
-
-  -- ---- each level
-  pass-each : (k a : ℕ) (w : Work) (i : ℕ) (rs : List Stage) (ws : List ℕ) (t n : ℕ) → t ≤ k → n < down t a + 1 → w .node < a + 1 → Ranged k a i rs → Spans K k a ≤ length ws
-      → nodeIn K (pass K k a w i rs ws .words) (down t a + n) ≡ stepAt (opAt (workAt t a w i rs ws) n) (noteSeen (stageIn k t i rs .due) (stageIn k t i rs .node) n) (down t a + n) ws .node
-  unfolding pass noteSeen stepAt settled finish
-  pass-each zero a w i rs ws zero n h l wi r fits = worked-node K a n w ws ws (node-fits a n (length ws) l (omega (arith, spans-own K zero a)))
-  pass-each zero a w i rs ws (suc t) n h l wi r fits = absurd (not-suc-le-zero h)
-  pass-each (suc k) a w i rs ws zero n h l wi r fits =
-      let q : Stage = stageAt rs i in
-      let g : Work = handed K (q .due) (q .node) a ws in
-      let rs₁ : List Stage = set rs i (levelStage K a w q ws) in
-      let ws₁ : List ℕ = levelWords K a w q ws in
-      node-local K ws₁ (pass K k (below a) g (suc i) rs₁ ws₁ .words) (spotOf K (a + n))
-      (λ j x y. pass-only K k (below a) g (suc i) rs₁ ws₁ (handed-in K (q .due) (q .node) a ws (r .0)) (ranged-set K k (below a) i rs (levelStage K a w q ws) (r .1)) j (inl (omega (arith, level-in K (width K) a n l, deep (width K)))))
-      ∙ level-node a w q ws n (node-fits a n (length ws) l (omega (arith, spans-own K (suc k) a)))
-    where
-      deep : (d : ℕ) → (a + a + 1) * d ≡ a * d + (a + 1) * d
-      deep d = omega arith
-  pass-each (suc k) a w i rs ws (suc t) n h l wi r fits =
-      let q : Stage = stageAt rs i in
-      let g : Work = handed K (q .due) (q .node) a ws in
-      let rs₁ : List Stage = set rs i (levelStage K a w q ws) in
-      let ws₁ : List ℕ = levelWords K a w q ws in
-      let same : From (below a) ws ws₁ = next-from a w q ws wi (r .0) in
-      let later : (j : ℕ) → suc i ≤ j → stageAt rs₁ j ≡ stageAt rs j = set-later K rs i (levelStage K a w q ws) in
-      let o : Op = opAt (workAt t (below a) g (suc i) rs₁ ws₁) n in
-      let c : Note = noteSeen (stageIn k t (suc i) rs₁ .due) (stageIn k t (suc i) rs₁ .node) n in
-      pass-each k (below a) g (suc i) rs₁ ws₁ t n (omega arith) l (handed-in K (q .due) (q .node) a ws (r .0)) (ranged-set K k (below a) i rs (levelStage K a w q ws) (r .1)) (omega (arith, spans-next K k a, level-length K a w q ws))
-      ∙ ap (λ (v : Begun). v .node) (step-from o c (below a) (down t (below a) + n) ws ws₁ same (deeper t (below a) n))
-      ∙ ap₂ (λ (w : Work) (q : Stage). stepAt (opAt w n) (noteSeen (q .due) (q .node) n) (down t (below a) + n) ws .node) (work-from t (below a) g (suc i) rs rs₁ ws ws₁ same later) (stage-from k t (suc i) rs rs₁ later)
-
-  -- .. and each record
-  pass-loads : (k a : ℕ) (w : Work) (i : ℕ) (rs : List Stage) (ws : List ℕ) (t : ℕ) → t < k → w .node < a + 1 → Ranged k a i rs → Spans K k a ≤ length ws → i + k ≤ length rs
-      → stageAt (pass K k a w i rs ws .records) (onward t i) ≡ levelStage K (down t a) (workAt t a w i rs ws) (stageAt rs (onward t i)) ws
-  unfolding pass
-  pass-loads zero a w i rs ws t h wi r fits len = absurd (not-suc-le-zero h)
-  pass-loads (suc k) a w i rs ws zero h wi r fits len =
-      let q : Stage = stageAt rs i in
-      let g : Work = handed K (q .due) (q .node) a ws in
-      pass-others K k (below a) g (suc i) (set rs i (levelStage K a w q ws)) (levelWords K a w q ws) i (inl (omega arith)) ∙ getD-set-same rs i (levelStage K a w q ws) noStage (omega arith)
-  pass-loads (suc k) a w i rs ws (suc t) h wi r fits len =
-      let q : Stage = stageAt rs i in
-      let g : Work = handed K (q .due) (q .node) a ws in
-      let rs₁ : List Stage = set rs i (levelStage K a w q ws) in
-      let ws₁ : List ℕ = levelWords K a w q ws in
-      let same : From (below a) ws ws₁ = next-from a w q ws wi (r .0) in
-      let later : (j : ℕ) → suc i ≤ j → stageAt rs₁ j ≡ stageAt rs j = set-later K rs i (levelStage K a w q ws) in
-      let r₁ : Ranged k (below a) (suc i) rs₁ = ranged-set K k (below a) i rs (levelStage K a w q ws) (r .1) in
-      let gi : g .node < below a + 1 = handed-in K (q .due) (q .node) a ws (r .0) in
-      let b : ℕ = down t (below a) in
-      let u : Work = workAt t (below a) g (suc i) rs ws in
-      let v : Stage = stageAt rs (onward t (suc i)) in
-      let wide : Spans K k (below a) ≤ length ws = omega (arith, spans-next K k a) in
-      let there : spotOf K (b + u .node) + width K ≤ length ws = node-fits b (u .node) (length ws) (work-in k t (below a) g (suc i) rs ws (omega arith) gi (r .1)) (omega (arith, down-fits k t (below a) (omega arith), wide)) in
-      pass-loads k (below a) g (suc i) rs₁ ws₁ t (omega arith) gi r₁ (omega (arith, wide, level-length K a w q ws)) (omega (arith, length-set rs i (levelStage K a w q ws)))
-      ∙ ap₂ (λ (u : Work) (v : Stage). levelStage K b u v ws₁) (work-from t (below a) g (suc i) rs rs₁ ws ws₁ same later) (later (onward t (suc i)) (further t (suc i)))
-      ∙ level-stage b u v ws₁ (subst (λ (l : ℕ). spotOf K (b + u .node) + width K ≤ l) (sym (level-length K a w q ws)) there)
-      ∙ ap (λ (x : Begun). loaded (x .note) (u .node)) (step-from (u .op) (noteSeen (v .due) (v .node) (u .node)) (below a) (b + u .node) ws ws₁ same (deeper t (below a) (u .node)))
-      ∙ sym (level-stage b u v ws there)
-
-  -- ---- by the level's number
-  work-is : (t a : ℕ) (w : Work) (i : ℕ) (rs : List Stage) (ws : List ℕ) → workAt (suc t) a w i rs ws ≡ handed K (stageAt rs (onward t i) .due) (stageAt rs (onward t i) .node) (down t a) ws
-  work-is zero a w i rs ws = refl
-  work-is (suc t) a w i rs ws = work-is t (below a) (handed K (stageAt rs i .due) (stageAt rs i .node) a ws) (suc i) rs ws
-
-  works-are : (levels : ℕ) (r : Request) (rs : List Stage) (ws : List ℕ) (t : ℕ) → workAt t 0 (work (ruleAt K levels r ws .op) 0) 0 rs ws ≡ workOf K levels r rs ws t
-  unfolding workOf
-  works-are levels r rs ws zero = refl
-  works-are levels r rs ws (suc t) =
-      work-is t 0 (work (ruleAt K levels r ws .op) 0) 0 rs ws ∙ ap₂ (λ (i b : ℕ). handed K (stageAt rs i .due) (stageAt rs i .node) b ws) (onward-is t 0 ∙ omega arith) (down-first t)
-
-  -- a test that is passed: every record names what is there
-  stage-ranged : (k : ℕ) (d : Due) (n a : ℕ) (ws : List ℕ) → stageOk K k d n a ws ≡ true → InRange d n a
-  unfolding stageOk
-  stage-ranged k Nothing n a ws e = tt
-  stage-ranged k (Put y) n a ws e = ltb-true n (below a + 1) (and-left (ltb n (below a + 1)) _ e)
-  stage-ranged k (Fill j) n a ws e = ltb-true n (a + 1) (and-left (ltb n (a + 1)) _ e)
-  stage-ranged k (Swap j x) n a ws e = ltb-true n (a + 1) (and-left (ltb n (a + 1)) _ e)
-
-  pub stages-ranged : (k a i : ℕ) (rs : List Stage) (ws : List ℕ) → stagesOk K k a i rs ws ≡ true → Ranged k a i rs
-  unfolding stagesOk
-  stages-ranged zero a i rs ws e = tt
-  stages-ranged (suc k) a i rs ws e = (
-    stage-ranged k (stageAt rs i .due) (stageAt rs i .node) a ws (and-left (stageOk K k (stageAt rs i .due) (stageAt rs i .node) a ws) _ e),
-    stages-ranged k (below a) (suc i) rs ws (and-right (stageOk K k (stageAt rs i .due) (stageAt rs i .node) a ws) _ e),
-  )
+waiting-in : (d : Due) (n a : ℕ) → waits d ≡ true → InRange d n a → n < a + 1
+waiting-in Nothing n a t h = absurd (false≢true t)
+waiting-in (Put y) n a t h = absurd (false≢true t)
+waiting-in (Fill j) n a t h = h
+waiting-in (Swap j x) n a t h = h
 
 -- ONE STEP: a cycle with no damage, of any machine with a good shape and a record for each level from 2
 module _ (K k : ℕ) (r : Request) (rs : List Stage) (ws : List ℕ) (sh : Shape K (suc k) (length ws)) (len : k ≤ length rs) (fine : TurnDamage K (suc k) r rs ws → ⊥) where
@@ -308,13 +80,50 @@ module _ (K k : ℕ) (r : Request) (rs : List Stage) (ws : List ℕ) (sh : Shape
   below-in : (i : ℕ) → InRange (stageBelow K (suc k) rs i .due) (stageBelow K (suc k) rs i .node) (firstNode i)
   below-in i = subst (λ (b : ℕ). InRange (stageBelow K (suc k) rs i .due) (stageBelow K (suc k) rs i .node) b) (down-first i) (subst (λ (q : Stage). InRange (q .due) (q .node) (down i 0)) (stage-is i) (stage-in K k i 0 0 rs ranged))
 
+  -- the level's own step, on its words
+  abbrev stepped : ℕ → List ℕ
+  stepped i = levelWords K (firstNode i) (workOf K (suc k) r rs ws i) (stageBelow K (suc k) rs i) ws
+
+  words-at : (i p : ℕ) → i < suc k → Level K (firstNode i) p → word (turned K (suc k) r rs ws .words) p ≡ word (stepped i) p
+  words-at i p h l =
+      let at : down i 0 ≡ firstNode i = down-first i in
+      ap (λ (v : List ℕ). word v p) words-are
+      ∙ subst (λ (b : ℕ). Level K b p → word (pass K k 0 o 0 rs ws .words) p ≡ word (levelWords K b (workOf K (suc k) r rs ws i) (stageBelow K (suc k) rs i) ws) p) at
+      (λ l. pass-words K k 0 o 0 rs ws i p (omega arith) l (omega arith) ranged wide
+      ∙ ap₂ (λ (w : Work) (q : Stage). word (levelWords K (down i 0) w q ws) p) (works-are K (suc k) r rs ws i) (stage-is i)) l
+
+  loads : (i : ℕ) → suc i < suc k → stageAt (turned K (suc k) r rs ws .records) i ≡ levelStage K (firstNode i) (workOf K (suc k) r rs ws i) (stageAt rs i) ws
+  loads i h =
+      let at : onward i 0 ≡ i = onward-is i 0 ∙ omega arith in
+      ap (λ (v : List Stage). stageAt v i) records-are
+      ∙ subst (λ (j : ℕ). stageAt (pass K k 0 o 0 rs ws .records) j ≡ levelStage K (firstNode i) (workOf K (suc k) r rs ws i) (stageAt rs j) ws) at
+      (pass-loads K k 0 o 0 rs ws i (omega arith) (omega arith) ranged wide (omega arith)
+      ∙ ap₂ (λ (b : ℕ) (w : Work). levelStage K b w (stageAt rs (onward i 0)) ws) (down-first i) (works-are K (suc k) r rs ws i))
+
+  bounds : (i p : ℕ) → InLevel K (suc k) i p → Level K (firstNode i) p
+  unfolding firstNode
+  bounds i p h = (h .0, up (width K) (firstNode i) (h .1))
+    where
+      up : (d b : ℕ) → p < below b * d → p < b * d + (b + 1) * d
+      up d b g = omega (arith, deep d b)
+        where
+          deep : (d b : ℕ) → (b + b + 1) * d ≡ b * d + (b + 1) * d
+          deep d b = omega arith
+
   one-step-at : OneStep K (suc k) r rs ws
   one-step-at =
       record {
-        each = λ i n h l. each i n h l;
+        each = λ i n h l. node-local K (stepped i) (turned K (suc k) r rs ws .words) (spotOf K (firstNode i + n)) (λ p x y. words-at i p h (has-own K (firstNode i) n l p x y));
+        words = λ i p h l. words-at i p h (bounds i p l);
         own = λ i h p g. level-only K (firstNode i) (workOf K (suc k) r rs ws i) (stageBelow K (suc k) rs i) ws (own-in i (omega arith)) (below-in i) p (outside i p g);
+        stands = λ i n p h l quiet g.
+            words-at i p h (has-own K (firstNode i) n l p (g .0) (g .1))
+            ∙ level-stands K (firstNode i) (workOf K (suc k) r rs ws i) (stageBelow K (suc k) rs i) ws n p (λ t e. quiet (work-busy K (suc k) r rs ws i n t e)) (λ t e. quiet (wait-busy K (suc k) r rs ws i n t e)) (g .0) (g .1);
+        still = λ i p h quiet l. words-at i p h (bounds i p l) ∙ ap (λ (v : List ℕ). word v p) (unmoved i (omega arith) quiet);
         past = λ p h. ap (λ (v : List ℕ). word v p) words-are ∙ pass-only K k 0 o 0 rs ws (omega arith) ranged p (inr (omega (arith, h)));
-        loads = λ i h. loads i h;
+        loads = loads;
+        zeros = λ i h e. ap (λ (q : Stage). q .node) (loads i h) ∙ stage-zero K (firstNode i) (workOf K (suc k) r rs ws i) (stageAt rs i) ws (sym (ap (λ (q : Stage). q .due) (loads i h)) ∙ e);
+        last = last-work K k r rs ws (and-left (askedOk K (suc k) r ws) _ sound-is) (and-right (askedOk K (suc k) r ws) _ sound-is);
         spare = λ j h. ap (λ (v : List Stage). stageAt v j) records-are ∙ pass-others K k 0 o 0 rs ws j (inr (omega arith));
       }
     where
@@ -322,26 +131,125 @@ module _ (K k : ℕ) (r : Request) (rs : List Stage) (ws : List ℕ) (sh : Shape
       outside i p (inl h) = inl h
       outside i p (inr h) = inr (next-first K i p h)
 
-      each : (i n : ℕ) → i < suc k → n < firstNode i + 1
-          → nodeIn K (turned K (suc k) r rs ws .words) (firstNode i + n) ≡ nodeIn K (levelWords K (firstNode i) (workOf K (suc k) r rs ws i) (stageBelow K (suc k) rs i) ws) (firstNode i + n)
-      each i n h l =
-          let at : down i 0 ≡ firstNode i = down-first i in
-          let small : n < down i 0 + 1 = subst (λ (b : ℕ). n < b + 1) (sym at) l in
-          let there : spotOf K (down i 0 + n) + width K ≤ length ws = node-fits K (down i 0) n (length ws) small (omega (arith, down-fits K k i 0 (omega arith), wide)) in
-          ap (λ (v : List ℕ). nodeIn K v (firstNode i + n)) words-are
-          ∙ subst (λ (b : ℕ). nodeIn K (pass K k 0 o 0 rs ws .words) (b + n) ≡ nodeIn K (levelWords K b (workOf K (suc k) r rs ws i) (stageBelow K (suc k) rs i) ws) (b + n)) at
-          (pass-each K k 0 o 0 rs ws i n (omega arith) small (omega arith) ranged wide
-          ∙ sym (level-node K (down i 0) (workAt K i 0 o 0 rs ws) (stageIn k i 0 rs) ws n there)
-          ∙ ap₂ (λ (w : Work) (q : Stage). nodeIn K (levelWords K (down i 0) w q ws) (down i 0 + n)) (works-are K (suc k) r rs ws i) (stage-is i))
-
-      loads : (i : ℕ) → suc i < suc k → stageAt (turned K (suc k) r rs ws .records) i ≡ levelStage K (firstNode i) (workOf K (suc k) r rs ws i) (stageAt rs i) ws
-      loads i h =
-          let at : onward i 0 ≡ i = onward-is i 0 ∙ omega arith in
-          ap (λ (v : List Stage). stageAt v i) records-are
-          ∙ subst (λ (j : ℕ). stageAt (pass K k 0 o 0 rs ws .records) j ≡ levelStage K (firstNode i) (workOf K (suc k) r rs ws i) (stageAt rs j) ws) at
-          (pass-loads K k 0 o 0 rs ws i (omega arith) (omega arith) ranged wide (omega arith)
-          ∙ ap₂ (λ (b : ℕ) (w : Work). levelStage K b w (stageAt rs (onward i 0)) ws) (down-first i) (works-are K (suc k) r rs ws i))
+      unmoved : (i : ℕ) → i ≤ k → ((n : ℕ) → n < firstNode i + 1 → Busy K (suc k) r rs ws i n → ⊥) → stepped i ≡ ws
+      unmoved i h quiet =
+          let q : Stage = stageBelow K (suc k) rs i in
+          level-still K (firstNode i) (workOf K (suc k) r rs ws i) q ws (off (works (workOf K (suc k) r rs ws i .op)) (λ t. quiet (workOf K (suc k) r rs ws i .node) (own-in i h) (work-busy K (suc k) r rs ws i _ t refl)))
+          (off (waits (q .due)) (λ t. quiet (q .node) (waiting-in (q .due) (q .node) (firstNode i) t (below-in i)) (wait-busy K (suc k) r rs ws i _ t refl)))
+        where
+          off : (b : Bool) → (b ≡ true → ⊥) → b ≡ false
+          off true f = absurd (f refl)
+          off false f = refl
 
 pub one-step : (K levels : ℕ) (r : Request) (rs : List Stage) (ws : List ℕ) → Shape K levels (length ws) → pred levels ≤ length rs → (TurnDamage K levels r rs ws → ⊥) → OneStep K levels r rs ws
 one-step K zero r rs ws sh len fine = absurd (not-suc-le-zero (sh .some))
 one-step K (suc k) r rs ws sh len fine = one-step-at K k r rs ws sh len fine
+
+-- READS: two cycles with no damage leave the same of level i, words and record, where what it reads is the same
+module _ (K k : ℕ) (r t : Request) (rs qs : List Stage) (ws vs : List ℕ) (sh : Shape K (suc k) (length ws)) (zh : Shape K (suc k) (length vs)) (len : k ≤ length rs) (lenq : k ≤ length qs)
+    (fine : TurnDamage K (suc k) r rs ws → ⊥) (fineq : TurnDamage K (suc k) t qs vs → ⊥) (i : ℕ) (h : i ≤ k) (same : Reads K (suc k) i r t rs qs ws vs) where
+  abbrev b : ℕ
+  b = firstNode i
+
+  fits-in : (us : List ℕ) → Spans K k 0 ≤ length us → spotOf K b + (b + 1) * width K ≤ length us
+  fits-in us g = subst (λ (c : ℕ). spotOf K c + (c + 1) * width K ≤ length us) (down-first i) (omega (arith, down-fits K k i 0 h))
+
+  unbound : (p : ℕ) → Level K b p → InLevel K (suc k) i p
+  unfolding firstNode
+  unbound p l = (l .0, omega (arith, l .1, deep (width K) b))
+    where
+      deep : (d c : ℕ) → (c + c + 1) * d ≡ c * d + (c + 1) * d
+      deep d c = omega arith
+
+  alike : Alike (Level K b) ws vs
+  alike =
+      record {
+        one = λ p l. omega (arith, l .1, fits-in ws (wide K k r rs ws sh len fine));
+        other = λ p l. omega (arith, l .1, fits-in vs (wide K k t qs vs zh lenq fineq));
+        same = λ p l. same .own p (unbound p l);
+      }
+
+  own-node : (n : ℕ) → n < b + 1 → nodeIn K ws (b + n) ≡ nodeIn K vs (b + n)
+  own-node n l = same-at K (Level K b) ws vs alike (b + n) (has-own K b n l)
+
+  node-of : (m : ℕ) → ((p : ℕ) → InNode K (suc k) m p → word ws p ≡ word vs p) → nodeIn K ws m ≡ nodeIn K vs m
+  node-of m f = node-local K vs ws (spotOf K m) (λ p x y. f p (x, y))
+
+  settled-by : (c : Note) (m : ℕ) → nodeIn K ws m ≡ nodeIn K vs m → nodeIn K ws (child m lhs) ≡ nodeIn K vs (child m lhs) → nodeIn K ws (child m rhs) ≡ nodeIn K vs (child m rhs) → settled K c m ws ≡ settled K c m vs
+  unfolding settled
+  settled-by c m e f g = λ j. finish c (e j) (lowElem (f j .places)) (lowElem (g j .places))
+
+  -- the node that waits in the level
+  waiting-same : waits (stageBelow K (suc k) rs i .due) ≡ true → settled K (noteOf (stageBelow K (suc k) rs i .due)) (b + stageBelow K (suc k) rs i .node) ws ≡ settled K (noteOf (stageBelow K (suc k) rs i .due)) (b + stageBelow K (suc k) rs i .node) vs
+  waiting-same e =
+      let q : Stage = stageBelow K (suc k) rs i in
+      let at : WaitsAt (q .due) (q .node) (q .node) = waits-at K (q .due) (q .node) (q .node) e refl in
+      settled-by (noteOf (q .due)) (b + q .node) (own-node (q .node) (waiting-in (q .due) (q .node) b e (below-in K k r rs ws sh len fine i))) (node-of (child (b + q .node) lhs) (same .children (q .node) at lhs))
+      (node-of (child (b + q .node) rhs) (same .children (q .node) at rhs))
+
+  -- the work of the level: at the root the request's ..
+  root-work : i ≡ 0 → work (ruleAt K (suc k) r ws .op) 0 ≡ work (ruleAt K (suc k) t vs .op) 0
+  unfolding firstNode
+  root-work e =
+      let at : b + 0 ≡ 0 = ap (λ (j : ℕ). firstNode j + 0) e ∙ omega arith in
+      let n : nodeIn K ws 0 ≡ nodeIn K vs 0 = subst (λ (m : ℕ). nodeIn K ws m ≡ nodeIn K vs m) at (own-node 0 (omega arith)) in
+      ap₂ (λ (r : Request) (n : Node). work (rule (room K (suc k)) r (rootHeld n) (lowElem (n .places)) .op) 0) (same .asked e) n
+
+  -- .. below it what the record between hands down
+  module _ (g : ℕ) (e : i ≡ suc g) where
+    child-own : (n : ℕ) (s : Side) → n < firstNode g + 1 → nodeIn K ws (child (firstNode g + n) s) ≡ nodeIn K vs (child (firstNode g + n) s)
+    unfolding firstNode
+    child-own n s l = subst (λ (m : ℕ). nodeIn K ws m ≡ nodeIn K vs m) (at s) (own-node (childOf n s) (in-level s))
+      where
+        first : b ≡ below (firstNode g)
+        first = ap firstNode e
+
+        at : (s : Side) → b + childOf n s ≡ child (firstNode g + n) s
+        at lhs = omega (arith, first)
+        at rhs = omega (arith, first)
+
+        in-level : (s : Side) → childOf n s < b + 1
+        in-level lhs = omega (arith, first)
+        in-level rhs = omega (arith, first)
+
+    handed-same : (d : Due) (n : ℕ) → InRange d n (firstNode g) → ((m : ℕ) → WaitsAt d n m → (p : ℕ) → InNode K (suc k) (firstNode g + m) p → word ws p ≡ word vs p) → handed K d n (firstNode g) ws ≡ handed K d n (firstNode g) vs
+    unfolding handed
+    handed-same Nothing n l w = refl
+    handed-same (Put y) n l w = refl
+    handed-same (Fill j) n l w = ap (λ (v : Finished). work (v .op) (childOf n (v .side))) (settled-by (fill j) (firstNode g + n) (node-of (firstNode g + n) (w n refl)) (child-own n lhs l) (child-own n rhs l))
+    handed-same (Swap j x) n l w = ap (λ (v : Finished). work (v .op) (childOf n (v .side))) (settled-by (trial j x) (firstNode g + n) (node-of (firstNode g + n) (w n refl)) (child-own n lhs l) (child-own n rhs l))
+
+  below-is : (j : ℕ) → suc j ≤ k → stageBelow K (suc k) rs j ≡ stageAt rs j
+  below-is j l = ap (λ (b : Bool). cond b (stageAt rs j) noStage) (lt-ltb (suc j) (suc k) (omega arith))
+
+  work-same : (j : ℕ) → i ≡ j → workOf K (suc k) r rs ws j ≡ workOf K (suc k) t qs vs j
+  unfolding workOf
+  work-same zero e = root-work e
+  work-same (suc g) e =
+      let q : Stage = stageAt rs g in
+      handed-same g e (q .due) (q .node) (subst (λ (q : Stage). InRange (q .due) (q .node) (firstNode g)) (below-is g (omega arith)) (below-in K k r rs ws sh len fine g)) (same .waiting g e)
+      ∙ ap (λ (q : Stage). handed K (q .due) (q .node) (firstNode g) vs) (same .above g e)
+
+  reads-words : (p : ℕ) → InLevel K (suc k) i p → word (turned K (suc k) r rs ws .words) p ≡ word (turned K (suc k) t qs vs .words) p
+  reads-words p l =
+      let at : Level K b p = bounds K k r rs ws sh len fine i p l in
+      words-at K k r rs ws sh len fine i p (omega arith) at
+      ∙ level-words K b (workOf K (suc k) r rs ws i) (stageBelow K (suc k) rs i) ws vs alike (own-in K k r rs ws sh len fine i h) waiting-same .same p at
+      ∙ ap₂ (λ (w : Work) (q : Stage). word (levelWords K b w q vs) p) (work-same i refl) (same .below) ∙ sym (words-at K k t qs vs zh lenq fineq i p (omega arith) at)
+
+  reads-record : suc i ≤ k → stageAt (turned K (suc k) r rs ws .records) i ≡ stageAt (turned K (suc k) t qs vs .records) i
+  reads-record l =
+      loads K k r rs ws sh len fine i (omega arith) ∙ ap (λ (q : Stage). levelStage K b (workOf K (suc k) r rs ws i) q ws) (sym (below-is i l))
+      ∙ level-loads K b (workOf K (suc k) r rs ws i) (stageBelow K (suc k) rs i) ws vs alike (own-in K k r rs ws sh len fine i h) waiting-same
+      ∙ ap₂ (λ (w : Work) (q : Stage). levelStage K b w q vs) (work-same i refl) (same .below ∙ ap (λ (b : Bool). cond b (stageAt qs i) noStage) (lt-ltb (suc i) (suc k) (omega arith)))
+      ∙ sym (loads K k t qs vs zh lenq fineq i (omega arith))
+
+pub reads : (K levels : ℕ) (r t : Request) (rs qs : List Stage) (ws vs : List ℕ) → Shape K levels (length ws) → Shape K levels (length vs) → pred levels ≤ length rs → pred levels ≤ length qs
+    → (TurnDamage K levels r rs ws → ⊥) → (TurnDamage K levels t qs vs → ⊥) → (i : ℕ) → i < levels → Reads K levels i r t rs qs ws vs
+    → ((p : ℕ) → InLevel K levels i p → word (turned K levels r rs ws .words) p ≡ word (turned K levels t qs vs .words) p)
+    × (suc i < levels → stageAt (turned K levels r rs ws .records) i ≡ stageAt (turned K levels t qs vs .records) i)
+reads K zero r t rs qs ws vs sh zh len lenq fine fineq i h same = absurd (not-suc-le-zero (sh .some))
+reads K (suc k) r t rs qs ws vs sh zh len lenq fine fineq i h same = (
+  reads-words K k r t rs qs ws vs sh zh len lenq fine fineq i (omega arith) same,
+  λ l. reads-record K k r t rs qs ws vs sh zh len lenq fine fineq i (omega arith) same (omega arith),
+)

@@ -1,6 +1,6 @@
 -- The promises: from a cleared machine, over any list of cycles, nothing is damaged and nothing too soon; in the middle of any work the places and the pending puts
 -- hold exactly what went in and has not come out, and what comes out has the lowest rank; and a drain leaves a sound heap.
-use Prim.Native.Nat.{_+_, _<_, _≤_, pred, suc, zero, ℕ}
+use Prim.Native.Nat.{_+_, _≤_, pred, suc, zero, ℕ}
 use native.Mathlib.Nat.{not-suc-le-zero}
 use native.Mathlib.Omega.{arith}
 use mathlib.Core.Bool.{Bool, false, not, true, true≢false}
@@ -10,9 +10,9 @@ use mathlib.Core.Path.{_∙_, _≡_, ap, refl, subst, sym}
 use lib.ListN.{length}
 use borrow.Author.Tests.{lt-ltb}
 use Rattle.clocked_model.specs.Lost.{asked, Call}
-use Rattle.promise.specs.Clock.{calls, cycle, drain}
-use Rattle.cluster_clock_model.proofs.Drain.{drain-state, drains-as, good, idles-quiet, waiting}
-use Rattle.cluster_clock_model.proofs.Exactly.{barred, held-fine, root-limit, same}
+use Rattle.promise.specs.Clock.{calls, cycle, drain, drainedBy}
+use Rattle.cluster_clock_model.proofs.Drain.{drain-state, drains-as, idles-quiet}
+use Rattle.cluster_clock_model.proofs.Exactly.{barred, held-fine, root-limit}
 pub use Rattle.cluster_clock_model.proofs.Exactly.{never-soon}
 use Rattle.cluster_clock_model.proofs.Flight.{Inv, within}
 use Rattle.cluster_clock_model.proofs.Kept.{is-clock, Kept, kept-answer, kept-held, kept-root, move-kept, move-least, move-sum, root-some}
@@ -21,41 +21,29 @@ use Rattle.cluster_clock_model.proofs.Rest.{calm-sound, rest-stored, re
 use Rattle.cluster_clock_model.proofs.Seen.{treeIn}
 use Rattle.cluster_clock_model.specs.Calls.{clockHeld, DrainOutcome, drains, quiet, turned}
 use Rattle.cluster_clock_model.specs.Promise.{AtRest, callAnswers, clearedMachine, clock, idles, Machine, machine, machineQueue, ran, ranCalls, remaining, turnAnswers, TurnDamage, turnQueue}
-use Rattle.cluster_model.specs.Calls.{heldIn, rule, ruleAt, Ruling}
+use Rattle.cluster_model.specs.Calls.{heldIn, rule, ruleAt}
 use Rattle.cluster_model.specs.Heap.{room, Sound}
 use Rattle.cluster_model.specs.Node.{low, lowElem, Place}
 use Rattle.cluster_model.specs.Promise.{Shape, storedCount}
 use Rattle.cluster_model.specs.Way.{heapIn, nodeIn}
 use Rattle.cluster_model.proofs.Rules.{comes, lowest-is}
-use Rattle.cluster_model.specs.Rules as rules
-use Rattle.cluster_model.specs.Rules.{Comes, empty, full, IsLowest, lacks, no-tag, puts, swaps, takes}
+use Rattle.cluster_model.specs.Rules.{IsLowest}
 use Rattle.promise.specs.Queue.{leaves-keep, step}
 use Rattle.laws.specs.Means.{means-off}
-use Rattle.promise.proofs.Calls.{grants-kind, last-each}
+use Rattle.promise.proofs.Calls.{comes-out, grants-kind, last-each}
 use Rattle.promise.proofs.Kept.{last-alike}
 use Rattle.promise.specs.Calls.{outcome, PopThenPush}
 use Rattle.promise.specs.Refused.{Untagged, untagged-means}
-use Rattle.promise.proofs.Clock as clocks
-use Rattle.promise.proofs.Clock.{Bag, Lowest, Swaps}
-use Rattle.promise.specs.Drains.{Drained, drainsBy}
+use Rattle.promise.proofs.InFlight as clocks
+use Rattle.promise.proofs.InFlight.{Bag, Lowest, Swaps}
+use Rattle.promise.specs.Drains.{Drained}
 use Rattle.promise.specs.Served.{allBrought, allGiven, always, brought, given, Holds, Least, least-same, triple}
 use Rattle.promise.specs.Tagged.{Tagged, tagged-by}
-use Rattle.strip.specs.Answers.{countNumber, countOf, elementOf, numberOf}
+use Rattle.strip.specs.Answers.{countNumber, countOf, numberOf}
 use Rattle.strip.specs.declared.Answer.the-variants.{Out}
 use Rattle.strip.specs.declared.Element.{Element}
 use Rattle.strip.specs.declared.Request.{Request}
 use Rattle.strip.specs.declared.Request.the-variants.{Idle, Replace}
-
--- what a request gives is the element named, of a queue that is not empty
-comes-out : (c h : ℕ) (t e : Element) (r : Request) (g : Ruling) → Comes c h t r g → g .answer ≡ Out e → (t ≡ e) × (0 < h)
-comes-out c h t e r g rules.idles q = absurd (let z : _≡_ {A = ℕ} 0 1 = cc in omega arith)
-comes-out c h t e r g (no-tag r′ u) q = absurd (let z : _≡_ {A = ℕ} 0 1 = cc in omega arith)
-comes-out c h t e r g (puts x u p) q = absurd (let z : _≡_ {A = ℕ} 0 1 = cc in omega arith)
-comes-out c h t e r g (full x u p) q = absurd (let z : _≡_ {A = ℕ} 0 1 = cc in omega arith)
-comes-out c h t e r g (takes p) q = (ap elementOf q, p)
-comes-out c h t e r g (empty p) q = absurd (let z : _≡_ {A = ℕ} 0 1 = cc in omega arith)
-comes-out c h t e r g (swaps x u p) q = (ap elementOf q, p)
-comes-out c h t e r g (lacks x u p) q = absurd (let z : _≡_ {A = ℕ} 0 1 = cc in omega arith)
 
 -- ---- what remains is what the clock holds
 module _ (K k : ℕ) where
@@ -71,21 +59,22 @@ module _ (K k : ℕ) where
       }
 
   pub lowest : Lowest (clock K (suc k)) (Kept K k) (λ r. r) (remaining K (suc k))
-  lowest r x kept c = least-same (λ f. within f (suc k) (treeIn K (suc k) 0 0 (x .records) (x .words) 0)) (remaining K (suc k) x) (kept-remains x kept) r _ (move-least K k x kept r c)
+  lowest =
+      record { least = λ r x kept c. least-same (λ f. within f (suc k) (treeIn K (suc k) 0 0 (x .records) (x .words) 0)) (remaining K (suc k) x) (kept-remains x kept) r _ (move-least K k x kept r c) }
 
   pub next-kept : (r : Request) (x : Machine) → Kept K k x → Kept K k (turnQueue K (suc k) r x .next)
-  next-kept = clocks.next-kept (clock K (suc k)) (turnQueue K (suc k)) (same K (suc k)) (Kept K k) (is-clock K k)
+  next-kept = clocks.next-kept (is-clock K k)
 
   pub idles-kept : (n : ℕ) (x : Machine) → Kept K k x → Kept K k (idles K (suc k) n x)
-  idles-kept = clocks.idles-kept (clock K (suc k)) (turnQueue K (suc k)) (same K (suc k)) (Kept K k) (is-clock K k)
+  idles-kept = clocks.idles-kept (is-clock K k)
 
   pub cycle-sum : (r : Request) (x : Machine) → Kept K k x → (f : Element → Bool)
       → remaining K (suc k) (turnQueue K (suc k) r x .next) f + given r (turnQueue K (suc k) r x .said) f ≡ remaining K (suc k) x f + brought r (turnQueue K (suc k) r x .said) f
-  cycle-sum = clocks.cycle-sum (clock K (suc k)) (turnQueue K (suc k)) (same K (suc k)) (Kept K k) (is-clock K k) (λ r. r) (remaining K (suc k)) bag
+  cycle-sum = clocks.cycle-sum (is-clock K k) bag
 
   -- what a cycle gives out is the least of it
   pub kept-gives : (x : Machine) → Kept K k x → (r : Request) → Least (remaining K (suc k) x) r (turned K (suc k) r (x .records) (x .words) .answer)
-  kept-gives x kept r = clocks.cycle-least (clock K (suc k)) (turnQueue K (suc k)) (same K (suc k)) (Kept K k) (is-clock K k) (λ r. r) (remaining K (suc k)) lowest r x kept
+  kept-gives x kept r = clocks.cycle-least (is-clock K k) lowest r x kept
 
   -- .. and the lowest of the root as it stood at the cycle's start
   pub kept-lowest : (x : Machine) → Kept K k x → (r : Request) (e : Element) → turned K (suc k) r (x .records) (x .words) .answer ≡ Out e
@@ -119,10 +108,10 @@ module _ (K k : ℕ) where
   idles-rest x kept = idles-quiet K (suc k) x (kept .count) (λ t l. idle-unrefused (idles K (suc k) t x) (idles-kept t x kept))
 
   pub kept-undamaged : (x : Machine) → Kept K k x → (r : Request) → TurnDamage K (suc k) r (x .records) (x .words) → ⊥
-  kept-undamaged x kept r = clocks.kept-undamaged (clock K (suc k)) (turnQueue K (suc k)) (same K (suc k)) (Kept K k) (is-clock K k) r x kept
+  kept-undamaged x kept r = clocks.kept-undamaged (is-clock K k) r x kept
 
   -- a replace is a pop and then a push
-  swapping : Swaps (clock K (suc k)) (turnQueue K (suc k)) (same K (suc k)) (Kept K k) (is-clock K k) (remaining K (suc k)) bag
+  swapping : Swaps (is-clock K k) bag
   swapping =
       record {
         kinds = λ r x. grants-kind r _;
@@ -130,12 +119,16 @@ module _ (K k : ℕ) where
         room = λ e x kept tag c. (
           means-off (untagged-means e) tag,
           (
-            lt-ltb _ (room K (suc k)) (clocks.popped-less (clock K (suc k)) (turnQueue K (suc k)) (same K (suc k)) (Kept K k) (is-clock K k) (remaining K (suc k)) bag (λ x kept. kept-held K k x kept ∙ kept-remains x kept always)
+            lt-ltb _ (room K (suc k)) (clocks.popped-less (is-clock K k) bag (λ x kept. kept-held K k x kept ∙ kept-remains x kept always)
                 (room K (suc k)) (λ x kept. root-limit K (suc k) (x .words) (kept .shape .some) (kept-root K k x kept)) x kept c),
             tt,
           ),
         );
       }
+
+  pub kept-replaces : (x : Machine) → Kept K k x → (e : Element) → (Untagged (Replace e) → ⊥)
+      → PopThenPush (λ r x. outcome (turnQueue K (suc k) r x .said) (turnQueue K (suc k) r x .next)) (remaining K (suc k)) e x
+  kept-replaces x kept e tag = clocks.pop-then-push (is-clock K k) bag swapping e tag x kept
 
   -- cycles and drains are the clock's
   alike : (c : Call) (x : Machine) → machineQueue K (suc k) c x ≡ calls (clock K (suc k)) (turnQueue K (suc k)) c x
@@ -151,7 +144,7 @@ module _ (K : ℕ) (ws : List ℕ) (cs : List Call) where
   pub nothing-lost : (levels : ℕ) → Shape K levels (length ws) → Holds (remaining K levels (ranCalls K levels cs ws)) (map asked cs) (callAnswers K levels cs ws)
   nothing-lost zero sh = absurd (not-suc-le-zero (sh .some))
   nothing-lost (suc k) sh =
-      clocks.nothing-lost (clock K (suc k)) (turnQueue K (suc k)) (same K (suc k)) (Kept K k) (is-clock K k) (machineQueue K (suc k)) (alike K k) (λ r. r) (remaining K (suc k)) (bag K k) (clearedMachine K (suc k) ws)
+      clocks.nothing-lost (is-clock K k) (machineQueue K (suc k)) (alike K k) (bag K k) (clearedMachine K (suc k) ws)
       (start-flying K k ws sh) (start-remains K k ws sh) cs
 
   -- .. so each triple of rank, tag and length as often
@@ -168,7 +161,7 @@ module _ (K : ℕ) (ws : List ℕ) (rs : List Request) where
   pub holds : (levels : ℕ) → Shape K levels (length ws) → Holds (remaining K levels (ran K levels rs ws)) rs (turnAnswers K levels rs ws)
   holds zero sh = absurd (not-suc-le-zero (sh .some))
   holds (suc k) sh =
-      clocks.all-held (clock K (suc k)) (turnQueue K (suc k)) (same K (suc k)) (Kept K k) (is-clock K k) (remaining K (suc k)) (bag K k) (clearedMachine K (suc k) ws) (start-flying K k ws sh) (start-remains K k ws sh) rs
+      clocks.all-held (is-clock K k) (bag K k) (clearedMachine K (suc k) ws) (start-flying K k ws sh) (start-remains K k ws sh) rs
 
   -- UNDAMAGED: no cycle is refused for damage, and none for the shape
   pub undamaged : (levels : ℕ) → Shape K levels (length ws) → (r : Request) → TurnDamage K levels r (ran K levels rs ws .records) (ran K levels rs ws .words) → ⊥
@@ -184,7 +177,7 @@ module _ (K : ℕ) (ws : List ℕ) (rs : List Request) where
       → let n = numberOf (turned K levels r (ran K levels rs ws .records) (ran K levels rs ws .words) .answer) in (n ≡ 0) ⊎ (n ≡ 5) ⊎ (n ≡ 6) ⊎ (n ≡ 7)
   numbers zero sh r = absurd (not-suc-le-zero (sh .some))
   numbers (suc k) sh r =
-      clocks.kept-numbers (clock K (suc k)) (turnQueue K (suc k)) (same K (suc k)) (Kept K k) (is-clock K k) r (ran K (suc k) rs ws) (ran-kept k sh) (λ n. (n ≡ 0) ⊎ (n ≡ 5) ⊎ (n ≡ 6) ⊎ (n ≡ 7)) (inl refl) (last-each r _ _)
+      clocks.kept-numbers (is-clock K k) r (ran K (suc k) rs ws) (ran-kept k sh) (λ n. (n ≡ 0) ⊎ (n ≡ 5) ⊎ (n ≡ 6) ⊎ (n ≡ 7)) (inl refl) (last-each r _ _)
 
   -- LEAST: what a cycle gives out, of a pop or a replace, has the lowest rank of all that is held, in the middle of any work
   pub least : (levels : ℕ) → Shape K levels (length ws) → (r : Request) → Least (remaining K levels (ran K levels rs ws)) r (turned K levels r (ran K levels rs ws .records) (ran K levels rs ws .words) .answer)
@@ -202,8 +195,7 @@ module _ (K : ℕ) (ws : List ℕ) (rs : List Request) where
   pub pop-then-push : (levels : ℕ) → Shape K levels (length ws) → (e : Element) → (Untagged (Replace e) → ⊥)
       → PopThenPush (λ r x. outcome (turnQueue K levels r x .said) (turnQueue K levels r x .next)) (remaining K levels) e (ran K levels rs ws)
   pop-then-push zero sh e tag = absurd (not-suc-le-zero (sh .some))
-  pop-then-push (suc k) sh e tag =
-      clocks.pop-then-push (clock K (suc k)) (turnQueue K (suc k)) (same K (suc k)) (Kept K k) (is-clock K k) (remaining K (suc k)) (bag K k) (swapping K k) e tag (ran K (suc k) rs ws) (ran-kept k sh)
+  pop-then-push (suc k) sh e tag = kept-replaces K k (ran K (suc k) rs ws) (ran-kept k sh) e tag
 
   -- TAGGED: no element of tag 0 is held, and none has come out
   pub tagged : (levels : ℕ) → Shape K levels (length ws) → Tagged (remaining K levels (ran K levels rs ws)) rs (turnAnswers K levels rs ws)
@@ -232,14 +224,14 @@ module _ (K : ℕ) (ws : List ℕ) (rs : List Request) where
   rested-holds zero sh n e f = absurd (not-suc-le-zero (sh .some))
   rested-holds (suc k) sh n e f =
       let x : Machine = ran K (suc k) rs ws in
-      omega (arith, holds (suc k) sh f, rest-remains K k (idles K (suc k) n x) (idles-kept K k n x (ran-kept k sh)) e f, clocks.idles-sum (clock K (suc k)) (turnQueue K (suc k)) (same K (suc k)) (Kept K k) (is-clock K k) (λ r. r) (remaining K (suc k)) (bag K k) n x (ran-kept k sh) f)
+      omega (arith, holds (suc k) sh f, rest-remains K k (idles K (suc k) n x) (idles-kept K k n x (ran-kept k sh)) e f, clocks.idles-sum (is-clock K k) (bag K k) n x (ran-kept k sh) f)
 
 -- ---- DRAINED: after any list of cycles a drain with a budget of levels - 1 or more is not refused, runs at most levels - 1 cycles, leaves no work, and leaves a
 -- store that keeps the rules of [2] and holds exactly what was accepted and not answered out
 module _ (K : ℕ) (ws : List ℕ) (rs : List Request) (budget : ℕ) where
   -- the clock's own drain
   abbrev by-clock : ℕ → Drained Machine
-  by-clock levels = drainsBy (turnQueue K levels) (waiting K levels) (good K levels (ran K levels rs ws)) budget (ran K levels rs ws)
+  by-clock levels = drainedBy (clock K levels) (turnQueue K levels) budget (ran K levels rs ws)
 
   -- .. is done, within levels - 1 cycles, and leaves no work
   comes-to : (levels : ℕ) → Shape K levels (length ws) → pred levels ≤ budget
@@ -247,10 +239,10 @@ module _ (K : ℕ) (ws : List ℕ) (rs : List Request) (budget : ℕ) where
   comes-to zero sh enough = absurd (not-suc-le-zero (sh .some))
   comes-to (suc k) sh enough =
       let kept = ran-kept K ws rs k sh in (
-        clocks.drained-fine (clock K (suc k)) (turnQueue K (suc k)) (same K (suc k)) (Kept K k) (is-clock K k) k (idles-rest K k) (ran K (suc k) rs ws) kept budget enough,
-        clocks.drained-few (clock K (suc k)) (turnQueue K (suc k)) (same K (suc k)) (Kept K k) (is-clock K k) k (idles-rest K k) (ran K (suc k) rs ws) kept budget enough,
-        clocks.drained-left (clock K (suc k)) (turnQueue K (suc k)) (same K (suc k)) (Kept K k) (is-clock K k) k (idles-rest K k) (ran K (suc k) rs ws) kept budget enough,
-        clocks.drained-rest (clock K (suc k)) (turnQueue K (suc k)) (same K (suc k)) (Kept K k) (is-clock K k) k (idles-rest K k) (ran K (suc k) rs ws) kept budget enough,
+        clocks.drained-fine (is-clock K k) k (idles-rest K k) (ran K (suc k) rs ws) kept budget enough,
+        clocks.drained-few (is-clock K k) k (idles-rest K k) (ran K (suc k) rs ws) kept budget enough,
+        clocks.drained-left (is-clock K k) k (idles-rest K k) (ran K (suc k) rs ws) kept budget enough,
+        clocks.drained-rest (is-clock K k) k (idles-rest K k) (ran K (suc k) rs ws) kept budget enough,
       )
 
 module _ (K : ℕ) (ws : List ℕ) (rs : List Request) (levels : ℕ) (sh : Shape K levels (length ws)) (budget : ℕ) (enough : pred levels ≤ budget) where

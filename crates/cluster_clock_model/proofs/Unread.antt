@@ -2,7 +2,7 @@
 use Prim.Native.Nat.{_+_, _<_, _≤_, pred, suc, zero, ℕ}
 use native.Mathlib.Nat.{not-suc-le-zero}
 use native.Mathlib.Omega.{arith}
-use mathlib.Core.Bool.{_&&_, _||_, Bool, cond, false, not, true}
+use mathlib.Core.Bool.{_&&_, _||_, Bool, cond, false, false≢true, not, true}
 use mathlib.Core.List.{List}
 use mathlib.Core.Logic.{inl}
 use mathlib.Core.Path.{_∙_, _≡_, ap, ap₂, refl, subst, sym}
@@ -12,24 +12,25 @@ use lib.Seq.{getD-set-same}
 use borrow.Author.Tests.{ltb-false, ltb-true}
 use Rattle.clocked_model.specs.Calls.{asks, isRefused}
 use Rattle.cluster_clock_model.proofs.Exactly.{sound, turned-damaged, turned-either, turned-fine, turned-length}
-use Rattle.cluster_clock_model.proofs.OneStep.{stages-ranged}
+use Rattle.cluster_clock_model.proofs.Level.{Has, like-filled, like-worked, same-begins}
+use Rattle.cluster_clock_model.proofs.Passes.{stages-ranged}
 use Rattle.cluster_clock_model.proofs.Seen.{handed-in, InRange, level-in, pass-others, pass-records, Ranged, ranged-set, set-later, Spans, spans-next, spans-own}
 use Rattle.cluster_clock_model.specs.declared.Due.{Due}
 use Rattle.cluster_clock_model.specs.declared.Due.the-variants.{Fill, Nothing, Put, Swap}
 use Rattle.cluster_clock_model.specs.declared.Stage.{Stage}
 use Rattle.cluster_clock_model.specs.Calls.{askedOk, clockHeld, drainFrom, DrainOutcome, drainOutcome, drains, isNothing, pending, quiet, turned, TurnOutcome, turnRun}
 use Rattle.cluster_clock_model.specs.Promise.{Alike, Machine, machine, SameStage, turnQueue}
-use Rattle.cluster_clock_model.specs.Stage.{begins, below, childOf, filled, handed, levelStage, levelWords, loaded, lowAt, noStage, pass, Passed, settled, stage, stageAt, work, Work, worked}
+use Rattle.cluster_clock_model.specs.Stage.{begins, below, childOf, filled, handed, levelStage, levelWords, loaded, lowAt, noStage, noteOf, pass, Passed, settled, stage, stageAt, waits, work, Work, worked}
 use Rattle.cluster_clock_model.specs.Test.{givesOk, isGap, sane, saneAt, stageOk, stagesOk, waitOk}
 use Rattle.cluster_model.specs.Calls.{rootHeld, rule, ruleAt, Ruling, shapeOk}
 use Rattle.cluster_model.specs.Heap.{room}
-use Rattle.cluster_model.specs.Node.{begin, Begun, fill, finish, Finished, lhs, low, lowElem, Node, Note, nothingBelow, placeAt, rhs, trial}
+use Rattle.cluster_model.specs.Node.{Begun, fill, finish, Finished, lhs, lowElem, Node, Note, nothingBelow, placeAt, rhs, trial}
 use Rattle.cluster_model.specs.Promise.{Shape}
-use Rattle.cluster_model.specs.Way.{child, extent, nodeIn, roomy, some, spotOf, touch, works}
+use Rattle.cluster_model.specs.Way.{child, extent, nodeIn, roomy, some, spotOf, touch}
 use Rattle.cluster_model.specs.Words.{width}
 use Rattle.cluster_model.proofs.Damages.{is-shape}
 use Rattle.cluster_model.proofs.Unread as heap
-use Rattle.cluster_model.proofs.Unread.{like-touch, root-fits, same-neat, same-node}
+use Rattle.cluster_model.proofs.Unread.{root-fits, same-neat, same-node, Under}
 use Rattle.laws.specs.Tests.{and-right}
 use Rattle.promise.specs.Queue.{Step}
 use Rattle.strip.specs.declared.Answer.{Answer}
@@ -83,12 +84,12 @@ level-begins : (K b : ℕ) (w : Work) (q : Stage) (ws : List ℕ) → levelStage
 unfolding levelStage
 level-begins K b w q ws = refl
 
-level-alike : (K N b : ℕ) (w : Work) (p q : Stage) (ws vs : List ℕ) → heap.Alike N (worked K b w ws (filled K b p ws)) (worked K b w vs (filled K b q vs)) → heap.Alike N (levelWords K b w p ws) (levelWords K b w q vs)
+level-alike : (K N b : ℕ) (w : Work) (p q : Stage) (ws vs : List ℕ) → heap.Alike (Under N) (worked K b w ws (filled K b p ws)) (worked K b w vs (filled K b q vs)) → heap.Alike (Under N) (levelWords K b w p ws) (levelWords K b w q vs)
 unfolding levelWords
 level-alike K N b w p q ws vs a = a
 
 -- ---- the same words read in both
-module _ (K N : ℕ) (ws vs : List ℕ) (a : heap.Alike N ws vs) where
+module _ (K N : ℕ) (ws vs : List ℕ) (a : heap.Alike (Under N) ws vs) where
   same-sane : (limit m : ℕ) → spotOf K m + width K ≤ N → saneAt K limit ws m ≡ saneAt K limit vs m
   unfolding saneAt
   same-sane limit m h = ap₂ (λ (x y : Bool). x && y) (same-neat K N ws vs a (spotOf K m + 2) K (omega arith)) (ap (sane limit) (same-node K N ws vs a m h))
@@ -155,34 +156,18 @@ module _ (K N : ℕ) (ws vs : List ℕ) (a : heap.Alike N ws vs) where
     same-handed (Fill j) n h = ap (λ (v : Finished). work (v .op) (childOf n (v .side))) (same-settled (fill j) n h)
     same-handed (Swap j x) n h = ap (λ (v : Finished). work (v .op) (childOf n (v .side))) (same-settled (trial j x) n h)
 
-    like-filled : (d : Due) (n : ℕ) → InRange d n b → heap.Alike N (filled K b (stage d n) ws) (filled K b (stage d n) vs)
-    unfolding filled touch
-    like-filled Nothing n h = a
-    like-filled (Put y) n h = a
-    like-filled (Fill j) n h =
-        subst (λ (v : Finished). heap.Alike N (touch true ws (spotOf K (b + n)) (settled K (fill j) (b + n) ws .node)) (touch true vs (spotOf K (b + n)) (v .node))) (same-settled (fill j) n h)
-        (like-touch N true ws vs (spotOf K (b + n)) (settled K (fill j) (b + n) ws .node) a)
-    like-filled (Swap j x) n h =
-        subst (λ (v : Finished). heap.Alike N (touch true ws (spotOf K (b + n)) (settled K (trial j x) (b + n) ws .node)) (touch true vs (spotOf K (b + n)) (v .node))) (same-settled (trial j x) n h)
-        (like-touch N true ws vs (spotOf K (b + n)) (settled K (trial j x) (b + n) ws .node) a)
-
-  same-begins : (b : ℕ) (w : Work) (us us′ : List ℕ) → heap.Alike N us us′ → spotOf K (b + w .node) + width K ≤ N → begins K b w ws us ≡ begins K b w vs us′
-  unfolding begins
-  same-begins b w us us′ l h =
-      ap₂ (λ (x y : Node). begin (w .op) (low (x .places)) y) (same-node K N ws vs a (b + w .node) h) (same-node K N us us′ l (b + w .node) h)
-
-  like-worked : (b : ℕ) (w : Work) (us us′ : List ℕ) → heap.Alike N us us′ → spotOf K (b + w .node) + width K ≤ N → heap.Alike N (worked K b w ws us) (worked K b w vs us′)
-  unfolding worked
-  like-worked b w us us′ l h =
-      subst (λ (v : Begun). heap.Alike N (touch (works (w .op)) us (spotOf K (b + w .node)) (begins K b w ws us .node)) (touch (works (w .op)) us′ (spotOf K (b + w .node)) (v .node))) (same-begins b w us us′ l h)
-      (like-touch N (works (w .op)) us us′ (spotOf K (b + w .node)) (begins K b w ws us .node) l)
+    settled-waits : (d : Due) (n : ℕ) → InRange d n b → waits d ≡ true → settled K (noteOf d) (b + n) ws ≡ settled K (noteOf d) (b + n) vs
+    settled-waits Nothing n h e = absurd (false≢true e)
+    settled-waits (Put y) n h e = absurd (false≢true e)
+    settled-waits (Fill j) n h e = same-settled (fill j) n h
+    settled-waits (Swap j x) n h e = same-settled (trial j x) n h
 
 -- records that are alike, from record i on
 abbrev Sames : (k : ℕ) → ℕ → List Stage → List Stage → Type 0
 Sames k i rs qs = (j : ℕ) → i ≤ j → j < i + k → SameStage (stageAt rs j) (stageAt qs j)
 
 module _ (K N : ℕ) where
-  same-stages : (ws vs : List ℕ) → heap.Alike N ws vs → (k b i : ℕ) (rs qs : List Stage) → Sames k i rs qs → Spans K k b ≤ N → stagesOk K k b i rs ws ≡ stagesOk K k b i qs vs
+  same-stages : (ws vs : List ℕ) → heap.Alike (Under N) ws vs → (k b i : ℕ) (rs qs : List Stage) → Sames k i rs qs → Spans K k b ≤ N → stagesOk K k b i rs ws ≡ stagesOk K k b i qs vs
   unfolding stagesOk
   same-stages ws vs l zero b i rs qs s h = refl
   same-stages ws vs l (suc k) b i rs qs s h =
@@ -195,11 +180,11 @@ module _ (K N : ℕ) where
 
   -- what the pass leaves is alike, and its records are the same
   record Like (k i : ℕ) (x y : Passed K) : Type 0 where
-    words : heap.Alike N (x .words) (y .words)
+    words : heap.Alike (Under N) (x .words) (y .words)
     stages : (j : ℕ) → i ≤ j → j < i + k → stageAt (x .records) j ≡ stageAt (y .records) j
 
   -- one level, and the rest after it
-  module _ (k b : ℕ) (w : Work) (i : ℕ) (rs qs : List Stage) (ws vs : List ℕ) (l : heap.Alike N ws vs) (s : Sames (suc k) i rs qs) (wi : w .node < b + 1) (r : Ranged (suc k) b i rs)
+  module _ (k b : ℕ) (w : Work) (i : ℕ) (rs qs : List Stage) (ws vs : List ℕ) (l : heap.Alike (Under N) ws vs) (s : Sames (suc k) i rs qs) (wi : w .node < b + 1) (r : Ranged (suc k) b i rs)
       (h : Spans K (suc k) b ≤ N) (m : i + suc k ≤ length rs) (n : i + suc k ≤ length qs) where
     abbrev p : Stage
     p = stageAt rs i
@@ -210,20 +195,20 @@ module _ (K N : ℕ) where
     same : SameStage p q
     same = s i (omega arith) (omega arith)
 
-    there : spotOf K (b + w .node) + width K ≤ N
-    there = omega (arith, level-in K (width K) b (w .node) wi, spans-own K (suc k) b)
+    there : Has K (Under N) (b + w .node)
+    there u x y = omega (arith, level-in K (width K) b (w .node) wi, spans-own K (suc k) b)
 
-    full : heap.Alike N (filled K b p ws) (filled K b q vs)
-    full = subst (λ (u : List ℕ). heap.Alike N (filled K b p ws) u) (stage-same (λ d n. filled K b (stage d n) vs) (filled-nothing K b vs) p q same) (like-filled K N ws vs l k b h (p .due) (p .node) (r .0))
+    full : heap.Alike (Under N) (filled K b p ws) (filled K b q vs)
+    full = subst (λ (u : List ℕ). heap.Alike (Under N) (filled K b p ws) u) (stage-same (λ d n. filled K b (stage d n) vs) (filled-nothing K b vs) p q same) (like-filled K (Under N) b ws vs l (p .due) (p .node) (settled-waits K N ws vs l k b h (p .due) (p .node) (r .0)))
 
     hand : handed K (p .due) (p .node) b ws ≡ handed K (q .due) (q .node) b vs
     hand = same-handed K N ws vs l k b h (p .due) (p .node) (r .0) ∙ stage-same (λ d n. handed K d n b vs) (handed-nothing K b vs) p q same
 
     load : levelStage K b w p ws ≡ levelStage K b w q vs
-    load = level-begins K b w p ws ∙ ap (λ (v : Begun). loaded (v .note) (w .node)) (same-begins K N ws vs l b w (filled K b p ws) (filled K b q vs) full there) ∙ sym (level-begins K b w q vs)
+    load = level-begins K b w p ws ∙ ap (λ (v : Begun). loaded (v .note) (w .node)) (same-begins K (Under N) b ws vs l w (filled K b p ws) (filled K b q vs) full there) ∙ sym (level-begins K b w q vs)
 
-    first-words : heap.Alike N (levelWords K b w p ws) (levelWords K b w q vs)
-    first-words = level-alike K N b w p q ws vs (like-worked K N ws vs l b w (filled K b p ws) (filled K b q vs) full there)
+    first-words : heap.Alike (Under N) (levelWords K b w p ws) (levelWords K b w q vs)
+    first-words = level-alike K N b w p q ws vs (like-worked K (Under N) b ws vs l w (filled K b p ws) (filled K b q vs) full there)
 
     abbrev g : Work
     g = handed K (p .due) (p .node) b ws
@@ -258,11 +243,11 @@ module _ (K N : ℕ) where
                 let here : i ≡ j = omega (arith, ltb-false i j e) in
                 subst (λ (t : ℕ). stageAt (pass K k (below b) g (suc i) rs₁ (levelWords K b w p ws) .records) t ≡ stageAt (pass K k (below b) g (suc i) qs₁ (levelWords K b w q vs) .records) t) here first
 
-  like-pass : (k b : ℕ) (w : Work) (i : ℕ) (rs qs : List Stage) (ws vs : List ℕ) → heap.Alike N ws vs → Sames k i rs qs → w .node < b + 1 → Ranged k b i rs → Spans K k b ≤ N → i + k ≤ length rs → i + k ≤ length qs
+  like-pass : (k b : ℕ) (w : Work) (i : ℕ) (rs qs : List Stage) (ws vs : List ℕ) → heap.Alike (Under N) ws vs → Sames k i rs qs → w .node < b + 1 → Ranged k b i rs → Spans K k b ≤ N → i + k ≤ length rs → i + k ≤ length qs
       → Like k i (pass K k b w i rs ws) (pass K k b w i qs vs)
   unfolding pass
   like-pass zero b w i rs qs ws vs l s wi r h m n =
-      record { words = like-worked K N ws vs l b w ws vs l (omega (arith, level-in K (width K) b (w .node) wi, spans-own K zero b)); stages = λ j x y. absurd (none j x y) }
+      record { words = like-worked K (Under N) b ws vs l w ws vs l (λ u x y. omega (arith, level-in K (width K) b (w .node) wi, spans-own K zero b)); stages = λ j x y. absurd (none j x y) }
     where
       none : (j : ℕ) → i ≤ j → j < i + 0 → ⊥
       none j x y = omega arith
@@ -278,8 +263,8 @@ module _ (K k : ℕ) (x y : Machine) (fx : Fits K (suc k) x) (fy : Fits K (suc k
   abbrev N : ℕ
   N = extent K (suc k) 1
 
-  both : heap.Alike N (x .words) (y .words)
-  both = record { one = fx .shape .slice; other = fy .shape .slice; same = like .words }
+  both : heap.Alike (Under N) (x .words) (y .words)
+  both = record { one = λ p h. omega (arith, fx .shape .slice); other = λ p h. omega (arith, fy .shape .slice); same = like .words }
 
   stages : Sames k 0 (x .records) (y .records)
   stages j a b = like .stages j (omega arith)

@@ -102,3 +102,23 @@ caseTieAnswers = turnAnswers 2 2 (tieCycles ++ (Pop ∷ Pop ∷ [])) (replicate 
 
 abbrev pub caseTieAnswersSay : List Answer
 caseTieAnswersSay = Done ∷ Done ∷ Done ∷ Out (element 1 10 100) ∷ Out (element 3 30 300) ∷ Out (element 3 20 200) ∷ Refused Empty ∷ []
+
+-- K = 3, levels 2: a gap made in one cycle is filled in the next, also where that cycle makes another. The record of level 2, and the words
+abbrev pub stoodOfThree : List Request → List ℕ
+stoodOfThree rs =
+    let x = ran 3 2 (Push (element 1 10 100) ∷ Push (element 2 20 200) ∷ Push (element 3 30 300) ∷ Push (element 4 40 400) ∷ Idle ∷ rs) (replicate 42 0) in
+    stageNumbers (stageAt (x .records) 0) ++ x .words
+
+unfoldable pub caseGap : List (List ℕ)
+caseGap = stoodOfThree [] ∷ stoodOfThree (Pop ∷ []) ∷ stoodOfThree (Pop ∷ Idle ∷ []) ∷ stoodOfThree (Pop ∷ Pop ∷ []) ∷ []
+
+abbrev pub caseGapSays : List (List ℕ)
+caseGapSays =
+    (0 ∷ 0 ∷ 0 ∷ 0 ∷ 0 ∷ 0 ∷ 1 ∷ 0 ∷ 1 ∷ 10 ∷ 100 ∷ 1 ∷ 2 ∷ 20 ∷ 200 ∷ 1 ∷ 3 ∷ 30 ∷ 300 ∷ 1 ∷ 0 ∷ 0 ∷ 4 ∷ 40 ∷ 400 ∷ 1 ∷ 0 ∷ 0 ∷ 0 ∷ 0 ∷ 0 ∷ 0 ∷ 0 ∷ 0 ∷ 0 ∷ 0 ∷ 0 ∷ 0 ∷ 0 ∷ 0 ∷ 0 ∷ 0 ∷ 0 ∷ 0 ∷ 0 ∷ 0 ∷ 0 ∷ 0 ∷ [])
+    -- pop: a gap in place 0 of the root
+    ∷ (2 ∷ 0 ∷ 0 ∷ 0 ∷ 0 ∷ 0 ∷ 1 ∷ 0 ∷ 0 ∷ 0 ∷ 0 ∷ 0 ∷ 2 ∷ 20 ∷ 200 ∷ 1 ∷ 3 ∷ 30 ∷ 300 ∷ 1 ∷ 0 ∷ 0 ∷ 4 ∷ 40 ∷ 400 ∷ 1 ∷ 0 ∷ 0 ∷ 0 ∷ 0 ∷ 0 ∷ 0 ∷ 0 ∷ 0 ∷ 0 ∷ 0 ∷ 0 ∷ 0 ∷ 0 ∷ 0 ∷ 0 ∷ 0 ∷ 0 ∷ 0 ∷ 0 ∷ 0 ∷ 0 ∷ 0 ∷ [])
+    -- .. one cycle later it is filled with 4/40
+    ∷ (0 ∷ 0 ∷ 0 ∷ 0 ∷ 0 ∷ 0 ∷ 0 ∷ 0 ∷ 4 ∷ 40 ∷ 400 ∷ 1 ∷ 2 ∷ 20 ∷ 200 ∷ 1 ∷ 3 ∷ 30 ∷ 300 ∷ 1 ∷ 0 ∷ 0 ∷ 0 ∷ 0 ∷ 0 ∷ 0 ∷ 0 ∷ 0 ∷ 0 ∷ 0 ∷ 0 ∷ 0 ∷ 0 ∷ 0 ∷ 0 ∷ 0 ∷ 0 ∷ 0 ∷ 0 ∷ 0 ∷ 0 ∷ 0 ∷ 0 ∷ 0 ∷ 0 ∷ 0 ∷ 0 ∷ 0 ∷ [])
+    -- .. or, with a pop in that cycle, it is filled and 2/20 leaves a gap with nothing below
+    ∷ (0 ∷ 0 ∷ 0 ∷ 0 ∷ 0 ∷ 0 ∷ 0 ∷ 0 ∷ 4 ∷ 40 ∷ 400 ∷ 1 ∷ 0 ∷ 0 ∷ 0 ∷ 0 ∷ 3 ∷ 30 ∷ 300 ∷ 1 ∷ 0 ∷ 0 ∷ 0 ∷ 0 ∷ 0 ∷ 0 ∷ 0 ∷ 0 ∷ 0 ∷ 0 ∷ 0 ∷ 0 ∷ 0 ∷ 0 ∷ 0 ∷ 0 ∷ 0 ∷ 0 ∷ 0 ∷ 0 ∷ 0 ∷ 0 ∷ 0 ∷ 0 ∷ 0 ∷ 0 ∷ 0 ∷ 0 ∷ [])
+    ∷ []

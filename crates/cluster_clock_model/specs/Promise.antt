@@ -9,22 +9,23 @@ use lib.Dec.{ltb}
 use lib.ListN.{length, replicate}
 use Rattle.clocked_model.specs.Lost.{Call}
 use Rattle.promise.specs.Calls.{grants, lastTable}
-use Rattle.promise.specs.Clock.{Clock, cycle, drain}
-use Rattle.clocked_model.specs.Promise.{Asks, isBadShape, runsIdle}
+use Rattle.promise.specs.Clock.{Clock, cycle, drain, runsIdle}
+use Rattle.clocked_model.specs.Promise.{Asks, isBadShape}
 use Rattle.cluster_clock_model.specs.declared.Due.{Due}
 use Rattle.cluster_clock_model.specs.declared.Due.the-variants.{Fill, Nothing, Put, Swap}
 use Rattle.cluster_clock_model.specs.declared.Stage.{Stage}
 use Rattle.cluster_clock_model.specs.Calls.{askedOk, drainOutcome, DrainOutcome, drains, fresh, pending, turned, turnOutcome, TurnOutcome}
-use Rattle.cluster_clock_model.specs.Stage.{below, handed, levelStage, levelWords, noStage, pass, stageAt, work, Work}
+use Rattle.cluster_clock_model.specs.Stage.{below, handed, levelStage, levelWords, lowAt, noStage, pass, stageAt, work, Work}
 use Rattle.cluster_clock_model.specs.Test.{saneAt, stagesOk}
 use Rattle.cluster_model.specs.Calls.{heldIn, opOf, ruleAt, shapeOk, wipe}
 use Rattle.cluster_model.specs.Heap.{room}
-use Rattle.cluster_model.specs.Node.{gap, lhs, lowElem, placeAt, rhs}
+use Rattle.cluster_model.specs.Node.{gap, has, lhs, lowElem, none, placeAt, rhs, Side}
 use Rattle.cluster_model.specs.Promise.{Agree, AnyTo, marked, PlaceDamaged, Shape, start, storedCount, Stuck}
 use Rattle.cluster_model.specs.Way.{child, extent, nodeIn}
 use Rattle.cluster_model.specs.Words.{word}
 use Rattle.laws.specs.Ladder.{fine, Ladder, rung, stop}
 use Rattle.laws.specs.Sums.{sumTo}
+use Rattle.promise.specs.Flight as flights
 use Rattle.promise.specs.Queue.{answers, leaves, step, Step}
 use Rattle.promise.specs.Refused.{limits, Untagged}
 use Rattle.promise.specs.Served.{hit}
@@ -116,7 +117,6 @@ clock K levels =
       soundOk = λ r x. askedOk K levels r (x .words) && stagesOk K (pred levels) 0 0 (x .records) (x .words);
       Torn = λ r x. TurnDamage K levels r (x .records) (x .words);
       late = λ r x. lastTable r (heldIn K levels (x .words)) (room K levels);
-      runsIdle = runsIdle;
       gives = λ r x. grants r (lowElem (nodeIn K (x .words) 0 .places));
       moves = λ r x. let p = pass K (pred levels) 0 (work (opOf r) 0) 0 (x .records) (x .words) in machine (p .records) (p .words);
       rootOk = λ x. saneAt K (room K (pred levels)) (x .words) 0;
@@ -163,6 +163,26 @@ unfoldable pub firstNode : ℕ → ℕ
 firstNode zero = 0
 firstNode (suc i) = below (firstNode i)
 
+-- the node of the upper level at which a record waits
+abbrev pub WaitsAt : Due → ℕ → ℕ → Type 0
+WaitsAt Nothing m n = ⊥
+WaitsAt (Put y) m n = ⊥
+WaitsAt (Fill j) m n = n ≡ m
+WaitsAt (Swap j x) m n = n ≡ m
+
+abbrev pub Waits : Stage → ℕ → Type 0
+Waits q n = WaitsAt (q .due) (q .node) n
+
+-- the nodes of the lower level that a record gives something to do: a put's own; of a node that waits, its two children
+abbrev pub GivenAt : Due → ℕ → ℕ → Type 0
+GivenAt Nothing m n = ⊥
+GivenAt (Put y) m n = n ≡ m
+GivenAt (Fill j) m n = (n ≡ m + m) ⊎ (n ≡ m + m + 1)
+GivenAt (Swap j x) m n = (n ≡ m + m) ⊎ (n ≡ m + m + 1)
+
+abbrev pub Given : Stage → ℕ → Type 0
+Given q n = GivenAt (q .due) (q .node) n
+
 module _ (K levels : ℕ) where
   -- the record below level i; the last level has none
   abbrev pub stageBelow : List Stage → ℕ → Stage
@@ -173,21 +193,70 @@ module _ (K levels : ℕ) where
   workOf r rs ws zero = work (ruleAt K levels r ws .op) 0
   workOf r rs ws (suc i) = handed K (stageAt rs i .due) (stageAt rs i .node) (firstNode i) ws
 
+  -- node n of level i has something to do, by the request and the records at the cycle's start: at the root what the request comes to; elsewhere a put at the node, or a
+  -- fill or swap that waits at its parent; and a fill or swap that waits at the node itself
+  abbrev pub Busy : Request → List Stage → List ℕ → ℕ → ℕ → Type 0
+  Busy r rs ws zero n = (ruleAt K levels r ws .op ≡ none → ⊥) ⊎ Waits (stageBelow rs 0) n
+  Busy r rs ws (suc i) n = Given (stageAt rs i) n ⊎ Waits (stageBelow rs (suc i)) n
+
+  -- the words of level i
+  abbrev pub InLevel : ℕ → ℕ → Type 0
+  InLevel i p = (firstNode i * (2 + K * 4) ≤ p) × (p < firstNode (suc i) * (2 + K * 4))
+
+  -- .. and those of node m
+  abbrev pub InNode : ℕ → ℕ → Type 0
+  InNode m p = (m * (2 + K * 4) ≤ p) × (p < m * (2 + K * 4) + (2 + K * 4))
+
   pub record OneStep (r : Request) (rs : List Stage) (ws : List ℕ) : Type 0 where
     -- "registered reads, writes to the own level only": node n of level i is what the level's own step makes of it, on the words as they stood at the cycle's
-    -- start
+    -- start ..
     pub each : (i n : ℕ) → i < levels → n < firstNode i + 1
         → nodeIn K (turned K levels r rs ws .words) (firstNode i + n)
         ≡ nodeIn K (levelWords K (firstNode i) (workOf r rs ws i) (stageBelow rs i) ws) (firstNode i + n)
+    -- .. word by word
+    pub words : (i p : ℕ) → i < levels → InLevel i p → word (turned K levels r rs ws .words) p ≡ word (levelWords K (firstNode i) (workOf r rs ws i) (stageBelow rs i) ws) p
     -- .. a step that changes no word of another level
     pub own : (i : ℕ) → i < levels → (p : ℕ) → (p < firstNode i * (2 + K * 4)) ⊎ (firstNode (suc i) * (2 + K * 4) ≤ p)
         → word (levelWords K (firstNode i) (workOf r rs ws i) (stageBelow rs i) ws) p ≡ word ws p
+    -- a node with nothing to do stands ..
+    pub stands : (i n p : ℕ) → i < levels → n < firstNode i + 1 → (Busy r rs ws i n → ⊥) → InNode (firstNode i + n) p → word (turned K levels r rs ws .words) p ≡ word ws p
+    -- .. and so a level with nothing to do changes no word
+    pub still : (i p : ℕ) → i < levels → ((n : ℕ) → n < firstNode i + 1 → Busy r rs ws i n → ⊥) → InLevel i p → word (turned K levels r rs ws .words) p ≡ word ws p
     -- no word past the shape's changes
     pub past : (p : ℕ) → extent K levels 1 ≤ p → word (turned K levels r rs ws .words) p ≡ word ws p
     -- each record is what the level above leaves for it, else nothing: it lives for one cycle
     pub loads : (i : ℕ) → suc i < levels → stageAt (turned K levels r rs ws .records) i ≡ levelStage K (firstNode i) (workOf r rs ws i) (stageAt rs i) ws
+    -- a record of nothing is zeros: "What is not loaded is written as nothing with all numbers 0"
+    pub zeros : (i : ℕ) → suc i < levels → stageAt (turned K levels r rs ws .records) i .due ≡ Nothing → stageAt (turned K levels r rs ws .records) i .node ≡ 0
+    -- the last level leaves nothing
+    pub last : levelStage K (firstNode (pred levels)) (workOf r rs ws (pred levels)) noStage ws ≡ noStage
     -- records past the last level are left alone
     pub spare : (j : ℕ) → pred levels ≤ j → stageAt (turned K levels r rs ws .records) j ≡ stageAt rs j
+
+  -- what level i reads in a cycle: its own words and the record below it; of a node that waits in it the two children; of the level above the record between, and a node
+  -- that waits there, whose two children are its own. The request is the root's alone. Two machines with the same of it
+  pub record Reads (i : ℕ) (r t : Request) (rs qs : List Stage) (ws vs : List ℕ) : Type 0 where
+    pub own : (p : ℕ) → InLevel i p → word ws p ≡ word vs p
+    pub below : stageBelow rs i ≡ stageBelow qs i
+    pub children : (n : ℕ) → Waits (stageBelow rs i) n → (s : Side) (p : ℕ) → InNode (child (firstNode i + n) s) p → word ws p ≡ word vs p
+    pub asked : i ≡ 0 → r ≡ t
+    pub above : (h : ℕ) → i ≡ suc h → stageAt rs h ≡ stageAt qs h
+    pub waiting : (h : ℕ) → i ≡ suc h → (n : ℕ) → Waits (stageAt rs h) n → (p : ℕ) → InNode (firstNode h + n) p → word ws p ≡ word vs p
+
+-- what the work w of level i leaves below, in a cycle that leads from x to y, is what the record gives level i + 1 to do in y
+abbrev pub leaveBelow : ℕ → ℕ → ℕ → Work → Machine → Machine → Work
+leaveBelow K levels i w x y = let q = levelStage K (firstNode i) w (stageBelow K levels (x .records) i) (x .words) in handed K (q .due) (q .node) (firstNode i) (y .words)
+
+-- an operation's work on its way down: w at level i in this cycle, what it leaves at level i + 1 in the next, whatever is asked then
+abbrev pub flight : (K levels i : ℕ) → Work → List Request → Machine → Work
+flight K levels = flights.flight (turnQueue K levels) (leaveBelow K levels)
+
+-- "a gap filled from below one cycle later": place j of node m, empty in ws with something below it, is not in vs; and where no put is done there in that cycle, it has the
+-- lowest of one of the two children as they stood
+pub record Filled (K m j : ℕ) (NoPut : Type 0) (ws vs : List ℕ) : Type 0 where
+  pub element : Element
+  pub holds : placeAt (nodeIn K vs m .places) j ≡ has element
+  pub lifted : NoPut → (element ≡ lowAt K ws (child m lhs)) ⊎ (element ≡ lowAt K ws (child m rhs))
 
 -- ---- "Nothing lost in flight" (02 [14]), for this heap
 -- what pending puts carry. A fill's place is a gap, and a swap's element stands in its place: nothing stands twice, and nothing is struck out

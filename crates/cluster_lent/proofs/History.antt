@@ -56,7 +56,7 @@ rule-runs c h e (Replace x) = go (untagged x) (eqb h 0)
     go false true = refl
     go false false = refl
 
-left-all : (K levels : ℕ) (r : Request) (qs : List Stage) (ws : List ℕ) → hasRun (turned K levels r qs ws .answer) ≡ false → turned K levels r qs ws .records ≡ qs
+pub left-all : (K levels : ℕ) (r : Request) (qs : List Stage) (ws : List ℕ) → hasRun (turned K levels r qs ws .answer) ≡ false → turned K levels r qs ws .records ≡ qs
 unfolding turnRun
 left-all K levels r qs ws = turned-either K levels r qs ws (λ o. hasRun (o .answer) ≡ false → o .records ≡ qs) (λ e. refl) (λ e. refl) runs
   where

@@ -2,3 +2,4 @@
 pub mod Plain
 pub mod History
 pub mod Faces
+pub mod Exactly

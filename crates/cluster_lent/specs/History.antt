@@ -1,16 +1,20 @@
 -- What is promised of lent calls is said in these words: the host's memory beside a machine that goes by value.
 use Prim.Native.Nat.{_-_, ℕ}
-use mathlib.Core.Bool.{true}
+use mathlib.Core.Bool.{cond, not, true}
 use mathlib.Core.List.{List}
 use mathlib.Core.Path.{_≡_}
-use lib.ListN.{length}
+use lib.ListN.{length, replicate}
+use Rattle.clocked_model.specs.Promise.{isBadShape}
 use Rattle.cluster_clock_model.specs.Promise.{Machine}
-use Rattle.cluster_lent_steps.specs.Lent.{lentCleared, lentTurned, readable, stagesRead}
+use Rattle.cluster_lent_steps.specs.Lent.{lentCleared, lentDrain, LentDrain, lentTurned, readable, stagesRead}
 use Rattle.cluster_lent_steps.specs.declared.ClusterRecord.{ClusterRecord}
 use Rattle.cluster_model.specs.Promise.{Shape}
-use Rattle.promise.specs.Queue.{step, Step}
+use Rattle.promise.specs.Queue.{leaves, step, Step}
 use Rattle.strip.specs.declared.Answer.{Answer}
+use Rattle.strip.specs.declared.Answer.the-variants.{Refused}
+use Rattle.strip.specs.declared.Refusal.{Refusal}
 use Rattle.strip.specs.declared.Request.{Request}
+use Rattle.strip.specs.declared.Request.the-variants.{Idle}
 
 -- ---- what the host keeps: its records and the store
 pub record Memory : Type 0 where
@@ -26,6 +30,16 @@ module _ (K levels : ℕ) where
   lentQueue r x =
       let o = lentTurned K levels (x .records) (x .words) r in
       step (o .answer) (memory (o .records) (o .words))
+
+  abbrev pub lentIdles : ℕ → Memory → Memory
+  lentIdles n x = leaves lentQueue (replicate n Idle) x
+
+  -- what a refused drain that ran so many cycles leaves: "Drain stops at 2 and reports the cycles already run, work left; at 1 it reports 0 and no work left"
+  abbrev pub lentDrainLeft : ℕ → Memory → Refusal → LentDrain
+  lentDrainLeft cycles x n =
+      let ran = cond (isBadShape n) 0 cycles in
+      let y = lentIdles ran x in
+      lentDrain (Refused n) ran (not (isBadShape n)) (y .words) (y .records)
 
   -- what a clear makes of it
   abbrev pub clearedMemory : Memory → Memory

@@ -14,7 +14,7 @@ use Rattle.clocked_model.proofs.Exactly.{zero-ran}
 use Rattle.clocked_model.specs.Promise.{hasRun}
 use Rattle.cluster_clock_model.proofs.Drain.{drain-ran, drain-state}
 use Rattle.cluster_clock_model.proofs.Exactly.{turned-either}
-use Rattle.cluster_clock_model.proofs.OneStep.{stages-ranged}
+use Rattle.cluster_clock_model.proofs.Passes.{stages-ranged}
 use Rattle.cluster_clock_model.proofs.Rest.{few-levels}
 use Rattle.cluster_clock_model.proofs.Seen.{handed-in, pass-others, pass-records, Ranged, ranged-set}
 use Rattle.cluster_clock_model.specs.Calls.{askedOk, clockCleared, drainOutcome, DrainOutcome, drains, fresh, stageCount, turned, turnOutcome, TurnOutcome, turnRun}

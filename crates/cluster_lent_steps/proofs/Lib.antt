@@ -2,3 +2,4 @@
 pub mod Records
 pub mod Back
 pub mod Fits
+pub mod Exactly

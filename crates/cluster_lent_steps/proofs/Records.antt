@@ -14,6 +14,7 @@ use Rattle.cluster_lent_steps.specs.Lent.{carries, numbersOf, recordBy, 
 use Rattle.cluster_lent_steps.specs.Steps.{lends, reach, wordLimit, Written}
 use Rattle.cluster_lent_steps.specs.declared.ClusterRecord.{ClusterRecord}
 use Rattle.laws.specs.Tests.{and-left, and-right}
+use Rattle.strip.specs.declared.Element.{Element}
 
 -- ---- how many
 module _ (levels len : ℕ) where
@@ -98,3 +99,34 @@ written-numbers q = go (q .due) (q .node)
     go (Put y) n = refl
     go (Fill j) n = refl
     go (Swap j x) n = refl
+
+-- .. by name: what is written of each kind. "Numbers that a kind does not use are written 0"
+pub written-nothing : (n : ℕ) → recordBy Nothing n ≡ record { kind = 0; node = 0; place = 0; rank = 0; tag = 0; length = 0 }
+written-nothing n = refl
+
+pub written-put : (y : Element) (n : ℕ) → recordBy (Put y) n ≡ record { kind = 1; node = n; place = 0; rank = y .rank .0; tag = y .tag .0; length = y .length .0 }
+written-put y n = refl
+
+pub written-fill : (j n : ℕ) → recordBy (Fill j) n ≡ record { kind = 2; node = n; place = j; rank = 0; tag = 0; length = 0 }
+written-fill j n = refl
+
+pub written-swap : (j : ℕ) (x : Element) (n : ℕ) → recordBy (Swap j x) n ≡ record { kind = 3; node = n; place = j; rank = x .rank .0; tag = x .tag .0; length = x .length .0 }
+written-swap j x n = refl
+
+-- .. and what is read of each kind of record, whatever the numbers that it does not use: of kind 0 nothing, in all its numbers
+module _ (n j r t l : ℕ) where
+  pub read-none : stageOf (record { kind = 0; node = n; place = j; rank = r; tag = t; length = l }) ≡ record { due = Nothing; node = 0 }
+  unfolding stageOf
+  read-none = refl
+
+  pub read-put : stageOf (record { kind = 1; node = n; place = j; rank = r; tag = t; length = l }) ≡ record { due = Put (record { rank = record { 0 = r }; tag = record { 0 = t }; length = record { 0 = l } }); node = n }
+  unfolding stageOf
+  read-put = refl
+
+  pub read-fill : stageOf (record { kind = 2; node = n; place = j; rank = r; tag = t; length = l }) ≡ record { due = Fill j; node = n }
+  unfolding stageOf
+  read-fill = refl
+
+  pub read-swap : stageOf (record { kind = 3; node = n; place = j; rank = r; tag = t; length = l }) ≡ record { due = Swap j (record { rank = record { 0 = r }; tag = record { 0 = t }; length = record { 0 = l } }); node = n }
+  unfolding stageOf
+  read-swap = refl

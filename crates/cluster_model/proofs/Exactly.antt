@@ -106,14 +106,14 @@ module _ (K levels : ℕ) (ws : List ℕ) where
   -- push, pop and replace
   pub exactly : (r : Request) → Exactly said (left ws) (called K levels r ws) (refusals K levels r ws)
   unfolding called rule
-  exactly Idle = calls.exactly (heap K levels) (tested K levels) Idle ws
-  exactly (Push x) = calls.exactly (heap K levels) (tested K levels) (Push x) ws
-  exactly Pop = calls.exactly (heap K levels) (tested K levels) Pop ws
-  exactly (Replace x) = calls.exactly (heap K levels) (tested K levels) (Replace x) ws
+  exactly Idle = calls.exactly (tested K levels) Idle ws
+  exactly (Push x) = calls.exactly (tested K levels) (Push x) ws
+  exactly Pop = calls.exactly (tested K levels) Pop ws
+  exactly (Replace x) = calls.exactly (tested K levels) (Replace x) ws
 
   pub stands : (r : Request) (n : Refusal) → said (called K levels r ws) ≡ refusalNumber n → called K levels r ws ≡ left ws n
   unfolding called
-  stands r = calls.stands (heap K levels) (tested K levels) r ws
+  stands r = calls.stands (tested K levels) r ws
 
   pub cleared-fine : shapeOk K levels (length ws) ≡ true → cleared K levels ws ≡ outcome Done (wipe (extent K levels 1) ws)
   unfolding cleared
@@ -121,11 +121,11 @@ module _ (K levels : ℕ) (ws : List ℕ) where
 
   pub exactly-clear : Exactly said (left ws) (cleared K levels ws) (clearRefusals K levels ws)
   unfolding cleared
-  exactly-clear = calls.exactly-clear (heap K levels) (tested K levels) ws
+  exactly-clear = calls.exactly-clear (tested K levels) ws
 
   pub exactly-held : Exactly countNumber Unknown (heldCount K levels ws) (heldRefusals K levels ws)
   unfolding heldCount
-  exactly-held = calls.exactly-held (heap K levels) (tested K levels) ws
+  exactly-held = calls.exactly-held (tested K levels) ws
 
 -- KIND: of a call that is not refused a push and an idle request answer done, a pop and a replace an element
 pub kind : (K levels : ℕ) (r : Request) (ws : List ℕ) → numberOf (called K levels r ws .answer) ≡ 0 → Kind r (called K levels r ws .answer)
@@ -135,4 +135,4 @@ kind K levels r ws = calls.kind (heap K levels) r ws
 -- BARRED: an element without a tag is never let in, whatever the words
 pub barred : (K levels : ℕ) (r : Request) (ws : List ℕ) → Barred r (called K levels r ws .answer)
 unfolding called
-barred K levels r ws = calls.barred (heap K levels) (tested K levels) r ws
+barred K levels r ws = calls.barred (tested K levels) r ws

@@ -11,7 +11,7 @@ use lib.ListN.{getD, length}
 use Rattle.promise.proofs.Calls.{fits-least, last-each, last-fits}
 use Rattle.promise.proofs.Kept as queue
 use Rattle.promise.proofs.Kept.{IsQueue}
-use Rattle.promise.specs.Calls.{Fits, grants, lastTable}
+use Rattle.promise.specs.Calls.{grants, lastTable}
 use Rattle.promise.specs.Queue.{answers}
 use Rattle.promise.specs.Refused.{Untagged}
 use Rattle.promise.specs.Served.{allBrought, allGiven, always, brought, given, Holds, Least, lower, triple}
@@ -22,7 +22,7 @@ use Rattle.strip.specs.declared.Answer.{Answer}
 use Rattle.strip.specs.declared.Answer.the-variants.{Done}
 use Rattle.strip.specs.declared.Element.{Element}
 use Rattle.strip.specs.declared.Request.{Request}
-use Rattle.strip.specs.declared.Request.the-variants.{Idle, Pop, Push, Replace}
+use Rattle.strip.specs.declared.Request.the-variants.{Replace}
 use Rattle.cluster_model.specs.Calls.{called, cleared, heap, heldCount, heldIn, opOf, Outcome, rootOk, rule, ruleAt, wipe}
 use Rattle.cluster_model.specs.Heap.{act, Can, gain, Heap, loss, lowest, many, room, Sound}
 use Rattle.cluster_model.specs.Node.{lowElem, none, Op}
@@ -34,7 +34,7 @@ use Rattle.cluster_model.proofs.Exactly.{called-either, cleared-fine, r
 use Rattle.cluster_model.proofs.Heap.{acts}
 use Rattle.cluster_model.proofs.Index.{root-neat, run-heap, run-length, run-neat, run-only}
 use Rattle.cluster_model.proofs.NeatLevels.{clear-neat, NeatLevels}
-use Rattle.cluster_model.proofs.Serve.{cleared-holds, cleared-sound, root-held, root-least}
+use Rattle.cluster_model.proofs.Serve.{can-do, cleared-holds, cleared-sound, moves, root-held, root-least}
 use Rattle.cluster_model.proofs.Stored.{stored-many, wiped, zero-heap}
 use Rattle.cluster_model.proofs.Ways.{node-fine, way-fine}
 
@@ -73,13 +73,7 @@ module _ (K k : ℕ) (ws : List ℕ) (kept : Kept K k ws) where
   -- what a request that is let in does
   module _ (r : Request) (c : Clear (lastTable r (heldIn K (suc k) ws) (room K (suc k)))) where
     can : Can (room K (suc k)) (opOf r) (λ f. many f (suc k) h)
-    can = go r (last-fits r (heldIn K (suc k) ws) (room K (suc k)) c)
-      where
-        go : (r : Request) → Fits r (heldIn K (suc k) ws) (room K (suc k)) → Can (room K (suc k)) (opOf r) (λ f. many f (suc k) h)
-        go Idle f = tt
-        go (Push x) f = omega (arith, kept-held)
-        go Pop f = omega (arith, kept-held)
-        go (Replace x) f = omega (arith, kept-held)
+    can = can-do (room K (suc k)) (heldIn K (suc k) ws) (λ f. many f (suc k) h) kept-held r (last-fits r (heldIn K (suc k) ws) (room K (suc k)) c)
 
     run-is : heapIn K (suc k) (runWords K (suc k) (opOf r) 0 ws) 0 ≡ act (suc k) (opOf r) h
     run-is = run-heap K (suc k) (opOf r) ws (kept .shape .slice)
@@ -92,22 +86,13 @@ module _ (K k : ℕ) (ws : List ℕ) (kept : Kept K k ws) where
           sound = subst (Sound K (suc k)) (sym run-is) (acts K two (suc k) (opOf r) h (kept .sound) can .sound);
         }
 
-    moves : (f : Element → Bool) → (loss (opOf r) top f ≡ given r (grants r top) f) × (gain (opOf r) f ≡ brought r (grants r top) f)
-    moves f = go r
-      where
-        go : (r : Request) → (loss (opOf r) top f ≡ given r (grants r top) f) × (gain (opOf r) f ≡ brought r (grants r top) f)
-        go Idle = (refl, refl)
-        go (Push x) = (refl, refl)
-        go Pop = (refl, refl)
-        go (Replace x) = (refl, refl)
-
     act-sum : (f : Element → Bool) → many f (suc k) (act (suc k) (opOf r) h) + loss (opOf r) top f ≡ many f (suc k) h + gain (opOf r) f
     unfolding heapIn lowest
     act-sum = acts K two (suc k) (opOf r) h (kept .sound) can .sum
 
     run-sum : (f : Element → Bool) → storedCount K (suc k) (runWords K (suc k) (opOf r) 0 ws) f + given r (grants r top) f ≡ storedCount K (suc k) ws f + brought r (grants r top) f
     run-sum f =
-        omega (arith, stored-many K (suc k) (runWords K (suc k) (opOf r) 0 ws) f, stored-many K (suc k) ws f, ap (λ (g : Heap (suc k)). many f (suc k) g) run-is, act-sum f, moves f)
+        omega (arith, stored-many K (suc k) (runWords K (suc k) (opOf r) 0 ws) f, stored-many K (suc k) ws f, ap (λ (g : Heap (suc k)). many f (suc k) g) run-is, act-sum f, moves top f r)
 
     run-least : Least (storedCount K (suc k) ws) r (grants r top)
     run-least = fits-least (storedCount K (suc k) ws) r (heldIn K (suc k) ws) (room K (suc k)) top (last-fits r (heldIn K (suc k) ws) (room K (suc k)) c) low-least
@@ -148,32 +133,32 @@ is-queue K k =
       bare = λ ws c. wiped-empty K k ws (shape-is K (suc k) (length ws) (c .0));
     }
 
-swaps : (K k : ℕ) → queue.Swaps (heap K (suc k)) (Kept K k) (is-queue K k)
+swaps : (K k : ℕ) → queue.Swaps (is-queue K k)
 swaps K k =
-    queue.last-swaps (heap K (suc k)) (Kept K k) (is-queue K k) (room K (suc k)) (λ r ws P p. p) (λ r ws. tt) (λ ws kept. root-limit K (suc k) ws (kept .shape .some) (sound-root K k ws kept))
+    queue.last-swaps (is-queue K k) (room K (suc k)) (λ r ws P p. p) (λ r ws. tt) (λ ws kept. root-limit K (suc k) ws (kept .shape .some) (sound-root K k ws kept))
 
 -- ---- one call on a kept store
 module _ (K k : ℕ) where
   pub called-kept : (r : Request) (ws : List ℕ) → Kept K k ws → Kept K k (called K (suc k) r ws .words)
   unfolding called
-  called-kept = queue.called-kept (heap K (suc k)) (Kept K k) (is-queue K k)
+  called-kept = queue.called-kept (is-queue K k)
 
   pub kept-answer : (r : Request) (ws : List ℕ) → Kept K k ws → called K (suc k) r ws .answer ≡ ruleAt K (suc k) r ws .answer
   unfolding called rule
-  kept-answer r ws kept = ap (λ (o : Outcome). o .answer) (queue.kept-called (heap K (suc k)) (Kept K k) (is-queue K k) r ws kept tt)
+  kept-answer r ws kept = ap (λ (o : Outcome). o .answer) (queue.kept-called (is-queue K k) r ws kept tt)
 
   pub call-sum : (r : Request) (ws : List ℕ) → Kept K k ws → (f : Element → Bool)
       → storedCount K (suc k) (called K (suc k) r ws .words) f + given r (called K (suc k) r ws .answer) f ≡ storedCount K (suc k) ws f + brought r (called K (suc k) r ws .answer) f
   unfolding called
-  call-sum = queue.call-sum (heap K (suc k)) (Kept K k) (is-queue K k)
+  call-sum = queue.call-sum (is-queue K k)
 
   pub kept-least : (r : Request) (ws : List ℕ) → Kept K k ws → Least (storedCount K (suc k) ws) r (called K (suc k) r ws .answer)
   unfolding called
-  kept-least = queue.kept-least (heap K (suc k)) (Kept K k) (is-queue K k)
+  kept-least = queue.kept-least (is-queue K k)
 
   pub kept-replaces : (x : Element) → (Untagged (Replace x) → ⊥) → (ws : List ℕ) → Kept K k ws → PopThenPush K (suc k) x ws
   unfolding called
-  kept-replaces x tag ws kept = queue.kept-replaces (heap K (suc k)) (Kept K k) (is-queue K k) (swaps K k) x tag ws kept tt
+  kept-replaces x tag ws kept = queue.kept-replaces (is-queue K k) (swaps K k) x tag ws kept tt
 
 -- every call keeps the slice's length
 pub called-length : (K levels : ℕ) (r : Request) (ws : List ℕ) → length (called K levels r ws .words) ≡ length ws
@@ -198,11 +183,11 @@ module _ (K k : ℕ) (ws : List ℕ) (sh : Shape K (suc k) (length ws)) where
 
   pub start-kept : Kept K k (start K (suc k) ws)
   unfolding cleared
-  start-kept = queue.start-kept (heap K (suc k)) (Kept K k) (is-queue K k) ws fits
+  start-kept = queue.start-kept (is-queue K k) ws fits
 
   pub start-empty : (f : Element → Bool) → storedCount K (suc k) (start K (suc k) ws) f ≡ 0
   unfolding cleared
-  start-empty = queue.start-empty (heap K (suc k)) (Kept K k) (is-queue K k) ws fits
+  start-empty = queue.start-empty (is-queue K k) ws fits
 
 -- THE PROMISES. Any K and number of levels that pass the shape, any words to start with, any list of requests.
 
@@ -214,7 +199,7 @@ module _ (K : ℕ) (ws : List ℕ) (rs : List Request) where
   pub holds : (levels : ℕ) → Shape K levels (length ws) → Holds (storedCount K levels (after K levels rs ws)) rs (said levels)
   unfolding called cleared
   holds zero sh = absurd (not-suc-le-zero (sh .some))
-  holds (suc k) sh = queue.holds (heap K (suc k)) (Kept K k) (is-queue K k) ws (fits K k ws sh) rs
+  holds (suc k) sh = queue.holds (is-queue K k) ws (fits K k ws sh) rs
 
   -- .. so each triple of rank, tag and length as often
   pub triples : (levels : ℕ) → Shape K levels (length ws) → (e : Element)
@@ -225,12 +210,12 @@ module _ (K : ℕ) (ws : List ℕ) (rs : List Request) where
   pub tagged : (levels : ℕ) → Shape K levels (length ws) → Tagged (storedCount K levels (after K levels rs ws)) rs (said levels)
   unfolding called cleared
   tagged zero sh = absurd (not-suc-le-zero (sh .some))
-  tagged (suc k) sh = queue.tagged (heap K (suc k)) (Kept K k) (is-queue K k) ws (fits K k ws sh) rs
+  tagged (suc k) sh = queue.tagged (is-queue K k) ws (fits K k ws sh) rs
 
   -- what is kept after these requests
   now-kept : (k : ℕ) → Shape K (suc k) (length ws) → Kept K k (after K (suc k) rs ws)
   unfolding called cleared
-  now-kept k sh = queue.after-kept (heap K (suc k)) (Kept K k) (is-queue K k) ws (fits K k ws sh) rs
+  now-kept k sh = queue.after-kept (is-queue K k) ws (fits K k ws sh) rs
 
   -- LEAST: what comes out, of a pop or a replace, has the lowest rank of all stored before
   pub least : (levels : ℕ) → Shape K levels (length ws) → (r : Request) → Least (storedCount K levels (after K levels rs ws)) r (called K levels r (after K levels rs ws) .answer)
@@ -246,7 +231,7 @@ module _ (K : ℕ) (ws : List ℕ) (rs : List Request) where
   pub undamaged : (levels : ℕ) → Shape K levels (length ws) → (r : Request) → Damage K levels r (after K levels rs ws) → ⊥
   unfolding rule
   undamaged zero sh r d = not-suc-le-zero (sh .some)
-  undamaged (suc k) sh r d = queue.kept-undamaged (heap K (suc k)) (Kept K k) (is-queue K k) r (after K (suc k) rs ws) (now-kept k sh) tt d
+  undamaged (suc k) sh r d = queue.kept-undamaged (is-queue K k) r (after K (suc k) rs ws) (now-kept k sh) tt d
 
   pub shape-kept : (levels : ℕ) → Shape K levels (length ws) → Shape K levels (length (after K levels rs ws))
   shape-kept zero sh = absurd (not-suc-le-zero (sh .some))
@@ -258,7 +243,7 @@ module _ (K : ℕ) (ws : List ℕ) (rs : List Request) where
   unfolding called
   numbers zero sh r = absurd (not-suc-le-zero (sh .some))
   numbers (suc k) sh r =
-      queue.kept-numbers (heap K (suc k)) (Kept K k) (is-queue K k) r (after K (suc k) rs ws) (now-kept k sh) (λ n. (n ≡ 0) ⊎ (n ≡ 5) ⊎ (n ≡ 6) ⊎ (n ≡ 7)) (inl refl) tt
+      queue.kept-numbers (is-queue K k) r (after K (suc k) rs ws) (now-kept k sh) (λ n. (n ≡ 0) ⊎ (n ≡ 5) ⊎ (n ≡ 6) ⊎ (n ≡ 7)) (inl refl) tt
       (last-each r (heldIn K (suc k) (after K (suc k) rs ws)) (room K (suc k)))
 
   -- the call held answers how many are stored
@@ -266,7 +251,7 @@ module _ (K : ℕ) (ws : List ℕ) (rs : List Request) where
       → (countNumber (heldCount K levels (after K levels rs ws)) ≡ 0) × (countOf (heldCount K levels (after K levels rs ws)) ≡ storedCount K levels (after K levels rs ws) always)
   unfolding heldCount
   held-says zero sh = absurd (not-suc-le-zero (sh .some))
-  held-says (suc k) sh = queue.kept-held (heap K (suc k)) (Kept K k) (is-queue K k) (after K (suc k) rs ws) (now-kept k sh)
+  held-says (suc k) sh = queue.kept-held (is-queue K k) (after K (suc k) rs ws) (now-kept k sh)
 
   -- POP-THEN-PUSH: "a replace is a pop and then a push"
   pub pop-then-push : (levels : ℕ) → Shape K levels (length ws) → (x : Element) → (Untagged (Replace x) → ⊥) → PopThenPush K levels x (after K levels rs ws)

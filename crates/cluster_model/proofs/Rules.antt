@@ -9,19 +9,15 @@ use mathlib.Core.Path.{_≡_, ap, refl, subst, sym}
 use lib.Dec.{eqb, ltb}
 use lib.ListN.{getD, length}
 use borrow.Author.Tests.{eqb-false, eqb-true, ltb-false, ltb-true}
-use Rattle.laws.specs.Means.{means-no}
-use Rattle.promise.specs.Refused.{untagged-means}
+use Rattle.promise.proofs.Calls.{last-comes}
 use Rattle.promise.specs.Served.{always, hit}
 use Rattle.strip.proofs.Order.{Before, before-says, UpTo, upto-says}
-use Rattle.strip.specs.Answers.{key, precedes, untagged}
-use Rattle.strip.specs.declared.Answer.the-variants.{Done, Out, Refused}
+use Rattle.strip.specs.Answers.{key, precedes}
 use Rattle.strip.specs.declared.Element.{Element}
-use Rattle.strip.specs.declared.Refusal.the-variants.{Empty, Full, NoTag}
 use Rattle.strip.specs.declared.Request.{Request}
-use Rattle.strip.specs.declared.Request.the-variants.{Idle, Pop, Push, Replace}
-use Rattle.cluster_model.specs.Calls.{rule, ruling}
-use Rattle.cluster_model.specs.Node.{above, ahead, begin, elemOf, fewer, fillFrom, finish, finished, free, freeHere, gap, has, high, highElem, highHere, inside, keep, lhs, low, lowElem, lowerSide, lowHere, Node, none, nothingBelow, pass, pick, Place, placeAt, put, putBy, rhs, seek, Side, sideIf, sink, store, swap, swapBy, take, takeBy, trialBy, trialFrom}
-use Rattle.cluster_model.specs.Rules.{clears, Comes, empty, ends, exchanges, Fewer, fills, full, goes, idles, IsFree, IsHighest, IsLowest, lacks, Lower, no-tag, passes, puts, Puts, stays, stepOf, swaps, Swaps, takes, Takes}
+use Rattle.cluster_model.specs.Calls.{opOf, rule}
+use Rattle.cluster_model.specs.Node.{above, ahead, begin, elemOf, fewer, fillFrom, finish, finished, free, freeHere, gap, has, high, highElem, highHere, inside, keep, lhs, low, lowElem, lowerSide, lowHere, Node, nothingBelow, pass, pick, Place, placeAt, put, putBy, rhs, seek, Side, sideIf, sink, store, swap, swapBy, take, takeBy, trialBy, trialFrom}
+use Rattle.cluster_model.specs.Rules.{clears, Comes, ends, exchanges, Fewer, fills, goes, IsFree, IsHighest, IsLowest, Lower, passes, Puts, stays, stepOf, Swaps, Takes}
 use Rattle.cluster_model.proofs.Places.{above-of, gap-has, high-is, inside-most, low-is, place-hit, set-twice, some-ahead}
 
 -- ---- places
@@ -181,23 +177,4 @@ swaps-is x n a b = go (eqb (n .left + n .right) 0) refl
 -- ---- the calls
 pub comes : (c : ℕ) (r : Request) (h : ℕ) (e : Element) → Comes c h e r (rule c r h e)
 unfolding rule
-comes c Idle h e = idles
-comes c (Push x) h e = go (untagged x) refl (ltb h c) refl
-  where
-    go : (u : Bool) → untagged x ≡ u → (t : Bool) → ltb h c ≡ t
-        → Comes c h e (Push x) (cond u (ruling (Refused NoTag) none) (cond t (ruling Done (put x)) (ruling (Refused Full) none)))
-    go true p t q = no-tag (Push x) (untagged-means x .says p)
-    go false p true q = puts x (means-no (untagged-means x) p) (ltb-true h c q)
-    go false p false q = full x (means-no (untagged-means x) p) (ltb-false h c q)
-comes c Pop h e = go (eqb h 0) refl
-  where
-    go : (t : Bool) → eqb h 0 ≡ t → Comes c h e Pop (cond t (ruling (Refused Empty) none) (ruling (Out e) take))
-    go true q = empty (eqb-true h 0 q)
-    go false q = takes (omega (arith, eqb-false h 0 q))
-comes c (Replace x) h e = go (untagged x) refl (eqb h 0) refl
-  where
-    go : (u : Bool) → untagged x ≡ u → (t : Bool) → eqb h 0 ≡ t
-        → Comes c h e (Replace x) (cond u (ruling (Refused NoTag) none) (cond t (ruling (Refused Empty) none) (ruling (Out e) (swap x))))
-    go true p t q = no-tag (Replace x) (untagged-means x .says p)
-    go false p true q = lacks x (means-no (untagged-means x) p) (eqb-true h 0 q)
-    go false p false q = swaps x (means-no (untagged-means x) p) (omega (arith, eqb-false h 0 q))
+comes = last-comes opOf

@@ -4,14 +4,30 @@ use native.Mathlib.Omega.{arith}
 use mathlib.Core.Bool.{Bool}
 use mathlib.Core.Path.{_≡_, refl}
 use lib.ListN.{length-replicate, replicate}
-use Rattle.promise.specs.Served.{always, lower}
+use Rattle.promise.specs.Calls.{Fits, grants}
+use Rattle.promise.specs.Served.{always, brought, given, lower}
 use Rattle.strip.specs.Answers.{key}
 use Rattle.strip.specs.declared.Element.{Element}
-use Rattle.cluster_model.specs.Calls.{rootHeld}
-use Rattle.cluster_model.specs.Heap.{Heap, lowest, many, Sound}
+use Rattle.strip.specs.declared.Request.{Request}
+use Rattle.strip.specs.declared.Request.the-variants.{Idle, Pop, Push, Replace}
+use Rattle.cluster_model.specs.Calls.{opOf, rootHeld}
+use Rattle.cluster_model.specs.Heap.{Can, gain, Heap, loss, lowest, many, Sound}
 use Rattle.cluster_model.specs.Node.{gap, inside, lowElem, under}
 use Rattle.cluster_model.proofs.Heap.{heap-least}
 use Rattle.cluster_model.proofs.Levels.{clearHeap, clearNode}
+
+-- ---- a request that is let in, on any bag of elements, as many as are held: its work can be done, and takes out and brings in what the request gives and brings
+pub can-do : (c h : ℕ) (bag : (Element → Bool) → ℕ) → h ≡ bag always → (r : Request) → Fits r h c → Can c (opOf r) bag
+can-do c h bag e Idle f = tt
+can-do c h bag e (Push x) f = omega arith
+can-do c h bag e Pop f = omega arith
+can-do c h bag e (Replace x) f = omega arith
+
+pub moves : (e : Element) (f : Element → Bool) (r : Request) → (loss (opOf r) e f ≡ given r (grants r e) f) × (gain (opOf r) f ≡ brought r (grants r e) f)
+moves e f Idle = (refl, refl)
+moves e f (Push x) = (refl, refl)
+moves e f Pop = (refl, refl)
+moves e f (Replace x) = (refl, refl)
 
 module _ (K k : ℕ) (two : 1 < K) (h : Heap (suc k)) (s : Sound K (suc k) h) where
   -- held, from the root alone

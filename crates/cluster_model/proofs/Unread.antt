@@ -1,6 +1,6 @@
 -- "of a longer one the rest is never touched": not read either. Two stores that agree on the words of the shape are answered the same and left the
 -- same there, whatever stands behind.
-use Prim.Native.Nat.{_*_, _+_, _≤_, pred, suc, zero, ℕ}
+use Prim.Native.Nat.{_*_, _+_, _<_, _≤_, pred, suc, zero, ℕ}
 use native.Mathlib.Decide.{ℕ-discrete}
 use native.Mathlib.Nat.{not-suc-le-zero}
 use native.Mathlib.Omega.{arith}
@@ -12,37 +12,37 @@ use lib.ListN.{getD, length, length-set, set}
 use lib.Seq.{getD-set-other, getD-set-same}
 use borrow.Author.Tests.{eq-eqb, leb-true}
 use Rattle.laws.specs.Tests.{and-left, and-right}
+use Rattle.promise.proofs.Calls.{unread-by}
 use Rattle.promise.specs.Served.{always}
 use Rattle.strip.specs.declared.Element.{Element}
 use Rattle.strip.specs.declared.Request.{Request}
-use Rattle.cluster_model.specs.Calls.{called, heldCount, Outcome, rootHeld, rootOk, rule, ruleAt, Ruling, shapeOk}
+use Rattle.cluster_model.specs.Calls.{called, heap, heldCount, rootHeld, rootOk, rule, ruleAt, Ruling}
 use Rattle.cluster_model.specs.Heap.{room}
 use Rattle.cluster_model.specs.Node.{begin, finish, Finished, inside, lhs, low, lowElem, Node, none, nothingBelow, Op, Place, put, rhs, Side, swap, take}
 use Rattle.cluster_model.specs.Promise.{Agree, Shape}
 use Rattle.cluster_model.specs.Way.{child, childrenOk, extent, Lies, lowIn, neatTo, nodeIn, nodeOk, ownOk, readOk, roomy, runWords, some, stepIn, strict, touch, under1, wayOk, works}
 use Rattle.cluster_model.specs.Words.{lengthIn, markOf, neatPlace, rankIn, tagIn, width, writeNode, writePlace, writeRow}
 use Rattle.cluster_model.proofs.Damages.{is-shape}
-use Rattle.cluster_model.proofs.Exactly.{called-fine, called-root, called-way}
 use Rattle.cluster_model.proofs.Slice.{lies-all}
 use Rattle.cluster_model.proofs.Words.{node-local}
 
--- ---- the same word written in both
-module _ (N : ℕ) where
-  agree-set : (ws vs : List ℕ) (i x : ℕ) → N ≤ length ws → N ≤ length vs → Agree N ws vs → Agree N (set ws i x) (set vs i x)
-  agree-set ws vs i x hw hv a p h = elim (ℕ-discrete p i) [
-    | yes e ↦ subst (λ (q : ℕ). getD (set ws i x) q 0 ≡ getD (set vs i x) q 0) (sym e) (getD-set-same ws i x 0 (omega arith) ∙ sym (getD-set-same vs i x 0 (omega arith)))
-    | no e ↦ getD-set-other ws i p x 0 e ∙ a p h ∙ sym (getD-set-other vs i p x 0 e)
-  ]
-
-  -- two slices that are long enough, and agree
+-- ---- the same word written in both: two slices that have the words of P, and agree there
+module _ (P : ℕ → Type 0) where
   pub record Alike (ws vs : List ℕ) : Type 0 where
-    pub one : N ≤ length ws
-    pub other : N ≤ length vs
-    pub same : Agree N ws vs
+    pub one : (p : ℕ) → P p → p < length ws
+    pub other : (p : ℕ) → P p → p < length vs
+    pub same : (p : ℕ) → P p → getD ws p 0 ≡ getD vs p 0
 
   like-set : (ws vs : List ℕ) (i x : ℕ) → Alike ws vs → Alike (set ws i x) (set vs i x)
   like-set ws vs i x a =
-      record { one = omega (arith, a .one, length-set ws i x); other = omega (arith, a .other, length-set vs i x); same = agree-set ws vs i x (a .one) (a .other) (a .same) }
+      record {
+        one = λ p h. omega (arith, a .one p h, length-set ws i x);
+        other = λ p h. omega (arith, a .other p h, length-set vs i x);
+        same = λ p h. elim (ℕ-discrete p i) [
+          | yes e ↦ subst (λ (q : ℕ). getD (set ws i x) q 0 ≡ getD (set vs i x) q 0) (sym e) (getD-set-same ws i x 0 (omega (arith, a .one p h)) ∙ sym (getD-set-same vs i x 0 (omega (arith, a .other p h))))
+          | no e ↦ getD-set-other ws i p x 0 e ∙ a .same p h ∙ sym (getD-set-other vs i p x 0 e)
+        ];
+      }
 
   like-place : (ws vs : List ℕ) (o : ℕ) (p : Place) → Alike ws vs → Alike (writePlace ws o p) (writePlace vs o p)
   unfolding writePlace
@@ -58,8 +58,12 @@ module _ (N : ℕ) where
   like-touch true ws vs o n a = like-row (n .places) _ _ (o + 2) (like-set _ _ (o + 1) (n .right) (like-set ws vs o (n .left) a))
   like-touch false ws vs o n a = a
 
+-- the first N words
+abbrev pub Under : ℕ → ℕ → Type 0
+Under N p = p < N
+
 -- ---- the same words read in both
-module _ (K N : ℕ) (ws vs : List ℕ) (a : Alike N ws vs) where
+module _ (K N : ℕ) (ws vs : List ℕ) (a : Alike (Under N) ws vs) where
   pub same-node : (m : ℕ) → m * width K + width K ≤ N → nodeIn K ws m ≡ nodeIn K vs m
   same-node m h = node-local K vs ws (m * width K) (λ i l g. a .same i (omega arith))
 
@@ -134,7 +138,7 @@ child-lies K k m N lhs l = l .1
 child-lies K k m N rhs l = l .2
 
 module _ (K N : ℕ) where
-  same-way : (ws vs : List ℕ) → Alike N ws vs → (k : ℕ) (o : Op) (m : ℕ) → Lies K k m N → wayOk K k o m ws ≡ wayOk K k o m vs
+  same-way : (ws vs : List ℕ) → Alike (Under N) ws vs → (k : ℕ) (o : Op) (m : ℕ) → Lies K k m N → wayOk K k o m ws ≡ wayOk K k o m vs
   unfolding wayOk
   same-way ws vs a zero o m l = refl
   same-way ws vs a (suc k) o m l =
@@ -142,22 +146,22 @@ module _ (K N : ℕ) where
       ap₂ (λ (x y : Bool). x && y) (same-own K N ws vs a k o m l)
       (same-way ws vs a k (v .op) (child m (v .side)) (child-lies K k m N (v .side) l) ∙ ap (λ (u : Finished). wayOk K k (u .op) (child m (u .side)) vs) (same-step K N ws vs a k o m l))
 
-  like-run : (ws vs : List ℕ) → Alike N ws vs → (k : ℕ) (o : Op) (m : ℕ) → Lies K k m N → Alike N (runWords K k o m ws) (runWords K k o m vs)
+  like-run : (ws vs : List ℕ) → Alike (Under N) ws vs → (k : ℕ) (o : Op) (m : ℕ) → Lies K k m N → Alike (Under N) (runWords K k o m ws) (runWords K k o m vs)
   unfolding runWords
   like-run ws vs a zero o m l = a
   like-run ws vs a (suc k) o m l =
       let v : Finished = stepIn K k o m ws in
-      subst (λ (u : Finished). Alike N (runWords K k (v .op) (child m (v .side)) (touch (works o) ws (m * width K) (v .node))) (runWords K k (u .op) (child m (u .side)) (touch (works o) vs (m * width K) (u .node))))
+      subst (λ (u : Finished). Alike (Under N) (runWords K k (v .op) (child m (v .side)) (touch (works o) ws (m * width K) (v .node))) (runWords K k (u .op) (child m (u .side)) (touch (works o) vs (m * width K) (u .node))))
       (same-step K N ws vs a k o m l)
-      (like-run (touch (works o) ws (m * width K) (v .node)) (touch (works o) vs (m * width K) (v .node)) (like-touch N (works o) ws vs (m * width K) (v .node) a) k (v .op) (child m (v .side)) (child-lies K k m N (v .side) l))
+      (like-run (touch (works o) ws (m * width K) (v .node)) (touch (works o) vs (m * width K) (v .node)) (like-touch (Under N) (works o) ws vs (m * width K) (v .node) a) k (v .op) (child m (v .side)) (child-lies K k m N (v .side) l))
 
 -- ---- the calls
 module _ (K levels : ℕ) (ws vs : List ℕ) (sh : Shape K levels (length ws)) (zh : Shape K levels (length vs)) (agree : Agree (extent K levels 1) ws vs) where
   abbrev N : ℕ
   N = extent K levels 1
 
-  both : Alike N ws vs
-  both = record { one = sh .slice; other = zh .slice; same = agree }
+  both : Alike (Under N) ws vs
+  both = record { one = λ p h. omega (arith, sh .slice); other = λ p h. omega (arith, zh .slice); same = agree }
 
   pub root-fits : (l : ℕ) → 1 ≤ l → 0 * width K + width K ≤ extent K l 1
   unfolding extent
@@ -182,28 +186,10 @@ module _ (K levels : ℕ) (ws vs : List ℕ) (sh : Shape K levels (length ws)) (
 
     -- UNREAD
     pub unread : (called K levels r ws .answer ≡ called K levels r vs .answer) × Agree (extent K levels 1) (called K levels r ws .words) (called K levels r vs .words)
-    unread = go (rootOk K levels ws) refl (wayOk K levels o 0 ws) refl
-      where
-        s : shapeOk K levels (length ws) ≡ true
-        s = is-shape K levels (length ws) sh
-
-        z : shapeOk K levels (length vs) ≡ true
-        z = is-shape K levels (length vs) zh
-
-        pair : (a b : Outcome) → called K levels r ws ≡ a → called K levels r vs ≡ b → (a .answer ≡ b .answer) × Agree (extent K levels 1) (a .words) (b .words)
-            → (called K levels r ws .answer ≡ called K levels r vs .answer) × Agree (extent K levels 1) (called K levels r ws .words) (called K levels r vs .words)
-        pair a b p q i = rw (p, q) i
-
-        go : (a : Bool) → rootOk K levels ws ≡ a → (b : Bool) → wayOk K levels (ruleAt K levels r ws .op) 0 ws ≡ b
-            → (called K levels r ws .answer ≡ called K levels r vs .answer) × Agree (extent K levels 1) (called K levels r ws .words) (called K levels r vs .words)
-        go false p b w = pair _ _ (called-root K levels r ws s p) (called-root K levels r vs z (sym same-test ∙ p)) (refl, agree)
-        go true p false w = pair _ _ (called-way K levels r ws s p w) (called-way K levels r vs z (sym same-test ∙ p) (sym same-path ∙ w)) (refl, agree)
-        go true p true w =
-            pair _ _ (called-fine K levels r ws s p w) (called-fine K levels r vs z (sym same-test ∙ p) (sym same-path ∙ w)) (
-              ap (λ (g : Ruling). g .answer) same-rule,
-              subst (λ (g : Ruling). Agree (extent K levels 1) (runWords K levels (ruleAt K levels r ws .op) 0 ws) (runWords K levels (g .op) 0 vs)) same-rule
-                  (like-run K (extent K levels 1) ws vs both levels (ruleAt K levels r ws .op) 0 (lies-all K levels (extent K levels 1) (omega arith)) .same),
-            )
+    unfolding called rule
+    unread =
+        unread-by (heap K levels) (Agree N) r ws vs (is-shape K levels (length ws) sh, tt) (is-shape K levels (length vs) zh, tt) tt tt same-test same-rule same-path agree (λ w.
+        subst (λ (g : Ruling). Agree N (runWords K levels o 0 ws) (runWords K levels (g .op) 0 vs)) same-rule (like-run K N ws vs both levels o 0 (lies-all K levels N (omega arith)) .same))
 
   pub unread-held : heldCount K levels ws ≡ heldCount K levels vs
   unfolding heldCount

@@ -4,13 +4,11 @@ use mathlib.Core.List.{List}
 use mathlib.Core.Logic.{_⊎_}
 use mathlib.Core.Path.{_≡_}
 use lib.ListN.{length}
-use Rattle.promise.specs.Refused.{Untagged}
-use Rattle.strip.specs.declared.Answer.the-variants.{Done, Out, Refused}
+use Rattle.promise.specs.Calls as calls
+pub use Rattle.promise.specs.Calls.{empty, full, idles, lacks, no-tag, puts, swaps, takes}
 use Rattle.strip.specs.declared.Element.{Element}
-use Rattle.strip.specs.declared.Refusal.the-variants.{Empty, Full, NoTag}
 use Rattle.strip.specs.declared.Request.{Request}
-use Rattle.strip.specs.declared.Request.the-variants.{Idle, Pop, Push, Replace}
-use Rattle.cluster_model.specs.Calls.{Ruling, ruling}
+use Rattle.cluster_model.specs.Calls.{Ruling}
 use Rattle.cluster_model.specs.Node.{begin, fewer, finish, Finished, finished, free, gap, has, high, highElem, lhs, low, lowerSide, Node, none, Op, pick, Place, placeAt, put, raise, rhs, Side, sink, store, swap, take}
 
 -- ---- places
@@ -69,13 +67,6 @@ pub data Swaps (x : Element) (n : Node) (a b : Element) : Finished → Type 0 wh
   goes : 0 < n .left + n .right → pick (lowerSide n a b) a b .rank .0 < x .rank .0
       → Swaps x n a b (finished (store (low (n .places)) (has (pick (lowerSide n a b) a b)) n) (lowerSide n a b) (swap x))
 
--- ---- the calls: what a request comes to where c is the capacity, h is held and e is the root's lowest
-pub data Comes (c h : ℕ) (e : Element) : Request → Ruling → Type 0 where
-  idles : Comes c h e Idle (ruling Done none)
-  no-tag : (r : Request) → Untagged r → Comes c h e r (ruling (Refused NoTag) none)
-  puts : (x : Element) → (Untagged (Push x) → ⊥) → h < c → Comes c h e (Push x) (ruling Done (put x))
-  full : (x : Element) → (Untagged (Push x) → ⊥) → c ≤ h → Comes c h e (Push x) (ruling (Refused Full) none)
-  takes : 0 < h → Comes c h e Pop (ruling (Out e) take)
-  empty : h ≡ 0 → Comes c h e Pop (ruling (Refused Empty) none)
-  swaps : (x : Element) → (Untagged (Replace x) → ⊥) → 0 < h → Comes c h e (Replace x) (ruling (Out e) (swap x))
-  lacks : (x : Element) → (Untagged (Replace x) → ⊥) → h ≡ 0 → Comes c h e (Replace x) (ruling (Refused Empty) none)
+-- ---- the calls: what a request comes to where c is the capacity, h are held and e is the root's lowest (`Comes` of `promise`)
+abbrev pub Comes : ℕ → ℕ → Element → Request → Ruling → Type 0
+Comes = calls.Comes none put take swap

@@ -124,3 +124,34 @@ module _ (r : Record) (w : Work) (b : Bool) (is : b ≡ stands w) where
   pub handed-written : b ≡ false → (v : Record) → v ≡ recordOf w → v ≡ handed r w
   unfolding handed
   handed-written e v p = rw (sym is ∙ e) p
+
+-- NUMBERS: what is written of each kind of work. "Numbers that a record's kind doesn't use are written 0"
+pub written-nothing : (n : ℕ) → recordBy Nothing n ≡ record { kind = 0; node = 0; rank = 0; tag = 0; length = 0 }
+written-nothing n = refl
+
+pub written-put : (x : Element) (n : ℕ) → recordBy (Put x) n ≡ record { kind = 1; node = n; rank = x .rank .0; tag = x .tag .0; length = x .length .0 }
+written-put x n = refl
+
+pub written-take : (n : ℕ) → recordBy Take n ≡ record { kind = 2; node = n; rank = 0; tag = 0; length = 0 }
+written-take n = refl
+
+pub written-swap : (x : Element) (n : ℕ) → recordBy (Swap x) n ≡ record { kind = 3; node = n; rank = x .rank .0; tag = x .tag .0; length = x .length .0 }
+written-swap x n = refl
+
+-- .. and what is read of each kind of record, whatever the numbers that it does not use: of kind 0 nothing
+module _ (n r t l : ℕ) where
+  pub read-none : workOf (record { kind = 0; node = n; rank = r; tag = t; length = l }) .op ≡ Nothing
+  unfolding workOf
+  read-none = refl
+
+  pub read-put : workOf (record { kind = 1; node = n; rank = r; tag = t; length = l }) ≡ record { op = Put (record { rank = record { 0 = r }; tag = record { 0 = t }; length = record { 0 = l } }); node = n }
+  unfolding workOf
+  read-put = refl
+
+  pub read-take : workOf (record { kind = 2; node = n; rank = r; tag = t; length = l }) ≡ record { op = Take; node = n }
+  unfolding workOf
+  read-take = refl
+
+  pub read-swap : workOf (record { kind = 3; node = n; rank = r; tag = t; length = l }) ≡ record { op = Swap (record { rank = record { 0 = r }; tag = record { 0 = t }; length = record { 0 = l } }); node = n }
+  unfolding workOf
+  read-swap = refl

@@ -235,7 +235,7 @@ kind-at (suc k) rs e j l =
     (λ l. kind-at k rs (and-left (kindsOk k rs) (leb (getD rs k noRecord .kind) 3) e) j l)
     (eq-or-lt-of-le (le-of-suc-le-suc l))
 
-kinds-of : (k : ℕ) (rs : List Record) → ((j : ℕ) → j < k → getD rs j noRecord .kind ≤ 3) → kindsOk k rs ≡ true
+pub kinds-of : (k : ℕ) (rs : List Record) → ((j : ℕ) → j < k → getD rs j noRecord .kind ≤ 3) → kindsOk k rs ≡ true
 unfolding kindsOk
 kinds-of zero rs f = refl
 kinds-of (suc k) rs f = and-true (kindsOk k rs) (leb (getD rs k noRecord .kind) 3) (kinds-of k rs (λ j l. f j (omega (arith, l)))) (le-leb (getD rs k noRecord .kind) 3 (f k (omega arith)))

@@ -43,7 +43,7 @@ module _ (m k : ℕ) (x : Element) (t : untagged x ≡ false) (ws : List ℕ) (k
   push-taken : called m (suc k) (Push x) ws .answer ≡ Done
   unfolding called
   push-taken =
-      ap (λ (o : Outcome). o .answer) (let-in (tree m (suc k)) (Kept m k) (is-queue m k) (Push x) ws kept tt
+      ap (λ (o : Outcome). o .answer) (let-in (is-queue m k) (Push x) ws kept tt
       (t, (lt-ltb (sumCounts (rootOf m ws)) (room m (suc k)) (omega (arith, kept-sum m k ws kept, stored-holding m k ws always)), tt)))
 
   push-sum : (f : Element → Bool) → storedCount (room m (suc k)) (called m (suc k) (Push x) ws .words) f ≡ storedCount (room m (suc k)) ws f + hit (f x)

@@ -1,95 +1,93 @@
--- Every call is refused exactly when the table says so, and then leaves everything behind.
-use mathlib.Core.Path.{_≡_}
-use mathlib.Core.Bool.{not, _&&_}
+-- Every call is refused exactly when the table says so, and then leaves everything behind; and what else follows of every call from the table that decides it.
+use mathlib.Core.Path.{_≡_, refl}
 use mathlib.Core.List.{List}
-use Prim.Native.Nat.{ℕ, _<_}
-use lib.Dec.{ltb, eqb}
-use Rattle.laws.specs.Ladder as ladder
-use Rattle.laws.specs.Ladder.{Ladder, fine, rung}
-use Rattle.laws.specs.Means.{Means, means-and, means-ltb, means-eqb, means-not}
-use Rattle.promise.specs.Refused.{refusal-told, zero-told, Untagged, untagged-means}
-use Rattle.strip.specs.Answers.{untagged, countNumber}
+use Prim.Native.Nat.{ℕ}
+use Rattle.laws.specs.Means.{means-and, means-ltb, means-eqb, means-not}
+use Rattle.promise.proofs.Calls.{grants-zero}
+use Rattle.promise.proofs.Tabled as tabled
+use Rattle.promise.proofs.Tabled.{Goes}
+use Rattle.promise.specs.Table.{Table, Told, decided, ends}
 use Rattle.strip.specs.declared.Element.{Element}
-use Rattle.strip.specs.declared.Refusal.{Refusal}
-use Rattle.strip.specs.declared.Refusal.the-variants.{BadShape, Damaged, BadRank, Full, Empty, NoTag, BadPort}
-use Rattle.strip.specs.declared.Count.the-variants.{Held, Unknown}
+use Rattle.strip.specs.declared.Answer.the-variants.{Done}
 use Rattle.strip.specs.declared.Request.{Request}
-use Rattle.strip.specs.declared.Request.the-variants.{Push, Replace}
+use Rattle.strip.specs.declared.Request.the-variants.{Idle, Push, Pop, Replace}
 use Rattle.bucket_model.specs.Layout.{word}
-use Rattle.bucket_model.specs.Storeys.{lowestRank}
-use Rattle.bucket_model.specs.Calls.{Outcome, popFound, pushFound, replaceJoined, lowestOf, taking}
-use Rattle.bucket_model.specs.Causes.{PopFit, JoinFit, takeLadder, Exactly, ExactlyCount}
-use Rattle.bucket_model.proofs.Exactly.{step, done, out}
+use Rattle.bucket_model.specs.Calls.{Outcome, outcome, refused, fill, popFound, pushFound, replaceJoined}
+use Rattle.bucket_model.specs.Causes.{Exactly, ExactlyCount}
+use Rattle.bucket_model.specs.Plain.{store}
+use Rattle.bucket_model.proofs.Exactly.{said, tag-means}
 use Rattle.bucket_model.proofs.Facts.{pop-means, join-means}
-use Rattle.ports_model.specs.Layout.{Shape, heldAt, seat}
-use Rattle.ports_model.specs.Checks.{isShaped, limitsOk, usedIn, isWhole, hasRoom}
-use Rattle.ports_model.specs.Calls.{cleared, known, heldCount, giving, popped, roomOf, pushed, roomAfter, replaceFound, replaced}
-use Rattle.ports_model.specs.Causes.{Shaped, Fair, Whole, Room, Some, clearLadder, portLadder, heldLadder, giveLadder, popLadder, pushLadder, bitsAfter, wordsAfter, replaceLadder}
+use Rattle.ports_model.specs.Layout.{Shape, ranksOf, bitWords, storeWords, heldAt, seat}
+use Rattle.ports_model.specs.Checks.{usedIn}
+use Rattle.ports_model.specs.Calls.{blankWord, cleared, heldCount, popped, pushed, replaceFound, replaced}
+use Rattle.ports_model.specs.Causes.{clearTable, heldTable, giveTable, roomAfterTable, bitsAfter, wordsAfter, callTable, done}
+use Rattle.ports_model.specs.Runs.{asked}
 use Rattle.ports_model.proofs.Facts.{shape-means, limits-mean, whole-means, room-means, after-means}
 
-pub exactly-clear : (s : Shape) (lim b w : List ℕ) → Exactly (cleared s lim b w) b w (clearLadder s lim b w)
+pub goes-clear : (s : Shape) (lim b w : List ℕ) → Goes said (λ x. refused x b w) (clearTable s lim b w) (outcome Done (fill (λ j. 0) (bitWords s) b) (fill (blankWord s lim) (storeWords s) w)) (cleared s lim b w)
 unfolding cleared
-exactly-clear s lim b w =
-    step b w (isShaped s b w && limitsOk s lim) (Shaped s b w × Fair s lim) BadShape _ fine (means-and (shape-means s b w) (limits-mean s lim)) (λ _. done b w _ _)
+goes-clear s lim b w = record { told = (means-and (shape-means s b w) (limits-mean s lim), λ _. tt); is = refl; done = refl; number = λ x. refl }
+
+pub exactly-clear : (s : Shape) (lim b w : List ℕ) → Exactly (cleared s lim b w) b w (clearTable s lim b w)
+exactly-clear s lim b w = tabled.exactly (goes-clear s lim b w)
 
 module _ (s : Shape) (p : ℕ) (b w : List ℕ) where
-  -- 1 and 8
-  at-port : (o : Outcome) (l : Ladder Refusal) → (p < s .ports → Exactly o b w l) → Exactly (known s p b w o) b w (portLadder s p b w l)
-  at-port o l x =
-      step b w (isShaped s b w) (Shaped s b w) BadShape _ _ (shape-means s b w)
-      (λ _. step b w (ltb p (s .ports)) (p < s .ports) BadPort _ _ (means-ltb p (s .ports)) x)
-
-  -- 4 and 7, of a push and of a replace
-  newcomer : (q : Request) (e : Element) → Means (not (untagged e)) (Untagged q → ⊥) → (o : Outcome) (l : Ladder Refusal) → Exactly o b w l → Exactly (taking (seat s p) b w e o) b w (takeLadder (seat s p) b w q e l)
-  newcomer q e m o l x =
-      step b w (ltb (e .rank .0) (seat s p .ranks)) (e .rank .0 < seat s p .ranks) BadRank _ _ (means-ltb (e .rank .0) (seat s p .ranks))
-      (λ _. step b w (not (untagged e)) (Untagged q → ⊥) NoTag _ _ m (λ _. x))
-
-  -- 2, 6 and a pop's bucket
-  gives : (o : Outcome) → (l : Ladder Refusal) → Exactly o b w (rung Damaged (PopFit (seat s p) b w (lowestRank (seat s p) b)) l) → Exactly (giving s p b w o) b w (giveLadder s p b w l)
-  gives o l x =
-      step b w (isWhole s p b w) (Whole s p b w) Damaged _ _ (whole-means s p b w)
-      (λ _. step b w (not (eqb (word w (heldAt s p)) 0)) (Some s p b w) Empty _ _ (means-not (means-eqb (word w (heldAt s p)) 0)) (λ _. x))
-
-  pub exactly-held : ExactlyCount (heldCount s p b w) (heldLadder s p b w)
+  pub exactly-held : ExactlyCount (heldCount s p b w) (heldTable s p b w)
   unfolding heldCount
-  exactly-held =
-      let climb = ladder.climb countNumber (λ (r : Refusal). Unknown r) refusal-told in
-      climb (isShaped s b w) (Shaped s b w) BadShape _ _ (shape-means s b w)
-      (λ _. climb (ltb p (s .ports)) (p < s .ports) BadPort _ _ (means-ltb p (s .ports))
-      (λ _. climb (isWhole s p b w) (Whole s p b w) Damaged _ _ (whole-means s p b w)
-      (λ _. ladder.climb-fine countNumber (λ (r : Refusal). Unknown r) (Held (word w (heldAt s p))) zero-told)))
+  exactly-held = tabled.exactly {a = heldTable s p b w} (record { told = (shape-means s b w, λ _. (means-ltb p (s .ports), λ _. (whole-means s p b w, λ _. tt))); is = refl; done = refl; number = λ x. refl })
 
-  pub exactly-pop : Exactly (popped s p b w) b w (popLadder s p b w)
-  unfolding popped popFound
-  exactly-pop =
-      at-port _ _
-      (λ _. gives _ _ (step b w (lowestOf (seat s p) b w .good) (PopFit (seat s p) b w (lowestRank (seat s p) b)) Damaged _ fine (pop-means (seat s p) b w) (λ _. out b w _ _ _)))
+  -- ---- push, pop and replace, and asking for nothing: every test stands for its fact, and the calls are decided by the table
 
-  module _ (e : Element) where
-    tag-means : Means (not (untagged e)) (e .tag .0 ≡ 0 → ⊥)
-    tag-means = means-not (untagged-means e)
+  give-told : (a : Table) → Told a → Told (giveTable s p b w a)
+  give-told a t = (whole-means s p b w, λ _. (means-not (means-eqb (word w (heldAt s p)) 0), λ _. (pop-means (seat s p) b w, λ _. t)))
 
-    pub exactly-push : Exactly (pushed s p b w e) b w (pushLadder s p b w e)
-    unfolding pushed pushFound
-    exactly-push =
-        at-port _ _
-        (λ _. newcomer (Push e) e tag-means _ _
-        (step b w (isWhole s p b w) (Whole s p b w) Damaged _ _ (whole-means s p b w)
-        (λ _. step b w (hasRoom s p w) (Room s p w) Full _ _ (room-means s p w)
-        (λ _. step b w (roomOf s p b w (e .rank .0) .good) (JoinFit (seat s p) (usedIn s w) b w (e .rank .0)) Damaged _ fine (join-means (seat s p) b w (e .rank .0) (usedIn s w)) (λ _. done b w _ _)))))
+  told : (q : Request) → Told (callTable s p b w q)
+  told Idle = tt
+  told (Push e) = (
+    shape-means s b w,
+    λ _. (
+      means-ltb p (s .ports),
+      λ _. (
+        means-ltb (e .rank .0) (ranksOf s),
+        λ _. (tag-means e, λ _. (whole-means s p b w, λ _. (room-means s p w, λ _. (join-means (seat s p) b w (e .rank .0) (usedIn s w), λ _. tt)))),
+      ),
+    ),
+  )
+  told Pop = (shape-means s b w, λ _. (means-ltb p (s .ports), λ _. give-told ends tt))
+  told (Replace e) = (
+    shape-means s b w,
+    λ _. (
+      means-ltb p (s .ports),
+      λ _. (
+        means-ltb (e .rank .0) (ranksOf s),
+        λ _. (tag-means e, λ _. give-told (roomAfterTable s p b w e ends) (after-means s p (bitsAfter s p b w) (wordsAfter s p b w) (e .rank .0), λ _. tt)),
+      ),
+    ),
+  )
 
-    abbrev b1 : List ℕ
-    b1 = bitsAfter s p b w
+  same : (q : Request) → asked s p q (store b w) ≡ decided (λ x. refused x b w) (callTable s p b w q) (done s p b w q)
+  unfolding asked popped popFound pushed pushFound replaced replaceFound replaceJoined
+  same Idle = refl
+  same (Push e) = refl
+  same Pop = refl
+  same (Replace e) = refl
 
-    abbrev w1 : List ℕ
-    w1 = wordsAfter s p b w
+  -- so where a call is not refused the facts of its table hold, in their order: shape and port, and then as in the bucket queue
+  pub goes : (q : Request) → Goes said (λ x. refused x b w) (callTable s p b w q) (done s p b w q) (asked s p q (store b w))
+  goes q = record { told = told q; is = same q; done = grants-zero q _; number = λ x. refl }
 
-    pub exactly-replace : Exactly (replaced s p b w e) b w (replaceLadder s p b w e)
-    unfolding replaced replaceFound replaceJoined
-    exactly-replace =
-        at-port _ _
-        (λ _. newcomer (Replace e) e tag-means _ _
-        (gives _ _
-        (step b w (lowestOf (seat s p) b w .good) (PopFit (seat s p) b w (lowestRank (seat s p) b)) Damaged _ _ (pop-means (seat s p) b w)
-        (λ _. step b w (roomAfter s p b1 w1 (e .rank .0) .good) (Whole s p b1 w1 × JoinFit (seat s p) (usedIn s w1) b1 w1 (e .rank .0)) Damaged _ fine (after-means s p b1 w1 (e .rank .0)) (λ _. out b w _ _ _)))))
+  -- a refused call leaves every word
+  pub stands : (q : Request) → (said (asked s p q (store b w)) ≡ 0 → ⊥) → (asked s p q (store b w) .bits ≡ b) × (asked s p q (store b w) .words ≡ w)
+  stands q = tabled.either (goes q) (λ (o : Outcome). (said o ≡ 0 → ⊥) → (o .bits ≡ b) × (o .words ≡ w)) (λ x n. (refl, refl)) (λ t n. absurd (n (goes q .done)))
+
+  pub exactly-pop : Exactly (popped s p b w) b w (callTable s p b w Pop)
+  unfolding asked
+  exactly-pop = tabled.exactly (goes Pop)
+
+  pub exactly-push : (e : Element) → Exactly (pushed s p b w e) b w (callTable s p b w (Push e))
+  unfolding asked
+  exactly-push e = tabled.exactly (goes (Push e))
+
+  pub exactly-replace : (e : Element) → Exactly (replaced s p b w e) b w (callTable s p b w (Replace e))
+  unfolding asked
+  exactly-replace e = tabled.exactly (goes (Replace e))

@@ -17,8 +17,11 @@ pub mod Frame
 pub mod OnePort
 pub mod Kind
 pub mod Served
+pub mod Counted
 pub mod Unread
 pub mod Cases
+pub mod Edge
+pub mod Spoilt
 pub mod Lies
 pub mod Bounded
 pub mod Shown

@@ -123,12 +123,12 @@ module _ (s : Shape) (lim b w : List ℕ) (shaped : Shaped s b w) (fair : Fair s
       in-order = whole-run .sorted
 
       -- FIFO: of each rank, what came in at the port is what went out there and then what it holds, in this order
-      pub fifo : (r : ℕ) → ofRank r (brought (callsAt p as′) (answersOf (heardOn s p as′ (start s lim b w)))) ≡ ofRank r (gone (answersOf (heardOn s p as′ (start s lim b w)))) ++ ofRank r (storedAt s p (leaves (called s) as′ (start s lim b w)))
+      pub fifo : (r : ℕ) → ofRank r (brought (callsAt p as′) (answersOf (heardOn s p as′ (start s lim b w)))) ≡ ofRank r (gone (callsAt p as′) (answersOf (heardOn s p as′ (start s lim b w)))) ++ ofRank r (storedAt s p (leaves (called s) as′ (start s lim b w)))
       unfolding ofRank
       fifo r = whole-run .fifo r
 
       -- HOLDS: every element is held at the port as often as it went in there and has not come out
-      pub holds : (f : Element → Bool) → times f (brought (callsAt p as′) (answersOf (heardOn s p as′ (start s lim b w)))) ≡ times f (gone (answersOf (heardOn s p as′ (start s lim b w)))) + times f (storedAt s p (leaves (called s) as′ (start s lim b w)))
+      pub holds : (f : Element → Bool) → times f (brought (callsAt p as′) (answersOf (heardOn s p as′ (start s lim b w)))) ≡ times f (gone (callsAt p as′) (answersOf (heardOn s p as′ (start s lim b w)))) + times f (storedAt s p (leaves (called s) as′ (start s lim b w)))
       unfolding times
       holds f = omega (arith, whole-run .holds f)
 

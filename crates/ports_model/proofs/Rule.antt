@@ -1,71 +1,61 @@
 -- 02's rule of acceptance on the words, what a replace is, and what a pop gives: on every store that calls lead to.
 use mathlib.Core.Path.{_≡_, refl, sym, ap, subst, _∙_}
-use mathlib.Core.Bool.{Bool, true, false, cond, not}
-use mathlib.Core.List.{List, [], _∷_}
+use mathlib.Core.Bool.{Bool, true, false, cond}
+use mathlib.Core.List.{List, _∷_}
 use mathlib.Core.Logic.{inl}
 use Prim.Native.Nat.{ℕ, _<_}
 use native.Mathlib.Omega.{arith}
 use borrow.Author.Tests.{lt-ltb}
-use lib.Dec.{ltb}
 use lib.ListN.{length}
 use Rattle.laws.specs.Means.{Iff, Means, means-no, means-off}
 use Rattle.laws.specs.Updates.{is-upd}
+use Rattle.promise.proofs.Tabled.{granted, passes}
 use Rattle.promise.specs.Queue.{Step, leaves}
 use Rattle.promise.specs.Refused.{untagged-means}
-use Rattle.strip.specs.Answers.{untagged}
+use Rattle.strip.specs.Answers.{countNumber, countOf, numberOf, untagged}
 use Rattle.strip.specs.declared.Element.{Element}
-use Rattle.strip.specs.declared.Answer.{Answer}
-use Rattle.strip.specs.declared.Answer.the-variants.{Done, Out, Refused}
-use Rattle.strip.specs.declared.Refusal.{Refusal}
-use Rattle.strip.specs.declared.Refusal.the-variants.{Full, BadRank, NoTag}
-use Rattle.strip.specs.declared.Request.{Request}
+use Rattle.strip.specs.declared.Answer.the-variants.{Done, Out}
+use Rattle.strip.specs.declared.Count.the-variants as count
 use Rattle.strip.specs.declared.Request.the-variants.{Push, Pop, Replace}
 use Rattle.bucket_model.specs.Layout.{word}
-use Rattle.bucket_model.specs.Plain.{ask, Said, answered, Store, roomy, plainPop, plainReplace, plainWith, Sorted}
+use Rattle.bucket_model.specs.Calls.{Outcome}
+use Rattle.bucket_model.specs.Plain.{ask, held, Said, answered, counted, saidNumber, Store, roomy, plainWith, Sorted}
 use Rattle.bucket_model.specs.Plain as plain
-use Rattle.bucket_model.proofs.Served.{answerOf}
 use Rattle.ports_model.specs.Layout.{Shape, ranksOf, floorAt, ceilingAt, floorOf, ceilingOf}
 use Rattle.ports_model.specs.Checks.{usedIn, hasRoom}
+use Rattle.ports_model.specs.Calls.{heldCount}
 use Rattle.ports_model.specs.Causes.{Shaped, Fair, Room}
 use Rattle.ports_model.specs.Lists.{Ask, at, Lists, none, accepts, served}
 use Rattle.ports_model.specs.Runs.{asked, called, start, manyAt, storedAt}
 use Rattle.ports_model.specs.Promise.{FirstOut, Swaps}
 use Rattle.ports_model.proofs.Clear.{deep}
+use Rattle.ports_model.proofs.Exactly.{goes}
 use Rattle.ports_model.proofs.Facts.{room-means}
 use Rattle.ports_model.proofs.Promises.{now-holds, in-order, keeps}
 use Rattle.ports_model.proofs.Room.{served-in, accepts-means, spare-node}
 use Rattle.ports_model.proofs.Steps.{calls, swaps-held, pop-first}
 use Rattle.ports_model.proofs.Store.{Holds, room-is, used-is, stored-at}
 
-done-full : Done ≡ Refused Full → ⊥
-done-full e = let n : _≡_ {A = ℕ} 0 1 = cc in omega arith
-
--- an answer that a test decides
-module _ (t : Bool) (P : Type 0) (m : Means t P) (a : Answer) (e : a ≡ cond t Done (Refused Full)) where
-  by-test : (Iff (a ≡ Done) P) × (Iff (a ≡ Refused Full) (P → ⊥))
+-- a number that a test decides
+module _ (t : Bool) (P : Type 0) (m : Means t P) (n : ℕ) (e : n ≡ cond t 0 5) where
+  by-test : (Iff (n ≡ 0) P) × (Iff (n ≡ 5) (P → ⊥))
   by-test = go t refl
     where
-      go : (u : Bool) → t ≡ u → (Iff (a ≡ Done) P) × (Iff (a ≡ Refused Full) (P → ⊥))
+      go : (u : Bool) → t ≡ u → (Iff (n ≡ 0) P) × (Iff (n ≡ 5) (P → ⊥))
       go true i =
-          let d : a ≡ Done = e ∙ ap (λ (u : Bool). cond u Done (Refused Full)) i in
-          (record { to = λ x. m .says i; from = λ x. d }, record { to = λ f. absurd (done-full (sym d ∙ f)); from = λ n. absurd (n (m .says i)) })
+          let d : n ≡ 0 = e ∙ ap (λ (u : Bool). cond u 0 5) i in
+          (record { to = λ x. m .says i; from = λ x. d }, record { to = λ f. absurd (omega arith); from = λ h. absurd (h (m .says i)) })
       go false i =
-          let d : a ≡ Refused Full = e ∙ ap (λ (u : Bool). cond u Done (Refused Full)) i in
-          (record { to = λ x. absurd (done-full (sym x ∙ d)); from = λ x. absurd (means-no m i x) }, record { to = λ f. means-no m i; from = λ n. d })
+          let d : n ≡ 5 = e ∙ ap (λ (u : Bool). cond u 0 5) i in
+          (record { to = λ x. absurd (omega arith); from = λ x. absurd (means-no m i x) }, record { to = λ f. means-no m i; from = λ h. d })
 
--- what a replace of a plain list gives is what a pop gives
-plain-gives : (ranks : ℕ) (room : Bool) (e x : Element) (l : List Element) → plainWith ranks room (ask (Replace e)) l .said ≡ answered (Out x) → plainWith ranks room (ask Pop) l .said ≡ answered (Out x)
-unfolding plainWith
-plain-gives ranks room e x l a = go (ltb (e .rank .0) ranks) (not (untagged e)) l a
-  where
-    refused : (r : Refusal) → answered (Refused r) ≡ answered (Out x) → ⊥
-    refused r i = let n : _≡_ {A = ℕ} 0 1 = cc in omega arith
-
-    go : (t u : Bool) (l : List Element) → cond t (cond u (plainReplace e l) (plain.step (answered (Refused NoTag)) l)) (plain.step (answered (Refused BadRank)) l) .said ≡ answered (Out x) → plainPop l .said ≡ answered (Out x)
-    go true true [] i = i
-    go true true (y ∷ l) i = i
-    go true false l i = absurd (refused NoTag i)
-    go false u l i = absurd (refused BadRank i)
+-- what a replace that is not refused answers is what a pop answers, on any words: it asks all that a pop asks
+pub replace-gives : (s : Shape) (p : ℕ) (x : Store) (e : Element) → numberOf (asked s p (Replace e) x .answer) ≡ 0 → asked s p (Replace e) x .answer ≡ asked s p Pop x .answer
+replace-gives s p x e n =
+    let g = goes s p (x .bits) (x .words) (Replace e) in
+    let t = granted g n in
+    let u = t .1 .1 .1 .1 in
+    ap (λ (o : Outcome). o .answer) (passes g t) ∙ sym (ap (λ (o : Outcome). o .answer) (passes (goes s p (x .bits) (x .words) Pop) (t .0, (t .1 .0, (u .0, (u .1 .0, (u .1 .1 .0, tt)))))))
 
 -- ---- from clear with fair limits on slices long enough, whatever was in them, for any list of calls at any ports
 
@@ -83,24 +73,24 @@ module _ (s : Shape) (lim b w : List ℕ) (shaped : Shaped s b w) (fair : Fair s
     tag : untagged e ≡ false
     tag = means-off (untagged-means e) t
 
-    push-answers : asked s p (Push e) (leaves (called s) as′ (start s lim b w)) .answer ≡ cond (hasRoom s p (leaves (called s) as′ (start s lim b w) .words)) Done (Refused Full)
+    push-says : numberOf (asked s p (Push e) (leaves (called s) as′ (start s lim b w)) .answer) ≡ cond (hasRoom s p (leaves (called s) as′ (start s lim b w) .words)) 0 5
     unfolding called plainWith
-    push-answers =
-        ap answerOf (calls s (deep s lim b w shaped fair) (shaped .some) lim now lists H (at p (ask (Push e))) .alike ∙ ap (λ (y : Step Said Lists). y .said) (served-in s lim (at p (ask (Push e))) lists p<))
+    push-says =
+        ap saidNumber (calls s (deep s lim b w shaped fair) (shaped .some) lim now lists H (at p (ask (Push e))) .alike ∙ ap (λ (y : Step Said Lists). y .said) (served-in s lim (at p (ask (Push e))) lists p<))
         ∙ rw (lt-ltb (e .rank .0) (ranksOf s) r<, tag) (roomy-said (accepts s lim lists p))
-        ∙ ap (λ (t : Bool). cond t Done (Refused Full)) (sym (room-is s (deep s lim b w shaped fair) (shaped .some) lim (now .bits) (now .words) lists H p p<))
+        ∙ ap (λ (t : Bool). cond t 0 5) (sym (room-is s (deep s lim b w shaped fair) (shaped .some) lim (now .bits) (now .words) lists H p p<))
       where
-        roomy-said : (a : Bool) → answerOf (roomy a (lists p) (plain.step (answered Done) (plain.insert e (lists p))) .said) ≡ cond a Done (Refused Full)
+        roomy-said : (a : Bool) → saidNumber (roomy a (lists p) (plain.step (answered Done) (plain.insert e (lists p))) .said) ≡ cond a 0 5
         roomy-said true = refl
         roomy-said false = refl
 
-    -- ACCEPTED: "A push of port p that no earlier test refuses is accepted exactly if p holds less than its floor, or less than its ceiling while N minus the sum, over all ports, of the larger of held and floor is above zero. Otherwise it is "full""
-    pub accepted : (Iff (asked s p (Push e) (leaves (called s) as′ (start s lim b w)) .answer ≡ Done) (Room s p (leaves (called s) as′ (start s lim b w) .words)))
-        × (Iff (asked s p (Push e) (leaves (called s) as′ (start s lim b w)) .answer ≡ Refused Full) (Room s p (leaves (called s) as′ (start s lim b w) .words) → ⊥))
-    accepted = by-test (hasRoom s p (now .words)) (Room s p (now .words)) (room-means s p (now .words)) (asked s p (Push e) now .answer) push-answers
+    -- ACCEPTED: "A push of port p that no earlier test refuses is accepted exactly if p holds less than its floor, or less than its ceiling while N minus the sum, over all ports, of the larger of held and floor is above zero. Otherwise it is "full"": 0, or 5
+    pub accepted : (Iff (numberOf (asked s p (Push e) (leaves (called s) as′ (start s lim b w)) .answer) ≡ 0) (Room s p (leaves (called s) as′ (start s lim b w) .words)))
+        × (Iff (numberOf (asked s p (Push e) (leaves (called s) as′ (start s lim b w)) .answer) ≡ 5) (Room s p (leaves (called s) as′ (start s lim b w) .words) → ⊥))
+    accepted = by-test (hasRoom s p (now .words)) (Room s p (now .words)) (room-means s p (now .words)) (numberOf (asked s p (Push e) now .answer)) push-says
 
-    -- FLOOR: "No port can keep another from its floor": below its floor a port's push is done, whatever calls came before
-    pub floor : manyAt s p (leaves (called s) as′ (start s lim b w)) < floorOf lim p → asked s p (Push e) (leaves (called s) as′ (start s lim b w)) .answer ≡ Done
+    -- FLOOR: "No port can keep another from its floor": below its floor a port's push is not refused, whatever calls came before
+    pub floor : manyAt s p (leaves (called s) as′ (start s lim b w)) < floorOf lim p → numberOf (asked s p (Push e) (leaves (called s) as′ (start s lim b w)) .answer) ≡ 0
     floor l = accepted .0 .from (inl (omega (arith, H .floor p p<)))
 
     -- REPLACES: with something held at the port a replace is a pop and then a push there, word for word, in a full pool and at the ceiling too
@@ -112,15 +102,6 @@ module _ (s : Shape) (lim b w : List ℕ) (shaped : Shaped s b w) (fair : Fair s
   node a =
       let r = room-is s (deep s lim b w shaped fair) (shaped .some) lim (now .bits) (now .words) lists H p p< in
       omega (arith, spare-node s lim lists (H .sound) p p< (accepts-means s lim lists p .says (sym r ∙ room-means s p (now .words) .holds a)), used-is s (deep s lim b w shaped fair) (shaped .some) lim (now .bits) (now .words) lists H)
-
-  said-is : (q : Request) → answered (asked s p q (leaves (called s) as′ (start s lim b w)) .answer) ≡ plainWith (ranksOf s) (accepts s lim (leaves (served s lim) as′ none) p) (ask q) (leaves (served s lim) as′ none p) .said
-  unfolding called
-  said-is q = calls s (deep s lim b w shaped fair) (shaped .some) lim now lists H (at p (ask q)) .alike ∙ ap (λ (y : Step Said Lists). y .said) (served-in s lim (at p (ask q)) lists p<)
-
-  -- what a replace gives is what a pop gives
-  pub replace-gives : (e x : Element) → asked s p (Replace e) (leaves (called s) as′ (start s lim b w)) .answer ≡ Out x → asked s p Pop (leaves (called s) as′ (start s lim b w)) .answer ≡ Out x
-  replace-gives e x a =
-      ap answerOf (said-is Pop ∙ plain-gives (ranksOf s) (accepts s lim lists p) e x (lists p) (sym (said-is (Replace e)) ∙ ap answered a))
 
   -- LEAST: what a pop gives is the first of all that the port holds, and nothing held there has a lower rank
   pub least : (y : Element) → asked s p Pop (leaves (called s) as′ (start s lim b w)) .answer ≡ Out y → FirstOut s p (leaves (called s) as′ (start s lim b w)) y
@@ -137,6 +118,11 @@ module _ (s : Shape) (lim b w : List ℕ) (shaped : Shaped s b w) (fair : Fair s
   pub fixed : (word (leaves (called s) as′ (start s lim b w) .words) (floorAt s p) ≡ floorOf lim p) × (word (leaves (called s) as′ (start s lim b w) .words) (ceilingAt s p) ≡ ceilingOf lim p)
   fixed = (H .floor p p<, H .ceiling p p<)
 
-  -- held is how many the port holds
-  pub held-says : manyAt s p (leaves (called s) as′ (start s lim b w)) ≡ length (storedAt s p (leaves (called s) as′ (start s lim b w)))
-  held-says = H .held p p< ∙ ap length (sym (keeps s lim b w shaped fair as′ p p<))
+  -- HELD: the call held answers number 0, and how many the port holds
+  pub held-says : (countNumber (heldCount s p (leaves (called s) as′ (start s lim b w) .bits) (leaves (called s) as′ (start s lim b w) .words)) ≡ 0)
+      × (countOf (heldCount s p (leaves (called s) as′ (start s lim b w) .bits) (leaves (called s) as′ (start s lim b w) .words)) ≡ length (storedAt s p (leaves (called s) as′ (start s lim b w))))
+  unfolding called plainWith
+  held-says =
+      let e : counted (heldCount s p (now .bits) (now .words)) ≡ counted (count.Held (length (lists p))) = calls s (deep s lim b w shaped fair) (shaped .some) lim now lists H (at p held) .alike ∙ ap (λ (y : Step Said Lists). y .said) (served-in s lim (at p held) lists p<) in
+      let c : heldCount s p (now .bits) (now .words) ≡ count.Held (length (lists p)) = cc in
+      (ap countNumber c, ap countOf c ∙ ap length (sym (keeps s lim b w shaped fair as′ p p<)))

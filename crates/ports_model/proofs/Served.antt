@@ -1,19 +1,17 @@
 -- What is least, and that nothing without a tag is held, in 01's numbers, port by port.
-use mathlib.Core.Path.{_≡_, refl, _∙_}
+use mathlib.Core.Path.{_≡_, refl, sym, _∙_}
 use mathlib.Core.Bool.{Bool, true, false}
 use mathlib.Core.List.{List, [], _∷_}
 use Prim.Native.Nat.{ℕ, _<_}
 use native.Mathlib.Omega.{arith}
 use lib.Dec.{eqb}
 use Rattle.promise.specs.Queue.{leaves}
-use Rattle.promise.specs.Served.{lower, Least, IsOut}
-use Rattle.strip.specs.Answers.{untagged, rankOf}
-use Rattle.strip.specs.declared.Answer.{Answer}
-use Rattle.strip.specs.declared.Answer.the-variants.{Done, Out, Refused}
+use Rattle.promise.specs.Served.{Least}
+use Rattle.strip.specs.Answers.{untagged}
 use Rattle.strip.specs.declared.Request.{Request}
 use Rattle.strip.specs.declared.Request.the-variants.{Idle, Push, Pop, Replace}
 use Rattle.bucket_model.specs.Plain.{Call, ask, held, Store, came, brought, times}
-use Rattle.bucket_model.proofs.Served.{none-brings, none-lower}
+use Rattle.bucket_model.proofs.Served.{none-brings, none-lower, least-out}
 use Rattle.bucket_model.proofs.Sorted.{times-append}
 use Rattle.ports_model.specs.Layout.{Shape}
 use Rattle.ports_model.specs.Causes.{Shaped, Fair}
@@ -57,15 +55,8 @@ module _ (s : Shape) (lim b w : List ℕ) (shaped : Shaped s b w) (fair : Fair s
   pub port-least : (q : Request) → Least (λ f. times f (storedAt s p (leaves (called s) as′ (start s lim b w)))) q (asked s p q (leaves (called s) as′ (start s lim b w)) .answer)
   port-least Idle = tt
   port-least (Push e) = tt
-  port-least Pop = λ n. go (asked s p Pop now .answer) refl (kind s p Pop now n)
-    where
-      go : (a : Answer) → asked s p Pop now .answer ≡ a → IsOut a → times (lower (rankOf a)) (storedAt s p now) ≡ 0
-      go Done q o = absurd o
-      go (Refused r) q o = absurd o
-      go (Out x) q o = none-lower (x .rank .0) (storedAt s p now) (least s lim b w shaped fair as′ p p< x q .lowest)
-  port-least (Replace e) = λ n. go (asked s p (Replace e) now .answer) refl (kind s p (Replace e) now n)
-    where
-      go : (a : Answer) → asked s p (Replace e) now .answer ≡ a → IsOut a → times (lower (rankOf a)) (storedAt s p now) ≡ 0
-      go Done q o = absurd o
-      go (Refused r) q o = absurd o
-      go (Out x) q o = none-lower (x .rank .0) (storedAt s p now) (least s lim b w shaped fair as′ p p< x (replace-gives s lim b w shaped fair as′ p p< e x q) .lowest)
+  port-least Pop = λ n.
+      least-out (λ f. times f (storedAt s p now)) (asked s p Pop now .answer) (kind s p Pop now n) (λ x q. none-lower (x .rank .0) (storedAt s p now) (least s lim b w shaped fair as′ p p< x q .lowest))
+  port-least (Replace e) = λ n.
+      least-out (λ f. times f (storedAt s p now)) (asked s p (Replace e) now .answer) (kind s p (Replace e) now n)
+      (λ x q. none-lower (x .rank .0) (storedAt s p now) (least s lim b w shaped fair as′ p p< x (sym (replace-gives s p now e n) ∙ q) .lowest))

@@ -10,7 +10,7 @@ use borrow.Author.Tests.{lt-ltb, le-ltb}
 use lib.ListN.{length}
 use Rattle.laws.specs.Updates.{upd, is-upd, same-upd}
 use Rattle.promise.specs.Queue.{Step, step}
-use Rattle.strip.specs.Answers.{untagged}
+use Rattle.strip.specs.Answers.{lengthOf, numberOf, rankOf, tagOf, untagged}
 use Rattle.strip.specs.declared.Element.{Element}
 use Rattle.strip.specs.declared.Refusal.the-variants.{BadRank, Full, Empty, NoTag, BadPort}
 use Rattle.strip.specs.declared.Answer.the-variants.{Done, Out, Refused}
@@ -256,11 +256,14 @@ module _ (s : Shape) (deep : 1 ≤ s .storeys) (some : 1 ≤ s .ports) (lim : Li
               let P = sym (pop-is z y l g) in
               let left : popLeaves s p x ≡ store B W = ap (λ (o : Outcome). store (o .bits) (o .words)) P in
               let Q : asked s p (Push e) (popLeaves s p x) ≡ outcome Done (joinedBits (seat s p) B e (roomOf s p B W (e .rank .0))) (joinedWords (seat s p) W e (roomOf s p B W (e .rank .0))) = ap (λ (v : Store). pushed s p (v .bits) (v .words) e) left ∙ sym push-mid in
+              let A : asked s p (Replace e) x .answer ≡ asked s p Pop x .answer = ap (λ (o : Outcome). o .answer) (sym replace-is) ∙ sym (ap (λ (o : Outcome). o .answer) P) in
               record {
-                gives = y;
-                pop = ap (λ (o : Outcome). o .answer) P;
-                answer = ap (λ (o : Outcome). o .answer) (sym replace-is);
-                push = ap (λ (o : Outcome). o .answer) Q;
+                pop = ap (λ (o : Outcome). numberOf (o .answer)) P;
+                replace = ap (λ (o : Outcome). numberOf (o .answer)) (sym replace-is);
+                rank = ap rankOf A;
+                tag = ap tagOf A;
+                bytes = ap lengthOf A;
+                push = ap (λ (o : Outcome). numberOf (o .answer)) Q;
                 bits = ap (λ (o : Outcome). o .bits) (sym replace-is) ∙ sym (ap (λ (o : Outcome). o .bits) Q);
                 words = ap (λ (o : Outcome). o .words) (sym replace-is) ∙ sym (ap (λ (o : Outcome). o .words) Q);
               }

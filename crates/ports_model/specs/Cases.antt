@@ -1,7 +1,7 @@
 -- Two ports on three nodes: calls, the answers that they want, and the words that the first leaves. These are definitions.
 use mathlib.Core.List.{List, [], _∷_}
 use Prim.Native.Nat.{ℕ}
-use Rattle.strip.specs.Answers.{element}
+use Rattle.strip.specs.Answers.{countNumber, countOf, element, lengthOf, numberOf, rankOf, tagOf}
 use Rattle.strip.specs.declared.Refusal.the-variants.{BadRank, Full, Empty, NoTag, BadPort}
 use Rattle.strip.specs.declared.Answer.the-variants.{Done, Out, Refused}
 use Rattle.strip.specs.declared.Count.the-variants.{Held, Unknown}
@@ -31,6 +31,26 @@ sharingSays =
     ∷ answered (Out (element 9 4 63)) ∷ answered (Out (element 7 1 60)) ∷ answered Done ∷ answered (Refused Full) ∷ answered (Refused Full)
     ∷ answered (Out (element 2 6 65)) ∷ counted (Held 1) ∷ counted (Held 1) ∷ counted (Unknown BadPort) ∷ answered (Refused BadPort) ∷ answered (Refused BadRank) ∷ answered (Refused NoTag)
     ∷ answered (Out (element 7 2 61)) ∷ answered (Refused Empty) ∷ answered (Refused Empty) ∷ []
+
+-- floors that add up to N, and port 0's floor is its ceiling: port 0 has 1 and 1, port 1 has 2 and 3
+abbrev pub tightLimits : List ℕ
+tightLimits = 1 ∷ 1 ∷ 2 ∷ 3 ∷ []
+
+-- port 1 gets its floor and no more, also while port 0 holds nothing; port 0 gets one and no more; its replace works at the ceiling
+abbrev pub tight : List Ask
+tight =
+    at 1 (ask (Push (element 7 50 500))) ∷ at 1 (ask (Push (element 8 60 600))) ∷ at 1 (ask (Push (element 9 70 700))) ∷ at 0 (ask (Push (element 6 80 800))) ∷ at 0 (ask (Push (element 5 90 900)))
+    ∷ at 0 (ask (Replace (element 4 40 400))) ∷ at 0 (ask Pop) ∷ at 1 (ask (Push (element 9 70 700))) ∷ at 0 held ∷ at 1 held ∷ at 0 (ask (Push (element 5 90 900))) ∷ []
+
+-- the number of each answer, its rank, tag and length; of held how many
+abbrev pub tightSays : List (ℕ × ℕ × ℕ × ℕ)
+tightSays =
+    (0, 0, 0, 0) ∷ (0, 0, 0, 0) ∷ (5, 0, 0, 0) ∷ (0, 0, 0, 0) ∷ (5, 0, 0, 0)
+    ∷ (0, 6, 80, 800) ∷ (0, 4, 40, 400) ∷ (5, 0, 0, 0) ∷ (0, 0, 0, 0) ∷ (0, 2, 0, 0) ∷ (0, 0, 0, 0) ∷ []
+
+abbrev pub inNumbers : Said → ℕ × ℕ × ℕ × ℕ
+inNumbers (answered a) = (numberOf a, rankOf a, tagOf a, lengthOf a)
+inNumbers (counted c) = (countNumber c, countOf c, 0, 0)
 
 -- a push of 7/1 with length 64 at port 1, on slices of nines each one word longer than it need be: every word that is not 0, with its place
 abbrev pub onePush : List Ask

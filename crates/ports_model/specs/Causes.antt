@@ -1,22 +1,27 @@
 -- When a call at a port says no, in facts: what it asks in turn, with the refusal where it does not hold. A bucket's facts are the bucket queue's own. These are definitions.
+use mathlib.Core.Bool.{not, _&&_}
 use mathlib.Core.Path.{_≡_}
 use mathlib.Core.List.{List}
 use mathlib.Core.Logic.{_⊎_}
 use Prim.Native.Nat.{ℕ, _-_, _≤_, _<_}
+use lib.Dec.{eqb, ltb}
 use lib.ListN.{length}
-use Rattle.laws.specs.Ladder.{Ladder, fine, rung}
 use Rattle.laws.specs.Means.{Iff}
 use Rattle.laws.specs.Sums.{sumTo}
+use Rattle.promise.specs.Calls.{grants}
+use Rattle.promise.specs.Table.{Table, ends, needs}
 use Rattle.strip.specs.declared.Element.{Element}
-use Rattle.strip.specs.declared.Refusal.{Refusal}
 use Rattle.strip.specs.declared.Refusal.the-variants.{BadShape, Damaged, Full, Empty, BadPort}
-use Rattle.strip.specs.declared.Request.the-variants.{Push, Replace}
+use Rattle.strip.specs.declared.Request.{Request}
+use Rattle.strip.specs.declared.Request.the-variants.{Idle, Push, Pop, Replace}
 use Rattle.bucket_model.specs.Layout.{leastStoreys, mostStoreys, pool, word}
 use Rattle.bucket_model.specs.Storeys.{lowestRank}
+use Rattle.bucket_model.specs.Calls.{Outcome, outcome, lowestOf, given, joinedBits, joinedWords}
 use Rattle.bucket_model.specs.Causes as bucket
-use Rattle.bucket_model.specs.Causes.{PopFit, JoinFit, takeLadder}
+use Rattle.bucket_model.specs.Causes.{PopFit, JoinFit, newTable}
 use Rattle.ports_model.specs.Layout.{Shape, mostPorts, bitWords, storeWords, freeAt, heldAt, floorAt, ceilingAt, seat, limitWords, floorOf, ceilingOf}
-use Rattle.ports_model.specs.Checks.{usedIn, claimedIn}
+use Rattle.ports_model.specs.Checks.{isShaped, limitsOk, usedIn, claimedIn, isWhole, hasRoom}
+use Rattle.ports_model.specs.Calls.{roomOf, roomAfter}
 
 -- ---- 1, bad shape
 
@@ -51,36 +56,38 @@ pub record Whole (s : Shape) (p : ℕ) (b w : List ℕ) : Type 0 where
 abbrev pub Room : Shape → ℕ → List ℕ → Type 0
 Room s p w = (word w (heldAt s p) < word w (floorAt s p)) ⊎ ((word w (heldAt s p) < word w (ceilingAt s p)) × (0 < s .nodes - claimedIn s w))
 
--- ---- the table, call by call: 1, 8, 4, 7, 2, then 5 or 6, and a bucket's tests last
+-- ---- the table, call by call: 1, 8, 4, 7, 2, then 5 or 6, and a bucket's tests last. A line is a refusal, the test that a call makes, and what it asks by it
 
-abbrev pub clearLadder : Shape → List ℕ → List ℕ → List ℕ → Ladder Refusal
-clearLadder s lim b w = rung BadShape (Shaped s b w × Fair s lim) fine
+abbrev pub clearTable : Shape → List ℕ → List ℕ → List ℕ → Table
+clearTable s lim b w = needs BadShape (isShaped s b w && limitsOk s lim) (Shaped s b w × Fair s lim) ends
 
 module _ (s : Shape) (p : ℕ) (b w : List ℕ) where
   -- "An unknown port is refusal 8, first after shape"
-  abbrev pub portLadder : Ladder Refusal → Ladder Refusal
-  portLadder l = rung BadShape (Shaped s b w) (rung BadPort (p < s .ports) l)
+  abbrev pub portTable : Table → Table
+  portTable a = needs BadShape (isShaped s b w) (Shaped s b w) (needs BadPort (ltb p (s .ports)) (p < s .ports) a)
+
+  -- 2, of the pool and the port
+  abbrev pub wholeTable : Table → Table
+  wholeTable a = needs Damaged (isWhole s p b w) (Whole s p b w) a
 
   abbrev pub Some : Type 0
   Some = word w (heldAt s p) ≡ 0 → ⊥
 
-  abbrev pub heldLadder : Ladder Refusal
-  heldLadder = portLadder (rung Damaged (Whole s p b w) fine)
+  abbrev pub heldTable : Table
+  heldTable = portTable (wholeTable ends)
 
   -- what a pop and a replace ask alike
-  abbrev pub giveLadder : Ladder Refusal → Ladder Refusal
-  giveLadder l = rung Damaged (Whole s p b w) (rung Empty Some (rung Damaged (PopFit (seat s p) b w (lowestRank (seat s p) b)) l))
+  abbrev pub giveTable : Table → Table
+  giveTable a =
+      wholeTable
+      (needs Empty (not (eqb (word w (heldAt s p)) 0)) Some
+      (needs Damaged (lowestOf (seat s p) b w .good) (PopFit (seat s p) b w (lowestRank (seat s p) b)) a))
 
-  abbrev pub popLadder : Ladder Refusal
-  popLadder = portLadder (giveLadder fine)
-
-  abbrev pub pushLadder : Element → Ladder Refusal
-  pushLadder e =
-      portLadder
-      (takeLadder (seat s p) b w (Push e) e
-      (rung Damaged (Whole s p b w)
-      (rung Full (Room s p w)
-      (rung Damaged (JoinFit (seat s p) (usedIn s w) b w (e .rank .0)) fine))))
+  abbrev pub roomTable : Element → Table → Table
+  roomTable e a =
+      wholeTable
+      (needs Full (hasRoom s p w) (Room s p w)
+      (needs Damaged (roomOf s p b w (e .rank .0) .good) (JoinFit (seat s p) (usedIn s w) b w (e .rank .0)) a))
 
   -- the store as after the pop
   abbrev pub bitsAfter : List ℕ
@@ -89,10 +96,31 @@ module _ (s : Shape) (p : ℕ) (b w : List ℕ) where
   abbrev pub wordsAfter : List ℕ
   wordsAfter = bucket.wordsAfter (seat s p) b w
 
-  -- "needs no room": no rung for 5
-  abbrev pub replaceLadder : Element → Ladder Refusal
-  replaceLadder e =
-      portLadder
-      (takeLadder (seat s p) b w (Replace e) e
-      (giveLadder
-      (rung Damaged (Whole s p bitsAfter wordsAfter × JoinFit (seat s p) (usedIn s wordsAfter) bitsAfter wordsAfter (e .rank .0)) fine)))
+  -- "needs no room": no line for 5
+  abbrev pub roomAfterTable : Element → Table → Table
+  roomAfterTable e a =
+      needs Damaged (roomAfter s p bitsAfter wordsAfter (e .rank .0) .good)
+      (Whole s p bitsAfter wordsAfter × JoinFit (seat s p) (usedIn s wordsAfter) bitsAfter wordsAfter (e .rank .0)) a
+
+  -- asking for nothing is never refused
+  abbrev pub callTable : Request → Table
+  callTable Idle = ends
+  callTable (Push e) = portTable (newTable (seat s p) b w (Push e) e (roomTable e ends))
+  callTable Pop = portTable (giveTable ends)
+  callTable (Replace e) = portTable (newTable (seat s p) b w (Replace e) e (giveTable (roomAfterTable e ends)))
+
+  -- what is done where nothing refuses
+  abbrev pub bitsDone : Request → List ℕ
+  bitsDone Idle = b
+  bitsDone (Push e) = joinedBits (seat s p) b e (roomOf s p b w (e .rank .0))
+  bitsDone Pop = bitsAfter
+  bitsDone (Replace e) = joinedBits (seat s p) bitsAfter e (roomAfter s p bitsAfter wordsAfter (e .rank .0))
+
+  abbrev pub wordsDone : Request → List ℕ
+  wordsDone Idle = w
+  wordsDone (Push e) = joinedWords (seat s p) w e (roomOf s p b w (e .rank .0))
+  wordsDone Pop = wordsAfter
+  wordsDone (Replace e) = joinedWords (seat s p) wordsAfter e (roomAfter s p bitsAfter wordsAfter (e .rank .0))
+
+  abbrev pub done : Request → Outcome
+  done q = outcome (grants q (given (seat s p) w (lowestOf (seat s p) b w))) (bitsDone q) (wordsDone q)

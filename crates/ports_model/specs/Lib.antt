@@ -7,3 +7,5 @@ pub mod Lists
 pub mod Runs
 pub mod Promise
 pub mod Cases
+pub mod Edge
+pub mod Spoilt

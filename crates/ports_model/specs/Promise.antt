@@ -8,7 +8,8 @@ use lib.ListN.{length}
 use Rattle.laws.specs.Lists.{All}
 use Rattle.laws.specs.Means.{Iff}
 use Rattle.promise.specs.Queue.{Pins}
-use Rattle.strip.specs.declared.Answer.the-variants.{Done, Out}
+use Rattle.strip.specs.Answers.{numberOf, rankOf, tagOf, lengthOf}
+use Rattle.strip.specs.declared.Answer.the-variants.{Done}
 use Rattle.strip.specs.declared.Element.{Element}
 use Rattle.strip.specs.declared.Request.the-variants.{Push, Pop, Replace}
 use Rattle.bucket_model.specs.Layout.{word, wordsOf, headAt, tailAt, nextAt, loadIn}
@@ -104,12 +105,14 @@ popLeaves s p x = store (asked s p Pop x .bits) (asked s p Pop x .words)
 
 -- ---- "Replace is a pop and a push at one port and needs no room"
 
--- at port p the replace answers what the pop does, and leaves what the push of e leaves on the store that the pop left; that push is done
+-- at port p neither is refused, the replace answers the rank, tag and length that the pop answers, and it leaves what the push of e leaves on the store that the pop left; nor is that push
 pub record Swaps (s : Shape) (p : ℕ) (x : Store) (e : Element) : Type 0 where
-  pub gives : Element
-  pub pop : asked s p Pop x .answer ≡ Out gives
-  pub answer : asked s p (Replace e) x .answer ≡ Out gives
-  pub push : asked s p (Push e) (popLeaves s p x) .answer ≡ Done
+  pub pop : numberOf (asked s p Pop x .answer) ≡ 0
+  pub replace : numberOf (asked s p (Replace e) x .answer) ≡ 0
+  pub rank : rankOf (asked s p (Replace e) x .answer) ≡ rankOf (asked s p Pop x .answer)
+  pub tag : tagOf (asked s p (Replace e) x .answer) ≡ tagOf (asked s p Pop x .answer)
+  pub bytes : lengthOf (asked s p (Replace e) x .answer) ≡ lengthOf (asked s p Pop x .answer)
+  pub push : numberOf (asked s p (Push e) (popLeaves s p x) .answer) ≡ 0
   pub bits : asked s p (Replace e) x .bits ≡ asked s p (Push e) (popLeaves s p x) .bits
   pub words : asked s p (Replace e) x .words ≡ asked s p (Push e) (popLeaves s p x) .words
 

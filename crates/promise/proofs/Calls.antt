@@ -1,24 +1,25 @@
--- What is so of every queue's calls, whatever the words: each refusal is given exactly for its cause, of a request that is not refused the answer is of its kind, and no element without a tag is
--- let in.
+-- What is so of every queue's calls, whatever the words: each refusal is given exactly for its cause, of a request that is not refused the answer is of its
+-- kind, and no element without a tag is let in.
 use Prim.Native.Nat.{_<_, _≤_, ℕ}
 use native.Mathlib.Nat.{pos-of-ne-zero}
 use native.Mathlib.Omega.{arith}
 use mathlib.Core.Bool.{Bool, cond, false, false≢true, true, true≢false}
 use mathlib.Core.Logic.{_⊎_, inl, inr, ⊎-elim}
 use mathlib.Core.Path.{_∙_, _≡_, ap, refl, subst, sym}
-use lib.Dec.{ltb}
-use borrow.Author.Tests.{eqb-false, le-ltb, ltb-false, ltb-true}
+use lib.Dec.{eqb, ltb}
+use borrow.Author.Tests.{eqb-false, eqb-true, le-ltb, ltb-false, ltb-true}
 use Rattle.laws.specs.Fails.{Fails}
 use Rattle.laws.specs.Ladder.{climb-fine, climb-stop, Exactly, fine, Ladder, left-behind, stop}
-use Rattle.laws.specs.Means.{Means, means-eqb}
-use Rattle.promise.specs.Calls.{called, carriedOut, cleared, clearRefusals, Damage, does, Fits, grants, heldCount, heldRefusals, lacksTag, lastTable, left, Outcome, outcome, Queue, refusals, ruleAt, ruled, Ruling, ruling}
+use Rattle.laws.specs.Means.{Means, means-eqb, means-no}
+use Rattle.laws.specs.Tests.{cond-both}
+use Rattle.promise.specs.Calls.{called, carriedOut, cleared, clearRefusals, Comes, Damage, does, empty, Fits, full, grants, heldCount, heldRefusals, idles, lacks, lacksTag, lastTable, left, no-tag, Outcome, outcome, puts, Queue, refusals, ruleAt, ruled, Ruling, ruling, swaps, takes}
 use Rattle.promise.specs.Refused.{IsPush, limits, refusal-told, Untagged, untagged-means, zero-told}
-use Rattle.promise.specs.Served.{Kind, Least, lower}
-use Rattle.promise.specs.Table.{Clear, decided-either, decided-exactly, Each, each-any, guarded, Guards, ladder, Table, Told}
+use Rattle.promise.specs.Served.{IsOut, Kind, Least, lower}
+use Rattle.promise.specs.Table.{Clear, decided-clear, decided-either, decided-exactly, Each, each-any, guarded, Guards, ladder, Table, Told}
 use Rattle.promise.specs.Tagged.{Barred}
-use Rattle.strip.specs.Answers.{countNumber, numberOf, refusalNumber}
+use Rattle.strip.specs.Answers.{countNumber, elementOf, numberOf, refusalNumber, untagged}
 use Rattle.strip.specs.declared.Answer.{Answer}
-use Rattle.strip.specs.declared.Answer.the-variants.{Refused}
+use Rattle.strip.specs.declared.Answer.the-variants.{Done, Out, Refused}
 use Rattle.strip.specs.declared.Count.{Count}
 use Rattle.strip.specs.declared.Count.the-variants.{Held, Unknown}
 use Rattle.strip.specs.declared.Element.{Element}
@@ -95,12 +96,6 @@ module _ {W : Type 0} (op : Request → W) (r : Request) (e : Element) where
       decided-either (λ x. ruling (Refused x) (op Idle)) (λ (g : Ruling W). Barred r (g .answer)) a (ruling (grants r e) (op r))
       (each-any _ (λ x u z. zero-told x (sym z)) a) (λ c u z. guarded a t g u c)
 
-  -- .. and the number is 0, or that of a refusal in the table
-  pub ruled-number : (P : ℕ → Type 0) (a : Table) → P 0 → Each (λ x. P (refusalNumber x)) a → P (numberOf (ruled op a r e .answer))
-  ruled-number P a z each =
-      decided-either (λ x. ruling (Refused x) (op Idle)) (λ (g : Ruling W). P (numberOf (g .answer))) a (ruling (grants r e) (op r))
-      each (λ c. subst P (sym (grants-zero r e)) z)
-
   -- EXACTLY, whatever is made of a ruling: of a refused one what is left behind
   pub ruled-exactly : {O : Type 0} (answer : O → Answer) (left : Refusal → O) → ((x : Refusal) → answer (left x) ≡ Refused x) → (f : Ruling W → O) → ((g : Ruling W) → answer (f g) ≡ g .answer)
       → (a : Table) → Told a → Each (λ x. f (ruling (Refused x) (op Idle)) ≡ left x) a → Exactly (λ o. numberOf (answer o)) left (f (ruled op a r e)) (ladder a fine)
@@ -108,6 +103,20 @@ module _ {W : Type 0} (op : Request → W) (r : Request) (e : Element) where
       decided-exactly (λ o. numberOf (answer o)) left (λ x y z. refusal-told x y (ap numberOf (sym (left-says x)) ∙ z ∙ ap numberOf (left-says y))) f (λ x. ruling (Refused x) (op Idle)) a
       (ruling (grants r e) (op r)) fine t each
       (λ c. climb-fine (λ o. numberOf (answer o)) left _ (λ x z. zero-told x (sym (grants-zero r e) ∙ ap numberOf (sym (says (ruling (grants r e) (op r)))) ∙ z ∙ ap numberOf (left-says x))))
+
+-- an element that is given out is the lowest, of a queue that is not empty
+pub is-out : (a : Answer) (e : Element) → a ≡ Out e → IsOut a
+is-out a e p = subst IsOut (sym p) tt
+
+pub comes-out : {W : Type 0} {none take : W} {put swap : Element → W} (c h : ℕ) (t e : Element) (r : Request) (g : Ruling W) → Comes none put take swap c h t r g → g .answer ≡ Out e → (t ≡ e) × (0 < h)
+comes-out c h t e r g idles q = absurd (is-out Done e q)
+comes-out c h t e r g (no-tag r′ u) q = absurd (is-out (Refused NoTag) e q)
+comes-out c h t e r g (puts x u p) q = absurd (is-out Done e q)
+comes-out c h t e r g (full x u p) q = absurd (is-out (Refused Full) e q)
+comes-out c h t e r g (takes p) q = (ap elementOf q, p)
+comes-out c h t e r g (empty p) q = absurd (is-out (Refused Empty) e q)
+comes-out c h t e r g (swaps x u p) q = (ap elementOf q, p)
+comes-out c h t e r g (lacks x u p) q = absurd (is-out (Refused Empty) e q)
 
 -- ---- the same by the last rungs
 pub last-fits : (r : Request) (h c : ℕ) → Clear (lastTable r h c) → Fits r h c
@@ -124,24 +133,21 @@ fits-least held Pop h c e f l = λ z. l f
 fits-least held (Replace x) h c e f l = λ z. l f
 
 module _ {W : Type 0} (op : Request → W) where
-  -- only 0, 5, 6 and 7
-  pub last-number : (r : Request) (h c : ℕ) (e : Element) → let n = numberOf (ruled op (lastTable r h c) r e .answer) in (n ≡ 0) ⊎ (n ≡ 5) ⊎ (n ≡ 6) ⊎ (n ≡ 7)
-  last-number r h c e = ruled-number op r e (λ n. (n ≡ 0) ⊎ (n ≡ 5) ⊎ (n ≡ 6) ⊎ (n ≡ 7)) (lastTable r h c) (inl refl) (last-each r h c)
+  -- COMES: a request comes to what the law says
+  abbrev To : ℕ → ℕ → Element → Request → Ruling W → Type 0
+  To c h e r = Comes (op Idle) (λ x. op (Push x)) (op Pop) (λ x. op (Replace x)) c h e r
 
-  pub last-barred : (r : Request) (h c : ℕ) (e : Element) → Barred r (ruled op (lastTable r h c) r e .answer)
-  last-barred r h c e =
-      decided-either (λ x. ruling (Refused x) (op Idle)) (λ (g : Ruling W). Barred r (g .answer)) (lastTable r h c) (ruling (grants r e) (op r))
-      (each-any _ (λ x u z. zero-told x (sym z)) (lastTable r h c)) (λ k u z. true≢false (sym (tag-means r .holds u) ∙ k .0))
-
-  -- EXACTLY, whatever is made of a ruling
-  module _ {O : Type 0} (answer : O → Answer) (left : Refusal → O) (left-says : (x : Refusal) → answer (left x) ≡ Refused x) (f : Ruling W → O) (says : (g : Ruling W) → answer (f g) ≡ g .answer)
-      (at-no-tag : f (ruling (Refused NoTag) (op Idle)) ≡ left NoTag) (at-full : f (ruling (Refused Full) (op Idle)) ≡ left Full) (at-empty : f (ruling (Refused Empty) (op Idle)) ≡ left Empty) where
-    pub last-exactly : (r : Request) (h c : ℕ) (e : Element) → (IsPush r → h ≤ c)
-        → Exactly (λ o. numberOf (answer o)) left (f (ruled op (lastTable r h c) r e)) (stop NoTag (Untagged r) (limits r h c fine))
-    last-exactly Idle h c e most = ruled-exactly op Idle e answer left left-says f says (lastTable Idle h c) (last-told Idle h c most) (at-no-tag, tt)
-    last-exactly (Push x) h c e most = ruled-exactly op (Push x) e answer left left-says f says (lastTable (Push x) h c) (last-told (Push x) h c most) (at-no-tag, (at-full, tt))
-    last-exactly Pop h c e most = ruled-exactly op Pop e answer left left-says f says (lastTable Pop h c) (last-told Pop h c most) (at-no-tag, (at-empty, tt))
-    last-exactly (Replace x) h c e most = ruled-exactly op (Replace x) e answer left left-says f says (lastTable (Replace x) h c) (last-told (Replace x) h c most) (at-no-tag, (at-empty, tt))
+  pub last-comes : (c : ℕ) (r : Request) (h : ℕ) (e : Element) → To c h e r (ruled op (lastTable r h c) r e)
+  last-comes c Idle h e = idles
+  last-comes c (Push x) h e =
+      cond-both (To c h e (Push x)) (untagged x) _ _ (λ t. no-tag (Push x) (untagged-means x .says t)) (λ t.
+      let some = means-no (untagged-means x) t in
+      cond-both (To c h e (Push x)) (ltb h c) _ _ (λ l. puts x some (ltb-true h c l)) (λ l. full x some (ltb-false h c l)))
+  last-comes c Pop h e = cond-both (To c h e Pop) (eqb h 0) _ _ (λ z. empty (eqb-true h 0 z)) (λ z. takes (pos-of-ne-zero (eqb-false h 0 z)))
+  last-comes c (Replace x) h e =
+      cond-both (To c h e (Replace x)) (untagged x) _ _ (λ t. no-tag (Replace x) (untagged-means x .says t)) (λ t.
+      let some = means-no (untagged-means x) t in
+      cond-both (To c h e (Replace x)) (eqb h 0) _ _ (λ z. lacks x some (eqb-true h 0 z)) (λ z. swaps x some (pos-of-ne-zero (eqb-false h 0 z))))
 
 -- ---- a queue whose tests stand for their causes
 pub record Tested {S : Type 0} (q : Queue S) : Type 0 where
@@ -181,60 +187,81 @@ module _ {S : Type 0} (q : Queue S) where
       go true = held
       go false = refused Damaged
 
+  -- UNREAD: two stores that pass what is asked first, and in which the tests, the ruling and its work read the same, are answered the same and left alike
+  module _ (Like : S → S → Type 0) (r : Request) (s t : S) (opens : Clear (q .opening s)) (opens′ : Clear (q .opening t)) (first : Clear (q .asked r s)) (first′ : Clear (q .asked r t))
+      (root : q .rootOk s ≡ q .rootOk t) (ruling : ruleAt q r s ≡ ruleAt q r t) (way : q .wayOk (ruleAt q r s .op) s ≡ q .wayOk (ruleAt q r t .op) t) (like : Like s t)
+      (runs : q .wayOk (ruleAt q r s .op) s ≡ true → Like (q .run (ruleAt q r s .op) s) (q .run (ruleAt q r t .op) t)) where
+    passed : (u : S) → Clear (q .opening u) → Clear (q .asked r u) → called q r u ≡ cond (q .rootOk u) (carriedOut q (ruleAt q r u) u) (left u Damaged)
+    passed u a b = decided-clear (left u) (q .opening u) _ a ∙ decided-clear (left u) (q .asked r u) _ b
+
+    pub unread-by : (called q r s .answer ≡ called q r t .answer) × Like (called q r s .words) (called q r t .words)
+    unread-by = rw (passed s opens first, passed t opens′ first′) (go (q .rootOk s) (q .rootOk t) root (q .wayOk (ruleAt q r s .op) s) (q .wayOk (ruleAt q r t .op) t) way runs)
+      where
+        go : (a b : Bool) → a ≡ b → (c d : Bool) → c ≡ d → (c ≡ true → Like (q .run (ruleAt q r s .op) s) (q .run (ruleAt q r t .op) t))
+            → let o = cond {A = Outcome S} a (cond {A = Outcome S} c (does q (ruleAt q r s) s) (left s Damaged)) (left s Damaged) in
+            let p = cond {A = Outcome S} b (cond {A = Outcome S} d (does q (ruleAt q r t) t) (left t Damaged)) (left t Damaged) in (o .answer ≡ p .answer) × Like (o .words) (p .words)
+        go true true e true true f h = (ap (λ (g : Ruling (q .Op)). g .answer) ruling, h refl)
+        go true true e true false f h = absurd (true≢false f)
+        go true true e false true f h = absurd (false≢true f)
+        go true true e false false f h = (refl, like)
+        go true false e c d f h = absurd (true≢false e)
+        go false true e c d f h = absurd (false≢true e)
+        go false false e c d f h = (refl, like)
+
   -- KIND: of a call that is not refused a push and an idle request answer done, a pop and a replace an element
   pub kind : (r : Request) (s : S) → numberOf (called q r s .answer) ≡ 0 → Kind r (called q r s .answer)
   kind r s =
       called-either r s (λ o. numberOf (o .answer) ≡ 0 → Kind r (o .answer)) (λ x e. absurd (zero-told x (sym e)))
       (λ c d o w. ruled-kind (q .op) r (q .low s) (q .late r s))
 
-  module _ (t : Tested q) where
-    -- BARRED: an element without a tag is never let in, whatever the words
-    pub barred : (r : Request) (s : S) → Barred r (called q r s .answer)
-    barred r s =
-        called-either r s (λ o. Barred r (o .answer)) (λ x u e. zero-told x (sym e))
-        (λ c d o w. ⊎-elim (λ g u e. guarded (q .asked r s) (t .asked r s c) g u d) (λ g. ruled-barred (q .op) r (q .low s) (q .late r s) (t .late r s c o) g) (t .tagged r s))
+module _ {S : Type 0} {q : Queue S} (t : Tested q) where
+  -- BARRED: an element without a tag is never let in, whatever the words
+  pub barred : (r : Request) (s : S) → Barred r (called q r s .answer)
+  barred r s =
+      called-either q r s (λ o. Barred r (o .answer)) (λ x u e. zero-told x (sym e))
+      (λ c d o w. ⊎-elim (λ g u e. guarded (q .asked r s) (t .asked r s c) g u d) (λ g. ruled-barred (q .op) r (q .low s) (q .late r s) (t .late r s c o) g) (t .tagged r s))
 
-    pub no-damage : (r : Request) (s : S) → q .rootOk s ≡ true → q .wayOk (ruleAt q r s .op) s ≡ true → Damage q r s → ⊥
-    no-damage r s o w = ⊎-elim (λ d. true≢false (sym o ∙ t .root s .shown d)) (λ d. true≢false (sym w ∙ t .way (ruleAt q r s .op) s .shown d))
+  pub no-damage : (r : Request) (s : S) → q .rootOk s ≡ true → q .wayOk (ruleAt q r s .op) s ≡ true → Damage q r s → ⊥
+  no-damage r s o w = ⊎-elim (λ d. true≢false (sym o ∙ t .root s .shown d)) (λ d. true≢false (sym w ∙ t .way (ruleAt q r s .op) s .shown d))
 
-    -- ---- EXACTLY: the columns "Exactly when" and "Left behind"
-    by-damage : (r : Request) (s : S) → Clear (q .opening s)
-        → Exactly said (left s) (cond (q .rootOk s) (carriedOut q (ruleAt q r s) s) (left s Damaged)) (stop Damaged (Damage q r s) (ladder (q .late r s) fine))
-    by-damage r s c = climb-stop said (left s) refusal-told Damaged _ _ _ (go (q .rootOk s) refl (q .wayOk (ruleAt q r s .op) s) refl)
-      where
-        go : (a : Bool) → q .rootOk s ≡ a → (b : Bool) → q .wayOk (ruleAt q r s .op) s ≡ b
-            → ((Damage q r s → ⊥) × Exactly said (left s) (cond a (cond b (does q (ruleAt q r s) s) (left s Damaged)) (left s Damaged)) (ladder (q .late r s) fine))
-            ⊎ (Damage q r s × (cond a (cond b (does q (ruleAt q r s) s) (left s Damaged)) (left s Damaged) ≡ left s Damaged))
-        go true o true w =
-            inl (
-              no-damage r s o w,
-              ruled-exactly (q .op) r (q .low s) (λ (o : Outcome S). o .answer) (left s) (λ x. refl) (λ g. does q g s) (λ g. refl) (q .late r s) (t .late r s c o)
-                  (each-any _ (λ x. ap (outcome (Refused x)) (t .stays s)) (q .late r s)),
-            )
-        go true o false w = inr (inr (t .way (ruleAt q r s .op) s .found w), refl)
-        go false o b w = inr (inl (t .root s .found o), refl)
+  -- ---- EXACTLY: the columns "Exactly when" and "Left behind"
+  by-damage : (r : Request) (s : S) → Clear (q .opening s)
+      → Exactly said (left s) (cond (q .rootOk s) (carriedOut q (ruleAt q r s) s) (left s Damaged)) (stop Damaged (Damage q r s) (ladder (q .late r s) fine))
+  by-damage r s c = climb-stop said (left s) refusal-told Damaged _ _ _ (go (q .rootOk s) refl (q .wayOk (ruleAt q r s .op) s) refl)
+    where
+      go : (a : Bool) → q .rootOk s ≡ a → (b : Bool) → q .wayOk (ruleAt q r s .op) s ≡ b
+          → ((Damage q r s → ⊥) × Exactly said (left s) (cond a (cond b (does q (ruleAt q r s) s) (left s Damaged)) (left s Damaged)) (ladder (q .late r s) fine))
+          ⊎ (Damage q r s × (cond a (cond b (does q (ruleAt q r s) s) (left s Damaged)) (left s Damaged) ≡ left s Damaged))
+      go true o true w =
+          inl (
+            no-damage r s o w,
+            ruled-exactly (q .op) r (q .low s) (λ (o : Outcome S). o .answer) (left s) (λ x. refl) (λ g. does q g s) (λ g. refl) (q .late r s) (t .late r s c o)
+                (each-any _ (λ x. ap (outcome (Refused x)) (t .stays s)) (q .late r s)),
+          )
+      go true o false w = inr (inr (t .way (ruleAt q r s .op) s .found w), refl)
+      go false o b w = inr (inl (t .root s .found o), refl)
 
-    -- push, pop and replace
-    pub exactly : (r : Request) (s : S) → Exactly said (left s) (called q r s) (refusals q r s)
-    exactly r s =
-        decided-exactly said (left s) refusal-told (λ (o : Outcome S). o) (left s) (q .opening s) _ _ (t .opening s) (each-any _ (λ x. refl) (q .opening s)) (λ c.
-        decided-exactly said (left s) refusal-told (λ (o : Outcome S). o) (left s) (q .asked r s) _ _ (t .asked r s c) (each-any _ (λ x. refl) (q .asked r s)) (λ d. by-damage r s c))
+  -- push, pop and replace
+  pub exactly : (r : Request) (s : S) → Exactly said (left s) (called q r s) (refusals q r s)
+  exactly r s =
+      decided-exactly said (left s) refusal-told (λ (o : Outcome S). o) (left s) (q .opening s) _ _ (t .opening s) (each-any _ (λ x. refl) (q .opening s)) (λ c.
+      decided-exactly said (left s) refusal-told (λ (o : Outcome S). o) (left s) (q .asked r s) _ _ (t .asked r s c) (each-any _ (λ x. refl) (q .asked r s)) (λ d. by-damage r s c))
 
-    pub stands : (r : Request) (s : S) (n : Refusal) → said (called q r s) ≡ refusalNumber n → called q r s ≡ left s n
-    stands r s = left-behind said (left s) (exactly r s)
+  pub stands : (r : Request) (s : S) (n : Refusal) → said (called q r s) ≡ refusalNumber n → called q r s ≡ left s n
+  stands r s = left-behind said (left s) (exactly r s)
 
-    pub exactly-clear : (s : S) → Exactly said (left s) (cleared q s) (clearRefusals q s)
-    exactly-clear s =
-        decided-exactly said (left s) refusal-told (λ (o : Outcome S). o) (left s) (q .clearing s) _ _ (t .clearing s) (each-any _ (λ x. refl) (q .clearing s)) (λ c.
-        climb-fine said (left s) _ (λ x e. zero-told x e))
+  pub exactly-clear : (s : S) → Exactly said (left s) (cleared q s) (clearRefusals q s)
+  exactly-clear s =
+      decided-exactly said (left s) refusal-told (λ (o : Outcome S). o) (left s) (q .clearing s) _ _ (t .clearing s) (each-any _ (λ x. refl) (q .clearing s)) (λ c.
+      climb-fine said (left s) _ (λ x e. zero-told x e))
 
-    pub exactly-held : (s : S) → Exactly countNumber Unknown (heldCount q s) (heldRefusals q s)
-    exactly-held s =
-        decided-exactly countNumber Unknown refusal-told (λ (c : Count). c) Unknown (q .opening s) _ _ (t .opening s) (each-any _ (λ x. refl) (q .opening s)) (λ c.
-        climb-stop countNumber Unknown refusal-told Damaged _ _ _ (go (q .rootOk s) refl))
-      where
-        go : (a : Bool) → q .rootOk s ≡ a
-            → ((q .RootDamaged s → ⊥) × Exactly countNumber Unknown (cond a (Held (q .held s)) (Unknown Damaged)) fine)
-            ⊎ (q .RootDamaged s × (cond a (Held (q .held s)) (Unknown Damaged) ≡ Unknown Damaged))
-        go true o = inl ((λ d. true≢false (sym o ∙ t .root s .shown d)), climb-fine countNumber Unknown _ (λ x e. zero-told x e))
-        go false o = inr (t .root s .found o, refl)
+  pub exactly-held : (s : S) → Exactly countNumber Unknown (heldCount q s) (heldRefusals q s)
+  exactly-held s =
+      decided-exactly countNumber Unknown refusal-told (λ (c : Count). c) Unknown (q .opening s) _ _ (t .opening s) (each-any _ (λ x. refl) (q .opening s)) (λ c.
+      climb-stop countNumber Unknown refusal-told Damaged _ _ _ (go (q .rootOk s) refl))
+    where
+      go : (a : Bool) → q .rootOk s ≡ a
+          → ((q .RootDamaged s → ⊥) × Exactly countNumber Unknown (cond a (Held (q .held s)) (Unknown Damaged)) fine)
+          ⊎ (q .RootDamaged s × (cond a (Held (q .held s)) (Unknown Damaged) ≡ Unknown Damaged))
+      go true o = inl ((λ d. true≢false (sym o ∙ t .root s .shown d)), climb-fine countNumber Unknown _ (λ x e. zero-told x e))
+      go false o = inr (t .root s .found o, refl)

@@ -1,5 +1,5 @@
--- A drain of any machine is so many idle cycles: none once nothing is pending, no more than the budget, and it stops at damage. A machine is a queue and what is
--- pending in its state; on a good state an idle cycle runs, or jams and leaves everything.
+-- A drain of any machine is so many idle cycles: none once nothing is pending, no more than the budget, and it stops at damage. First of a queue and what is pending
+-- in its state, where on a good state an idle cycle runs, or jams and leaves everything; then of any clock.
 use Prim.Native.Nat.{_+_, _<_, _≤_, suc, zero, ℕ}
 use native.Mathlib.Nat.{add-zero, not-suc-le-zero, zero-add}
 use native.Mathlib.Omega.{arith}
@@ -10,7 +10,9 @@ use lib.Dec.{leb}
 use lib.ListN.{replicate}
 use borrow.Author.Tests.{leb-false, leb-true}
 use Rattle.laws.specs.Ladder.{climb-by, climb-fine, climb-stop, Exactly, fine, Ladder, left-behind}
-use Rattle.laws.specs.Means.{Means, means-no}
+use Rattle.laws.specs.Means.{means-no}
+use Rattle.promise.proofs.Clock.{damaged, idle-runs, shape-stays, Ticks}
+use Rattle.promise.specs.Clock.{asking, Clock, drainedBy}
 use Rattle.promise.specs.Drains.{behind, capped, Close, done, drainBy, drained, Drained, drainRefusals, drainsBy, idled, isRefused, stopped, Stuck}
 use Rattle.promise.specs.Queue.{leaves, leaves-keep, step, Step}
 use Rattle.promise.specs.Refused.{refusal-told, zero-told}
@@ -30,8 +32,31 @@ less-not {a} {b} h = go (leb b a) refl
     go false e = absurd (h (leb-false b a e))
 
 module _ {S : Type 0} (queue : Request → S → Step Answer S) (pending : S → Bool) where
+  -- a model's own drain, with an outcome record of its own, is this one where each of its rounds is
+  module _ {D : Type 0} (shown : Drained S → D) (from : ℕ → ℕ → S → D) (spent : (n : ℕ) (s : S) → from 0 n s ≡ shown (drained Done n (pending s) s))
+      (round : (b n : ℕ) (s : S) → let o = queue Idle s in from (suc b) n s
+      ≡ cond (pending s) (cond (isRefused (o .said)) (shown (drained (o .said) n true (o .next))) (from b (suc n) (o .next))) (shown (drained Done n false s))) where
+    drain-shown : (b n : ℕ) (s : S) → from b n s ≡ shown (drainBy queue pending b n s)
+    unfolding drainBy
+    drain-shown zero n s = spent n s
+    drain-shown (suc b) n s = round b n s ∙ go (pending s) (isRefused (queue Idle s .said)) (drain-shown b (suc n) (queue Idle s .next))
+      where
+        o : Step Answer S
+        o = queue Idle s
+
+        go : (p q : Bool) → from b (suc n) (o .next) ≡ shown (drainBy queue pending b (suc n) (o .next))
+            → cond p (cond q (shown (drained (o .said) n true (o .next))) (from b (suc n) (o .next))) (shown (drained Done n false s))
+            ≡ shown (cond {A = Drained S} p (cond {A = Drained S} q (drained (o .said) n true (o .next)) (drainBy queue pending b (suc n) (o .next))) (drained Done n false s))
+        go true true ih = refl
+        go true false ih = ih
+        go false q ih = refl
+
+    pub drains-shown : (t : Bool) (b : ℕ) (s : S) → cond t (from b 0 s) (shown (drained (Refused BadShape) 0 false s)) ≡ shown (drainsBy queue pending t b s)
+    drains-shown true b s = drain-shown b 0 s
+    drains-shown false b s = refl
+
   module _ (Jam : S → Type 0) where
-    -- .. where n cycles have already been run
+    -- a drain after n cycles already run
     pub record Closes (b n : ℕ) (s : S) (d : Drained S) : Type 0 where
       pub more : ℕ
       pub counts : d .cycles ≡ n + more
@@ -196,111 +221,131 @@ module _ {S : Type 0} (queue : Request → S → Step Answer S) (pending : S →
               let waits : d .left ≡ true = c .left ∙ ap pending close-state ∙ j .waits (d .cycles) (leb-true (d .cycles) n e) in
               omega (arith, l waits, j .within, leb-true (d .cycles) n e)
 
--- the same said of an outcome in another form
+-- each refusal given exactly for its cause, said of an outcome in another form
 pub exactly-as : {R O P A : Type 0} (says : O → A) (left : R → O) (f : O → P) (tells : P → A) → ((o : O) → tells (f o) ≡ says o) → (o : O) (l : Ladder R) → Exactly says left o l → Exactly tells (λ r. f (left r)) (f o) l
 exactly-as says left f tells h o l x = record { only = λ r e. x .only r (sym (h o) ∙ e ∙ h (left r)); always = λ r u. ap f (x .always r u) }
 
--- ---- a machine whose cycles test a shape and keep it: all that is said of its drains
-module _ {S : Type 0} (queue : Request → S → Step Answer S) (pending : S → Bool) (Jam : S → Type 0) (shapeOk : S → Bool) (Shape : S → Type 0) (means : (s : S) → Means (shapeOk s) (Shape s))
-    (keeps : (r : Request) (s : S) → shapeOk (queue r s .next) ≡ shapeOk s)
-    (idling : (s : S) → shapeOk s ≡ true → (queue Idle s .said ≡ Done) ⊎ ((queue Idle s ≡ step (Refused Damaged) s) × Jam s))
-    (jams : (s : S) → shapeOk s ≡ true → Jam s → numberOf (queue Idle s .said) ≡ 0 → ⊥) where
-  module _ (b : ℕ) (s : S) where
-    abbrev d : Drained S
-    d = drainsBy queue pending (shapeOk s) b s
+-- ---- the drains of a clock
+module _ {C M : Type 0} {k : Clock C M} {queue : C → M → Step Answer M} (t : Ticks k queue) where
+  -- a cycle with a request, what is pending, and what jams an idle cycle
+  abbrev tick : Request → M → Step Answer M
+  tick = asking k queue
 
-    ended : shapeOk s ≡ true → Closes queue pending Jam b 0 s (drainBy queue pending b 0 s)
-    ended e = closes queue pending Jam (λ s. shapeOk s ≡ true) (λ s e. keeps Idle s ∙ e) idling b 0 s e
+  abbrev pending : M → Bool
+  pending = k .pending
+
+  abbrev Jam : M → Type 0
+  Jam = k .Torn (k .call Idle)
+
+  keeps : (r : Request) (x : M) → k .shapeOk (tick r x .next) ≡ k .shapeOk x
+  keeps r x = shape-stays t (k .call r) x
+
+  idling : (x : M) → k .shapeOk x ≡ true → (tick Idle x .said ≡ Done) ⊎ ((tick Idle x ≡ step (Refused Damaged) x) × Jam x)
+  idling x e = go (k .soundOk (k .call Idle) x) refl
+    where
+      go : (b : Bool) → k .soundOk (k .call Idle) x ≡ b → (tick Idle x .said ≡ Done) ⊎ ((tick Idle x ≡ step (Refused Damaged) x) × Jam x)
+      go true f = inl (ap (λ (s : Step Answer M). s .said) (idle-runs t (k .call Idle) x e f))
+      go false f = inr (damaged t (k .call Idle) x e f, t .torn (k .call Idle) x .found f)
+
+  jams : (x : M) → k .shapeOk x ≡ true → Jam x → numberOf (tick Idle x .said) ≡ 0 → ⊥
+  jams x e d z = zero-told Damaged (sym z ∙ ap (λ (s : Step Answer M). numberOf (s .said)) (damaged t (k .call Idle) x e (t .torn (k .call Idle) x .shown d)))
+
+  module _ (b : ℕ) (s : M) where
+    abbrev d : Drained M
+    d = drainedBy k queue b s
+
+    ended : k .shapeOk s ≡ true → Closes tick pending Jam b 0 s (drainBy tick pending b 0 s)
+    ended e = closes tick pending Jam (λ s. k .shapeOk s ≡ true) (λ s e. keeps Idle s ∙ e) idling b 0 s e
 
     -- refused for the shape, or one that closes
-    pub by-shape : (P : Drained S → Type 0) → P (drained (Refused BadShape) 0 false s) → ((x : Drained S) → shapeOk s ≡ true → Closes queue pending Jam b 0 s x → P x) → P d
-    by-shape P bad good = go (shapeOk s) refl
+    pub by-shape : (P : Drained M → Type 0) → P (drained (Refused BadShape) 0 false s) → ((x : Drained M) → k .shapeOk s ≡ true → Closes tick pending Jam b 0 s x → P x) → P d
+    by-shape P bad good = go (k .shapeOk s) refl
       where
-        go : (t : Bool) → shapeOk s ≡ t → P (drainsBy queue pending t b s)
-        go true e = good (drainBy queue pending b 0 s) e (ended e)
+        go : (t : Bool) → k .shapeOk s ≡ t → P (drainsBy tick pending t b s)
+        go true e = good (drainBy tick pending b 0 s) e (ended e)
         go false e = bad
 
     -- DRAIN-STATE: "The state left is that of exactly so many idle cycles", whatever is drained
-    pub drain-state : d .state ≡ idled queue (d .cycles) s
+    pub drain-state : d .state ≡ idled tick (d .cycles) s
     unfolding leaves
-    drain-state = by-shape (λ d. d .state ≡ idled queue (d .cycles) s) refl (λ x e c. close-state queue pending Jam b s x c)
+    drain-state = by-shape (λ d. d .state ≡ idled tick (d .cycles) s) refl (λ x e c. close-state tick pending Jam b s x c)
 
     -- DRAIN-NEEDED: "none is run once nothing is pending", and none past the budget
-    pub drain-needed : (j : ℕ) → j < d .cycles → pending (idled queue j s) ≡ true
-    drain-needed = by-shape (λ d. (j : ℕ) → j < d .cycles → pending (idled queue j s) ≡ true) (λ j h. absurd (not-suc-le-zero h)) (λ x e c. close-needed queue pending Jam b s x c)
+    pub drain-needed : (j : ℕ) → j < d .cycles → pending (idled tick j s) ≡ true
+    drain-needed = by-shape (λ d. (j : ℕ) → j < d .cycles → pending (idled tick j s) ≡ true) (λ j h. absurd (not-suc-le-zero h)) (λ x e c. close-needed tick pending Jam b s x c)
 
     pub drain-within : d .cycles ≤ b
-    drain-within = by-shape (λ d. d .cycles ≤ b) (omega arith) (λ x e c. close-within queue pending Jam b s x c)
+    drain-within = by-shape (λ d. d .cycles ≤ b) (omega arith) (λ x e c. close-within tick pending Jam b s x c)
 
     -- DRAIN-RAN: each of the cycles reported ran unrefused
-    pub drain-ran : (j : ℕ) → j < d .cycles → numberOf (queue Idle (idled queue j s) .said) ≡ 0
-    drain-ran = by-shape (λ d. (j : ℕ) → j < d .cycles → numberOf (queue Idle (idled queue j s) .said) ≡ 0) (λ j h. absurd (not-suc-le-zero h)) (λ x e c. close-ran queue pending Jam b s x c)
+    pub drain-ran : (j : ℕ) → j < d .cycles → numberOf (tick Idle (idled tick j s) .said) ≡ 0
+    drain-ran = by-shape (λ d. (j : ℕ) → j < d .cycles → numberOf (tick Idle (idled tick j s) .said) ≡ 0) (λ j h. absurd (not-suc-le-zero h)) (λ x e c. close-ran tick pending Jam b s x c)
 
     -- KIND: a drain that is not refused is done
     pub drain-kind : numberOf (d .answer) ≡ 0 → d .answer ≡ Done
-    drain-kind = by-shape (λ d. numberOf (d .answer) ≡ 0 → d .answer ≡ Done) (λ e. absurd (zero-told BadShape (sym e))) (λ x e c. close-kind queue pending Jam b s x c)
+    drain-kind = by-shape (λ d. numberOf (d .answer) ≡ 0 → d .answer ≡ Done) (λ e. absurd (zero-told BadShape (sym e))) (λ x e c. close-kind tick pending Jam b s x c)
 
     -- DRAIN-STOPS: the cycle after exactly so many idle cycles is the one that meets damage
-    pub drain-stops : numberOf (d .answer) ≡ 2 → Stuck queue pending Jam b (d .cycles) s
-    drain-stops = by-shape (λ d. numberOf (d .answer) ≡ 2 → Stuck queue pending Jam b (d .cycles) s) (λ e. absurd (omega arith)) (λ x e c. close-stops queue pending Jam b s x c)
+    pub drain-stops : numberOf (d .answer) ≡ 2 → Stuck tick pending Jam b (d .cycles) s
+    drain-stops = by-shape (λ d. numberOf (d .answer) ≡ 2 → Stuck tick pending Jam b (d .cycles) s) (λ e. absurd (omega arith)) (λ x e c. close-stops tick pending Jam b s x c)
 
-    module _ (sh : Shape s) where
+    module _ (sh : k .Shape s) where
       -- "whether work is left"
       pub drain-left : d .left ≡ pending (d .state)
-      drain-left = rw (means s .holds sh) (ended (means s .holds sh) .left)
+      drain-left = rw (t .shape s .holds sh) (ended (t .shape s .holds sh) .left)
 
       -- with work left and no damage the budget is spent
       pub drain-spent : numberOf (d .answer) ≡ 0 → d .left ≡ true → d .cycles ≡ b
-      drain-spent = rw (means s .holds sh) (close-spent queue pending Jam b s (drainBy queue pending b 0 s) (ended (means s .holds sh)))
+      drain-spent = rw (t .shape s .holds sh) (close-spent tick pending Jam b s (drainBy tick pending b 0 s) (ended (t .shape s .holds sh)))
 
       -- DRAIN-COUNT: where no cycle is refused and n idle cycles are those until nothing is pending, the count is n capped by the budget
-      pub drain-count : numberOf (d .answer) ≡ 0 → (n : ℕ) → pending (idled queue n s) ≡ false → ((j : ℕ) → j < n → pending (idled queue j s) ≡ true) → d .cycles ≡ capped b n
-      drain-count = rw (means s .holds sh) (close-count queue pending Jam b s (drainBy queue pending b 0 s) (ended (means s .holds sh)))
+      pub drain-count : numberOf (d .answer) ≡ 0 → (n : ℕ) → pending (idled tick n s) ≡ false → ((j : ℕ) → j < n → pending (idled tick j s) ≡ true) → d .cycles ≡ capped b n
+      drain-count = rw (t .shape s .holds sh) (close-count tick pending Jam b s (drainBy tick pending b 0 s) (ended (t .shape s .holds sh)))
 
       -- DRAIN-ENDS: done, with no work left or the budget spent; or stopped at 2 with work left, where the cycle after exactly so many meets damage
-      pub drain-ends : Close queue pending Jam b (d .cycles) s d
-      drain-ends = rw (means s .holds sh) (close-ends queue pending Jam b s (drainBy queue pending b 0 s) (ended (means s .holds sh)))
+      pub drain-ends : Close tick pending Jam b (d .cycles) s d
+      drain-ends = rw (t .shape s .holds sh) (close-ends tick pending Jam b s (drainBy tick pending b 0 s) (ended (t .shape s .holds sh)))
 
     -- ---- EXACTLY: a drain is refused for the shape, or where an idle cycle within the budget meets damage, and leaves behind what the rule says
-    abbrev says : Drained S → ℕ
+    abbrev says : Drained M → ℕ
     says d = numberOf (d .answer)
 
-    idles-good : (n : ℕ) → shapeOk s ≡ true → shapeOk (idled queue n s) ≡ true
-    idles-good n = leaves-keep queue (λ s. shapeOk s ≡ true) (λ r s e. keeps r s ∙ e) (replicate n Idle) s
+    idles-good : (n : ℕ) → k .shapeOk s ≡ true → k .shapeOk (idled tick n s) ≡ true
+    idles-good n = leaves-keep tick (λ s. k .shapeOk s ≡ true) (λ r s e. keeps r s ∙ e) (replicate n Idle) s
 
-    pub exactly-drain : Exactly says (behind queue (d .cycles) s) d (drainRefusals queue pending Jam Shape b s)
+    pub exactly-drain : Exactly says (behind tick (d .cycles) s) d (drainRefusals tick pending Jam (k .Shape) b s)
     unfolding leaves
-    exactly-drain = go (shapeOk s) refl
+    exactly-drain = go (k .shapeOk s) refl
       where
-        by-end : (x : Drained S) → shapeOk s ≡ true → Closes queue pending Jam b 0 s x → Close queue pending Jam b (x .cycles) s x
-            → (((n : ℕ) × Stuck queue pending Jam b n s → ⊥) × Exactly says (behind queue (x .cycles) s) x fine) ⊎ (((n : ℕ) × Stuck queue pending Jam b n s) × (x ≡ behind queue (x .cycles) s Damaged))
+        by-end : (x : Drained M) → k .shapeOk s ≡ true → Closes tick pending Jam b 0 s x → Close tick pending Jam b (x .cycles) s x
+            → (((n : ℕ) × Stuck tick pending Jam b n s → ⊥) × Exactly says (behind tick (x .cycles) s) x fine) ⊎ (((n : ℕ) × Stuck tick pending Jam b n s) × (x ≡ behind tick (x .cycles) s Damaged))
         by-end x e c (done a l) =
-            inl ((λ z. close-free queue pending Jam b s x c (λ n. jams (idled queue n s) (idles-good n e)) a l (z .0) (z .1)), climb-fine says (behind queue (x .cycles) s) _ (λ r q. zero-told r (sym (ap numberOf a) ∙ q)))
+            inl ((λ z. close-free tick pending Jam b s x c (λ n. jams (idled tick n s) (idles-good n e)) a l (z .0) (z .1)), climb-fine says (behind tick (x .cycles) s) _ (λ r q. zero-told r (sym (ap numberOf a) ∙ q)))
         by-end x e c (stopped a l j) =
-            let st = close-state queue pending Jam b s x c in
+            let st = close-state tick pending Jam b s x c in
             inr ((x .cycles, j), λ i. record { answer = a i; cycles = x .cycles; left = l i; state = st i })
 
-        go : (t : Bool) → shapeOk s ≡ t → Exactly says (behind queue (drainsBy queue pending t b s .cycles) s) (drainsBy queue pending t b s) (drainRefusals queue pending Jam Shape b s)
+        go : (t : Bool) → k .shapeOk s ≡ t → Exactly says (behind tick (drainsBy tick pending t b s .cycles) s) (drainsBy tick pending t b s) (drainRefusals tick pending Jam (k .Shape) b s)
         go true e =
-            let x : Drained S = drainBy queue pending b 0 s in
-            climb-by says (behind queue (x .cycles) s) refusal-told BadShape _ _ _ (inl (means s .says e, climb-stop says (behind queue (x .cycles) s) refusal-told Damaged _ _ fine (by-end x e (ended e) (close-ends queue pending Jam b s x (ended e)))))
-        go false e = climb-by says (behind queue 0 s) refusal-told BadShape _ _ _ (inr (means-no (means s) e, refl))
+            let x : Drained M = drainBy tick pending b 0 s in
+            climb-by says (behind tick (x .cycles) s) refusal-told BadShape _ _ _ (inl (t .shape s .says e, climb-stop says (behind tick (x .cycles) s) refusal-told Damaged _ _ fine (by-end x e (ended e) (close-ends tick pending Jam b s x (ended e)))))
+        go false e = climb-by says (behind tick 0 s) refusal-told BadShape _ _ _ (inr (means-no (t .shape s) e, refl))
 
-    pub drain-refused : (n : Refusal) → numberOf (d .answer) ≡ refusalNumber n → d ≡ behind queue (d .cycles) s n
-    drain-refused = left-behind says (behind queue (d .cycles) s) exactly-drain
+    pub drain-refused : (n : Refusal) → numberOf (d .answer) ≡ refusalNumber n → d ≡ behind tick (d .cycles) s n
+    drain-refused = left-behind says (behind tick (d .cycles) s) exactly-drain
 
   -- ---- DRAIN-FEW: where each idle cycle that is not refused leaves one more of n levels with nothing to do, n are enough
-  module _ (n : ℕ) (Lead : ℕ → S → Type 0) (next : (i : ℕ) (s : S) → numberOf (queue Idle s .said) ≡ 0 → Lead i s → Lead (suc i) (queue Idle s .next)) (rests : (s : S) → Lead n s → pending s ≡ false) where
-    along : (j i : ℕ) (s : S) → Lead i s → ((t : ℕ) → t < j → numberOf (queue Idle (idled queue t s) .said) ≡ 0) → Lead (i + j) (idled queue j s)
+  module _ (n : ℕ) (Lead : ℕ → M → Type 0) (next : (i : ℕ) (s : M) → numberOf (tick Idle s .said) ≡ 0 → Lead i s → Lead (suc i) (tick Idle s .next)) (rests : (s : M) → Lead n s → pending s ≡ false) where
+    along : (j i : ℕ) (s : M) → Lead i s → ((t : ℕ) → t < j → numberOf (tick Idle (idled tick t s) .said) ≡ 0) → Lead (i + j) (idled tick j s)
     unfolding leaves
     along zero i s h ran = rw add-zero h
     along (suc j) i s h ran =
         let at : i + suc j ≡ suc i + j = omega arith in
-        rw at (along j (suc i) (queue Idle s .next) (next i s (ran 0 (omega arith)) h) (λ t l. ran (suc t) (omega arith)))
+        rw at (along j (suc i) (tick Idle s .next) (next i s (ran 0 (omega arith)) h) (λ t l. ran (suc t) (omega arith)))
 
     -- so many idle cycles that are not refused leave nothing pending
-    pub idles-quiet : (s : S) → Lead 0 s → ((t : ℕ) → t < n → numberOf (queue Idle (idled queue t s) .said) ≡ 0) → pending (idled queue n s) ≡ false
-    idles-quiet s h ran = rests (idled queue n s) (rw zero-add at (along n 0 s h ran))
+    pub idles-quiet : (s : M) → Lead 0 s → ((t : ℕ) → t < n → numberOf (tick Idle (idled tick t s) .said) ≡ 0) → pending (idled tick n s) ≡ false
+    idles-quiet s h ran = rests (idled tick n s) (rw zero-add at (along n 0 s h ran))
 
-    pub drain-few : (b : ℕ) (s : S) → Lead 0 s → drainsBy queue pending (shapeOk s) b s .cycles ≤ n
+    pub drain-few : (b : ℕ) (s : M) → Lead 0 s → drainedBy k queue b s .cycles ≤ n
     drain-few b s h = less-not (λ l. true≢false (sym (drain-needed b s n l) ∙ idles-quiet s h (λ t m. drain-ran b s t (omega arith))))

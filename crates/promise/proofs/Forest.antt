@@ -1,4 +1,5 @@
--- Several queues in one store, each call at one of them: what is so of each follows from what each shows of itself, and from what a call at one leaves of the others. To a queue a call at another is an idle one.
+-- Several queues in one store, each call at one of them: what is so of each follows from what each shows of itself, and from what a call at one leaves of the
+-- others. To a queue a call at another is an idle one.
 use Prim.Native.Nat.{_+_, ℕ}
 use native.Mathlib.Decide.{ℕ-discrete}
 use native.Mathlib.Omega.{arith}
@@ -53,14 +54,14 @@ module _ {S : Type 0} (q : ℕ → Queue S) (Valid : ℕ → Type 0) (Kept : S �
   module _ (is : IsForest) where
     pub forest-kept : (c : At) (s : S) → Kept s → Kept (forest c s .next)
     forest-kept c s kept =
-        ⊎-elim (λ v. called-kept (q (c .queue)) Kept (is .each (c .queue) v) (c .asks) s kept)
+        ⊎-elim (λ v. called-kept (is .each (c .queue) v) (c .asks) s kept)
         (λ n. called-either (q (c .queue)) (c .asks) s (λ (o : Outcome S). Kept (o .words)) (λ x. kept) (λ k d o w. absurd (is .none (c .queue) n s k))) (is .valid (c .queue))
 
     -- what a call at another leaves
     stands-apart : (c : At) (s : S) → Kept s → (j : ℕ) → (c .queue ≡ j → ⊥) → (f : Element → Bool) → q j .stored (forest c s .next) f ≡ q j .stored s f
     stands-apart c s kept j ne f =
         ⊎-elim
-        (λ v. kept-either (q (c .queue)) Kept (is .each (c .queue) v) (c .asks) s kept (λ (o : Outcome S). q j .stored (o .words) f ≡ q j .stored s f) (each-any _ (λ x. refl) (q (c .queue) .asked (c .asks) s))
+        (λ v. kept-either (is .each (c .queue) v) (c .asks) s kept (λ (o : Outcome S). q j .stored (o .words) f ≡ q j .stored s f) (each-any _ (λ x. refl) (q (c .queue) .asked (c .asks) s))
         (each-any _ (λ x. refl) (q (c .queue) .late (c .asks) s)) (λ d k. is .apart (c .queue) j ne v (c .asks) s kept d k f))
         (λ n. called-either (q (c .queue)) (c .asks) s (λ (o : Outcome S). q j .stored (o .words) f ≡ q j .stored s f) (λ x. refl) (λ k d o w. absurd (is .none (c .queue) n s k))) (is .valid (c .queue))
 
@@ -72,7 +73,7 @@ module _ {S : Type 0} (q : ℕ → Queue S) (Valid : ℕ → Type 0) (Kept : S �
         here e =
             rw (eq-eqb (c .queue) j e)
             (subst (λ (i : ℕ). q i .stored (forest c s .next) f + given (c .asks) (forest c s .said) f ≡ q i .stored s f + brought (c .asks) (forest c s .said) f) e
-            (call-sum (q (c .queue)) Kept (is .each (c .queue) (subst Valid (sym e) v)) (c .asks) s kept f))
+            (call-sum (is .each (c .queue) (subst Valid (sym e) v)) (c .asks) s kept f))
 
         there : (c .queue ≡ j → ⊥) → q j .stored (forest c s .next) f + given (seenBy j c) (forest c s .said) f ≡ q j .stored s f + brought (seenBy j c) (forest c s .said) f
         there ne = rw (ne-eqb (c .queue) j ne) (omega (arith, stands-apart c s kept j ne f))
@@ -84,4 +85,4 @@ module _ {S : Type 0} (q : ℕ → Queue S) (Valid : ℕ → Type 0) (Kept : S �
 
     -- LEAST, of a call at any of them after any list of calls
     pub forest-least : (cs : List At) (s : S) → Kept s → (i : ℕ) → Valid i → (r : Request) → Least (q i .stored (leaves forest cs s)) r (called (q i) r (leaves forest cs s) .answer)
-    forest-least cs s kept i v r = kept-least (q i) Kept (is .each i v) r (leaves forest cs s) (leaves-keep forest Kept forest-kept cs s kept)
+    forest-least cs s kept i v r = kept-least (is .each i v) r (leaves forest cs s) (leaves-keep forest Kept forest-kept cs s kept)

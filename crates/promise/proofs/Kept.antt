@@ -1,5 +1,6 @@
--- THE PROMISES of a queue that does one operation at a time, from what it keeps between calls. `IsQueue` is all that a queue has to show; what follows is the same for every queue: from a cleared store, over any
--- list of requests, nothing is damaged, it holds exactly what went in and has not come out, what comes out has the lowest rank, and a replace is a pop and then a push.
+-- THE PROMISES of a queue that does one operation at a time, from what it keeps between calls. `IsQueue` is all that a queue has to show; what follows is the
+-- same for every queue: from a cleared store, over any list of requests, nothing is damaged, it holds exactly what went in and has not come out, what comes out
+-- has the lowest rank, and a replace is a pop and then a push.
 use Prim.Native.Nat.{_+_, _<_, _≤_, suc, zero, ℕ}
 use native.Mathlib.Omega.{arith}
 use mathlib.Core.Bool.{Bool, cond, false, true}
@@ -13,7 +14,7 @@ use Rattle.promise.specs.Calls.{called, cleared, Damage, does, grants, h
 use Rattle.promise.specs.Queue.{answers, leaves, leaves-keep, Step}
 use Rattle.promise.specs.Refused.{Untagged, untagged-means, zero-told}
 use Rattle.promise.specs.Served.{all-sum, allBrought, allGiven, always, brought, given, hit, Holds, Least, same, triple, unrefused}
-use Rattle.promise.specs.Table.{Clear, decided-clear, decided-either, Each, each-any, Table}
+use Rattle.promise.specs.Table.{Clear, decided, decided-clear, decided-either, Each, each-any, Table}
 use Rattle.promise.specs.Tagged.{Tagged, tagged-by}
 use Rattle.strip.specs.Answers.{blank, countNumber, countOf, elementOf, numberOf, refusalNumber, untagged}
 use Rattle.strip.specs.declared.Answer.{Answer}
@@ -72,11 +73,53 @@ given-out a e f = ap (λ (n : ℕ). unrefused n (hit (f (elementOf a)))) e
 pub brought-in : (x : Element) (a : Answer) → numberOf a ≡ 0 → (f : Element → Bool) → brought (Replace x) a f ≡ hit (f x)
 brought-in x a e f = ap (λ (n : ℕ). unrefused n (hit (f x))) e
 
+-- ---- POP-THEN-PUSH, of any calls: a replace that is answered as a pop is, refused leaves what the refused pop leaves, and where it is not refused the push after the
+-- pop is taken; and of each of the three the elements change as it says
+module _ {S : Type 0} (calls : Request → S → Outcome S) (stored : S → (Element → Bool) → ℕ) where
+  -- what is held then, with what is given, is what was held and what is brought
+  abbrev pub Sums : Request → S → Type 0
+  Sums r s = (f : Element → Bool) → stored (calls r s .words) f + given r (calls r s .answer) f ≡ stored s f + brought r (calls r s .answer) f
+
+  module _ (x : Element) (s : S) (behind : Refusal → Outcome S) (stands : (r : Request) (n : Refusal) → numberOf (calls r s .answer) ≡ refusalNumber n → calls r s ≡ behind n)
+      (same-answer : calls (Replace x) s .answer ≡ calls Pop s .answer) (taken : numberOf (calls (Replace x) s .answer) ≡ 0 → calls (Push x) (calls Pop s .words) .answer ≡ Done)
+      (swap : Sums (Replace x) s) (pop : Sums Pop s) (push : Sums (Push x) (calls Pop s .words)) where
+    abbrev swapped : Answer
+    swapped = calls (Replace x) s .answer
+
+    stand : (numberOf swapped ≡ 0 → ⊥) → calls (Replace x) s ≡ calls Pop s
+    stand h = go swapped refl
+      where
+        go : (b : Answer) → swapped ≡ b → calls (Replace x) s ≡ calls Pop s
+        go Done e = absurd (h (ap numberOf e))
+        go (Out y) e = absurd (h (ap numberOf e))
+        go (Refused n) e = stands (Replace x) n (ap numberOf e) ∙ sym (stands Pop n (ap numberOf (sym same-answer ∙ e)))
+
+    pop-sum : numberOf swapped ≡ 0 → (f : Element → Bool) → stored (calls Pop s .words) f + hit (f (elementOf swapped)) ≡ stored s f
+    pop-sum e f =
+        let p : numberOf (calls Pop s .answer) ≡ 0 = ap numberOf (sym same-answer) ∙ e in
+        omega (arith, pop f, given-out (calls Pop s .answer) p f, ap (λ (b : Answer). hit (f (elementOf b))) same-answer)
+
+    replace-sum : numberOf swapped ≡ 0 → (f : Element → Bool) → stored (calls (Replace x) s .words) f + hit (f (elementOf swapped)) ≡ stored s f + hit (f x)
+    replace-sum e f = omega (arith, swap f, given-out swapped e f, brought-in x swapped e f)
+
+    push-sum : numberOf swapped ≡ 0 → (f : Element → Bool) → stored (calls (Push x) (calls Pop s .words) .words) f ≡ stored (calls Pop s .words) f + hit (f x)
+    push-sum e f = omega (arith, push f, ap (λ (b : Answer). brought (Push x) b f) (taken e))
+
+    pub replaces-by : PopThenPush calls stored x s
+    unfolding leaves
+    replaces-by =
+        record {
+          answer = same-answer;
+          refused = stand;
+          taken = taken;
+          stores = λ e f. omega (arith, replace-sum e f, pop-sum e f, push-sum e f);
+          swapped = λ y e f. omega (arith, replace-sum (ap numberOf e) f, ap (λ (b : Answer). hit (f (elementOf b))) e);
+        }
+
 -- a ruling that is not refused has passed the table
-ruled-clear : {W : Type 0} (op : Request → W) (r : Request) (e : Element) (a : Table) → numberOf (ruled op a r e .answer) ≡ 0 → Clear a
-ruled-clear {W} op r e a =
-    decided-either (λ x. ruling (Refused x) (op Idle)) (λ (g : Ruling W). numberOf (g .answer) ≡ 0 → Clear a) a (ruling (grants r e) (op r))
-    (each-any _ (λ x z. absurd (zero-told x (sym z))) a) (λ c z. c)
+pub passed : {W : Type 0} (none : W) (g : Ruling W) (a : Table) → numberOf (decided (λ x. ruling (Refused x) none) a g .answer) ≡ 0 → Clear a
+passed {W} none g a =
+    decided-either (λ x. ruling (Refused x) none) (λ (g : Ruling W). numberOf (g .answer) ≡ 0 → Clear a) a g (each-any _ (λ x z. absurd (zero-told x (sym z))) a) (λ c z. c)
 
 -- by its tag and its limits alone a replace of an element that has a tag is answered as a pop is
 pub last-alike : {W : Type 0} (op : Request → W) (x e : Element) (h c : ℕ) → untagged x ≡ false → ruled op (lastTable (Replace x) h c) (Replace x) e .answer ≡ ruled op (lastTable Pop h c) Pop e .answer
@@ -86,7 +129,7 @@ last-alike {W} op x e h c t = rw t (go (eqb h 0))
     go true = refl
     go false = refl
 
-module _ {S : Type 0} (q : Queue S) (Kept : S → Type 0) (is : IsQueue q Kept) where
+module _ {S : Type 0} {q : Queue S} {Kept : S → Type 0} (is : IsQueue q Kept) where
   -- ---- one call on a kept store
   module _ (r : Request) (s : S) (kept : Kept s) where
     -- refused, a ruling has no work
@@ -136,7 +179,7 @@ module _ {S : Type 0} (q : Queue S) (Kept : S → Type 0) (is : IsQueue q Kept) 
     kept-least = kept-any (λ o. Least (q .stored s) r (o .answer)) (λ x. none-least r x (q .stored s)) (is .least r s kept)
 
     pub kept-undamaged : Clear (q .asked r s) → Damage q r s → ⊥
-    kept-undamaged d = no-damage q (is .tested) r s (is .root s kept) (sound-way d)
+    kept-undamaged d = no-damage (is .tested) r s (is .root s kept) (sound-way d)
 
     pub kept-numbers : (P : ℕ → Type 0) → P 0 → Each (λ x. P (refusalNumber x)) (q .asked r s) → Each (λ x. P (refusalNumber x)) (q .late r s) → P (numberOf (called q r s .answer))
     kept-numbers P z first last = kept-either (λ o. P (numberOf (o .answer))) first last (λ d c. subst P (sym (grants-zero r (q .low s))) z)
@@ -181,18 +224,10 @@ module _ {S : Type 0} (q : Queue S) (Kept : S → Type 0) (is : IsQueue q Kept) 
         ap (λ (o : Outcome S). o .answer) (kept-called (Replace x) s kept first) ∙ sw .alike x s kept tag
         ∙ sym (ap (λ (o : Outcome S). o .answer) (kept-called Pop s kept (sw .pops s)))
 
-    stand : (numberOf a ≡ 0 → ⊥) → called q (Replace x) s ≡ called q Pop s
-    stand h = go a refl
-      where
-        go : (b : Answer) → a ≡ b → called q (Replace x) s ≡ called q Pop s
-        go Done e = absurd (h (ap numberOf e))
-        go (Out y) e = absurd (h (ap numberOf e))
-        go (Refused n) e = stands q (is .tested) (Replace x) s n (ap numberOf e) ∙ sym (stands q (is .tested) Pop s n (ap numberOf (sym same-answer ∙ e)))
-
     -- the pop is let in, and so is the push on what it leaves
     pop-clear : numberOf a ≡ 0 → Clear (q .late Pop s)
     pop-clear e =
-        ruled-clear (q .op) Pop (q .low s) (q .late Pop s)
+        passed (q .op Idle) (ruling (grants Pop (q .low s)) (q .op Pop)) (q .late Pop s)
         (ap numberOf (sym (ap (λ (o : Outcome S). o .answer) (kept-called Pop s kept (sw .pops s))) ∙ sym same-answer) ∙ e)
 
     push-taken : numberOf a ≡ 0 → called q (Push x) vs .answer ≡ Done
@@ -202,27 +237,9 @@ module _ {S : Type 0} (q : Queue S) (Kept : S → Type 0) (is : IsQueue q Kept) 
         subst (λ (v : S). called q (Push x) v .answer ≡ Done) (sym (ap (λ (o : Outcome S). o .words) (let-in Pop s kept (sw .pops s) c)))
         (ap (λ (o : Outcome S). o .answer) (let-in (Push x) (q .run (q .op Pop) s) (is .keeps Pop s kept (sw .pops s) c) (r .0) (r .1)))
 
-    pop-sum : numberOf a ≡ 0 → (f : Element → Bool) → q .stored vs f + hit (f (elementOf a)) ≡ q .stored s f
-    pop-sum e f =
-        let p : numberOf (called q Pop s .answer) ≡ 0 = ap numberOf (sym same-answer) ∙ e in
-        omega (arith, call-sum Pop s kept f, given-out (called q Pop s .answer) p f, ap (λ (b : Answer). hit (f (elementOf b))) same-answer)
-
-    replace-sum : numberOf a ≡ 0 → (f : Element → Bool) → q .stored (called q (Replace x) s .words) f + hit (f (elementOf a)) ≡ q .stored s f + hit (f x)
-    replace-sum e f = omega (arith, call-sum (Replace x) s kept f, given-out a e f, brought-in x a e f)
-
-    push-sum : numberOf a ≡ 0 → (f : Element → Bool) → q .stored (called q (Push x) vs .words) f ≡ q .stored vs f + hit (f x)
-    push-sum e f = omega (arith, call-sum (Push x) vs popped f, ap (λ (b : Answer). brought (Push x) b f) (push-taken e))
-
     pub kept-replaces : PopThenPush (called q) (q .stored) x s
-    unfolding leaves
     kept-replaces =
-        record {
-          answer = same-answer;
-          refused = stand;
-          taken = push-taken;
-          stores = λ e f. omega (arith, replace-sum e f, pop-sum e f, push-sum e f);
-          swapped = λ y e f. omega (arith, replace-sum (ap numberOf e) f, ap (λ (b : Answer). hit (f (elementOf b))) e);
-        }
+        replaces-by (called q) (q .stored) x s (left s) (λ r. stands (is .tested) r s) same-answer push-taken (call-sum (Replace x) s kept) (call-sum Pop s kept) (call-sum (Push x) vs popped)
 
   -- .. of a queue that has no more to ask than its tag and its limits
   module _ (cap : ℕ) (last : (r : Request) (s : S) (P : Table → Type 0) → P (lastTable r (q .held s) cap) → P (q .late r s)) (free : (r : Request) (s : S) → Clear (q .asked r s))
@@ -273,7 +290,7 @@ module _ {S : Type 0} (q : Queue S) (Kept : S → Type 0) (is : IsQueue q Kept) 
 
       -- TAGGED: no element of tag 0 is stored, and none has come out
       pub tagged : Tagged (q .stored after) rs spoken
-      tagged = tagged-by steps (barred q (is .tested)) (q .stored after) rs start holds
+      tagged = tagged-by steps (barred (is .tested)) (q .stored after) rs start holds
 
       -- LEAST: what comes out, of a pop or a replace, has the lowest rank of all stored before
       pub least : (r : Request) → Least (q .stored after) r (called q r after .answer)

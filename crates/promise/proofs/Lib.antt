@@ -1,7 +1,9 @@
 pub mod Calls
+pub mod Tabled
 pub mod Kept
-pub mod Drains
 pub mod Clock
+pub mod Drains
+pub mod InFlight
 pub mod Forest
 pub mod Promised
 pub mod Ticked

@@ -24,11 +24,11 @@ module _ {S : Type 0} (q : Queue S) where
   pub answers-so : Tested q → Answers q
   answers-so t =
       record {
-        exactly = calls.exactly q t;
-        exactly-clear = calls.exactly-clear q t;
-        exactly-held = calls.exactly-held q t;
+        exactly = calls.exactly t;
+        exactly-clear = calls.exactly-clear t;
+        exactly-held = calls.exactly-held t;
         kind = calls.kind q;
-        barred = calls.barred q t;
+        barred = calls.barred t;
       }
 
   module _ (Kept : S → Type 0) (is : IsQueue q Kept) (rs : List Request) (s : S) (fits : Clear (q .clearing s)) where
@@ -39,17 +39,17 @@ module _ {S : Type 0} (q : Queue S) where
     pub promised-so : Promised q rs s
     promised-so =
         record {
-          holds = kept.holds q Kept is s fits rs;
-          triples = kept.triples q Kept is s fits rs;
-          tagged = kept.tagged q Kept is s fits rs;
-          least = kept.least q Kept is s fits rs;
-          shape-kept = kept.shape-kept q Kept is s fits rs;
-          undamaged = kept.undamaged q Kept is s fits rs;
+          holds = kept.holds is s fits rs;
+          triples = kept.triples is s fits rs;
+          tagged = kept.tagged is s fits rs;
+          least = kept.least is s fits rs;
+          shape-kept = kept.shape-kept is s fits rs;
+          undamaged = kept.undamaged is s fits rs;
           numbers = λ r.
-              kept.kept-numbers q Kept is r (after q rs s) (kept.after-kept q Kept is s fits rs) (Said r) (inl refl) (each-of (Said r) (q .asked r (after q rs s)) (λ n o. inr (inl o)))
+              kept.kept-numbers is r (after q rs s) (kept.after-kept is s fits rs) (Said r) (inl refl) (each-of (Said r) (q .asked r (after q rs s)) (λ n o. inr (inl o)))
               (each-of (Said r) (q .late r (after q rs s)) (λ n o. inr (inr o)));
-          held-says = kept.held-says q Kept is s fits rs;
+          held-says = kept.held-says is s fits rs;
         }
 
-    pub replaces-so : Swaps q Kept is → Replaces q rs s
-    replaces-so sw x tag first = kept.pop-then-push q Kept is s fits rs sw x tag first
+    pub replaces-so : Swaps is → Replaces q rs s
+    replaces-so sw x tag first = kept.pop-then-push is s fits rs sw x tag first

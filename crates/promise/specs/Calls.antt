@@ -1,6 +1,6 @@
--- The calls of a queue that does one operation at a time, once for every such queue: what it has to bring (`Queue`), and from that push, pop and replace (`called`), clear (`cleared`), held
--- (`heldCount`), their tables of refusals, and what is said of a list of requests.
-use Prim.Native.Nat.{_+_, _<_, ℕ}
+-- The calls of a queue that does one operation at a time, once for every such queue: what it has to bring (`Queue`), and from that push, pop and replace
+-- (`called`), clear (`cleared`), held (`heldCount`), their tables of refusals, and what is said of a list of requests.
+use Prim.Native.Nat.{_+_, _<_, _≤_, ℕ}
 use mathlib.Core.Bool.{Bool, cond, false}
 use mathlib.Core.List.{[], _∷_}
 use mathlib.Core.Logic.{_⊎_}
@@ -65,6 +65,19 @@ Fits (Replace x) h c = 0 < h
 -- what a request comes to by a table
 abbrev pub ruled : {W : Type 0} → (Request → W) → Table → Request → Element → Ruling W
 ruled op a r e = decided (λ x. ruling (Refused x) (op Idle)) a (ruling (grants r e) (op r))
+
+-- what a request comes to, in the law's words, where c is the capacity, h are held and e is the lowest, and these are the four kinds of work: "Push puts at the
+-- root, pop takes there". Replace: "an empty queue refuses replace with 6 .., and otherwise the lowest held element is answered, even if the new rank is lower,
+-- and the new one is swapped in by the same swap rule": x's rank is not looked at. "Push and replace with tag 0 are to be refused", whatever is held
+pub data Comes {W : Type 0} (none : W) (put : Element → W) (take : W) (swap : Element → W) (c h : ℕ) (e : Element) : Request → Ruling W → Type 0 where
+  idles : Comes none put take swap c h e Idle (ruling Done none)
+  no-tag : (r : Request) → Untagged r → Comes none put take swap c h e r (ruling (Refused NoTag) none)
+  puts : (x : Element) → (Untagged (Push x) → ⊥) → h < c → Comes none put take swap c h e (Push x) (ruling Done (put x))
+  full : (x : Element) → (Untagged (Push x) → ⊥) → c ≤ h → Comes none put take swap c h e (Push x) (ruling (Refused Full) none)
+  takes : 0 < h → Comes none put take swap c h e Pop (ruling (Out e) take)
+  empty : h ≡ 0 → Comes none put take swap c h e Pop (ruling (Refused Empty) none)
+  swaps : (x : Element) → (Untagged (Replace x) → ⊥) → 0 < h → Comes none put take swap c h e (Replace x) (ruling (Out e) (swap x))
+  lacks : (x : Element) → (Untagged (Replace x) → ⊥) → h ≡ 0 → Comes none put take swap c h e (Replace x) (ruling (Refused Empty) none)
 
 -- ---- what a call answers, and the words afterwards
 pub record Outcome (S : Type 0) : Type 0 where

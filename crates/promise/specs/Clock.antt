@@ -1,10 +1,10 @@
--- The calls of a machine that works by clock cycles, once for every such machine: what it has to bring (`Clock`), and from that a cycle (`cycled`), clear and held, their tables of refusals, and what a
--- refused cycle leaves.
+-- The calls of a machine that works by clock cycles, once for every such machine: what it has to bring (`Clock`), and from that a cycle (`cycled`), clear and
+-- held, their tables of refusals, and what a refused cycle leaves.
 use Prim.Native.Nat.{ℕ}
-use mathlib.Core.Bool.{Bool, cond}
+use mathlib.Core.Bool.{Bool, cond, false, true}
 use Rattle.laws.specs.Ladder.{fine, Ladder, rung, stop}
 use Rattle.promise.specs.Calls.{left, Outcome, outcome, Ruling, ruling}
-use Rattle.promise.specs.Drains.{drainsBy, idled}
+use Rattle.promise.specs.Drains.{Drained, drainsBy, idled}
 use Rattle.promise.specs.Queue.{step, Step}
 use Rattle.promise.specs.Table.{decided, ladder, Table}
 use Rattle.strip.specs.declared.Answer.{Answer}
@@ -12,9 +12,21 @@ use Rattle.strip.specs.declared.Answer.the-variants.{Done, Refused}
 use Rattle.strip.specs.declared.Count.{Count}
 use Rattle.strip.specs.declared.Count.the-variants.{Held, Unknown}
 use Rattle.strip.specs.declared.Refusal.{Refusal}
-use Rattle.strip.specs.declared.Refusal.the-variants.{BadShape, Damaged}
+use Rattle.strip.specs.declared.Refusal.the-variants.{BadPort, BadRank, BadShape, Damaged, Empty, Full, NoTag, TooSoon}
 use Rattle.strip.specs.declared.Request.{Request}
 use Rattle.strip.specs.declared.Request.the-variants.{Idle}
+
+-- column "Left behind": after 1 and 2 "everything, mark and records too"; after the others the "cycle runs as idle", after 7 too: "a clocked refusal counts as an
+-- idle cycle"
+abbrev pub runsIdle : Refusal → Bool
+runsIdle BadShape = false
+runsIdle Damaged = false
+runsIdle TooSoon = true
+runsIdle BadRank = true
+runsIdle Full = true
+runsIdle Empty = true
+runsIdle NoTag = true
+runsIdle BadPort = true
 
 -- ---- what a machine brings. M is its state, words and records together; C is what a cycle is handed: a request, or a request at one of several queues
 pub record Clock (C M : Type 0) : Type 1 where
@@ -29,7 +41,6 @@ pub record Clock (C M : Type 0) : Type 1 where
   pub Torn : C → M → Type 0
   -- what a request is asked then: 3 where there is a mark, 7, 5 or 6. Refused the cycle runs as an idle one
   pub late : C → M → Table
-  pub runsIdle : Refusal → Bool
   -- a request that is let in: its answer, and what the cycle does
   pub gives : C → M → Answer
   pub moves : C → M → M
@@ -76,19 +87,31 @@ module _ {C M : Type 0} (k : Clock C M) where
   abbrev pub cycleRefusals : C → M → Ladder Refusal
   cycleRefusals c x = rung BadShape (k .Shape x) (stop Damaged (k .Torn c x) (ladder (k .late c x) fine))
 
+  abbrev pub wipeRefusals : M → Ladder Refusal
+  wipeRefusals x = rung BadShape (k .Shape x) fine
+
   abbrev pub countRefusals : M → Ladder Refusal
   countRefusals x = rung BadShape (k .Shape x) (stop Damaged (k .RootTorn x) fine)
 
-  -- ---- the machine as a queue that goes as its cycles do: `queue` is the model's own name for it
+  -- ---- of a queue that goes as the clock's cycles do: the model's own, under its own name
   module _ (queue : C → M → Step Answer M) where
-    abbrev pub ticks : Request → M → Step Answer M
-    ticks r x = queue (k .call r) x
+    -- a cycle with a request at any queue, for drains: only the idle one is used
+    abbrev pub asking : Request → M → Step Answer M
+    asking r x = queue (k .call r) x
 
-    -- column "Left behind": after 1 and 2 everything; after the others the "cycle runs as idle"
+    -- so many idle cycles
+    abbrev pub rested : ℕ → M → M
+    rested n x = idled asking n x
+
+    -- a drain with a budget
+    abbrev pub drainedBy : ℕ → M → Drained M
+    drainedBy b x = drainsBy asking (k .pending) (k .shapeOk x) b x
+
+    -- what a refused cycle leaves
     abbrev pub cycleLeft : M → Refusal → Outcome M
-    cycleLeft x n = outcome (Refused n) (cond (k .runsIdle n) (idled ticks 1 x) x)
+    cycleLeft x n = outcome (Refused n) (cond (runsIdle n) (rested 1 x) x)
 
     -- cycles and drains
     abbrev pub calls : Call C → M → Step Answer M
     calls (cycle c) x = queue c x
-    calls (drain b) x = let d = drainsBy ticks (k .pending) (k .shapeOk x) b x in step (d .answer) (d .state)
+    calls (drain b) x = let d = drainedBy b x in step (d .answer) (d .state)

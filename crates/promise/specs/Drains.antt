@@ -69,7 +69,8 @@ module _ {S : Type 0} (queue : Request → S → Step Answer S) (pending : S →
       done : d .answer ≡ Done → (d .left ≡ true → more ≡ b) → Close b more s d
       stopped : d .answer ≡ Refused Damaged → d .left ≡ true → Stuck b more s → Close b more s d
 
-    -- the table, and what a refused drain that ran so many cycles leaves: "Drain stops at 2 and reports the cycles already run, work left; at 1 it reports 0 and no work left"
+    -- the table, and what a refused drain that ran so many cycles leaves: "Drain stops at 2 and reports the cycles already run, work left; at 1 it reports 0
+    -- and no work left"
     abbrev pub drainRefusals : (S → Type 0) → ℕ → S → Ladder Refusal
     drainRefusals Shape b s = rung BadShape (Shape s) (stop Damaged ((n : ℕ) × Stuck b n s) fine)
 

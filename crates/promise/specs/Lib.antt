@@ -6,6 +6,7 @@ pub mod Lengths
 pub mod Table
 pub mod Calls
 pub mod Drains
+pub mod Flight
 pub mod Clock
 pub mod Promised
 pub mod Ticked

@@ -1,5 +1,5 @@
--- All that is promised of a queue, as two records: of its calls whatever the words (`Answers`), and from a cleared store over any list of requests (`Promised`). A queue that shows `Tested` and `IsQueue` has both
--- (`promise/proofs/Promised.antt`).
+-- All that is promised of a queue, as two records: of its calls whatever the words (`Answers`), and from a cleared store over any list of requests
+-- (`Promised`). A queue that shows `Tested` and `IsQueue` has both (`promise/proofs/Promised.antt`).
 use Prim.Native.Nat.{_+_, ℕ}
 use mathlib.Core.List.{List}
 use mathlib.Core.Logic.{_⊎_}

@@ -1,5 +1,5 @@
--- A table of refusals with the tests that decide it: what a call asks in turn, by which test, and for which cause it refuses. From the one table come the outcome (`decided`), the ladder
--- that says it in words (`ladder`), and what has to be shown of it (`Told`): that each test stands for its fact.
+-- A table of refusals with the tests that decide it: what a call asks in turn, by which test, and for which cause it refuses. From the one table come the
+-- outcome (`decided`), the ladder that says it in words (`ladder`), and what has to be shown of it (`Told`): that each test stands for its fact.
 use mathlib.Core.Bool.{Bool, cond, false, false≢true, true, true≢false}
 use mathlib.Core.Logic.{_⊎_, inl, inr}
 use mathlib.Core.Path.{_∙_, _≡_, refl, sym}

@@ -31,7 +31,7 @@ none-in x zero h = go (untagged x) refl
 none-in x (suc n) h = refl
 
 -- .. and so brings none
-none-brought : (r : Request) (a : Answer) → Barred r a → brought r a untagged ≡ 0
+pub none-brought : (r : Request) (a : Answer) → Barred r a → brought r a untagged ≡ 0
 none-brought Idle a h = refl
 none-brought (Push x) a h = none-in x (numberOf a) h
 none-brought Pop a h = refl

@@ -1,11 +1,11 @@
--- 01's worked trace, one of replaces, one of elements without a tag and two of version 2, by computing.
+-- 01's worked trace, one of replaces, one of elements without a tag, two of version 2 and six of the format, by computing.
 use mathlib.Core.Path.{_≡_, refl}
 use Rattle.clocked_model.specs.Calls.{asks, drainFrom, drains, fresh, ruleMarked, isRefused, marks, popsOrReplaces, cycled, cycleRun}
 use Rattle.clocked_model.specs.Cycle.{cycleOk, cycleWords, quiet}
 use Rattle.clocked_model.specs.Records.{landed, recordAt, recordsAfter, worksOf}
 use Rattle.strip.specs.Answers.{blank, key, untagged, precedes}
 use Rattle.text.specs.Text.{decimal, decimalBy}
-use Rattle.trace_model.specs.Example.{emptied, emptiedSays, example, exampleSays, lengthless, lengthlessSays, lengths, lengthsSay, untaggedOnes, untaggedSays}
+use Rattle.trace_model.specs.Example.{cut, cutLengths, cutLengthsSay, cutSays, deep, deepSays, emptied, emptiedSays, example, exampleSays, idleRanked, idleRankedSays, lengthless, lengthlessSays, lengths, lengthsSay, popTagged, popTaggedSays, untaggedOnes, untaggedSays, wide, wideSays}
 use Rattle.trace_model.specs.Format.{badLine, cutRecord, doneWord, endLine, entryAt, entryOf, headed, headerOf, lengthAt, lengthWord, lineOf, markOk, outWord, recordsFrom, recordsOf, refusalWord, traceShape, wordOf}
 use Rattle.trace_model.specs.Program.{emptyStore, endOf, textFrom, textOf, traceText}
 use Rattle.tree_model.specs.Calls.{cleared, heldCount, orderOk, rule, shapeOk}
@@ -34,3 +34,8 @@ worked-lengths = refl
 pub worked-lengthless : traceText lengthless ≡ lengthlessSays
 unfolding traceText textOf textFrom emptyStore endOf headerOf headed markOk traceShape recordsOf recordsFrom cutRecord entryAt lengthAt entryOf lineOf wordOf doneWord refusalWord outWord lengthWord badLine endLine decimal decimalBy cycled cycleRun drains drainFrom heldCount fresh ruleMarked asks popsOrReplaces isRefused marks quiet cycleWords cycleOk recordAt worksOf landed recordsAfter blank key precedes untagged vacant isEmpty seek every firstEmpty leastCount lowest slotAt low keep pass putBy putMove takeBy takeMove swapBy swapMove opMove isNothing sumCounts work top levelMove stepWork room isBlank slotOk nodeOk hasRoom hasSome readOk lifts stepOk workOk slotOf write wipe tabulate nodeOf levelOf levelsOf stepWords orderOk shapeOk rule cleared
 worked-lengthless = refl
+
+-- ---- the format, in either version: order 4 and 8, other levels than 2, numbers of four bytes, code 4, a cut record, an idle record with a rank, a pop with a tag
+pub worked-format : (traceText wide ≡ wideSays) × (traceText deep ≡ deepSays) × (traceText cut ≡ cutSays) × (traceText cutLengths ≡ cutLengthsSay) × (traceText idleRanked ≡ idleRankedSays) × (traceText popTagged ≡ popTaggedSays)
+unfolding traceText textOf textFrom emptyStore endOf headerOf headed markOk traceShape recordsOf recordsFrom cutRecord entryAt lengthAt entryOf lineOf wordOf doneWord refusalWord outWord lengthWord badLine endLine decimal decimalBy cycled cycleRun drains drainFrom heldCount fresh ruleMarked asks popsOrReplaces isRefused marks quiet cycleWords cycleOk recordAt worksOf landed recordsAfter blank key precedes untagged vacant isEmpty seek every firstEmpty leastCount lowest slotAt low keep pass putBy putMove takeBy takeMove swapBy swapMove opMove isNothing sumCounts work top levelMove stepWork room isBlank slotOk nodeOk hasRoom hasSome readOk lifts stepOk workOk slotOf write wipe tabulate nodeOf levelOf levelsOf stepWords orderOk shapeOk rule cleared
+worked-format = (refl, refl, refl, refl, refl, refl)

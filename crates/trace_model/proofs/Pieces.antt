@@ -82,11 +82,11 @@ records-more v (suc k) j i bs =
 
 -- the records of whole records and what comes behind them
 module _ (v : Version) (a b : List ℕ) (k : ℕ) (whole : length a ≡ recordBytes v * k) where
-  records-whole : recordsOf v a ≡ recordsFrom v k 0 a
+  pub records-whole : recordsOf v a ≡ recordsFrom v k 0 a
   unfolding recordsOf cutRecord
   records-whole = let w = whole-records v (length a) k whole in rw (w .0, w .1) (append-nil (recordsFrom v k 0 a))
 
-  records-append : recordsOf v (a ++ b) ≡ recordsOf v a ++ recordsOf v b
+  pub records-append : recordsOf v (a ++ b) ≡ recordsOf v a ++ recordsOf v b
   unfolding recordsOf
   records-append =
       let long : length (a ++ b) ≡ recordBytes v * k + length b = length-append a b ∙ ap (λ (n : ℕ). n + length b) whole in

@@ -1,20 +1,18 @@
 -- Every line of a played trace has a word: from a cleared machine no cycle is refused 1, 2, 4 or 8. The last line says how many are stored.
-use Prim.Native.Nat.{_*_, _≤_, pred, suc, zero, ℕ}
+use Prim.Native.Nat.{_≤_, pred, suc, zero, ℕ}
 use native.Mathlib.Omega.{arith}
-use mathlib.Core.Bool.{_&&_, Bool, cond, false, true}
+use mathlib.Core.Bool.{_&&_, Bool, false}
 use mathlib.Core.List.{[], _++_, _∷_, List}
 use mathlib.Core.Logic.{_⊎_, ⊎-elim}
 use mathlib.Core.Path.{_∙_, _≡_, ap, ap₂, refl, subst, sym}
-use lib.Dec.{eqb, leb}
 use lib.ListN.{drop, length, length-replicate}
-use borrow.Author.Tests.{le-leb, leb-true}
 use Rattle.clocked_model.proofs.Drain.{drain-left, drain-state}
 use Rattle.clocked_model.proofs.Exactly.{no-damage-sound, cycled-fine}
 use Rattle.clocked_model.proofs.Promises.{drained-fine, drained-left, held-says, numbers, shape-kept, undamaged}
 use Rattle.clocked_model.specs.Calls.{CycleOutcome, DrainOutcome, drains, ruleMarked, pending, popsOrReplaces, clearedMachine, cycled, cycleRun}
 use Rattle.clocked_model.specs.Promise.{ran, runs}
 use Rattle.clocked_model.specs.declared.State.{State}
-use Rattle.laws.specs.Tests.{and-left, and-right, and-true, cond-both}
+use Rattle.laws.specs.Tests.{cond-both}
 use Rattle.promise.specs.Queue.{leaves}
 use Rattle.promise.specs.Served.{always}
 use Rattle.strip.specs.Answers.{countOf, numberOf, refusalNumber}
@@ -22,7 +20,8 @@ use Rattle.strip.specs.declared.Answer.the-variants.{Refused}
 use Rattle.strip.specs.declared.Refusal.{Refusal}
 use Rattle.strip.specs.declared.Refusal.the-variants.{BadPort, BadRank, BadShape, Damaged, Empty, Full, NoTag, TooSoon}
 use Rattle.strip.specs.declared.Request.{Request}
-use Rattle.trace_model.specs.Format.{byteAt, doneWord, endLine, headed, headerBytes, headerOf, markOk, outWord, recordsOf, refusalWord, traceLimit, traceShape, versionAt, wordOf}
+use Rattle.trace_model.proofs.Bytes.{header-only, taken-shape, trace-shape}
+use Rattle.trace_model.specs.Format.{doneWord, endLine, headerBytes, headerOf, outWord, recordsOf, refusalWord, wordOf}
 use Rattle.trace_model.specs.Program.{emptyStore, endOf, storeWords}
 use Rattle.trace_model.specs.Promise.{Silent, TraceWorded, Worded, WordedBy}
 use Rattle.trace_model.specs.declared.Header.{Header}
@@ -30,14 +29,12 @@ use Rattle.trace_model.specs.declared.Header.the-variants.{Shape as Shap
 use Rattle.trace_model.specs.declared.Record.{Record}
 use Rattle.trace_model.specs.declared.Record.the-variants.{Bad, Good}
 use Rattle.trace_model.specs.declared.Version.{Version}
-use Rattle.trace_model.specs.declared.Version.the-variants.{One, Two}
-use Rattle.tree_model.proofs.Exactly.{is-shape, shape-is}
+use Rattle.tree_model.proofs.Exactly.{is-shape}
 use Rattle.tree_model.proofs.Rules.{comes}
-use Rattle.tree_model.specs.Calls.{heldCount, orderOk, rule, ruling, Ruling, shapeOk, slotLimit}
+use Rattle.tree_model.specs.Calls.{heldCount, rule, ruling, Ruling}
 use Rattle.tree_model.specs.Damage.{room}
 use Rattle.tree_model.specs.Promise.{Shape, storedCount}
 use Rattle.tree_model.specs.Rules.{Comes, empty, full, idles, lacks, no-tag, puts, swaps, takes}
-use Rattle.tree_model.specs.Words.{slotWords}
 use Rattle.tree_model.specs.declared.Op.the-variants.{Nothing}
 use Rattle.tree_model.specs.declared.Slot.{Slot}
 
@@ -131,38 +128,8 @@ module _ (m levels : ℕ) (ws : List ℕ) (sh : Shape m levels (length ws)) wher
           (ap (pending m levels) (sym (d .1)) ∙ sym (drain-left m levels levels (stateAt rs) (wordsAt rs) (shape-kept m ws rs levels sh)) ∙ end-done rs .1) .1)
 
 -- ---- the program's shapes
-trace-shape : (m levels : ℕ) → traceShape m levels ≡ true → Shape m levels storeWords
-unfolding traceShape shapeOk
-trace-shape m levels e =
-    let ord = and-left (orderOk m) (leb 1 levels && leb (room m levels) traceLimit) e in
-    let rest = and-right (orderOk m) (leb 1 levels && leb (room m levels) traceLimit) e in
-    let few : room m levels ≤ traceLimit = leb-true (room m levels) traceLimit (and-right (leb 1 levels) (leb (room m levels) traceLimit) rest) in
-    shape-is m levels storeWords
-    (and-true (orderOk m) (leb 1 levels && (leb (room m levels) slotLimit && leb (slotWords * room m levels) storeWords)) ord
-    (and-true (leb 1 levels) (leb (room m levels) slotLimit && leb (slotWords * room m levels) storeWords) (and-left (leb 1 levels) (leb (room m levels) traceLimit) rest)
-    (and-true (leb (room m levels) slotLimit) (leb (slotWords * room m levels) storeWords) (le-leb (room m levels) slotLimit (omega arith)) (le-leb (slotWords * room m levels) storeWords (omega arith)))))
-
--- a header of a shape is one of the program's
-headed-shape : (n a b : ℕ) (v : Version) (m levels : ℕ) → headed n a b ≡ Shaped v m levels → (a ≡ m) × (b ≡ levels)
-unfolding headed
-headed-shape n a b v m levels e = go (eqb n 1) (eqb n 2) e
-  where
-    go : (s t : Bool) → cond s (Shaped One a b) (cond t (Shaped Two a b) Wrong) ≡ Shaped v m levels → (a ≡ m) × (b ≡ levels)
-    go true t p = (cc, cc)
-    go false true p = (cc, cc)
-    go false false p = let z : _≡_ {A = ℕ} 0 1 = cc in absurd (omega arith)
-
 pub header-shaped : (bs : List ℕ) (v : Version) (m levels : ℕ) → headerOf bs ≡ Shaped v m levels → Shape m levels storeWords
-unfolding headerOf
-header-shaped bs v m levels e = go (leb headerBytes (length bs) && (markOk bs && traceShape (byteAt bs 5) (byteAt bs 6))) refl e
-  where
-    go : (b : Bool) → (leb headerBytes (length bs) && (markOk bs && traceShape (byteAt bs 5) (byteAt bs 6))) ≡ b
-        → cond b (headed (versionAt bs 3) (byteAt bs 5) (byteAt bs 6)) Wrong ≡ Shaped v m levels → Shape m levels storeWords
-    go true t p =
-        let is = headed-shape (versionAt bs 3) (byteAt bs 5) (byteAt bs 6) v m levels p in
-        let ok = and-right (markOk bs) (traceShape (byteAt bs 5) (byteAt bs 6)) (and-right (leb headerBytes (length bs)) (markOk bs && traceShape (byteAt bs 5) (byteAt bs 6)) t) in
-        trace-shape m levels (sym (ap₂ traceShape (is .0) (is .1)) ∙ ok)
-    go false t p = let z : _≡_ {A = ℕ} 0 1 = cc in absurd (omega arith)
+header-shaped bs v m levels e = trace-shape m levels (taken-shape m levels (header-only bs v m levels e .0))
 
 store-length : length emptyStore ≡ storeWords
 unfolding emptyStore

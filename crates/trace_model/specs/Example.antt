@@ -1,4 +1,4 @@
--- 01's worked trace, one of replaces, one of elements without a tag and two of version 2, and what they give.
+-- 01's worked trace, one of replaces, one of elements without a tag and two of version 2, and what they give; and six of the format, byte by byte.
 use Prim.Native.Nat.{ℕ}
 use mathlib.Core.List.{[], _++_, _∷_, List}
 use Rattle.text.specs.Text.{bytesOf}
@@ -46,3 +46,102 @@ lengthless = bytesOf "PFT" ++ ((2 ∷ 0 ∷ 2 ∷ 2 ∷ []) ++ (sized 1 5 50 0 +
 
 abbrev pub lengthlessSays : List ℕ
 lengthlessSays = bytesOf "1 pushed\n2 idle\n3 out 5 50 0\n4 idle\nbad record 5\n"
+
+-- ---- the format, byte by byte: header and records as they stand in the input
+abbrev joined : List (List ℕ) → List ℕ
+joined [] = []
+joined (bs ∷ more) = bs ++ joined more
+
+-- order 4, levels 1: four slots. The bytes 4, 3, 2, 1 are 16,909,060. Tag 0 is none, a fifth element finds no room, and code 4 is a bad record, after
+-- which nothing is looked at
+abbrev pub wide : List ℕ
+wide =
+    joined
+    ((80 ∷ 70 ∷ 84 ∷ 1 ∷ 0 ∷ 4 ∷ 1 ∷ [])
+    ∷ (1 ∷ 4 ∷ 3 ∷ 2 ∷ 1 ∷ 8 ∷ 7 ∷ 6 ∷ 5 ∷ [])
+    ∷ (1 ∷ 20 ∷ 0 ∷ 0 ∷ 2 ∷ 9 ∷ 1 ∷ 0 ∷ 0 ∷ [])
+    ∷ (1 ∷ 3 ∷ 0 ∷ 0 ∷ 0 ∷ 0 ∷ 0 ∷ 0 ∷ 0 ∷ [])
+    ∷ (1 ∷ 255 ∷ 255 ∷ 255 ∷ 255 ∷ 0 ∷ 0 ∷ 0 ∷ 1 ∷ [])
+    ∷ (1 ∷ 12 ∷ 11 ∷ 10 ∷ 9 ∷ 16 ∷ 15 ∷ 14 ∷ 13 ∷ [])
+    ∷ (1 ∷ 1 ∷ 0 ∷ 0 ∷ 0 ∷ 1 ∷ 0 ∷ 0 ∷ 0 ∷ [])
+    ∷ (2 ∷ 0 ∷ 0 ∷ 0 ∷ 0 ∷ 0 ∷ 0 ∷ 0 ∷ 0 ∷ [])
+    ∷ (3 ∷ 1 ∷ 2 ∷ 3 ∷ 4 ∷ 5 ∷ 6 ∷ 7 ∷ 8 ∷ [])
+    ∷ (0 ∷ 0 ∷ 0 ∷ 0 ∷ 0 ∷ 0 ∷ 0 ∷ 0 ∷ 0 ∷ [])
+    ∷ (3 ∷ 1 ∷ 2 ∷ 3 ∷ 4 ∷ 5 ∷ 6 ∷ 7 ∷ 8 ∷ [])
+    ∷ (0 ∷ 0 ∷ 0 ∷ 0 ∷ 0 ∷ 0 ∷ 0 ∷ 0 ∷ 0 ∷ [])
+    ∷ (2 ∷ 0 ∷ 0 ∷ 0 ∷ 0 ∷ 0 ∷ 0 ∷ 0 ∷ 0 ∷ [])
+    ∷ (4 ∷ 0 ∷ 0 ∷ 0 ∷ 0 ∷ 0 ∷ 0 ∷ 0 ∷ 0 ∷ [])
+    ∷ (2 ∷ 0 ∷ 0 ∷ 0 ∷ 0 ∷ 0 ∷ 0 ∷ 0 ∷ 0 ∷ [])
+    ∷ [])
+
+abbrev pub wideSays : List ℕ
+wideSays = bytesOf "1 pushed\n2 pushed\n3 no tag\n4 pushed\n5 pushed\n6 full\n7 out 16909060 84281096\n8 too soon\n9 idle\n10 out 33554452 265\n11 idle\n12 out 67305985 134678021\nbad record 13\n"
+
+-- version 2, order 4, levels 3: a length of four bytes, and work that is pending at the end
+abbrev pub deep : List ℕ
+deep =
+    joined
+    ((80 ∷ 70 ∷ 84 ∷ 2 ∷ 0 ∷ 4 ∷ 3 ∷ [])
+    ∷ (1 ∷ 4 ∷ 3 ∷ 2 ∷ 1 ∷ 8 ∷ 7 ∷ 6 ∷ 5 ∷ 12 ∷ 11 ∷ 10 ∷ 9 ∷ [])
+    ∷ (1 ∷ 50 ∷ 0 ∷ 0 ∷ 0 ∷ 2 ∷ 0 ∷ 0 ∷ 0 ∷ 3 ∷ 0 ∷ 0 ∷ 0 ∷ [])
+    ∷ (1 ∷ 60 ∷ 0 ∷ 0 ∷ 0 ∷ 3 ∷ 0 ∷ 0 ∷ 0 ∷ 4 ∷ 0 ∷ 0 ∷ 0 ∷ [])
+    ∷ (1 ∷ 70 ∷ 0 ∷ 0 ∷ 0 ∷ 4 ∷ 0 ∷ 0 ∷ 0 ∷ 5 ∷ 0 ∷ 0 ∷ 0 ∷ [])
+    ∷ (1 ∷ 80 ∷ 0 ∷ 0 ∷ 0 ∷ 0 ∷ 0 ∷ 0 ∷ 0 ∷ 6 ∷ 0 ∷ 0 ∷ 0 ∷ [])
+    ∷ (1 ∷ 40 ∷ 0 ∷ 0 ∷ 0 ∷ 6 ∷ 0 ∷ 0 ∷ 0 ∷ 0 ∷ 0 ∷ 0 ∷ 255 ∷ [])
+    ∷ (0 ∷ 0 ∷ 0 ∷ 0 ∷ 0 ∷ 0 ∷ 0 ∷ 0 ∷ 0 ∷ 0 ∷ 0 ∷ 0 ∷ 0 ∷ [])
+    ∷ (2 ∷ 0 ∷ 0 ∷ 0 ∷ 0 ∷ 0 ∷ 0 ∷ 0 ∷ 0 ∷ 0 ∷ 0 ∷ 0 ∷ 0 ∷ [])
+    ∷ (1 ∷ 90 ∷ 0 ∷ 0 ∷ 0 ∷ 7 ∷ 0 ∷ 0 ∷ 0 ∷ 8 ∷ 0 ∷ 0 ∷ 0 ∷ [])
+    ∷ (1 ∷ 30 ∷ 0 ∷ 0 ∷ 0 ∷ 8 ∷ 0 ∷ 0 ∷ 0 ∷ 9 ∷ 0 ∷ 0 ∷ 0 ∷ [])
+    ∷ [])
+
+abbrev pub deepSays : List ℕ
+deepSays = bytesOf "1 pushed\n2 pushed\n3 pushed\n4 pushed\n5 no tag\n6 pushed\n7 idle\n8 out 40 6 4278190080\n9 pushed\n10 pushed\nheld 6 drained 1\n"
+
+-- a record that is cut: 8 bytes of version 1, whatever they are ..
+abbrev pub cut : List ℕ
+cut =
+    joined
+    ((80 ∷ 70 ∷ 84 ∷ 1 ∷ 0 ∷ 4 ∷ 3 ∷ [])
+    ∷ (1 ∷ 4 ∷ 3 ∷ 2 ∷ 1 ∷ 8 ∷ 7 ∷ 6 ∷ 5 ∷ [])
+    ∷ (0 ∷ 0 ∷ 0 ∷ 0 ∷ 0 ∷ 0 ∷ 0 ∷ 0 ∷ [])
+    ∷ [])
+
+abbrev pub cutSays : List ℕ
+cutSays = bytesOf "1 pushed\nbad record 2\n"
+
+-- .. and 12 of version 2; a push of nine bytes would be a good one in version 1
+abbrev pub cutLengths : List ℕ
+cutLengths =
+    joined
+    ((80 ∷ 70 ∷ 84 ∷ 2 ∷ 0 ∷ 8 ∷ 1 ∷ [])
+    ∷ (1 ∷ 4 ∷ 3 ∷ 2 ∷ 1 ∷ 8 ∷ 7 ∷ 6 ∷ 5 ∷ 12 ∷ 11 ∷ 10 ∷ 9 ∷ [])
+    ∷ (0 ∷ 0 ∷ 0 ∷ 0 ∷ 0 ∷ 0 ∷ 0 ∷ 0 ∷ 0 ∷ 0 ∷ 0 ∷ 0 ∷ 0 ∷ [])
+    ∷ (2 ∷ 0 ∷ 0 ∷ 0 ∷ 0 ∷ 0 ∷ 0 ∷ 0 ∷ 0 ∷ 0 ∷ 0 ∷ 0 ∷ 0 ∷ [])
+    ∷ (1 ∷ 4 ∷ 3 ∷ 2 ∷ 1 ∷ 8 ∷ 7 ∷ 6 ∷ 5 ∷ 0 ∷ 0 ∷ 0 ∷ [])
+    ∷ [])
+
+abbrev pub cutLengthsSay : List ℕ
+cutLengthsSay = bytesOf "1 pushed\n2 idle\n3 out 16909060 84281096 151653132\nbad record 4\n"
+
+-- an idle record with a rank, and a pop with a tag, are bad
+abbrev pub idleRanked : List ℕ
+idleRanked =
+    joined
+    ((80 ∷ 70 ∷ 84 ∷ 1 ∷ 0 ∷ 4 ∷ 5 ∷ [])
+    ∷ (0 ∷ 0 ∷ 0 ∷ 0 ∷ 0 ∷ 0 ∷ 0 ∷ 0 ∷ 0 ∷ [])
+    ∷ (0 ∷ 0 ∷ 0 ∷ 0 ∷ 1 ∷ 0 ∷ 0 ∷ 0 ∷ 0 ∷ [])
+    ∷ [])
+
+abbrev pub idleRankedSays : List ℕ
+idleRankedSays = bytesOf "1 idle\nbad record 2\n"
+
+abbrev pub popTagged : List ℕ
+popTagged =
+    joined
+    ((80 ∷ 70 ∷ 84 ∷ 2 ∷ 0 ∷ 8 ∷ 3 ∷ [])
+    ∷ (2 ∷ 0 ∷ 0 ∷ 0 ∷ 0 ∷ 0 ∷ 0 ∷ 0 ∷ 0 ∷ 0 ∷ 0 ∷ 0 ∷ 0 ∷ [])
+    ∷ (2 ∷ 0 ∷ 0 ∷ 0 ∷ 0 ∷ 0 ∷ 0 ∷ 0 ∷ 1 ∷ 0 ∷ 0 ∷ 0 ∷ 0 ∷ [])
+    ∷ [])
+
+abbrev pub popTaggedSays : List ℕ
+popTaggedSays = bytesOf "1 empty\nbad record 2\n"

@@ -1,4 +1,5 @@
 pub mod Format
+pub mod Bytes
 pub mod Program
 pub mod Play
 pub mod Example

@@ -233,14 +233,14 @@ module _ (m levels : ℕ) (ws : List ℕ) where
   -- push, pop and replace
   pub exactly : (r : Request) → Exactly said (left ws) (called m levels r ws) (refusals m levels r ws)
   unfolding called rule
-  exactly Idle = calls.exactly (tree m levels) (tested m levels) Idle ws
-  exactly (Push x) = calls.exactly (tree m levels) (tested m levels) (Push x) ws
-  exactly Pop = calls.exactly (tree m levels) (tested m levels) Pop ws
-  exactly (Replace x) = calls.exactly (tree m levels) (tested m levels) (Replace x) ws
+  exactly Idle = calls.exactly (tested m levels) Idle ws
+  exactly (Push x) = calls.exactly (tested m levels) (Push x) ws
+  exactly Pop = calls.exactly (tested m levels) Pop ws
+  exactly (Replace x) = calls.exactly (tested m levels) (Replace x) ws
 
   pub stands : (r : Request) (n : Refusal) → said (called m levels r ws) ≡ refusalNumber n → called m levels r ws ≡ left ws n
   unfolding called
-  stands r = calls.stands (tree m levels) (tested m levels) r ws
+  stands r = calls.stands (tested m levels) r ws
 
   pub cleared-fine : shapeOk m levels (length ws) ≡ true → cleared m levels ws ≡ outcome Done (wipe (room m levels) ws)
   unfolding cleared
@@ -248,11 +248,11 @@ module _ (m levels : ℕ) (ws : List ℕ) where
 
   pub exactly-clear : Exactly said (left ws) (cleared m levels ws) (clearRefusals m levels ws)
   unfolding cleared
-  exactly-clear = calls.exactly-clear (tree m levels) (tested m levels) ws
+  exactly-clear = calls.exactly-clear (tested m levels) ws
 
   pub exactly-held : Exactly countNumber Unknown (heldCount m levels ws) (heldRefusals m levels ws)
   unfolding heldCount
-  exactly-held = calls.exactly-held (tree m levels) (tested m levels) ws
+  exactly-held = calls.exactly-held (tested m levels) ws
 
   pub counted-either : (P : Count → Type 0) → ((x : Refusal) → P (Unknown x)) → P (Held (sumCounts (rootOf m ws))) → P (heldCount m levels ws)
   unfolding heldCount
@@ -274,4 +274,4 @@ kind m levels r ws = calls.kind (tree m levels) r ws
 -- BARRED: an element without a tag is never let in, whatever the words
 pub barred : (m levels : ℕ) (r : Request) (ws : List ℕ) → Barred r (called m levels r ws .answer)
 unfolding called
-barred m levels r ws = calls.barred (tree m levels) (tested m levels) r ws
+barred m levels r ws = calls.barred (tested m levels) r ws

@@ -13,7 +13,7 @@ use Rattle.laws.specs.Sums.{grid, sum-index, sumTo, to-add, to-append, to-ext, 
 use Rattle.promise.proofs.Calls.{fits-least, last-each, last-fits}
 use Rattle.promise.proofs.Kept as queue
 use Rattle.promise.proofs.Kept.{IsQueue}
-use Rattle.promise.specs.Calls.{Fits, grants, lastTable, Queue}
+use Rattle.promise.specs.Calls.{Fits, grants, lastTable}
 use Rattle.promise.specs.Queue.{answers, leaves}
 use Rattle.promise.specs.Refused.{Untagged}
 use Rattle.promise.specs.Served.{allBrought, allGiven, always, brought, given, hit, Holds, Least, lower, same, triple}
@@ -231,33 +231,30 @@ is-queue m k =
       bare = λ ws c. wiped-empty m k ws (shape-is m (suc k) (length ws) (c .0));
     }
 
-pub swaps : (m k : ℕ) → queue.Swaps (tree m (suc k)) (Kept m k) (is-queue m k)
+pub swaps : (m k : ℕ) → queue.Swaps (is-queue m k)
 swaps m k =
-    queue.last-swaps (tree m (suc k)) (Kept m k) (is-queue m k) (room m (suc k)) (λ r ws P p. p) (λ r ws. tt) (λ ws kept. root-limit m (suc k) ws (kept .shape .some) (sound-root m k ws kept))
+    queue.last-swaps (is-queue m k) (room m (suc k)) (λ r ws P p. p) (λ r ws. tt) (λ ws kept. root-limit m (suc k) ws (kept .shape .some) (sound-root m k ws kept))
 
 -- ---- one call on a kept store, whatever wrote it
 module _ (m k : ℕ) where
-  abbrev q : Queue (List ℕ)
-  q = tree m (suc k)
-
   pub called-kept : (r : Request) (ws : List ℕ) → Kept m k ws → Kept m k (called m (suc k) r ws .words)
   unfolding called
-  called-kept = queue.called-kept q (Kept m k) (is-queue m k)
+  called-kept = queue.called-kept (is-queue m k)
 
   pub leaves-kept : (rs : List Request) (ws : List ℕ) → Kept m k ws → Kept m k (leaves (treeQueue m (suc k)) rs ws)
   unfolding called
-  leaves-kept = queue.leaves-kept q (Kept m k) (is-queue m k)
+  leaves-kept = queue.leaves-kept (is-queue m k)
 
   pub call-sum : (r : Request) (ws : List ℕ) → Kept m k ws → (f : Element → Bool)
       → storedCount (room m (suc k)) (called m (suc k) r ws .words) f + given r (called m (suc k) r ws .answer) f ≡ storedCount (room m (suc k)) ws f + brought r (called m (suc k) r ws .answer) f
   unfolding called
-  call-sum = queue.call-sum q (Kept m k) (is-queue m k)
+  call-sum = queue.call-sum (is-queue m k)
 
 module _ (m k : ℕ) (ws : List ℕ) (kept : Kept m k ws) where
   -- what its ruling says
   pub sound-way : (r : Request) → wayOk m (suc k) (ruleAt m (suc k) r ws .op) ws ≡ true
   unfolding rule
-  sound-way r = queue.sound-way (tree m (suc k)) (Kept m k) (is-queue m k) r ws kept tt
+  sound-way r = queue.sound-way (is-queue m k) r ws kept tt
 
   pub kept-called : (r : Request) → called m (suc k) r ws ≡ outcome (ruleAt m (suc k) r ws .answer) (applyWords m (suc k) (work (ruleAt m (suc k) r ws .op) 0) 0 1 ws)
   kept-called r = called-fine m (suc k) r ws (is-shape m (suc k) (length ws) (kept .shape)) (sound-root m k ws kept) (sound-way r)
@@ -281,28 +278,28 @@ module _ (m k : ℕ) (ws : List ℕ) (kept : Kept m k ws) where
       → storedCount (room m (suc k)) (leaves (treeQueue m (suc k)) rs ws) f + allGiven rs (answers (treeQueue m (suc k)) rs ws) f
       ≡ storedCount (room m (suc k)) ws f + allBrought rs (answers (treeQueue m (suc k)) rs ws) f
   unfolding called
-  kept-sums = queue.kept-sums (tree m (suc k)) (Kept m k) (is-queue m k) ws kept
+  kept-sums = queue.kept-sums (is-queue m k) ws kept
 
   pub kept-least : (r : Request) → Least (storedCount (room m (suc k)) ws) r (called m (suc k) r ws .answer)
   unfolding called
-  kept-least r = queue.kept-least (tree m (suc k)) (Kept m k) (is-queue m k) r ws kept
+  kept-least r = queue.kept-least (is-queue m k) r ws kept
 
   pub kept-undamaged : (r : Request) → Damage m (suc k) r ws → ⊥
   unfolding rule
-  kept-undamaged r = queue.kept-undamaged (tree m (suc k)) (Kept m k) (is-queue m k) r ws kept tt
+  kept-undamaged r = queue.kept-undamaged (is-queue m k) r ws kept tt
 
   pub kept-numbers : (r : Request) → let n = numberOf (called m (suc k) r ws .answer) in (n ≡ 0) ⊎ (n ≡ 5) ⊎ (n ≡ 6) ⊎ (n ≡ 7)
   unfolding called
   kept-numbers r =
-      queue.kept-numbers (tree m (suc k)) (Kept m k) (is-queue m k) r ws kept (λ n. (n ≡ 0) ⊎ (n ≡ 5) ⊎ (n ≡ 6) ⊎ (n ≡ 7)) (inl refl) tt (last-each r (sumCounts (rootOf m ws)) (room m (suc k)))
+      queue.kept-numbers (is-queue m k) r ws kept (λ n. (n ≡ 0) ⊎ (n ≡ 5) ⊎ (n ≡ 6) ⊎ (n ≡ 7)) (inl refl) tt (last-each r (sumCounts (rootOf m ws)) (room m (suc k)))
 
   pub kept-held : (countNumber (heldCount m (suc k) ws) ≡ 0) × (countOf (heldCount m (suc k) ws) ≡ storedCount (room m (suc k)) ws always)
   unfolding heldCount
-  kept-held = queue.kept-held (tree m (suc k)) (Kept m k) (is-queue m k) ws kept
+  kept-held = queue.kept-held (is-queue m k) ws kept
 
   pub kept-replaces : (x : Element) → (Untagged (Replace x) → ⊥) → PopThenPush m (suc k) x ws
   unfolding called
-  kept-replaces x tag = queue.kept-replaces (tree m (suc k)) (Kept m k) (is-queue m k) (swaps m k) x tag ws kept tt
+  kept-replaces x tag = queue.kept-replaces (is-queue m k) (swaps m k) x tag ws kept tt
 
 -- every call keeps the slice's length
 pub called-length : (m levels : ℕ) (r : Request) (ws : List ℕ) → length (called m levels r ws .words) ≡ length ws
@@ -325,11 +322,11 @@ module _ (m k : ℕ) (ws : List ℕ) (sh : Shape m (suc k) (length ws)) where
 
   pub start-kept : Kept m k (start m (suc k) ws)
   unfolding cleared
-  start-kept = queue.start-kept (tree m (suc k)) (Kept m k) (is-queue m k) ws fits
+  start-kept = queue.start-kept (is-queue m k) ws fits
 
   pub start-empty : (f : Element → Bool) → storedCount (room m (suc k)) (start m (suc k) ws) f ≡ 0
   unfolding cleared
-  start-empty = queue.start-empty (tree m (suc k)) (Kept m k) (is-queue m k) ws fits
+  start-empty = queue.start-empty (is-queue m k) ws fits
 
 -- THE PROMISES. Any order and number of levels that pass the shape, any words to start with, any list of requests.
 
@@ -341,7 +338,7 @@ module _ (m : ℕ) (ws : List ℕ) (rs : List Request) where
   pub holds : (levels : ℕ) → Shape m levels (length ws) → Holds (storedCount (room m levels) (after m levels rs ws)) rs (said levels)
   unfolding called cleared
   holds zero sh = absurd (not-suc-le-zero (sh .some))
-  holds (suc k) sh = queue.holds (tree m (suc k)) (Kept m k) (is-queue m k) ws (fits m k ws sh) rs
+  holds (suc k) sh = queue.holds (is-queue m k) ws (fits m k ws sh) rs
 
   -- .. so each pair as often
   pub pairs : (levels : ℕ) → Shape m levels (length ws) → (e : Element)
@@ -357,7 +354,7 @@ module _ (m : ℕ) (ws : List ℕ) (rs : List Request) where
   pub tagged : (levels : ℕ) → Shape m levels (length ws) → Tagged (storedCount (room m levels) (after m levels rs ws)) rs (said levels)
   unfolding called cleared
   tagged zero sh = absurd (not-suc-le-zero (sh .some))
-  tagged (suc k) sh = queue.tagged (tree m (suc k)) (Kept m k) (is-queue m k) ws (fits m k ws sh) rs
+  tagged (suc k) sh = queue.tagged (is-queue m k) ws (fits m k ws sh) rs
 
   -- what a list of requests leaves is kept: of every call on it is so what is so of a kept store
   pub after-kept : (k : ℕ) → Shape m (suc k) (length ws) → Kept m k (after m (suc k) rs ws)

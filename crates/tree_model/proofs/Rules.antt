@@ -1,25 +1,22 @@
 -- The definitions are 01's rules, in 01's own words. What comes after goes by these laws.
 use Prim.Native.Nat.{_<_, _≤_, suc, zero, ℕ}
-use native.Mathlib.Nat.{le-of-suc-le-suc, not-suc-le-zero, pos-of-ne-zero}
+use native.Mathlib.Nat.{le-of-suc-le-suc, not-suc-le-zero}
 use mathlib.Core.Bool.{_||_, Bool, cond, false, not, true}
 use mathlib.Core.List.{[], _∷_, List}
 use mathlib.Core.Logic.{inl, inr}
 use mathlib.Core.Path.{_≡_, refl}
 use lib.Dec.{eqb, leb, ltb}
 use lib.ListN.{getD, length}
-use borrow.Author.Tests.{eqb-false, eqb-true, leb-false, leb-true, ltb-false, ltb-true}
-use Rattle.laws.specs.Means.{means-no}
-use Rattle.laws.specs.Tests.{cond-both}
-use Rattle.promise.specs.Refused.{untagged-means}
-use Rattle.strip.specs.Answers.{blank, key, untagged}
+use borrow.Author.Tests.{eqb-false, leb-false, leb-true, ltb-false, ltb-true}
+use Rattle.promise.proofs.Calls.{last-comes}
+use Rattle.strip.specs.Answers.{blank, key}
 use Rattle.strip.proofs.Order.{before-says, UpTo, upto-rank, upto-says, upto-tag}
 use Rattle.strip.specs.declared.Element.{Element}
 use Rattle.strip.specs.declared.Request.{Request}
-use Rattle.strip.specs.declared.Request.the-variants.{Idle, Pop, Push, Replace}
 use Rattle.tree_model.proofs.Choice.{all-slotAt, empty-found, least-in, least-le, least-left, lowest-is, lowest-left}
-use Rattle.tree_model.specs.Calls.{rule}
+use Rattle.tree_model.specs.Calls.{opOf, rule}
 use Rattle.tree_model.specs.Node.{firstEmpty, isEmpty, seek, vacant, keep, leastCount, lowest, move, pass, putBy, putMove, slotAt, sumCounts, swapBy, swapMove, takeBy, takeMove, low}
-use Rattle.tree_model.specs.Rules.{clears, Comes, empty, ends, exchanges, full, goes, idles, IsFirst, IsLeast, IsLowest, lacks, no-tag, passes, puts, Puts, receives, stays, swaps, Swaps, takes, Takes, LowerTag}
+use Rattle.tree_model.specs.Rules.{clears, Comes, ends, exchanges, goes, IsFirst, IsLeast, IsLowest, passes, Puts, receives, stays, Swaps, Takes, LowerTag}
 use Rattle.tree_model.specs.declared.Op.the-variants.{Put}
 use Rattle.tree_model.specs.declared.Slot.{Slot}
 
@@ -105,13 +102,4 @@ swap-rule x nd below = go (leb (slotAt nd (lowest nd) .count) 1) refl (ltb (belo
 -- ---- the request
 pub comes : (c : ℕ) (r : Request) (nd : List Slot) → Comes c nd r (rule c r nd)
 unfolding rule
-comes c Idle nd = idles
-comes c (Push x) nd =
-    cond-both (Comes c nd (Push x)) (untagged x) _ _ (λ t. no-tag (Push x) (untagged-means x .says t)) (λ t.
-    let some = means-no (untagged-means x) t in
-    cond-both (Comes c nd (Push x)) (ltb (sumCounts nd) c) _ _ (λ e. puts x some (ltb-true (sumCounts nd) c e)) (λ e. full x some (ltb-false (sumCounts nd) c e)))
-comes c Pop nd = cond-both (Comes c nd Pop) (eqb (sumCounts nd) 0) _ _ (λ e. empty (eqb-true (sumCounts nd) 0 e)) (λ e. takes (pos-of-ne-zero (eqb-false (sumCounts nd) 0 e)))
-comes c (Replace x) nd =
-    cond-both (Comes c nd (Replace x)) (untagged x) _ _ (λ t. no-tag (Replace x) (untagged-means x .says t)) (λ t.
-    let some = means-no (untagged-means x) t in
-    cond-both (Comes c nd (Replace x)) (eqb (sumCounts nd) 0) _ _ (λ e. lacks x some (eqb-true (sumCounts nd) 0 e)) (λ e. swaps x some (pos-of-ne-zero (eqb-false (sumCounts nd) 0 e))))
+comes c r nd = last-comes opOf c r (sumCounts nd) (low nd)

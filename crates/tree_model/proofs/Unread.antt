@@ -3,15 +3,16 @@
 use Prim.Native.Nat.{_≤_, pred, suc, zero, ℕ}
 use native.Mathlib.Nat.{not-suc-le-zero}
 use native.Mathlib.Omega.{arith}
-use mathlib.Core.Bool.{Bool, false, true}
+use mathlib.Core.Bool.{true}
 use mathlib.Core.List.{List}
-use mathlib.Core.Path.{_∙_, _≡_, ap, ap₂, refl, sym}
+use mathlib.Core.Path.{_∙_, _≡_, ap, ap₂, sym}
 use lib.ListN.{length}
+use Rattle.promise.proofs.Calls.{unread-by}
 use Rattle.strip.specs.declared.Request.{Request}
-use Rattle.tree_model.proofs.Exactly.{called-fine, called-root, called-way, is-shape, order-pos}
+use Rattle.tree_model.proofs.Exactly.{is-shape, order-pos}
 use Rattle.tree_model.proofs.Agreement.{levels-words, words-levels, words-node}
 use Rattle.tree_model.proofs.Words.{size-room, words-apply}
-use Rattle.tree_model.specs.Calls.{called, heldCount, Outcome, rootOf, rootOk, rule, Ruling, shapeOk, ruleAt, wayOk}
+use Rattle.tree_model.specs.Calls.{called, heldCount, rootOf, rootOk, rule, Ruling, ruleAt, tree, wayOk}
 use Rattle.tree_model.specs.Damage.{nodeOk, pathOk, room}
 use Rattle.tree_model.specs.Levels.{apply, Levels, work}
 use Rattle.tree_model.specs.Promise.{Agree, Shape}
@@ -42,32 +43,15 @@ module _ (m levels : ℕ) (ws vs : List ℕ) (sh : Shape m levels (length ws)) (
 
     -- UNREAD
     pub unread : (called m levels r ws .answer ≡ called m levels r vs .answer) × Agree (room m levels) (called m levels r ws .words) (called m levels r vs .words)
-    unread = go (rootOk m levels ws) refl (wayOk m levels (ruleAt m levels r ws .op) ws) refl
+    unfolding called rule
+    unread =
+        unread-by (tree m levels) (Agree (room m levels)) r ws vs (is-shape m levels (length ws) sh, tt) (is-shape m levels (length vs) zh, tt) tt tt same-ok same-ruleAt same-way same (λ w.
+        levels-words m levels _ _ (after ws sh _ w
+        ∙ ap₂ (λ (o : Op) (ls : Levels levels). apply m levels (work o 0) ls) (ap (λ (g : Ruling). g .op) same-ruleAt) same-levels ∙ sym (after vs zh _ (sym same-way ∙ w))))
       where
-        s : shapeOk m levels (length ws) ≡ true
-        s = is-shape m levels (length ws) sh
-
-        z : shapeOk m levels (length vs) ≡ true
-        z = is-shape m levels (length vs) zh
-
-        both : (a b : Outcome) → called m levels r ws ≡ a → called m levels r vs ≡ b → (a .answer ≡ b .answer) × Agree (room m levels) (a .words) (b .words)
-            → (called m levels r ws .answer ≡ called m levels r vs .answer) × Agree (room m levels) (called m levels r ws .words) (called m levels r vs .words)
-        both a b p q i = rw (p, q) i
-
         after : (ws : List ℕ) → Shape m levels (length ws) → (o : Op) → wayOk m levels o ws ≡ true
             → levelsOf m levels (applyWords m levels (work o 0) 0 1 ws) 0 1 ≡ apply m levels (work o 0) (levelsOf m levels ws 0 1)
         after ws sh o w = words-apply m (order-pos sh) levels (work o 0) 0 1 ws (omega (arith, sh .slice, size-room m levels 1)) w .0
-
-        go : (a : Bool) → rootOk m levels ws ≡ a → (b : Bool) → wayOk m levels (ruleAt m levels r ws .op) ws ≡ b
-            → (called m levels r ws .answer ≡ called m levels r vs .answer) × Agree (room m levels) (called m levels r ws .words) (called m levels r vs .words)
-        go false o b w = both _ _ (called-root m levels r ws s o) (called-root m levels r vs z (sym same-ok ∙ o)) (refl, same)
-        go true o false w = both _ _ (called-way m levels r ws s o w) (called-way m levels r vs z (sym same-ok ∙ o) (sym same-way ∙ w)) (refl, same)
-        go true o true w =
-            both _ _ (called-fine m levels r ws s o w) (called-fine m levels r vs z (sym same-ok ∙ o) (sym same-way ∙ w)) (
-              ap (λ (g : Ruling). g .answer) same-ruleAt,
-              levels-words m levels _ _ (after ws sh _ w
-                  ∙ ap₂ (λ (o : Op) (ls : Levels levels). apply m levels (work o 0) ls) (ap (λ (g : Ruling). g .op) same-ruleAt) same-levels ∙ sym (after vs zh _ (sym same-way ∙ w))),
-            )
 
   pub unread-held : heldCount m levels ws ≡ heldCount m levels vs
   unfolding heldCount

@@ -5,14 +5,12 @@ use mathlib.Core.List.{List}
 use mathlib.Core.Logic.{_⊎_}
 use mathlib.Core.Path.{_≡_}
 use lib.ListN.{length}
-use Rattle.promise.specs.Refused.{Untagged}
+use Rattle.promise.specs.Calls as calls
+pub use Rattle.promise.specs.Calls.{empty, full, idles, lacks, no-tag, puts, swaps, takes}
 use Rattle.strip.specs.Answers.{element}
-use Rattle.strip.specs.declared.Answer.the-variants.{Done, Out, Refused}
 use Rattle.strip.specs.declared.Element.{Element}
-use Rattle.strip.specs.declared.Refusal.the-variants.{Empty, Full, NoTag}
 use Rattle.strip.specs.declared.Request.{Request}
-use Rattle.strip.specs.declared.Request.the-variants.{Idle, Pop, Push, Replace}
-use Rattle.tree_model.specs.Calls.{Ruling, ruling}
+use Rattle.tree_model.specs.Calls.{Ruling}
 use Rattle.tree_model.specs.Node.{firstEmpty, leastCount, low, lowest, move, slotAt, sumCounts}
 use Rattle.tree_model.specs.declared.Move.{Move}
 use Rattle.tree_model.specs.declared.Op.the-variants.{Nothing, Put, Swap, Take}
@@ -71,15 +69,6 @@ pub data Swaps (x : Element) (nd : List Slot) (below : ℕ → Element) : Move �
   goes : 1 < slotAt nd (lowest nd) .count → below (lowest nd) .rank .0 < x .rank .0
       → Swaps x nd below (move (lowest nd) (below (lowest nd)) (slotAt nd (lowest nd) .count) (Swap x))
 
--- "Push puts at the root, pop takes there". Replace: "an empty queue refuses replace with 6 .., and otherwise the lowest held element is answered,
--- even if the new rank is lower, and the new one is swapped in by the same swap rule": x's rank is not looked at. "Push and replace with tag 0 are to
--- be refused", whatever is held. c is the capacity
-pub data Comes (c : ℕ) (nd : List Slot) : Request → Ruling → Type 0 where
-  idles : Comes c nd Idle (ruling Done Nothing)
-  no-tag : (r : Request) → Untagged r → Comes c nd r (ruling (Refused NoTag) Nothing)
-  puts : (x : Element) → (Untagged (Push x) → ⊥) → sumCounts nd < c → Comes c nd (Push x) (ruling Done (Put x))
-  full : (x : Element) → (Untagged (Push x) → ⊥) → c ≤ sumCounts nd → Comes c nd (Push x) (ruling (Refused Full) Nothing)
-  takes : 0 < sumCounts nd → Comes c nd Pop (ruling (Out (low nd)) Take)
-  empty : sumCounts nd ≡ 0 → Comes c nd Pop (ruling (Refused Empty) Nothing)
-  swaps : (x : Element) → (Untagged (Replace x) → ⊥) → 0 < sumCounts nd → Comes c nd (Replace x) (ruling (Out (low nd)) (Swap x))
-  lacks : (x : Element) → (Untagged (Replace x) → ⊥) → sumCounts nd ≡ 0 → Comes c nd (Replace x) (ruling (Refused Empty) Nothing)
+-- "Push puts at the root, pop takes there", and what else the law says of a request (`Comes` of `promise`), by the root's counts and its lowest. c is the capacity
+abbrev pub Comes : ℕ → List Slot → Request → Ruling → Type 0
+Comes c nd = calls.Comes Nothing Put Take Swap c (sumCounts nd) (low nd)

@@ -1,9 +1,10 @@
 //! Times the card's queues beside plain Rust, in one process, contestants in turn, medians of many short rounds of processor time.
 //!
-//!     bench [--brief] [--play PROGRAM] [--emulated] [PART]
+//!     bench [--brief] [--play PROGRAM] [PART]
 //!
 //! PART is part of a row's name: only such rows are measured. `--brief` makes a few small rounds: it shows that everything runs, and
-//! its times mean nothing. `--play` names the trace program. Both of a pair work on the same trace and must give the same answers.
+//! its times mean nothing. `--play` names the trace program, which the words of RUNNER run. Both of a pair work on the same trace and
+//! must give the same answers.
 
 mod clock;
 mod count;
@@ -44,17 +45,16 @@ fn translated() -> bool {
 }
 
 fn usage() -> ! {
-    eprintln!("bench [--brief] [--play PROGRAM] [--emulated] [PART]");
+    eprintln!("bench [--brief] [--play PROGRAM] [PART]");
     std::process::exit(2)
 }
 
 fn main() {
-    let (mut brief, mut emulated, mut program, mut only) = (false, translated(), None, None);
+    let (mut brief, mut program, mut only) = (false, None, None);
     let mut words = std::env::args().skip(1);
     while let Some(word) = words.next() {
         match word.as_str() {
             "--brief" => brief = true,
-            "--emulated" => emulated = true,
             "--play" => program = Some(words.next().unwrap_or_else(|| usage())),
             other if other.starts_with('-') || only.is_some() => usage(),
             other => only = Some(other.to_string()),
@@ -68,7 +68,7 @@ fn main() {
         println!("{} ({arch}), {rustc}, optimised {level}", processor());
         println!("library: {}", env!("BENCH_LIBRARY"));
         println!("medians of {rounds} rounds of {operations} operations; nanoseconds of processor time for one (play: of time as it passes)");
-        if emulated {
+        if translated() {
             println!("THIS RUNS ON AN EMULATOR: its times mean nothing");
         }
         if brief {
@@ -101,6 +101,9 @@ fn main() {
     let played = playing::rows(&plan, program.as_deref(), records);
     for row in show("trace program beside the plain machine that writes its lines to memory", played) {
         println!("play: {:.0} records a second, its start included", 1e9 / row.pair.card);
+        if std::env::var_os("RUNNER").map_or(false, |runner| !runner.is_empty()) {
+            println!("play is for x86-64 and RAN ON AN EMULATOR: its times mean nothing");
+        }
     }
     if shown == 0 {
         eprintln!("bench: no row has `{}` in its name", plan.only.unwrap_or_default());

@@ -19,7 +19,8 @@
 //! ```
 #![allow(clippy::too_many_arguments)]
 
-use crate::{raw, ClusterRecord, Record};
+use crate::raw::{self, Len};
+use crate::{ClusterRecord, Record};
 
 // In every block below: each pointer and length is that of a slice which is borrowed for the length of the call, so its words are
 // there, aligned and initialised, a `&mut` slice overlaps no other, and the library keeps no pointer. Numbers and words may be any.
@@ -42,25 +43,38 @@ const _: () = {
     assert!(core::mem::align_of::<ClusterRecord>() == core::mem::align_of::<u32>());
 };
 
+/// A slice's length as the library takes it.
+#[inline]
+fn len<T>(slice: &[T]) -> Len {
+    slice.len() as Len
+}
+
+/// The version of the library's calls: [`VERSION`](crate::VERSION), where the library is the one that this crate was written for.
+#[inline]
+pub fn version() -> u32 {
+    // SAFETY: it is handed nothing.
+    unsafe { raw::card_version() }
+}
+
 /// Empties a tree.
 #[inline]
 pub fn tree_clear(store: &mut [u32], order: u32, levels: u32) -> u32 {
     // SAFETY: borrowed slices, as said above.
-    unsafe { raw::card_tree_clear(store.as_mut_ptr(), store.len(), order, levels) }
+    unsafe { raw::card_tree_clear(store.as_mut_ptr(), len(store), order, levels) }
 }
 
 /// Takes an element into a tree.
 #[inline]
 pub fn tree_push(store: &mut [u32], order: u32, levels: u32, rank: u32, tag: u32, length: u32) -> u32 {
     // SAFETY: borrowed slices, as said above.
-    unsafe { raw::card_tree_push(store.as_mut_ptr(), store.len(), order, levels, rank, tag, length) }
+    unsafe { raw::card_tree_push(store.as_mut_ptr(), len(store), order, levels, rank, tag, length) }
 }
 
 /// Gives a tree's element of lowest rank.
 #[inline]
 pub fn tree_pop(store: &mut [u32], order: u32, levels: u32, out: &mut [u32]) -> u32 {
     // SAFETY: borrowed slices, as said above.
-    unsafe { raw::card_tree_pop(store.as_mut_ptr(), store.len(), order, levels, out.as_mut_ptr(), out.len()) }
+    unsafe { raw::card_tree_pop(store.as_mut_ptr(), len(store), order, levels, out.as_mut_ptr(), len(out)) }
 }
 
 /// Gives a tree's element of lowest rank, and then takes a new element in.
@@ -76,23 +90,21 @@ pub fn tree_replace(
 ) -> u32 {
     let (s, o) = (store, out);
     // SAFETY: borrowed slices, as said above.
-    unsafe {
-        raw::card_tree_replace(s.as_mut_ptr(), s.len(), order, levels, rank, tag, length, o.as_mut_ptr(), o.len())
-    }
+    unsafe { raw::card_tree_replace(s.as_mut_ptr(), len(s), order, levels, rank, tag, length, o.as_mut_ptr(), len(o)) }
 }
 
 /// Gives the number of a tree's held elements.
 #[inline]
 pub fn tree_held(store: &[u32], order: u32, levels: u32, out: &mut [u32]) -> u32 {
     // SAFETY: borrowed slices, as said above.
-    unsafe { raw::card_tree_held(store.as_ptr(), store.len(), order, levels, out.as_mut_ptr(), out.len()) }
+    unsafe { raw::card_tree_held(store.as_ptr(), len(store), order, levels, out.as_mut_ptr(), len(out)) }
 }
 
 /// Checks a tree's store: 1 and 0 in `out` where no slot is broken, else 0 and the number of the first broken slot.
 #[inline]
 pub fn tree_check(store: &[u32], order: u32, levels: u32, out: &mut [u32]) -> u32 {
     // SAFETY: borrowed slices, as said above.
-    unsafe { raw::card_tree_check(store.as_ptr(), store.len(), order, levels, out.as_mut_ptr(), out.len()) }
+    unsafe { raw::card_tree_check(store.as_ptr(), len(store), order, levels, out.as_mut_ptr(), len(out)) }
 }
 
 /// Clears the second store and pushes into it every slot of the first with a count not 0; gives the number of those with tag 0, which
@@ -101,7 +113,7 @@ pub fn tree_check(store: &[u32], order: u32, levels: u32, out: &mut [u32]) -> u3
 pub fn tree_mend(from: &[u32], to: &mut [u32], order: u32, levels: u32, out: &mut [u32]) -> u32 {
     let (f, t, o) = (from, to, out);
     // SAFETY: borrowed slices, as said above.
-    unsafe { raw::card_tree_mend(f.as_ptr(), f.len(), t.as_mut_ptr(), t.len(), order, levels, o.as_mut_ptr(), o.len()) }
+    unsafe { raw::card_tree_mend(f.as_ptr(), len(f), t.as_mut_ptr(), len(t), order, levels, o.as_mut_ptr(), len(o)) }
 }
 
 /// Sets the clock and all finishes of fair ranks to 0, where nothing is held.
@@ -109,7 +121,7 @@ pub fn tree_mend(from: &[u32], to: &mut [u32], order: u32, levels: u32, out: &mu
 pub fn fair_reset(state: &mut [u32], store: &[u32], order: u32, levels: u32) -> u32 {
     let (t, s) = (state, store);
     // SAFETY: borrowed slices, as said above.
-    unsafe { raw::card_fair_reset(t.as_mut_ptr(), t.len(), s.as_ptr(), s.len(), order, levels) }
+    unsafe { raw::card_fair_reset(t.as_mut_ptr(), len(t), s.as_ptr(), len(s), order, levels) }
 }
 
 /// Takes a strip of a flow in, at the rank that its weight and length give it.
@@ -127,7 +139,7 @@ pub fn fair_push(
     let (t, s) = (state, store);
     let (state, store) = (t.as_mut_ptr(), s.as_mut_ptr());
     // SAFETY: borrowed slices, as said above.
-    unsafe { raw::card_fair_push(state, t.len(), store, s.len(), order, levels, flow, weight, tag, length) }
+    unsafe { raw::card_fair_push(state, len(t), store, len(s), order, levels, flow, weight, tag, length) }
 }
 
 /// Gives the strip of lowest rank, which the clock becomes.
@@ -136,35 +148,35 @@ pub fn fair_pop(state: &mut [u32], store: &mut [u32], order: u32, levels: u32, o
     let (t, s, o) = (state, store, out);
     let (state, store, out) = (t.as_mut_ptr(), s.as_mut_ptr(), o.as_mut_ptr());
     // SAFETY: borrowed slices, as said above.
-    unsafe { raw::card_fair_pop(state, t.len(), store, s.len(), order, levels, out, o.len()) }
+    unsafe { raw::card_fair_pop(state, len(t), store, len(s), order, levels, out, len(o)) }
 }
 
 /// Gives the number of strips held by fair ranks.
 #[inline]
 pub fn fair_held(store: &[u32], order: u32, levels: u32, out: &mut [u32]) -> u32 {
     // SAFETY: borrowed slices, as said above.
-    unsafe { raw::card_fair_held(store.as_ptr(), store.len(), order, levels, out.as_mut_ptr(), out.len()) }
+    unsafe { raw::card_fair_held(store.as_ptr(), len(store), order, levels, out.as_mut_ptr(), len(out)) }
 }
 
 /// Empties a cluster heap.
 #[inline]
 pub fn cluster_clear(store: &mut [u32], places: u32, levels: u32) -> u32 {
     // SAFETY: borrowed slices, as said above.
-    unsafe { raw::card_cluster_clear(store.as_mut_ptr(), store.len(), places, levels) }
+    unsafe { raw::card_cluster_clear(store.as_mut_ptr(), len(store), places, levels) }
 }
 
 /// Takes an element into a cluster heap.
 #[inline]
 pub fn cluster_push(store: &mut [u32], places: u32, levels: u32, rank: u32, tag: u32, length: u32) -> u32 {
     // SAFETY: borrowed slices, as said above.
-    unsafe { raw::card_cluster_push(store.as_mut_ptr(), store.len(), places, levels, rank, tag, length) }
+    unsafe { raw::card_cluster_push(store.as_mut_ptr(), len(store), places, levels, rank, tag, length) }
 }
 
 /// Gives a cluster heap's element of lowest rank.
 #[inline]
 pub fn cluster_pop(store: &mut [u32], places: u32, levels: u32, out: &mut [u32]) -> u32 {
     // SAFETY: borrowed slices, as said above.
-    unsafe { raw::card_cluster_pop(store.as_mut_ptr(), store.len(), places, levels, out.as_mut_ptr(), out.len()) }
+    unsafe { raw::card_cluster_pop(store.as_mut_ptr(), len(store), places, levels, out.as_mut_ptr(), len(out)) }
 }
 
 /// Gives a cluster heap's element of lowest rank, and then takes a new element in.
@@ -181,7 +193,7 @@ pub fn cluster_replace(
     let (s, o) = (store, out);
     // SAFETY: borrowed slices, as said above.
     unsafe {
-        raw::card_cluster_replace(s.as_mut_ptr(), s.len(), places, levels, rank, tag, length, o.as_mut_ptr(), o.len())
+        raw::card_cluster_replace(s.as_mut_ptr(), len(s), places, levels, rank, tag, length, o.as_mut_ptr(), len(o))
     }
 }
 
@@ -189,7 +201,7 @@ pub fn cluster_replace(
 #[inline]
 pub fn cluster_held(store: &[u32], places: u32, levels: u32, out: &mut [u32]) -> u32 {
     // SAFETY: borrowed slices, as said above.
-    unsafe { raw::card_cluster_held(store.as_ptr(), store.len(), places, levels, out.as_mut_ptr(), out.len()) }
+    unsafe { raw::card_cluster_held(store.as_ptr(), len(store), places, levels, out.as_mut_ptr(), len(out)) }
 }
 
 /// Empties a bucket queue.
@@ -197,7 +209,7 @@ pub fn cluster_held(store: &[u32], places: u32, levels: u32, out: &mut [u32]) ->
 pub fn bucket_clear(bits: &mut [u64], words: &mut [u32], storeys: u32, nodes: u32) -> u32 {
     let (b, w) = (bits, words);
     // SAFETY: borrowed slices, as said above.
-    unsafe { raw::card_bucket_clear(b.as_mut_ptr(), b.len(), w.as_mut_ptr(), w.len(), storeys, nodes) }
+    unsafe { raw::card_bucket_clear(b.as_mut_ptr(), len(b), w.as_mut_ptr(), len(w), storeys, nodes) }
 }
 
 /// Takes an element into a bucket queue.
@@ -213,9 +225,7 @@ pub fn bucket_push(
 ) -> u32 {
     let (b, w) = (bits, words);
     // SAFETY: borrowed slices, as said above.
-    unsafe {
-        raw::card_bucket_push(b.as_mut_ptr(), b.len(), w.as_mut_ptr(), w.len(), storeys, nodes, rank, tag, length)
-    }
+    unsafe { raw::card_bucket_push(b.as_mut_ptr(), len(b), w.as_mut_ptr(), len(w), storeys, nodes, rank, tag, length) }
 }
 
 /// Gives a bucket queue's first element of the lowest rank.
@@ -224,7 +234,7 @@ pub fn bucket_pop(bits: &mut [u64], words: &mut [u32], storeys: u32, nodes: u32,
     let (b, w, o) = (bits, words, out);
     let (bits, words, out) = (b.as_mut_ptr(), w.as_mut_ptr(), o.as_mut_ptr());
     // SAFETY: borrowed slices, as said above.
-    unsafe { raw::card_bucket_pop(bits, b.len(), words, w.len(), storeys, nodes, out, o.len()) }
+    unsafe { raw::card_bucket_pop(bits, len(b), words, len(w), storeys, nodes, out, len(o)) }
 }
 
 /// Gives a bucket queue's first element of the lowest rank, and then takes a new element in.
@@ -242,7 +252,7 @@ pub fn bucket_replace(
     let (b, w, o) = (bits, words, out);
     let (bits, words, out) = (b.as_mut_ptr(), w.as_mut_ptr(), o.as_mut_ptr());
     // SAFETY: borrowed slices, as said above.
-    unsafe { raw::card_bucket_replace(bits, b.len(), words, w.len(), storeys, nodes, rank, tag, length, out, o.len()) }
+    unsafe { raw::card_bucket_replace(bits, len(b), words, len(w), storeys, nodes, rank, tag, length, out, len(o)) }
 }
 
 /// Gives the number of a bucket queue's held elements.
@@ -250,7 +260,7 @@ pub fn bucket_replace(
 pub fn bucket_held(bits: &[u64], words: &[u32], storeys: u32, nodes: u32, out: &mut [u32]) -> u32 {
     let (b, w, o) = (bits, words, out);
     // SAFETY: borrowed slices, as said above.
-    unsafe { raw::card_bucket_held(b.as_ptr(), b.len(), w.as_ptr(), w.len(), storeys, nodes, o.as_mut_ptr(), o.len()) }
+    unsafe { raw::card_bucket_held(b.as_ptr(), len(b), w.as_ptr(), len(w), storeys, nodes, o.as_mut_ptr(), len(o)) }
 }
 
 /// Empties all ports of a pool and fixes their limits: a floor and a ceiling for each.
@@ -259,7 +269,7 @@ pub fn ports_clear(bits: &mut [u64], words: &mut [u32], storeys: u32, nodes: u32
     let (b, w, l) = (bits, words, limits);
     let (bits, words, limits) = (b.as_mut_ptr(), w.as_mut_ptr(), l.as_ptr());
     // SAFETY: borrowed slices, as said above.
-    unsafe { raw::card_ports_clear(bits, b.len(), words, w.len(), storeys, nodes, ports, limits, l.len()) }
+    unsafe { raw::card_ports_clear(bits, len(b), words, len(w), storeys, nodes, ports, limits, len(l)) }
 }
 
 /// Takes an element in at a port.
@@ -278,7 +288,7 @@ pub fn ports_push(
     let (b, w) = (bits, words);
     let (bits, words) = (b.as_mut_ptr(), w.as_mut_ptr());
     // SAFETY: borrowed slices, as said above.
-    unsafe { raw::card_ports_push(bits, b.len(), words, w.len(), storeys, nodes, ports, port, rank, tag, length) }
+    unsafe { raw::card_ports_push(bits, len(b), words, len(w), storeys, nodes, ports, port, rank, tag, length) }
 }
 
 /// Gives a port's first element of its lowest rank.
@@ -295,7 +305,7 @@ pub fn ports_pop(
     let (b, w, o) = (bits, words, out);
     let (bits, words, out) = (b.as_mut_ptr(), w.as_mut_ptr(), o.as_mut_ptr());
     // SAFETY: borrowed slices, as said above.
-    unsafe { raw::card_ports_pop(bits, b.len(), words, w.len(), storeys, nodes, ports, port, out, o.len()) }
+    unsafe { raw::card_ports_pop(bits, len(b), words, len(w), storeys, nodes, ports, port, out, len(o)) }
 }
 
 /// Gives a port's first element of its lowest rank, and then takes a new element in there.
@@ -316,9 +326,9 @@ pub fn ports_replace(
     unsafe {
         raw::card_ports_replace(
             bits.as_mut_ptr(),
-            bits.len(),
+            len(bits),
             words.as_mut_ptr(),
-            words.len(),
+            len(words),
             storeys,
             nodes,
             ports,
@@ -327,7 +337,7 @@ pub fn ports_replace(
             tag,
             length,
             out.as_mut_ptr(),
-            out.len(),
+            len(out),
         )
     }
 }
@@ -346,7 +356,7 @@ pub fn ports_held(
     let (b, w, o) = (bits, words, out);
     let (bits, words, out) = (b.as_ptr(), w.as_ptr(), o.as_mut_ptr());
     // SAFETY: borrowed slices, as said above.
-    unsafe { raw::card_ports_held(bits, b.len(), words, w.len(), storeys, nodes, ports, port, out, o.len()) }
+    unsafe { raw::card_ports_held(bits, len(b), words, len(w), storeys, nodes, ports, port, out, len(o)) }
 }
 
 /// Empties a clocked tree, its records and its mark.
@@ -355,7 +365,7 @@ pub fn clocked_clear(store: &mut [u32], order: u32, levels: u32, records: &mut [
     let (s, r, m) = (store, records, mark);
     let (store, records, mark) = (s.as_mut_ptr(), r.as_mut_ptr(), m.as_mut_ptr());
     // SAFETY: borrowed slices, as said above.
-    unsafe { raw::card_clocked_clear(store, s.len(), order, levels, records, r.len(), mark, m.len()) }
+    unsafe { raw::card_clocked_clear(store, len(s), order, levels, records, len(r), mark, len(m)) }
 }
 
 /// Runs one cycle of a clocked tree with a request: 0 idle, 1 push, 2 pop, 3 replace.
@@ -376,19 +386,19 @@ pub fn clocked_cycle(
     unsafe {
         raw::card_clocked_cycle(
             store.as_mut_ptr(),
-            store.len(),
+            len(store),
             order,
             levels,
             records.as_mut_ptr(),
-            records.len(),
+            len(records),
             mark.as_mut_ptr(),
-            mark.len(),
+            len(mark),
             request,
             rank,
             tag,
             length,
             out.as_mut_ptr(),
-            out.len(),
+            len(out),
         )
     }
 }
@@ -408,16 +418,16 @@ pub fn clocked_drain(
     unsafe {
         raw::card_clocked_drain(
             store.as_mut_ptr(),
-            store.len(),
+            len(store),
             order,
             levels,
             records.as_mut_ptr(),
-            records.len(),
+            len(records),
             mark.as_mut_ptr(),
-            mark.len(),
+            len(mark),
             budget,
             out.as_mut_ptr(),
-            out.len(),
+            len(out),
         )
     }
 }
@@ -426,7 +436,7 @@ pub fn clocked_drain(
 #[inline]
 pub fn clocked_held(store: &[u32], order: u32, levels: u32, out: &mut [u32]) -> u32 {
     // SAFETY: borrowed slices, as said above.
-    unsafe { raw::card_clocked_held(store.as_ptr(), store.len(), order, levels, out.as_mut_ptr(), out.len()) }
+    unsafe { raw::card_clocked_held(store.as_ptr(), len(store), order, levels, out.as_mut_ptr(), len(out)) }
 }
 
 /// Empties a clocked cluster heap and its records.
@@ -434,7 +444,7 @@ pub fn clocked_held(store: &[u32], order: u32, levels: u32, out: &mut [u32]) -> 
 pub fn clocked_cluster_clear(store: &mut [u32], places: u32, levels: u32, records: &mut [ClusterRecord]) -> u32 {
     let (s, r) = (store, records);
     // SAFETY: borrowed slices, as said above.
-    unsafe { raw::card_clocked_cluster_clear(s.as_mut_ptr(), s.len(), places, levels, r.as_mut_ptr(), r.len()) }
+    unsafe { raw::card_clocked_cluster_clear(s.as_mut_ptr(), len(s), places, levels, r.as_mut_ptr(), len(r)) }
 }
 
 /// Runs one cycle of a clocked cluster heap with a request: 0 idle, 1 push, 2 pop, 3 replace.
@@ -454,17 +464,17 @@ pub fn clocked_cluster_cycle(
     unsafe {
         raw::card_clocked_cluster_cycle(
             store.as_mut_ptr(),
-            store.len(),
+            len(store),
             places,
             levels,
             records.as_mut_ptr(),
-            records.len(),
+            len(records),
             request,
             rank,
             tag,
             length,
             out.as_mut_ptr(),
-            out.len(),
+            len(out),
         )
     }
 }
@@ -482,7 +492,7 @@ pub fn clocked_cluster_drain(
     let (s, r, o) = (store, records, out);
     let (store, records, out) = (s.as_mut_ptr(), r.as_mut_ptr(), o.as_mut_ptr());
     // SAFETY: borrowed slices, as said above.
-    unsafe { raw::card_clocked_cluster_drain(store, s.len(), places, levels, records, r.len(), budget, out, o.len()) }
+    unsafe { raw::card_clocked_cluster_drain(store, len(s), places, levels, records, len(r), budget, out, len(o)) }
 }
 
 /// Gives the number of a clocked cluster heap's held elements.
@@ -490,7 +500,7 @@ pub fn clocked_cluster_drain(
 pub fn clocked_cluster_held(store: &[u32], places: u32, levels: u32, out: &mut [u32]) -> u32 {
     let (s, o) = (store, out);
     // SAFETY: borrowed slices, as said above.
-    unsafe { raw::card_clocked_cluster_held(s.as_ptr(), s.len(), places, levels, o.as_mut_ptr(), o.len()) }
+    unsafe { raw::card_clocked_cluster_held(s.as_ptr(), len(s), places, levels, o.as_mut_ptr(), len(o)) }
 }
 
 /// How many words a tree's store needs; 0 for a bad shape.
@@ -511,7 +521,7 @@ pub fn cluster_words(places: u32, levels: u32) -> u32 {
 #[inline]
 pub fn fair_words() -> usize {
     // SAFETY: it is handed nothing.
-    unsafe { raw::card_fair_words() }
+    unsafe { raw::card_fair_words() as usize }
 }
 
 /// How many words of 64 bits a bucket queue of so many storeys needs; 0 for a depth that there is not.

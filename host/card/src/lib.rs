@@ -68,6 +68,9 @@ pub use tree::Tree;
 
 use core::fmt;
 
+/// The version of the library's calls that this crate was written for; [`calls::version`] is that of the library which is linked.
+pub const VERSION: u32 = 1;
+
 /// A rank: lower leaves first.
 #[derive(Clone, Copy, PartialEq, Eq, PartialOrd, Ord, Hash, Debug, Default)]
 pub struct Rank(pub u32);

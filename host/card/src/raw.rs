@@ -5,76 +5,74 @@
 
 use crate::{ClusterRecord, Record};
 
+/// A length, as the library has it on every machine: 64 bits, also where a pointer has 32.
+pub type Len = u64;
+
 extern "C" {
-    pub fn card_tree_clear(store: *mut u32, store_len: usize, order: u32, levels: u32) -> u32;
+    pub fn card_version() -> u32;
+
+    pub fn card_tree_clear(store: *mut u32, store_len: Len, order: u32, levels: u32) -> u32;
     pub fn card_tree_push(
         store: *mut u32,
-        store_len: usize,
+        store_len: Len,
         order: u32,
         levels: u32,
         rank: u32,
         tag: u32,
         length: u32,
     ) -> u32;
-    pub fn card_tree_pop(
-        store: *mut u32,
-        store_len: usize,
-        order: u32,
-        levels: u32,
-        out: *mut u32,
-        out_len: usize,
-    ) -> u32;
+    pub fn card_tree_pop(store: *mut u32, store_len: Len, order: u32, levels: u32, out: *mut u32, out_len: Len) -> u32;
     pub fn card_tree_replace(
         store: *mut u32,
-        store_len: usize,
+        store_len: Len,
         order: u32,
         levels: u32,
         rank: u32,
         tag: u32,
         length: u32,
         out: *mut u32,
-        out_len: usize,
+        out_len: Len,
     ) -> u32;
     pub fn card_tree_held(
         store: *const u32,
-        store_len: usize,
+        store_len: Len,
         order: u32,
         levels: u32,
         out: *mut u32,
-        out_len: usize,
+        out_len: Len,
     ) -> u32;
     pub fn card_tree_check(
         store: *const u32,
-        store_len: usize,
+        store_len: Len,
         order: u32,
         levels: u32,
         out: *mut u32,
-        out_len: usize,
+        out_len: Len,
     ) -> u32;
     pub fn card_tree_mend(
         from: *const u32,
-        from_len: usize,
+        from_len: Len,
         to: *mut u32,
-        to_len: usize,
+        to_len: Len,
         order: u32,
         levels: u32,
         out: *mut u32,
-        out_len: usize,
+        out_len: Len,
     ) -> u32;
 
     pub fn card_fair_reset(
         state: *mut u32,
-        state_len: usize,
+        state_len: Len,
         store: *const u32,
-        store_len: usize,
+        store_len: Len,
         order: u32,
         levels: u32,
     ) -> u32;
     pub fn card_fair_push(
         state: *mut u32,
-        state_len: usize,
+        state_len: Len,
         store: *mut u32,
-        store_len: usize,
+        store_len: Len,
         order: u32,
         levels: u32,
         flow: u32,
@@ -84,27 +82,27 @@ extern "C" {
     ) -> u32;
     pub fn card_fair_pop(
         state: *mut u32,
-        state_len: usize,
+        state_len: Len,
         store: *mut u32,
-        store_len: usize,
+        store_len: Len,
         order: u32,
         levels: u32,
         out: *mut u32,
-        out_len: usize,
+        out_len: Len,
     ) -> u32;
     pub fn card_fair_held(
         store: *const u32,
-        store_len: usize,
+        store_len: Len,
         order: u32,
         levels: u32,
         out: *mut u32,
-        out_len: usize,
+        out_len: Len,
     ) -> u32;
 
-    pub fn card_cluster_clear(store: *mut u32, store_len: usize, places: u32, levels: u32) -> u32;
+    pub fn card_cluster_clear(store: *mut u32, store_len: Len, places: u32, levels: u32) -> u32;
     pub fn card_cluster_push(
         store: *mut u32,
-        store_len: usize,
+        store_len: Len,
         places: u32,
         levels: u32,
         rank: u32,
@@ -113,45 +111,45 @@ extern "C" {
     ) -> u32;
     pub fn card_cluster_pop(
         store: *mut u32,
-        store_len: usize,
+        store_len: Len,
         places: u32,
         levels: u32,
         out: *mut u32,
-        out_len: usize,
+        out_len: Len,
     ) -> u32;
     pub fn card_cluster_replace(
         store: *mut u32,
-        store_len: usize,
+        store_len: Len,
         places: u32,
         levels: u32,
         rank: u32,
         tag: u32,
         length: u32,
         out: *mut u32,
-        out_len: usize,
+        out_len: Len,
     ) -> u32;
     pub fn card_cluster_held(
         store: *const u32,
-        store_len: usize,
+        store_len: Len,
         places: u32,
         levels: u32,
         out: *mut u32,
-        out_len: usize,
+        out_len: Len,
     ) -> u32;
 
     pub fn card_bucket_clear(
         bits: *mut u64,
-        bits_len: usize,
+        bits_len: Len,
         words: *mut u32,
-        words_len: usize,
+        words_len: Len,
         storeys: u32,
         nodes: u32,
     ) -> u32;
     pub fn card_bucket_push(
         bits: *mut u64,
-        bits_len: usize,
+        bits_len: Len,
         words: *mut u32,
-        words_len: usize,
+        words_len: Len,
         storeys: u32,
         nodes: u32,
         rank: u32,
@@ -160,54 +158,54 @@ extern "C" {
     ) -> u32;
     pub fn card_bucket_pop(
         bits: *mut u64,
-        bits_len: usize,
+        bits_len: Len,
         words: *mut u32,
-        words_len: usize,
+        words_len: Len,
         storeys: u32,
         nodes: u32,
         out: *mut u32,
-        out_len: usize,
+        out_len: Len,
     ) -> u32;
     pub fn card_bucket_replace(
         bits: *mut u64,
-        bits_len: usize,
+        bits_len: Len,
         words: *mut u32,
-        words_len: usize,
+        words_len: Len,
         storeys: u32,
         nodes: u32,
         rank: u32,
         tag: u32,
         length: u32,
         out: *mut u32,
-        out_len: usize,
+        out_len: Len,
     ) -> u32;
     pub fn card_bucket_held(
         bits: *const u64,
-        bits_len: usize,
+        bits_len: Len,
         words: *const u32,
-        words_len: usize,
+        words_len: Len,
         storeys: u32,
         nodes: u32,
         out: *mut u32,
-        out_len: usize,
+        out_len: Len,
     ) -> u32;
 
     pub fn card_ports_clear(
         bits: *mut u64,
-        bits_len: usize,
+        bits_len: Len,
         words: *mut u32,
-        words_len: usize,
+        words_len: Len,
         storeys: u32,
         nodes: u32,
         ports: u32,
         limits: *const u32,
-        limits_len: usize,
+        limits_len: Len,
     ) -> u32;
     pub fn card_ports_push(
         bits: *mut u64,
-        bits_len: usize,
+        bits_len: Len,
         words: *mut u32,
-        words_len: usize,
+        words_len: Len,
         storeys: u32,
         nodes: u32,
         ports: u32,
@@ -218,21 +216,21 @@ extern "C" {
     ) -> u32;
     pub fn card_ports_pop(
         bits: *mut u64,
-        bits_len: usize,
+        bits_len: Len,
         words: *mut u32,
-        words_len: usize,
+        words_len: Len,
         storeys: u32,
         nodes: u32,
         ports: u32,
         port: u32,
         out: *mut u32,
-        out_len: usize,
+        out_len: Len,
     ) -> u32;
     pub fn card_ports_replace(
         bits: *mut u64,
-        bits_len: usize,
+        bits_len: Len,
         words: *mut u32,
-        words_len: usize,
+        words_len: Len,
         storeys: u32,
         nodes: u32,
         ports: u32,
@@ -241,114 +239,114 @@ extern "C" {
         tag: u32,
         length: u32,
         out: *mut u32,
-        out_len: usize,
+        out_len: Len,
     ) -> u32;
     pub fn card_ports_held(
         bits: *const u64,
-        bits_len: usize,
+        bits_len: Len,
         words: *const u32,
-        words_len: usize,
+        words_len: Len,
         storeys: u32,
         nodes: u32,
         ports: u32,
         port: u32,
         out: *mut u32,
-        out_len: usize,
+        out_len: Len,
     ) -> u32;
 
     pub fn card_clocked_clear(
         store: *mut u32,
-        store_len: usize,
+        store_len: Len,
         order: u32,
         levels: u32,
         records: *mut Record,
-        records_len: usize,
+        records_len: Len,
         mark: *mut u32,
-        mark_len: usize,
+        mark_len: Len,
     ) -> u32;
     pub fn card_clocked_cycle(
         store: *mut u32,
-        store_len: usize,
+        store_len: Len,
         order: u32,
         levels: u32,
         records: *mut Record,
-        records_len: usize,
+        records_len: Len,
         mark: *mut u32,
-        mark_len: usize,
+        mark_len: Len,
         request: u32,
         rank: u32,
         tag: u32,
         length: u32,
         out: *mut u32,
-        out_len: usize,
+        out_len: Len,
     ) -> u32;
     pub fn card_clocked_drain(
         store: *mut u32,
-        store_len: usize,
+        store_len: Len,
         order: u32,
         levels: u32,
         records: *mut Record,
-        records_len: usize,
+        records_len: Len,
         mark: *mut u32,
-        mark_len: usize,
+        mark_len: Len,
         budget: u32,
         out: *mut u32,
-        out_len: usize,
+        out_len: Len,
     ) -> u32;
     pub fn card_clocked_held(
         store: *const u32,
-        store_len: usize,
+        store_len: Len,
         order: u32,
         levels: u32,
         out: *mut u32,
-        out_len: usize,
+        out_len: Len,
     ) -> u32;
 
     pub fn card_clocked_cluster_clear(
         store: *mut u32,
-        store_len: usize,
+        store_len: Len,
         places: u32,
         levels: u32,
         records: *mut ClusterRecord,
-        records_len: usize,
+        records_len: Len,
     ) -> u32;
     pub fn card_clocked_cluster_cycle(
         store: *mut u32,
-        store_len: usize,
+        store_len: Len,
         places: u32,
         levels: u32,
         records: *mut ClusterRecord,
-        records_len: usize,
+        records_len: Len,
         request: u32,
         rank: u32,
         tag: u32,
         length: u32,
         out: *mut u32,
-        out_len: usize,
+        out_len: Len,
     ) -> u32;
     pub fn card_clocked_cluster_drain(
         store: *mut u32,
-        store_len: usize,
+        store_len: Len,
         places: u32,
         levels: u32,
         records: *mut ClusterRecord,
-        records_len: usize,
+        records_len: Len,
         budget: u32,
         out: *mut u32,
-        out_len: usize,
+        out_len: Len,
     ) -> u32;
     pub fn card_clocked_cluster_held(
         store: *const u32,
-        store_len: usize,
+        store_len: Len,
         places: u32,
         levels: u32,
         out: *mut u32,
-        out_len: usize,
+        out_len: Len,
     ) -> u32;
 
     pub fn card_tree_words(order: u32, levels: u32) -> u32;
     pub fn card_cluster_words(places: u32, levels: u32) -> u32;
-    pub fn card_fair_words() -> usize;
+    pub fn card_fair_words() -> Len;
     pub fn card_bucket_bits(storeys: u32) -> u32;
     pub fn card_bucket_words(storeys: u32, nodes: u32) -> u32;
     pub fn card_ports_bits(storeys: u32, ports: u32) -> u32;

@@ -21,6 +21,9 @@ int main(void) {
     static const char *const names[12] = {"ok",    "bad shape", "damaged",      "too soon",  "bad rank",    "full",
                                           "empty", "no tag",    "no such port", "bad strip", "clock spent", "not empty"};
     uint32_t mark[CARD_MARK_WORDS], out[CARD_OUT_WORDS], order, levels, storeys, nodes;
+    same("version", card_version(), CARD_VERSION);
+    same("bits of a length", 8 * sizeof(card_len), 64);
+    same("words of a state", card_fair_words(), CARD_FAIR_WORDS);
     for (order = 2; order <= 8; order *= 2)
         for (levels = 1; card_tree_words(order, levels) != 0; levels++)
             same("words of a tree", CARD_TREE_WORDS(order, levels), card_tree_words(order, levels));

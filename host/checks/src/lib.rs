@@ -1,7 +1,7 @@
 //! What the checks share: where things are, and how programs are run.
 //!
-//! The environment may say: `PLAY` (the trace program), `CARD_LIB` (the static library), `CARD_CC` and `CARD_CXX` (compilers of x86-64
-//! programs), `CARD_TARGET` (what cargo is to compile for), `RUNNER` (what runs an x86-64 program), `CARD_SEED`. `host/run.sh` sets them.
+//! The environment may say: `PLAY` (the trace program), `CARD_LIB` (the static library), `CARD_CC` and `CARD_CXX` (compilers of programs
+//! over it), `CARD_RUNNER` (what runs those), `RUNNER` (what runs an x86-64 program), `CARD_SEED`. `host/run.sh` sets them.
 
 use std::path::{Path, PathBuf};
 use std::process::{Command, Output};
@@ -28,14 +28,19 @@ pub fn play() -> PathBuf {
     made("PLAY", "target/bin/play", "rt check play")
 }
 
-/// The static library.
+/// The static library, that for this machine where none is named.
 pub fn library() -> PathBuf {
-    made("CARD_LIB", "target/staticlib/libcard.a", "rt staticlib card")
+    made("CARD_LIB", &format!("target/lib/{}/libcard.a", here()), "host/lib.sh")
 }
 
-/// A command for an x86-64 program, by way of the emulator where there is one.
-pub fn x86(program: &Path) -> Command {
-    let runner = words("RUNNER");
+/// What `host/lib.sh` calls this machine.
+pub fn here() -> String {
+    format!("{}-linux", std::env::consts::ARCH)
+}
+
+/// A command for a program, by way of an emulator where a variable names one.
+fn by(variable: &str, program: &Path) -> Command {
+    let runner = words(variable);
     match runner.split_first() {
         None => Command::new(program),
         Some((emulator, rest)) => {
@@ -44,6 +49,16 @@ pub fn x86(program: &Path) -> Command {
             command
         }
     }
+}
+
+/// A command for an x86-64 program.
+pub fn x86(program: &Path) -> Command {
+    by("RUNNER", program)
+}
+
+/// A command for a program over the library.
+pub fn linked(program: &Path) -> Command {
+    by("CARD_RUNNER", program)
 }
 
 /// The compiler that a variable names.

@@ -1,6 +1,6 @@
 //! The header, compiled as C and as C++ with every warning an error, and the programs that use it, run.
 
-use checks::{compiler, done, library, outside, root, text, x86};
+use checks::{compiler, done, library, linked, outside, root, text};
 use std::path::Path;
 
 /// Compiles a program in each language of the header and gives what each wrote.
@@ -13,7 +13,7 @@ fn in_each(source: &str) -> Vec<(&'static str, String)> {
         command.args(["-Wall", "-Wextra", "-Werror", "-pedantic", "-Wno-long-long", "-O2", "-x", language]);
         command.arg(format!("-std={standard}")).arg("-I").arg(root().join("host")).arg(&source).args(["-x", "none"]);
         done(command.arg(library()).arg("-o").arg(&program));
-        (standard, done(&mut x86(&program)))
+        (standard, done(&mut linked(&program)))
     });
     std::fs::remove_dir_all(&folder).unwrap();
     written.to_vec()
@@ -69,6 +69,13 @@ fn the_clocked_cluster_heap() {
     }
 }
 
+#[test]
+fn power_goes_in_the_middle_of_a_call() {
+    for (standard, written) in in_each("host/checks/c/cut.c") {
+        assert_eq!(written, "", "{standard}");
+    }
+}
+
 /// Included twice and in two files of one program: nothing is defined twice, nothing is unused.
 #[test]
 fn in_two_files_of_one_program() {
@@ -86,6 +93,6 @@ fn in_two_files_of_one_program() {
     command.args(["-std=c99", "-Wall", "-Wextra", "-Werror", "-pedantic", "-I"]).arg(root().join("host"));
     let program = folder.join("program");
     done(command.args(&files).arg(library()).arg("-o").arg(&program));
-    done(&mut x86(Path::new(&program)));
+    done(&mut linked(Path::new(&program)));
     std::fs::remove_dir_all(&folder).unwrap();
 }

@@ -2,7 +2,7 @@
 //! functions of the library's own source.
 //!
 //! Each function's parameters must have the same names, types and order in all three, a slice being a pointer and then a length in the
-//! first two.
+//! first two; the source's `usize`, of 64 bits, is `card_len` in C and `Len` in Rust.
 
 use checks::{root, text};
 use std::collections::{BTreeMap, BTreeSet};
@@ -87,7 +87,7 @@ fn joined(flat: Vec<(String, String)>) -> Result<Vec<String>, String> {
             other => return Err(format!("{name} has the type {other}")),
         };
         match rest.next() {
-            Some((length, kind)) if kind == "usize" && length == format!("{name}_len") => {
+            Some((length, kind)) if kind == "Len" && length == format!("{name}_len") => {
                 out.push(format!("{name}: {slice}"))
             }
             other => return Err(format!("after {name} stands {other:?} and no {name}_len")),
@@ -153,7 +153,7 @@ fn of_rust(text: &str) -> Result<Functions, String> {
         let (name, after) = rest[at + key.len()..].split_once('(').ok_or("no parenthesis after a name")?;
         let (parameters, after) = to_the_end(after).ok_or("no closing parenthesis")?;
         let (answer, after) = after.split_once(';').ok_or("no semicolon")?;
-        let answer = squeezed(answer).trim_start_matches("->").trim().to_string();
+        let answer = squeezed(answer).trim_start_matches("->").trim().replace("Len", "usize");
         let mut flat = Vec::new();
         for p in split(parameters) {
             flat.push(name_and_type(&p)?);
@@ -198,7 +198,7 @@ fn of_header(text: &str) -> Result<Functions, String> {
         let (answer, name) = start.trim().rsplit_once(' ').ok_or(format!("no type before {start}"))?;
         let answer = match answer {
             "uint32_t" => "u32".to_string(),
-            "size_t" => "usize".to_string(),
+            "card_len" => "usize".to_string(),
             other => other.to_string(),
         };
         let mut flat = Vec::new();
@@ -207,7 +207,7 @@ fn of_header(text: &str) -> Result<Functions, String> {
             let (kind, n) = (squeezed(&p[..at + 1]), p[at + 1..].to_string());
             let kind = match kind.as_str() {
                 "uint32_t" => "u32",
-                "size_t" => "usize",
+                "card_len" => "Len",
                 "uint32_t *" => "*mut u32",
                 "uint64_t *" => "*mut u64",
                 "struct card_record *" => "*mut Record",
@@ -250,6 +250,20 @@ fn header_declarations_and_source_agree() {
     assert!(wrong.is_empty(), "{wrong}");
 }
 
+/// The version stands in the source's contract, in its code, in the header and in the wrapper: one number.
+#[test]
+fn one_version() {
+    let number = |path: &str, before: &str, after: &str| {
+        let all = text(&root().join(path));
+        let found: Vec<&str> = all.split(before).skip(1).filter_map(|rest| rest.split(after).next()).collect();
+        assert_eq!(found.len(), 1, "{path}: {before}");
+        found[0].trim().parse::<u32>().unwrap_or_else(|_| panic!("{path}: {} is no number", found[0]))
+    };
+    let version = number("crates/card/src/version.rt", "⌜ r ≡ ", " ⌝");
+    assert_eq!(number("host/card.h", "#define CARD_VERSION ", "u\n"), version);
+    assert_eq!(number("host/card/src/lib.rs", "pub const VERSION: u32 = ", ";"), version);
+}
+
 /// The safe layer has each function once, under the name without its first word.
 #[test]
 fn the_safe_layer_has_every_call() {
@@ -259,6 +273,18 @@ fn the_safe_layer_has_every_call() {
         let short = name.trim_start_matches("card_");
         assert_eq!(calls.matches(&format!("pub fn {short}(")).count(), 1, "{name}");
         assert_eq!(calls.matches(&format!("raw::{name}(")).count(), 1, "{name}");
+    }
+}
+
+/// The soak makes every call, and the stack of every call is measured.
+#[test]
+fn the_soak_and_the_stack_have_every_call() {
+    let declared = of_header(&text(&root().join("host/card.h"))).unwrap();
+    for program in ["host/checks/c/soak.c", "host/checks/c/stack.c"] {
+        let program_text = text(&root().join(program));
+        for name in declared.keys() {
+            assert!(program_text.contains(&format!("{name}(")), "{program} does not call {name}");
+        }
     }
 }
 

@@ -1,6 +1,6 @@
 //! Projects outside the repository that depend on the wrapper by its path.
 
-use checks::{cargo, done, library, outside, root, run, text, words};
+use checks::{cargo, done, library, outside, root, run, text};
 use std::path::{Path, PathBuf};
 use std::process::Command;
 
@@ -30,9 +30,6 @@ fn project(name: &str, file: &str, code: &str, dependency: &str) -> PathBuf {
 fn cargo_in(folder: &Path, word: &str) -> Command {
     let mut command = cargo();
     command.args([word, "--quiet", "--offline"]).current_dir(folder).env("CARD_LIB", library());
-    for target in words("CARD_TARGET") {
-        command.args(["--target", &target]);
-    }
     command
 }
 
@@ -86,7 +83,7 @@ fn a_missing_library_is_named() {
         let output = run(cargo_in(&folder, "build").env("CARD_LIB", named));
         let said = String::from_utf8_lossy(&output.stderr).into_owned();
         assert!(!output.status.success(), "{named}");
-        assert!(said.contains(says) && said.contains("`rt staticlib card`"), "{said}");
+        assert!(said.contains(says) && said.contains("`host/lib.sh TARGET`"), "{said}");
     }
     std::fs::remove_dir_all(&folder).unwrap();
 }

@@ -1,6 +1,6 @@
 //! The page's examples are the ones that are compiled and run, and each of its commands is run.
 
-use checks::{cargo, compiler, done, library, play, root, text, words, x86};
+use checks::{cargo, compiler, done, library, linked, play, root, text};
 use std::process::Command;
 
 fn readme() -> String {
@@ -51,7 +51,6 @@ fn how(command: &str) -> Run {
     const POPS: Option<&str> = Some("host/examples/pops.txt");
     match command {
         "bash .ci/run" => Run::There(".ci/run", "part host/run.sh"),
-        "rt staticlib card" => Run::There("host/run.sh", "staticlib card"),
         "host/play.sh" => Run::Here(shell(command), Some("crates/play/stdout")),
         "host/bench.sh" => Run::Here(shell("host/bench.sh --brief"), None),
         "host/run.sh" => Run::There(".ci/run", "part host/run.sh"),
@@ -59,26 +58,21 @@ fn how(command: &str) -> Run {
             Run::Here(shell(command), None)
         }
         "host/trace.sh to-text target/worked.pft" => Run::Here(shell(command), Some("host/examples/worked.txt")),
-        "gcc -std=c99 -Ihost host/examples/pops.c target/staticlib/libcard.a -o target/pops" => {
+        "gcc -std=c99 -Ihost host/examples/pops.c \"$(host/lib.sh)\" -o target/pops" => {
             let mut gcc = compiler("CARD_CC", "gcc");
-            let library = library().display().to_string();
-            let words =
-                command.split(' ').skip(1).map(|word| if word.ends_with("libcard.a") { &library } else { word });
-            gcc.args(words).current_dir(root());
+            gcc.args(["-std=c99", "-Ihost", "host/examples/pops.c"]).arg(library()).args(["-o", "target/pops"]);
+            gcc.current_dir(root());
             Run::Here(gcc, None)
         }
         "target/pops" => {
-            let mut pops = x86(&root().join("target/pops"));
+            let mut pops = linked(&root().join("target/pops"));
             pops.current_dir(root());
             Run::Here(pops, POPS)
         }
         "cargo run --manifest-path host/Cargo.toml --example pops" => {
             let mut run = cargo();
-            run.args(["run", "--offline", "--manifest-path", "host/Cargo.toml"]).current_dir(root());
-            for target in words("CARD_TARGET") {
-                run.args(["-p", "card_host", "--target", &target]);
-            }
-            run.args(["--example", "pops"]);
+            run.args(["run", "--offline", "--manifest-path", "host/Cargo.toml", "--example", "pops"])
+                .current_dir(root());
             Run::Here(run, POPS)
         }
         other => panic!("README has the command `{other}`, and nothing here says how it is run"),
@@ -111,5 +105,5 @@ fn each_of_its_commands_is_run() {
         }
         run += 1;
     }
-    assert!(run >= 9, "{run} commands found");
+    assert!(run >= 8, "{run} commands found");
 }

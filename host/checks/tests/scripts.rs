@@ -76,6 +76,7 @@ fn a_text_is_played() {
 fn the_plot_is_drawn_from_a_run() {
     assert_eq!(done(script("plot.sh").arg("-").current_dir("/")), text(&root().join("docs/fair.svg")));
     refused(run(script("plot.sh").args(["a", "b"])), 2, "plot.sh [FILE]");
+    refused(run(script("release.sh").arg("a")), 2, "release.sh");
 }
 
 /// The scoreboard from another folder: the model's own dump agrees, and one with rank and tag exchanged does not.

@@ -1,10 +1,11 @@
 //! Compares the card's library with the plain models, call by call and word by word.
 //!
-//!     cargo test -p compare --test library -- [--self] [--verbose] [--times N] [SEED]
+//!     cargo test -p compare --test library -- [--self] [--verbose] [--brief] [--times N] [SEED]
 //!
 //! `--self` puts the models in the library's place (the harness tests itself), `--verbose` prints how often each clause was met,
-//! `--times N` makes N times as many calls. The same seed makes the same calls. Its parts share one tally of what was met, so it is one
-//! program with a main of its own; it closes with a count as every test of cargo's does.
+//! `--times N` makes N times as many calls, `--brief` a tenth of them, which is too few to ask what was met. The same seed makes the same
+//! calls. Its parts share one tally of what was met, so it is one program with a main of its own; it closes with a count as every test of
+//! cargo's does.
 
 use compare::harness::Harness;
 use compare::side::{Card, Linked, Model};
@@ -54,7 +55,27 @@ fn part<C: Card>(
     score.note(name, result);
 }
 
-fn run<C: Card>(library: C, seed: u64, times: u64, verbose: bool) -> Score {
+/// How much is compared.
+struct Plan {
+    seed: u64,
+    times: u64,
+    brief: bool,
+    verbose: bool,
+}
+
+impl Plan {
+    /// So many calls as the plan makes of these.
+    fn of(&self, calls: u64) -> u64 {
+        if self.brief {
+            (calls / 10).max(1)
+        } else {
+            calls * self.times
+        }
+    }
+}
+
+fn run<C: Card>(library: C, plan: &Plan) -> Score {
+    let seed = plan.seed;
     let mut score = Score { passed: 0, failed: 0 };
     let mut h = Harness::new(library);
 
@@ -73,7 +94,7 @@ fn run<C: Card>(library: C, seed: u64, times: u64, verbose: bool) -> Score {
             // many short ones for the small shapes, and one to the brim and down for each
             let full = if capacity > 2000 { 3 * capacity + 300 } else { 6 * capacity + 60 };
             histories::tree(h, rng, order, levels, full, true);
-            let budget = times * if capacity > 1000 { 2000 } else { 12000 };
+            let budget = plan.of(if capacity > 1000 { 2000 } else { 12000 });
             let each = if capacity > 1000 { 1000 } else { 8 * capacity + 40 };
             let mut made = 0;
             while made < budget && h.failed.is_none() {
@@ -87,7 +108,7 @@ fn run<C: Card>(library: C, seed: u64, times: u64, verbose: bool) -> Score {
         let name = format!("bucket histories, N = {nodes}");
         part(&mut score, &mut h, seed, &name, 200 + i as u64, |h, rng| {
             histories::bucket(h, rng, 2, nodes, 6 * nodes as u64 + 60, true);
-            let budget = times * 8000;
+            let budget = plan.of(8000);
             let each = (8 * nodes as u64 + 40).min(2000);
             let mut made = 0;
             while made < budget && h.failed.is_none() {
@@ -97,7 +118,7 @@ fn run<C: Card>(library: C, seed: u64, times: u64, verbose: bool) -> Score {
         });
     }
     part(&mut score, &mut h, seed, "bucket histories, any N", 299, |h, rng| {
-        for _ in 0..20 * times {
+        for _ in 0..plan.of(20) {
             let nodes = 1 + rng.below(4096) as u32;
             histories::bucket(h, rng, 2, nodes, 1000, false);
             if h.failed.is_some() {
@@ -111,7 +132,7 @@ fn run<C: Card>(library: C, seed: u64, times: u64, verbose: bool) -> Score {
     for (i, (storeys, nodes, calls)) in long.into_iter().enumerate() {
         let name = format!("bucket histories, {storeys} storeys, N = {nodes}");
         part(&mut score, &mut h, seed, &name, 280 + i as u64, |h, rng| {
-            for n in 0..2 * times {
+            for n in 0..plan.of(2) {
                 histories::bucket(h, rng, storeys, nodes, calls, n == 0 && nodes < 1000);
             }
         });
@@ -121,7 +142,7 @@ fn run<C: Card>(library: C, seed: u64, times: u64, verbose: bool) -> Score {
         let name = format!("clocked histories, order {order}, levels {levels}");
         part(&mut score, &mut h, seed, &name, 300 + i as u64, |h, rng| {
             let capacity = models::tree::Shape::new(order, levels).unwrap().capacity();
-            let budget = times * if capacity > 1000 { 8000 } else { 16000 };
+            let budget = plan.of(if capacity > 1000 { 8000 } else { 16000 });
             let each = if capacity > 1000 { 8000 } else { 12 * capacity + 60 };
             let mut made = 0;
             while made < budget && h.failed.is_none() {
@@ -131,7 +152,7 @@ fn run<C: Card>(library: C, seed: u64, times: u64, verbose: bool) -> Score {
         });
     }
 
-    for (i, (order, levels)) in histories::larger().into_iter().enumerate() {
+    for (i, (order, levels)) in histories::larger().into_iter().enumerate().filter(|_| !plan.brief) {
         let name = format!("a large tree, order {order}, levels {levels}");
         part(&mut score, &mut h, seed, &name, 350 + i as u64, |h, rng| large::tree(h, rng, order, levels));
         let name = format!("a large clocked tree, order {order}, levels {levels}");
@@ -139,27 +160,32 @@ fn run<C: Card>(library: C, seed: u64, times: u64, verbose: bool) -> Score {
     }
 
     part(&mut score, &mut h, seed, "edges of shapes and lengths, every call", 400, hostile::edges);
-    part(&mut score, &mut h, seed, "every store of a few words, every call", 401, hostile::small_stores);
+    if !plan.brief {
+        part(&mut score, &mut h, seed, "every store of a few words, every call", 401, hostile::small_stores);
+    }
     for i in 0..4 {
         let name = format!("hostile tree calls, part {}", i + 1);
-        part(&mut score, &mut h, seed, &name, 410 + i, |h, rng| hostile::tree(h, rng, 60_000 * times));
+        part(&mut score, &mut h, seed, &name, 410 + i, |h, rng| hostile::tree(h, rng, plan.of(60_000)));
         let name = format!("hostile bucket calls, part {}", i + 1);
-        part(&mut score, &mut h, seed, &name, 420 + i, |h, rng| hostile::bucket(h, rng, 2, 60_000 * times));
+        part(&mut score, &mut h, seed, &name, 420 + i, |h, rng| hostile::bucket(h, rng, 2, plan.of(60_000)));
         let name = format!("hostile clocked calls, part {}", i + 1);
-        part(&mut score, &mut h, seed, &name, 430 + i, |h, rng| hostile::clocked(h, rng, 150_000 * times));
+        part(&mut score, &mut h, seed, &name, 430 + i, |h, rng| hostile::clocked(h, rng, plan.of(150_000)));
     }
 
     part(&mut score, &mut h, seed, "every bit on the way turned, three storeys", 402, hostile::deep_bits);
     part(&mut score, &mut h, seed, "hostile bucket calls, three storeys", 440, |h, rng| {
-        hostile::bucket(h, rng, 3, 2_000 * times)
+        hostile::bucket(h, rng, 3, plan.of(2_000))
     });
 
+    println!("{} calls compared", h.calls);
+    if plan.brief {
+        return score;
+    }
     if score.failed == 0 {
-        let missed = coverage::check(&h.tally, verbose);
+        let missed = coverage::check(&h.tally, plan.verbose);
         let result = if missed.is_empty() { Ok(String::new()) } else { Err(missed.join("\n      ")) };
         score.note("every refusal, clause and cause was met", result);
     }
-    println!("{} calls compared", h.calls);
     let enough = h.calls >= 1_000_000;
     if score.failed == 0 {
         score.note("a million calls or more", if enough { Ok(String::new()) } else { Err(format!("{}", h.calls)) });
@@ -168,26 +194,28 @@ fn run<C: Card>(library: C, seed: u64, times: u64, verbose: bool) -> Score {
 }
 
 fn usage() -> ! {
-    eprintln!("library [--self] [--verbose] [--times N] [SEED]");
+    eprintln!("library [--self] [--verbose] [--brief] [--times N] [SEED]");
     std::process::exit(2)
 }
 
 fn main() {
-    let (mut seed, mut times, mut own, mut verbose) = (rng::seed(), 1, false, false);
+    let mut plan = Plan { seed: rng::seed(), times: 1, brief: false, verbose: false };
+    let mut own = false;
     let mut args = std::env::args().skip(1);
     while let Some(arg) = args.next() {
         match arg.as_str() {
             "--self" => own = true,
-            "--verbose" => verbose = true,
-            "--times" => times = args.next().and_then(|n| n.parse().ok()).unwrap_or_else(|| usage()),
+            "--verbose" => plan.verbose = true,
+            "--brief" => plan.brief = true,
+            "--times" => plan.times = args.next().and_then(|n| n.parse().ok()).unwrap_or_else(|| usage()),
             // what cargo hands to every test
             "--nocapture" | "--quiet" | "-q" => {}
-            other => seed = other.parse().unwrap_or_else(|_| usage()),
+            other => plan.seed = other.parse().unwrap_or_else(|_| usage()),
         }
     }
-    println!("seed {seed}");
+    println!("seed {}", plan.seed);
     let start = Instant::now();
-    let score = if own { run(Model::default(), seed, times, verbose) } else { run(Linked, seed, times, verbose) };
+    let score = if own { run(Model::default(), &plan) } else { run(Linked, &plan) };
     let (result, seconds) = (if score.failed == 0 { "ok" } else { "FAILED" }, start.elapsed().as_secs_f32());
     println!("\ntest result: {result}. {} passed; {} failed; finished in {seconds:.2}s\n", score.passed, score.failed);
     if score.failed != 0 {

@@ -263,3 +263,8 @@ fn every_refusal_has_its_number_and_name() {
         ("full".into(), (Tag(2), Length(3)))
     );
 }
+
+#[test]
+fn the_library_is_the_one_that_the_wrapper_was_written_for() {
+    assert_eq!(calls::version(), card_host::VERSION);
+}

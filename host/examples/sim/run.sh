@@ -4,31 +4,29 @@
 #
 #   host/examples/sim/run.sh
 #
-# Verilator comes from Debian's packages where it is missing (as root). The library is for x86-64: on an Arm machine the simulation is
-# compiled for x86-64 and run by the emulator. It is no part of the gate.
+# Verilator comes from Debian's packages where it is missing (as root). It is no part of the gate.
 set -eu
 here=$(cd "$(dirname "$0")" && pwd)
 cd "$here/../../.."
 . host/tools.sh
 tools
+library .
 have verilator && have make && have perl || install_packages verilator make perl
-made target/staticlib/libcard.a sim staticlib card
-library=$(pwd)/target/staticlib/libcard.a
 work=$(pwd)/target/sim
 rm -rf "$work"
 mkdir -p "$work"
-CARD_LIB=$library $CARGO build --quiet --offline --manifest-path host/Cargo.toml -p logic ${CARD_TARGET:+--target "$CARD_TARGET"}
-logic=$(pwd)/host/target/${CARD_TARGET:+$CARD_TARGET/}debug/logic
+$CARGO build --quiet --offline --manifest-path host/Cargo.toml -p logic
+logic=$(pwd)/host/target/debug/logic
 wrong=0
 for fault in 0 1 2 3 4; do
     folder=$work/fault$fault
     mkdir -p "$folder"
     verilator --binary -Wno-fatal -Wno-lint --top-module scoreboard -GFAULT="$fault" --Mdir "$folder/obj" -o scoreboard \
-        -MAKEFLAGS "CXX='$CARD_CXX' LINK='$CARD_CXX'" -LDFLAGS "$library" \
+        -MAKEFLAGS "CXX='$CARD_CXX' LINK='$CARD_CXX'" -LDFLAGS "$CARD_LIB" \
         "$here/clocked_tree.sv" "$here/scoreboard.sv" >"$folder/log" 2>&1 || { cat "$folder/log"; exit 1; }
-    (cd "$folder" && $RUNNER obj/scoreboard >said 2>&1) || { cat "$folder/said"; exit 1; }
+    (cd "$folder" && obj/scoreboard >said 2>&1) || { cat "$folder/said"; exit 1; }
     said=$(grep -v '^- ' "$folder/said" | head -n 1)
-    (cd "$folder" && $RUNNER "$logic" hold --strict design.txt design.dump >held 2>&1) && held=0 || held=$?
+    (cd "$folder" && "$logic" hold --strict design.txt design.dump >held 2>&1) && held=0 || held=$?
     printf 'fault %s: %s | hold: %s\n' "$fault" "$said" "$(head -n 1 "$folder/held")"
     case $fault$said in
     0*' cycles agree') [ "$held" -eq 0 ] || wrong=1 ;;

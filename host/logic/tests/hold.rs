@@ -199,17 +199,8 @@ fn bad_dumps_are_named_by_their_line() {
     );
 }
 
-/// The tool; where an emulator runs this test it runs the tool too.
 fn tool(words: &[&str], input: &str) -> Output {
-    let own = env!("CARGO_BIN_EXE_logic");
-    let mut command = match std::env::var("RUNNER") {
-        Ok(runner) if !runner.is_empty() => {
-            let mut command = Command::new(runner);
-            command.arg(own);
-            command
-        }
-        _ => Command::new(own),
-    };
+    let mut command = Command::new(env!("CARGO_BIN_EXE_logic"));
     command.args(words).stdin(Stdio::piped()).stdout(Stdio::piped()).stderr(Stdio::piped());
     let mut child = command.spawn().unwrap();
     std::io::Write::write_all(&mut child.stdin.take().unwrap(), input.as_bytes()).unwrap();

@@ -187,21 +187,12 @@ fn resident(process: u32) -> u64 {
     line.split_whitespace().nth(1).unwrap().parse().unwrap()
 }
 
-/// Ten million records go through in constant memory (a million where an emulator runs them): what the tool has behind the last is
-/// what it had behind the first hundred thousand, within a mebibyte; an emulator's own memory grows by pages of two where it meets new
-/// code, so there within three such pages, half of what the records would take if they were kept. The trace comes through a pipe, so the
-/// tool has read all of it but what the pipe holds. Every 64th record is work.
+/// Ten million records go through in constant memory: what the tool has behind the last is what it had behind the first hundred thousand,
+/// within a mebibyte. The trace comes through a pipe, so the tool has read all of it but what the pipe holds. Every 64th record is work.
 #[test]
 fn ten_million_records_in_constant_memory() {
-    let own = env!("CARGO_BIN_EXE_logic");
-    let (mut command, records, slack) = match std::env::var("RUNNER") {
-        Ok(runner) if !runner.is_empty() => {
-            let mut command = Command::new(runner);
-            command.arg(own);
-            (command, 1_000_000, 3 * 2048)
-        }
-        _ => (Command::new(own), 10_000_000, 1024),
-    };
+    let records = 10_000_000;
+    let mut command = Command::new(env!("CARGO_BIN_EXE_logic"));
     let mut child = command.args(["wave", "-"]).stdin(Stdio::piped()).stdout(Stdio::null()).spawn().unwrap();
     let mut to = child.stdin.take().unwrap();
     to.write_all(b"PFT\x02\x00\x04\x05").unwrap();
@@ -226,5 +217,5 @@ fn ten_million_records_in_constant_memory() {
     let last = resident(child.id());
     drop(to);
     assert!(child.wait().unwrap().success());
-    assert!(last <= first + slack, "{first} KiB behind 100,000 records, {last} KiB behind {records}");
+    assert!(last <= first + 1024, "{first} KiB behind 100,000 records, {last} KiB behind {records}");
 }

@@ -1,0 +1,195 @@
+#!/bin/sh
+# The library for a processor: target/lib/TARGET/libcard.a.
+#
+#   host/lib.sh [-Oz] [TARGET]             makes it where that was not done yet, and prints its name; without a target, for the machine at hand
+#   host/lib.sh --check [-Oz] TARGET ..    makes it, and runs on it the soak, the example and the measure of the stack
+#   host/lib.sh --play TARGET              makes the trace program for it, a static one, and prints its name
+#   host/lib.sh --size [-Oz] TARGET ..     makes it, and prints the bytes of code of each queue, linked without what it does not call
+#
+# TARGET is x86_64-linux, aarch64-linux, riscv64-linux, armv7-linux, thumbv7em-none (Cortex-M4) or riscv32-none. -Oz is for little code.
+#
+# x86_64-linux is the archive of `rt staticlib card` itself. While that is proved and built, the module is kept that the prover's compiler
+# hands to its back end; every other library is that module, compiled by the same compiler for another processor. So it is the code that is
+# proved, and what is trusted is another back end; --check holds what it makes to the lines that all libraries must write, under an emulator
+# where the processor is another one. Compilers and emulators that a check lacks are installed from Debian's packages (as root).
+set -u
+cd "$(dirname "$0")/.." || exit 2
+. host/tools.sh
+TARGETS='x86_64-linux aarch64-linux riscv64-linux armv7-linux thumbv7em-none riscv32-none'
+LIB=target/lib
+
+fail() {
+    printf 'lib: %s\n' "$*" >&2
+    exit 1
+}
+usage() {
+    printf 'lib.sh [-Oz] [TARGET], lib.sh --check|--play|--size [-Oz] TARGET ..\n' >&2
+    exit 2
+}
+
+# What a target needs. For the library: the compiler's words. For a program in C: its compiler, what runs it, and the packages of both.
+target() {
+    run='' bare='' emulator=''
+    case $1 in
+    x86_64-linux)
+        words='--target=x86_64-unknown-linux-gnu -march=x86-64 -fPIC'
+        cc='x86_64-linux-gnu-gcc -static' from='gcc-x86-64-linux-gnu libc6-dev-amd64-cross' run=qemu-x86_64
+        ;;
+    aarch64-linux)
+        words='--target=aarch64-unknown-linux-gnu -fPIC'
+        cc='aarch64-linux-gnu-gcc -static' from='gcc-aarch64-linux-gnu libc6-dev-arm64-cross' run=qemu-aarch64
+        ;;
+    riscv64-linux)
+        words='--target=riscv64-unknown-linux-gnu -march=rv64gc -mabi=lp64d -fPIC'
+        cc='riscv64-linux-gnu-gcc -static' from='gcc-riscv64-linux-gnu libc6-dev-riscv64-cross' run=qemu-riscv64
+        ;;
+    armv7-linux)
+        words='--target=armv7-unknown-linux-gnueabihf -march=armv7-a -fPIC'
+        cc='arm-linux-gnueabihf-gcc -static' from='gcc-arm-linux-gnueabihf libc6-dev-armhf-cross' run=qemu-arm
+        ;;
+    thumbv7em-none)
+        words='--target=thumbv7em-none-gnueabi -mcpu=cortex-m4'
+        cc='arm-none-eabi-gcc -mcpu=cortex-m4 -mthumb' from=gcc-arm-none-eabi bare=cortex-m4
+        run='qemu-system-arm -M mps2-an386' emulator=qemu-system-arm
+        ;;
+    riscv32-none)
+        words='--target=riscv32-unknown-elf -march=rv32imac -mabi=ilp32'
+        cc='riscv64-unknown-elf-gcc -march=rv32imac -mabi=ilp32' from=gcc-riscv64-unknown-elf bare=riscv32
+        run='qemu-system-riscv32 -M virt -bios none' emulator=qemu-system-misc
+        ;;
+    *) fail "there is no target $1; there are: $TARGETS" ;;
+    esac
+    [ "$1" != "$(here)" ] || { from='gcc libc6-dev' run=''; }
+    emulator=${emulator:-qemu-user}
+}
+
+# The target that is the machine at hand.
+here() { echo "$(uname -m)-linux"; }
+
+# Makes a folder that has what another has, by links, but for one name: all_but NAME FROM TO.
+all_but() {
+    mkdir -p "$3" || return 1
+    for all_one in "$2"/*; do
+        [ "${all_one##*/}" = "$1" ] || ln -sfn "$all_one" "$3/" || return 1
+    done
+}
+
+# The kit's folder, its part for this machine, and the folder of its compiler.
+kit() {
+    have rt || fail 'the library is proved and built by rt, the command of the Rattle kit, and rt is not on the path'
+    kit=$(dirname "$(dirname "$(rt doc)")")
+    on=on/$(uname -m)
+    tools=$kit/$on/toolchain/bin
+    [ -x "$tools/clang" ] || fail "there is no compiler $tools/clang in the Rattle kit"
+}
+
+# Proves and builds FILE with `rt WORDS`, and keeps the module of it: kept MODULE FILE WORDS.. The kit is the same one by links, but for its
+# clang, which keeps what it is handed and then is the kit's.
+kept() {
+    kept_module=$1 kept_file=$2 kept_kit=$(pwd)/$LIB/kit
+    shift 2
+    kit
+    rm -rf "$kept_kit" "$kept_module" "$kept_file" "$LIB/new.bc"
+    all_but on "$kit" "$kept_kit" && all_but toolchain "$kit/$on" "$kept_kit/$on" &&
+        all_but bin "$kit/$on/toolchain" "$kept_kit/$on/toolchain" && all_but clang "$tools" "$kept_kit/$on/toolchain/bin" ||
+        fail 'the kit cannot be linked to'
+    {
+        printf '#!/bin/sh\nfor word; do case $word in *.bc) cp "$word" "%s" || exit 1 ;; esac; done\n' "$(pwd)/$LIB/new.bc"
+        printf 'exec "%s/clang" "$@"\n' "$tools"
+    } >"$kept_kit/$on/toolchain/bin/clang"
+    chmod +x "$kept_kit/$on/toolchain/bin/clang"
+    RATTLE_HOME=$kept_kit made "$kept_file" lib "$@" || exit 1
+    rm -rf "$kept_kit"
+    mv "$LIB/new.bc" "$kept_module" || fail "the prover's compiler was handed no module"
+}
+
+# Compiles a module for a target: compiled MODULE TARGET LEVEL OBJECT. Its lines about x86-64 go, and nothing else in it is about a
+# processor. On RISC-V the callers of a function take its 32 bits as sign-extended, which the function has to be told.
+compiled() {
+    kit
+    target "$2"
+    "$tools/clang" --target=x86_64-unknown-linux-gnu -S -emit-llvm -Xclang -disable-llvm-passes -x ir "$1" -o "$4.x86.ll" || return 1
+    {
+        printf '%s\n' '/^target /d' 's/ "target-cpu"="x86-64"//'
+        case $2 in riscv*) printf '%s\n' '/^define internal/!s/^define \(.*\)i32 @/define \1signext i32 @/' ;; esac
+        [ "$3" != -Oz ] || printf '%s\n' '/^attributes .*"probe-stack"/s/ = { /&minsize optsize /'
+    } >"$4.sed"
+    sed -f "$4.sed" "$4.x86.ll" >"$4.ll"
+    if grep -q x86 "$4.ll"; then fail "the module of $1 has more of x86-64 in it than its target lines"; fi
+    # shellcheck disable=SC2086
+    "$tools/clang" $words "$3" -ffunction-sections -fdata-sections -mllvm -trap-unreachable -mllvm -no-trap-after-noreturn \
+        --no-default-config -fno-crash-diagnostics -Werror -Wno-override-module -c -x ir "$4.ll" -o "$4" || return 1
+    rm -f "$4.x86.ll" "$4.sed" "$4.ll"
+}
+
+# Makes the library for a target and a level, and sets `made_lib`.
+for_target() {
+    made_lib=$LIB/$1/libcard.a
+    [ "$2" = -O3 ] || made_lib=$LIB/$1$2/libcard.a
+    folder=$(dirname "$made_lib")
+    if fresh "$made_lib" && [ -z "$(find host/lib.sh -newer "$made_lib")" ]; then return; fi
+    if ! fresh "$LIB/card.bc" || ! fresh target/staticlib/libcard.a; then kept "$LIB/card.bc" target/staticlib/libcard.a staticlib card; fi
+    mkdir -p "$folder" || exit 1
+    if [ "$1$2" = x86_64-linux-O3 ]; then
+        cp target/staticlib/libcard.a "$made_lib.new" || exit 1
+    else
+        printf 'lib: %s: the proved module through another back end of the compiler, which is trusted as the one for x86-64 is\n' "$1" >&2
+        rm -f "$made_lib.new"
+        compiled "$LIB/card.bc" "$1" "$2" "$folder/card.o" && "$tools/llvm-ar" rcs "$made_lib.new" "$folder/card.o" ||
+            fail "the module is not compiled for $1"
+        rm "$folder/card.o"
+    fi
+    mv "$made_lib.new" "$made_lib"
+}
+
+# The compiler of a target's programs is there, and what runs them.
+ready() { # TARGET
+    target "$1"
+    # shellcheck disable=SC2086
+    have "${cc%% *}" || install_packages $from || fail "$1: there is no compiler ${cc%% *} (Debian's packages: $from)"
+    [ -z "$run" ] || have "${run%% *}" || install_packages "$emulator" || fail "$1: there is no emulator ${run%% *} (Debian's package: $emulator)"
+}
+
+# The trace program for a target with a system under it, from the object that `rt check play` leaves, or from its module: that is kept
+# while it is proved, which is done once more where it was not kept then.
+play() {
+    ready "$1"
+    [ -z "$bare" ] || fail "$1 has no system under it, and the trace program needs one"
+    folder=$LIB/$1
+    mkdir -p "$folder" || exit 1
+    object=target/obj/play.o
+    if [ "$1" = x86_64-linux ]; then
+        made target/bin/play lib check play || exit 1
+    else
+        if ! fresh "$LIB/play.bc"; then
+            # else rt takes it for done
+            rm -f target/stamp/play
+            kept "$LIB/play.bc" target/bin/play check play
+        fi
+        object=$folder/play.o
+        compiled "$LIB/play.bc" "$1" -O3 "$object" || fail "the trace program is not compiled for $1"
+    fi
+    $cc "$object" -o "$folder/play" || fail "the trace program is not linked for $1"
+    echo "$folder/play"
+}
+
+level=-O3 task=''
+while [ $# -gt 0 ]; do
+    case $1 in
+    -Oz) level=-Oz ;;
+    --check | --size | --play) task=${1#--} ;;
+    -*) usage ;;
+    *) break ;;
+    esac
+    shift
+done
+if [ -n "$task" ]; then
+    [ $# -gt 0 ] || usage
+    . host/lib_check.sh
+    for one; do "$task" "$one" "$level"; done
+else
+    [ $# -le 1 ] || usage
+    target "${1:-$(here)}"
+    for_target "${1:-$(here)}" "$level"
+    echo "$made_lib"
+fi

@@ -1,0 +1,83 @@
+# Sourced by lib.sh: a target's library held to what all libraries must do, and the size of its code. `ready` has set cc, run and bare.
+
+# A program in C on the library: program FOLDER SOURCE.
+program() {
+    beside='' name=$(basename "$2" .c)
+    [ -z "$bare" ] || beside="-ffreestanding -nostdlib -Wl,-z,noexecstack -T host/examples/bare/$bare.ld -Ihost/examples/bare host/examples/bare/start.c host/examples/bare/few.c"
+    # shellcheck disable=SC2086
+    ${cc} -std=gnu99 -O2 -Wall -Wextra -Werror -Ihost "$2" $beside "$1/libcard.a" ${bare:+-lgcc} -Wl,--gc-sections -o "$1/$name" >&2 ||
+        fail "$2 is not compiled for $1"
+}
+
+# Runs a program of a target and prints what it writes: ran FILE.
+ran() {
+    if [ -z "$bare" ]; then
+        $run "$1"
+    else
+        # shellcheck disable=SC2086
+        timeout 900 $run -nographic -monitor none -serial none -chardev stdio,id=out -semihosting-config enable=on,target=native,chardev=out -kernel "$1"
+    fi
+}
+
+# Whether a program of the library writes what a file has: same TARGET PROGRAM FILE.
+same() {
+    ran "$folder/$2" >"$folder/$2.out" && cmp -s "$folder/$2.out" "$3" && return
+    diff "$3" "$folder/$2.out" >&2
+    fail "$1: $2 does not write what $3 has"
+}
+
+# Whether no call takes more stack than the page says, and none much less; a page with no column of this name says
+# nothing: stack NAME.
+stack() {
+    ran "$folder/stack" >"$folder/stack.out" || fail "$1: the measure of the stack does not run"
+    awk -v column="$1" -F '[|` ]+' '
+        NR == FNR && $2 == "Call" { for (i = 3; i < NF; i++) if ($i == column) at = i; next }
+        NR == FNR { if (at && $2 ~ /^card_/) page[$2] = $at; next }
+        { split($0, row, " ") }
+        at && (!(row[1] in page) || row[2] > page[row[1]] || (page[row[1]] - row[2] > 64 && 4 * row[2] < 3 * page[row[1]])) {
+            print "lib: " column ": " row[1] " takes " row[2] " bytes of stack, and docs/FIRMWARE.md says " page[row[1]]
+            bad = 1
+        }
+        END { exit bad }' docs/FIRMWARE.md "$folder/stack.out" >&2 || exit 1
+}
+
+check() { # TARGET LEVEL
+    ready "$1"
+    for_target "$1" "$2"
+    folder=$(dirname "$made_lib")
+    if "${cc%%gcc*}nm" "$made_lib" | grep -q ' [bBcCdD] '; then fail "$1: the library has words of its own, and its pages say that it has none"; fi
+    for source in host/checks/c/soak.c host/examples/pops.c host/checks/c/stack.c; do program "$folder" "$source"; done
+    same "$1" soak host/checks/c/soak.txt
+    same "$1" pops host/examples/pops.txt
+    stack "$1${2#-O3}"
+    printf '%s%s: soak %s; the example and the stack as their pages have them\n' "$1" "${2#-O3}" "$(sed -n 's/^clocked cluster: //p' "$folder/soak.out")"
+}
+
+# The bytes of code that a program gets of the library which calls these functions: bytes FUNCTION..
+bytes() {
+    called=''
+    for function; do called="$called -Wl,-u,$function"; done
+    # shellcheck disable=SC2086
+    $cc -nostdlib -static -Wl,-e,"$1" -Wl,--gc-sections,--unresolved-symbols=ignore-all $called "$made_lib" -o "$folder/part" &&
+        "${cc%%gcc*}size" "$folder/part" | awk 'NR == 2 { print $1 }'
+    rm -f "$folder/part"
+}
+
+size() { # TARGET LEVEL
+    ready "$1"
+    for_target "$1" "$2"
+    folder=$(dirname "$made_lib")
+    all=$("${cc%%gcc*}nm" "$made_lib" | sed -n 's/.* T \(card_.*\)/\1/p')
+    for part in tree 'tree_\(check\|mend\)' cluster bucket ports fair clocked clocked_cluster; do
+        # what a queue's name begins may be another's: the tree's own calls are all but check and mend, the clocked tree's not the heap's
+        names=$(echo "$all" | grep "^card_$part" | grep -v _words)
+        case $part in
+        tree) names=$(echo "$names" | grep -v 'check\|mend') ;;
+        clocked) names=$(echo "$names" | grep -v cluster) ;;
+        esac
+        # shellcheck disable=SC2086
+        printf '%s%s %s %s\n' "$1" "${2#-O3}" "$(echo "$part" | sed 's/_.(.*/ check and mend/')" "$(bytes $names)"
+    done
+    # shellcheck disable=SC2086
+    printf '%s%s all %s\n' "$1" "${2#-O3}" "$(bytes $all)"
+}
