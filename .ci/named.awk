@@ -25,6 +25,7 @@ part == 1 && /^# fails: / {
     gsub(/[()]/, "")
     k = split(substr($0, 10), names, /, */)
     for (i = 1; i <= k; i++) {
+        sub(/^and /, "", names[i])
         must[++n] = names[i]
         told[n] = mistake
     }

@@ -30,8 +30,8 @@ parts_of() {
     done
 }
 
-# The comparison of the library is by far the longest, and one thread: it begins first.
-longest_first() { awk '/--test library/ { print; next } { rest = rest $0 "\n" } END { printf "%s", rest }'; }
+# The longest begin first: the comparison of the library, which is one thread, and the ports.
+longest_first() { awk '/--test (library|ports)( |$)/ { print; next } { rest = rest $0 "\n" } END { printf "%s", rest }'; }
 
 # What each prints is shown once all have ended, one after the other.
 test_of() {
