@@ -10,3 +10,7 @@ pub mod Staged
 pub mod Mend
 pub mod Fair
 pub mod Ports
+pub mod CasesTree
+pub mod CasesCluster
+pub mod CasesClock
+pub mod CasesSize

@@ -7,3 +7,4 @@ pub mod History
 pub mod Mend
 pub mod Fair
 pub mod Ports
+pub mod Cases
