@@ -45,10 +45,8 @@ tools_for() { # MACHINE
 
 rm -rf "$to" "$out/$name.tar.gz" "$out/$name.tar.gz.sha256"
 mkdir -p "$to/include" "$to/examples" "$to/lib" || exit 1
-for one in x86_64-linux aarch64-linux riscv64-linux armv7-linux thumbv7em-none riscv32-none '-Oz thumbv7em-none' '-Oz riscv32-none'; do
-    # shellcheck disable=SC2086
-    made_lib=$(host/lib.sh $one) || fail "no library for $one"
-    target=$(basename "$(dirname "$made_lib")")
+for target in x86_64-linux aarch64-linux riscv64-linux armv7-linux thumbv7em-none thumbv7em-none-Oz riscv32-none; do
+    made_lib=$(host/lib.sh "$target") || fail "no library for $target"
     mkdir -p "$to/lib/$target/pkgconfig" && cp "$made_lib" "$to/lib/$target/" || exit 1
     cat >"$to/lib/$target/pkgconfig/card.pc" <<PC
 prefix=\${pcfiledir}/../../..
