@@ -3,10 +3,12 @@
 #
 #   host/lib.sh [-Oz] [TARGET]             makes it where that was not done yet, and prints its name; without a target, for the machine at hand
 #   host/lib.sh --check [-Oz] TARGET ..    makes it, and runs on it the soak, the example and the measure of the stack
-#   host/lib.sh --play TARGET              makes the trace program for it, a static one, and prints its name
+#   host/lib.sh --stack [-Oz] TARGET ..    makes it, and prints the table of the stack as docs/FIRMWARE.md has it
 #   host/lib.sh --size [-Oz] TARGET ..     makes it, and prints the bytes of code of each queue, linked without what it does not call
+#   host/lib.sh --play TARGET              makes the trace program for it, a static one, and prints its name
 #
-# TARGET is x86_64-linux, aarch64-linux, riscv64-linux, armv7-linux, thumbv7em-none (Cortex-M4) or riscv32-none. -Oz is for little code.
+# TARGET is x86_64-linux, aarch64-linux, riscv64-linux, armv7-linux, thumbv7em-none (Cortex-M4) or riscv32-none. -Oz is for little code; the
+# library is then that of TARGET-Oz, and a target may be named so too.
 #
 # x86_64-linux is the archive of `rt staticlib card` itself. While that is proved and built, the module is kept that the prover's compiler
 # hands to its back end; every other library is that module, compiled by the same compiler for another processor. So it is the code that is
@@ -23,14 +25,15 @@ fail() {
     exit 1
 }
 usage() {
-    printf 'lib.sh [-Oz] [TARGET], lib.sh --check|--play|--size [-Oz] TARGET ..\n' >&2
+    printf 'lib.sh [-Oz] [TARGET], lib.sh --check|--stack|--size|--play [-Oz] TARGET ..\n' >&2
     exit 2
 }
 
 # What a target needs. For the library: the compiler's words. For a program in C: its compiler, what runs it, and the packages of both.
 target() {
-    run='' bare='' emulator=''
-    case $1 in
+    run='' bare='' emulator='' level=-O3
+    case $1 in *-Oz) level=-Oz ;; esac
+    case ${1%-Oz} in
     x86_64-linux)
         words='--target=x86_64-unknown-linux-gnu -march=x86-64 -fPIC'
         cc='x86_64-linux-gnu-gcc -static' from='gcc-x86-64-linux-gnu libc6-dev-amd64-cross' run=qemu-x86_64
@@ -57,9 +60,9 @@ target() {
         cc='riscv64-unknown-elf-gcc -march=rv32imac -mabi=ilp32' from=gcc-riscv64-unknown-elf bare=riscv32
         run='qemu-system-riscv32 -M virt -bios none' emulator=qemu-system-misc
         ;;
-    *) fail "there is no target $1; there are: $TARGETS" ;;
+    *) fail "there is no target ${1%-Oz}; there are: $TARGETS" ;;
     esac
-    [ "$1" != "$(here)" ] || { from='gcc libc6-dev' run=''; }
+    [ "${1%-Oz}" != "$(here)" ] || { from='gcc libc6-dev' run=''; }
     emulator=${emulator:-qemu-user}
 }
 
@@ -103,39 +106,38 @@ kept() {
     mv "$LIB/new.bc" "$kept_module" || fail "the prover's compiler was handed no module"
 }
 
-# Compiles a module for a target: compiled MODULE TARGET LEVEL OBJECT. Its lines about x86-64 go, and nothing else in it is about a
+# Compiles a module for a target: compiled MODULE TARGET OBJECT. Its lines about x86-64 go, and nothing else in it is about a
 # processor. On RISC-V the callers of a function take its 32 bits as sign-extended, which the function has to be told.
 compiled() {
     kit
     target "$2"
-    "$tools/clang" --target=x86_64-unknown-linux-gnu -S -emit-llvm -Xclang -disable-llvm-passes -x ir "$1" -o "$4.x86.ll" || return 1
+    "$tools/clang" --target=x86_64-unknown-linux-gnu -S -emit-llvm -Xclang -disable-llvm-passes -x ir "$1" -o "$3.x86.ll" || return 1
     {
         printf '%s\n' '/^target /d' 's/ "target-cpu"="x86-64"//'
         case $2 in riscv*) printf '%s\n' '/^define internal/!s/^define \(.*\)i32 @/define \1signext i32 @/' ;; esac
-        [ "$3" != -Oz ] || printf '%s\n' '/^attributes .*"probe-stack"/s/ = { /&minsize optsize /'
-    } >"$4.sed"
-    sed -f "$4.sed" "$4.x86.ll" >"$4.ll"
-    if grep -q x86 "$4.ll"; then fail "the module of $1 has more of x86-64 in it than its target lines"; fi
+        [ "$level" = -O3 ] || printf '%s\n' '/^attributes .*"probe-stack"/s/ = { /&minsize optsize /'
+    } >"$3.sed"
+    sed -f "$3.sed" "$3.x86.ll" >"$3.ll"
+    if grep -q x86 "$3.ll"; then fail "the module of $1 has more of x86-64 in it than its target lines"; fi
     # shellcheck disable=SC2086
-    "$tools/clang" $words "$3" -ffunction-sections -fdata-sections -mllvm -trap-unreachable -mllvm -no-trap-after-noreturn \
-        --no-default-config -fno-crash-diagnostics -Werror -Wno-override-module -c -x ir "$4.ll" -o "$4" || return 1
-    rm -f "$4.x86.ll" "$4.sed" "$4.ll"
+    "$tools/clang" $words "$level" -ffunction-sections -fdata-sections -mllvm -trap-unreachable -mllvm -no-trap-after-noreturn \
+        --no-default-config -fno-crash-diagnostics -Werror -Wno-override-module -c -x ir "$3.ll" -o "$3" || return 1
+    rm -f "$3.x86.ll" "$3.sed" "$3.ll"
 }
 
-# Makes the library for a target and a level, and sets `made_lib`.
+# Makes the library for a target, and sets `made_lib` and its folder.
 for_target() {
-    made_lib=$LIB/$1/libcard.a
-    [ "$2" = -O3 ] || made_lib=$LIB/$1$2/libcard.a
-    folder=$(dirname "$made_lib")
+    folder=$LIB/$1
+    made_lib=$folder/libcard.a
     if fresh "$made_lib" && [ -z "$(find host/lib.sh -newer "$made_lib")" ]; then return; fi
     if ! fresh "$LIB/card.bc" || ! fresh target/staticlib/libcard.a; then kept "$LIB/card.bc" target/staticlib/libcard.a staticlib card; fi
     mkdir -p "$folder" || exit 1
-    if [ "$1$2" = x86_64-linux-O3 ]; then
+    if [ "$1" = x86_64-linux ]; then
         cp target/staticlib/libcard.a "$made_lib.new" || exit 1
     else
         printf 'lib: %s: the proved module through another back end of the compiler, which is trusted as the one for x86-64 is\n' "$1" >&2
         rm -f "$made_lib.new"
-        compiled "$LIB/card.bc" "$1" "$2" "$folder/card.o" && "$tools/llvm-ar" rcs "$made_lib.new" "$folder/card.o" ||
+        compiled "$LIB/card.bc" "$1" "$folder/card.o" && "$tools/llvm-ar" rcs "$made_lib.new" "$folder/card.o" ||
             fail "the module is not compiled for $1"
         rm "$folder/card.o"
     fi
@@ -167,17 +169,17 @@ play() {
             kept "$LIB/play.bc" target/bin/play check play
         fi
         object=$folder/play.o
-        compiled "$LIB/play.bc" "$1" -O3 "$object" || fail "the trace program is not compiled for $1"
+        compiled "$LIB/play.bc" "$1" "$object" || fail "the trace program is not compiled for $1"
     fi
     $cc "$object" -o "$folder/play" || fail "the trace program is not linked for $1"
     echo "$folder/play"
 }
 
-level=-O3 task=''
+small='' task=''
 while [ $# -gt 0 ]; do
     case $1 in
-    -Oz) level=-Oz ;;
-    --check | --size | --play) task=${1#--} ;;
+    -Oz) small=-Oz ;;
+    --check | --stack | --size | --play) task=${1#--} ;;
     -*) usage ;;
     *) break ;;
     esac
@@ -186,10 +188,11 @@ done
 if [ -n "$task" ]; then
     [ $# -gt 0 ] || usage
     . host/lib_check.sh
-    for one; do "$task" "$one" "$level"; done
+    for one; do "$task" "$one$small"; done
+    [ "$task" != stack ] || table
 else
     [ $# -le 1 ] || usage
-    target "${1:-$(here)}"
-    for_target "${1:-$(here)}" "$level"
+    target "${1:-$(here)}$small"
+    for_target "${1:-$(here)}$small"
     echo "$made_lib"
 fi

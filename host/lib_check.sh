@@ -26,31 +26,45 @@ same() {
     fail "$1: $2 does not write what $3 has"
 }
 
-# Whether no call takes more stack than the page says, and none much less; a page with no column of this name says
-# nothing: stack NAME.
+# Measures the stack of every call on a target; `table` prints what was measured, as the page has it: an eighth more than measured, and then
+# up to a multiple of 64.
+stacks=''
 stack() {
+    ready "$1"
+    for_target "$1"
+    program "$folder" host/checks/c/stack.c
     ran "$folder/stack" >"$folder/stack.out" || fail "$1: the measure of the stack does not run"
+    stacks="$stacks $folder/stack.out"
+}
+table() {
+    # shellcheck disable=SC2086
+    awk '
+        FNR == 1 { n = split(FILENAME, path, "/"); head = head " | " path[n - 1]; line = line "---|" }
+        { if (!($1 in row)) order[++count] = $1; row[$1] = row[$1] " | " int($2 * 9 / 512 + 1) * 64 }
+        END { print "| Call" head " |"; print "|---|" line; for (i = 1; i <= count; i++) print "| `" order[i] "`" row[order[i]] " |" }' $stacks
+}
+
+# Whether no call takes more stack than the page says, and none much less; of a target that it has no column for it says nothing.
+as_the_page_says() {
     awk -v column="$1" -F '[|` ]+' '
         NR == FNR && $2 == "Call" { for (i = 3; i < NF; i++) if ($i == column) at = i; next }
         NR == FNR { if (at && $2 ~ /^card_/) page[$2] = $at; next }
         { split($0, row, " ") }
-        at && (!(row[1] in page) || row[2] > page[row[1]] || (page[row[1]] - row[2] > 64 && 4 * row[2] < 3 * page[row[1]])) {
+        at && (!(row[1] in page) || row[2] > page[row[1]] || (page[row[1]] - row[2] > 128 && 3 * row[2] < 2 * page[row[1]])) {
             print "lib: " column ": " row[1] " takes " row[2] " bytes of stack, and docs/FIRMWARE.md says " page[row[1]]
             bad = 1
         }
         END { exit bad }' docs/FIRMWARE.md "$folder/stack.out" >&2 || exit 1
 }
 
-check() { # TARGET LEVEL
-    ready "$1"
-    for_target "$1" "$2"
-    folder=$(dirname "$made_lib")
+check() {
+    stack "$1"
+    as_the_page_says "$1"
     if "${cc%%gcc*}nm" "$made_lib" | grep -q ' [bBcCdD] '; then fail "$1: the library has words of its own, and its pages say that it has none"; fi
-    for source in host/checks/c/soak.c host/examples/pops.c host/checks/c/stack.c; do program "$folder" "$source"; done
+    for source in host/checks/c/soak.c host/examples/pops.c; do program "$folder" "$source"; done
     same "$1" soak host/checks/c/soak.txt
     same "$1" pops host/examples/pops.txt
-    stack "$1${2#-O3}"
-    printf '%s%s: soak %s; the example and the stack as their pages have them\n' "$1" "${2#-O3}" "$(sed -n 's/^clocked cluster: //p' "$folder/soak.out")"
+    printf '%s: soak %s; the example and the stack as their pages have them\n' "$1" "$(sed -n 's/^clocked cluster: //p' "$folder/soak.out")"
 }
 
 # The bytes of code that a program gets of the library which calls these functions: bytes FUNCTION..
@@ -63,21 +77,23 @@ bytes() {
     rm -f "$folder/part"
 }
 
-size() { # TARGET LEVEL
+# A line for each part of the library, as the page has it. What a queue's name begins may be another's: the tree's own calls are all but check
+# and mend, the clocked tree's not the heap's.
+size() {
     ready "$1"
-    for_target "$1" "$2"
-    folder=$(dirname "$made_lib")
+    for_target "$1"
     all=$("${cc%%gcc*}nm" "$made_lib" | sed -n 's/.* T \(card_.*\)/\1/p')
-    for part in tree 'tree_\(check\|mend\)' cluster bucket ports fair clocked clocked_cluster; do
-        # what a queue's name begins may be another's: the tree's own calls are all but check and mend, the clocked tree's not the heap's
-        names=$(echo "$all" | grep "^card_$part" | grep -v _words)
-        case $part in
-        tree) names=$(echo "$names" | grep -v 'check\|mend') ;;
-        clocked) names=$(echo "$names" | grep -v cluster) ;;
-        esac
-        # shellcheck disable=SC2086
-        printf '%s%s %s %s\n' "$1" "${2#-O3}" "$(echo "$part" | sed 's/_.(.*/ check and mend/')" "$(bytes $names)"
-    done
-    # shellcheck disable=SC2086
-    printf '%s%s all %s\n' "$1" "${2#-O3}" "$(bytes $all)"
+    calls() { echo "$all" | grep "^card_$1" | grep -v "_words${2:+\|$2}"; }
+    # shellcheck disable=SC2046,SC2086
+    {
+        echo "$1, the tree: $(bytes $(calls tree_ 'check\|mend'))"
+        echo "$1, check and mend: $(bytes $(calls 'tree_\(check\|mend\)'))"
+        echo "$1, the cluster heap: $(bytes $(calls cluster_))"
+        echo "$1, the bucket queue: $(bytes $(calls bucket_))"
+        echo "$1, several ports: $(bytes $(calls ports_))"
+        echo "$1, fair ranks: $(bytes $(calls fair_))"
+        echo "$1, the clocked tree: $(bytes $(calls clocked_ cluster))"
+        echo "$1, the clocked cluster heap: $(bytes $(calls clocked_cluster_))"
+        echo "$1, all of the library: $(bytes $all)"
+    }
 }

@@ -23,8 +23,10 @@ name=card-$version
 out=$(pwd)/target/release
 to=$out/$name
 
-# The Rust tools as static programs, by the cargo in force: rust_tools MACHINE TRIPLE.
+# The Rust tools as static programs that know no path of this machine, by the cargo in force: rust_tools MACHINE TRIPLE.
 rust_tools() {
+    CARGO_ENCODED_RUSTFLAGS=$(printf -- '-C\037target-feature=+crt-static\037--remap-path-prefix=%s=.' "$(pwd)")
+    export CARGO_ENCODED_RUSTFLAGS
     $CARGO build --release --offline --quiet --manifest-path host/Cargo.toml --target-dir "target/release/build" --target "$2" -p mend_store -p logic -p trace_text || return 1
     cp "target/release/build/$2/release/mend" "target/release/build/$2/release/logic" "$to/bin/$1/" &&
         cp "target/release/build/$2/release/trace_text" "$to/bin/$1/trace"
@@ -34,10 +36,7 @@ tools_for() { # MACHINE
     mkdir -p "$to/bin/$1" || return 1
     CARD_LIB=$(pwd)/$(host/lib.sh "$1") && export CARD_LIB || return 1
     case $1 in
-    "$here")
-        tools || return 1
-        CARGO_BUILD_RUSTFLAGS='-C target-feature=+crt-static' rust_tools "$1" "$(uname -m)-unknown-linux-gnu" || return 1
-        ;;
+    "$here") (tools && rust_tools "$1" "$(uname -m)-unknown-linux-gnu") || return 1 ;;
     *) (x86_tools && rust_tools "$1" "$CARD_TARGET") || return 1 ;;
     esac
     cp "$(host/lib.sh --play "$1")" "$to/bin/$1/play"
@@ -45,10 +44,8 @@ tools_for() { # MACHINE
 
 rm -rf "$to" "$out/$name.tar.gz" "$out/$name.tar.gz.sha256"
 mkdir -p "$to/include" "$to/examples" "$to/lib" || exit 1
-for one in x86_64-linux aarch64-linux riscv64-linux armv7-linux thumbv7em-none riscv32-none '-Oz thumbv7em-none' '-Oz riscv32-none'; do
-    # shellcheck disable=SC2086
-    made_lib=$(host/lib.sh $one) || fail "no library for $one"
-    target=$(basename "$(dirname "$made_lib")")
+for target in x86_64-linux aarch64-linux riscv64-linux armv7-linux thumbv7em-none thumbv7em-none-Oz riscv32-none; do
+    made_lib=$(host/lib.sh "$target") || fail "no library for $target"
     mkdir -p "$to/lib/$target/pkgconfig" && cp "$made_lib" "$to/lib/$target/" || exit 1
     cat >"$to/lib/$target/pkgconfig/card.pc" <<PC
 prefix=\${pcfiledir}/../../..
@@ -71,7 +68,7 @@ The card's library of proved priority queues, version $version, for machines wit
   bin/MACHINE/             static tools: play plays a trace from standard input, mend mends a store's file, trace makes
                            traces from text and back, logic draws waveforms and holds a test bench's dump to the model
   examples/                a program in C, what it needs on a bare Cortex-M4 or RISC-V, traces
-  FIRMWARE.md              stack, code size, what a power cut leaves
+  FIRMWARE.md              stack, code size, what a power cut leaves; its paths are the repository's, host/examples being examples here
   SHA256SUMS               sha256sum -c SHA256SUMS
 
 A program:   cc -Iinclude examples/pops.c lib/\$(uname -m)-linux/libcard.a -o pops

@@ -93,12 +93,14 @@ static void fair(void) {
     TOOK(card_fair_words, card_fair_words());
     card_tree_clear(store, TREE);
     TOOK(card_fair_reset, card_fair_reset(state, CARD_FAIR_WORDS, store, TREE));
-    for (i = 0; i < 4000; i++) card_fair_push(state, CARD_FAIR_WORDS, store, TREE, i % 64, 1 + i % 9, 1, 1 + word() % 9216);
+    /* the lightest steps, so that the clock is not spent before the tree is full */
+    for (i = 0; card_fair_push(state, CARD_FAIR_WORDS, store, TREE, i % 64, 1024, 1, 1 + word() % 64) == CARD_OK;) i++;
     for (i = 0; i < 200; i++) {
         flow = word() % 66;
         bytes = word() % 9300;
         TOOK(card_fair_push, card_fair_push(state, CARD_FAIR_WORDS, store, TREE, flow, 1 + i, 1, bytes));
         TOOK(card_fair_pop, card_fair_pop(state, CARD_FAIR_WORDS, store, TREE, OUT));
+        TOOK(card_fair_push, card_fair_push(state, CARD_FAIR_WORDS, store, TREE, flow, 1024, 1, 1));
         TOOK(card_fair_held, card_fair_held(store, TREE, OUT));
         TOOK(card_fair_reset, card_fair_reset(state, CARD_FAIR_WORDS, store, TREE));
     }

@@ -55,7 +55,7 @@ fn what_is_missing_is_named() {
         1,
         "lib: there is no target sparc-linux; there are: x86_64-linux aarch64-linux riscv64-linux armv7-linux thumbv7em-none riscv32-none\n",
     );
-    refused(&mut script(&["--no"]), 2, "lib.sh [-Oz] [TARGET], lib.sh --check|--play|--size [-Oz] TARGET ..\n");
+    refused(&mut script(&["--no"]), 2, "lib.sh [-Oz] [TARGET], lib.sh --check|--stack|--size|--play [-Oz] TARGET ..\n");
     let folder = outside("bare-path");
     path_of(&folder, &["sh", "dirname", "uname", "id", "find"]);
     let without = |words: &[&str]| {
