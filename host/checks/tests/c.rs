@@ -1,6 +1,6 @@
 //! The header, compiled as C and as C++ with every warning an error, and the programs that use it, run.
 
-use checks::{compiler, done, library, linked, outside, root, text};
+use checks::{compiler, done, library, linked, outside, root, text, words};
 use std::path::Path;
 
 /// Compiles a program in each language of the header and gives what each wrote.
@@ -72,6 +72,17 @@ fn the_clocked_cluster_heap() {
 #[test]
 fn power_goes_in_the_middle_of_a_call() {
     for (standard, written) in in_each("host/checks/c/cut.c") {
+        assert_eq!(written, "", "{standard}");
+    }
+}
+
+#[test]
+fn power_goes_at_each_instruction() {
+    // under an emulator no program is worked instruction by instruction
+    if !words("CARD_RUNNER").is_empty() {
+        return;
+    }
+    for (standard, written) in in_each("host/checks/c/steps.c") {
         assert_eq!(written, "", "{standard}");
     }
 }
