@@ -30,8 +30,8 @@ parts_of() {
     done
 }
 
-# The longest begin first: the comparison of the library, which is one thread, and the ports.
-longest_first() { awk '/--test (library|ports)( |$)/ { print; next } { rest = rest $0 "\n" } END { printf "%s", rest }'; }
+# The longest begin first: those of the trace program and of waveforms.
+longest_first() { awk '/--test (play|wave)( |$)/ { print; next } { rest = rest $0 "\n" } END { printf "%s", rest }'; }
 
 # What each prints is shown once all have ended, one after the other.
 test_of() {
