@@ -1,10 +1,9 @@
--- The kind of an answer, for all inputs: of a call that is not refused a push answers done, a pop and a replace answer an element. No call takes in an element without a tag. And what `pinned` says of each call.
+-- The kind of an answer, for all inputs: of a call that is not refused a push answers done, a pop and a replace answer an element. No call takes in an element without a tag.
 use mathlib.Core.Path.{_≡_}
 use mathlib.Core.List.{List}
 use Prim.Native.Nat.{ℕ}
 use Rattle.promise.proofs.Calls.{grants-kind}
 use Rattle.promise.proofs.Tabled.{granted, keeps}
-use Rattle.promise.specs.Queue.{pins}
 use Rattle.promise.specs.Served.{Kind}
 use Rattle.promise.specs.Tagged.{Barred}
 use Rattle.strip.specs.Answers.{numberOf}
@@ -13,12 +12,7 @@ use Rattle.strip.specs.declared.Request.the-variants.{Idle, Push, Pop, Replace}
 use Rattle.bucket_model.specs.Layout.{Lay}
 use Rattle.bucket_model.specs.Calls.{Outcome}
 use Rattle.bucket_model.specs.Plain.{Store, asked}
-use Rattle.bucket_model.specs.Promise.{Pinned}
 use Rattle.bucket_model.proofs.Exactly.{goes}
-
--- PINNED: every public call, for all inputs
-pub pinned : (k : Lay) (b w : List ℕ) → Pinned k b w
-pinned k b w = record { clear = pins _; push = λ e. pins _; pop = pins _; replace = λ e. pins _; held = pins _ }
 
 -- KIND
 pub kind : (k : Lay) (q : Request) (s : Store) → numberOf (asked k q s .answer) ≡ 0 → Kind q (asked k q s .answer)

@@ -8,7 +8,6 @@ use Rattle.bitmap.specs.Bits.{bitAt}
 use Rattle.laws.specs.Lists.{All}
 use Rattle.laws.specs.Means.{Iff}
 use Rattle.promise.specs.Queue as served
-use Rattle.promise.specs.Queue.{Pins}
 use Rattle.promise.specs.Lengths.{short, shortRequest, shortAnswer}
 use Rattle.strip.specs.declared.Answer.{Answer}
 use Rattle.strip.specs.declared.Answer.the-variants.{Done}
@@ -17,17 +16,9 @@ use Rattle.strip.specs.declared.Request.{Request}
 use Rattle.strip.specs.declared.Request.the-variants.{Pop}
 use Rattle.bucket_model.specs.Layout.{Lay, queue, bitWords, storeWords, word, headAt, tailAt, nextAt, loadIn}
 use Rattle.bucket_model.specs.Storeys.{Storey, storeysAt}
-use Rattle.bucket_model.specs.Calls.{Outcome, cleared, pushed, popped, replaced, heldCount}
+use Rattle.bucket_model.specs.Calls.{Outcome}
 use Rattle.bucket_model.specs.Causes.{Shaped, bitNo}
 use Rattle.bucket_model.specs.Plain.{Call, ask, held, Said, answered, counted, Store, store, asked, walk, lane, stored, times}
-
--- "any two outcomes allowed by the statement are shown equal", call by call
-pub record Pinned (k : Lay) (b w : List ℕ) : Type 0 where
-  pub clear : Pins (cleared k b w)
-  pub push : (e : Element) → Pins (pushed k b w e)
-  pub pop : Pins (popped k b w)
-  pub replace : (e : Element) → Pins (replaced k b w e)
-  pub held : Pins (heldCount k b w)
 
 -- ---- the layout in 01's and 02's own numbers, at either depth
 

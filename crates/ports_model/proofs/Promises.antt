@@ -7,7 +7,7 @@ use native.Mathlib.Omega.{arith}
 use lib.Dec.{ltb, eqb}
 use lib.ListN.{length}
 use Rattle.laws.specs.Lists.{All}
-use Rattle.promise.specs.Queue.{step, answers, leaves, answers-same, leaves-in-step, pins}
+use Rattle.promise.specs.Queue.{step, answers, leaves, answers-same, leaves-in-step}
 use Rattle.strip.specs.declared.Element.{Element}
 use Rattle.strip.specs.declared.Refusal.the-variants.{BadPort}
 use Rattle.strip.specs.declared.Request.the-variants.{Idle, Push, Pop, Replace}
@@ -18,16 +18,11 @@ use Rattle.ports_model.specs.Layout.{Shape, ranksOf, ceilingOf}
 use Rattle.ports_model.specs.Causes.{Shaped, Fair}
 use Rattle.ports_model.specs.Lists.{Ask, denied, Lists, none, claimed, accepts, back, served, Heard, heardIf, heardAt, callsAt, callsOf, answersOf}
 use Rattle.ports_model.specs.Runs.{called, start, manyAt, storedAt, heardOn}
-use Rattle.ports_model.specs.Promise.{Pinned}
 use Rattle.ports_model.proofs.Clear.{deep, clear-holds, clear-done}
 use Rattle.ports_model.proofs.Isolation.{longAt, Own, own, heard-calls, stepAt}
 use Rattle.ports_model.proofs.Room.{reached}
 use Rattle.ports_model.proofs.Steps.{Agree, calls}
 use Rattle.ports_model.proofs.Store.{Holds, stored-at}
-
--- PINNED
-pub pinned : (s : Shape) (p : ℕ) (lim b w : List ℕ) → Pinned s p lim b w
-pinned s p lim b w = record { clear = pins _; push = λ e. pins _; pop = pins _; replace = λ e. pins _; held = pins _ }
 
 -- ---- on the plain lists
 

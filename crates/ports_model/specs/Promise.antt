@@ -7,7 +7,6 @@ use lib.Dec.{eqb}
 use lib.ListN.{length}
 use Rattle.laws.specs.Lists.{All}
 use Rattle.laws.specs.Means.{Iff}
-use Rattle.promise.specs.Queue.{Pins}
 use Rattle.strip.specs.Answers.{numberOf, rankOf, tagOf, lengthOf}
 use Rattle.strip.specs.declared.Answer.the-variants.{Done}
 use Rattle.strip.specs.declared.Element.{Element}
@@ -19,18 +18,9 @@ use Rattle.bucket_model.specs.Plain.{Store, store, walk, lane}
 use Rattle.bucket_model.specs.Promise.{Depth}
 use Rattle.ports_model.specs.Layout.{Shape, ranksOf, bitWords, storeWords, nodesAt, freeAt, heldAt, floorAt, ceilingAt, seat}
 use Rattle.ports_model.specs.Checks.{usedIn, claimedIn}
-use Rattle.ports_model.specs.Calls.{cleared, heldCount, popped, pushed, replaced}
 use Rattle.ports_model.specs.Causes.{Shaped}
 use Rattle.ports_model.specs.Lists.{Heard, answersOf}
 use Rattle.ports_model.specs.Runs.{asked, storedAt}
-
--- "any two outcomes allowed by the statement are shown equal", call by call
-pub record Pinned (s : Shape) (p : ℕ) (lim b w : List ℕ) : Type 0 where
-  pub clear : Pins (cleared s lim b w)
-  pub push : (e : Element) → Pins (pushed s p b w e)
-  pub pop : Pins (popped s p b w)
-  pub replace : (e : Element) → Pins (replaced s p b w e)
-  pub held : Pins (heldCount s p b w)
 
 -- ---- what a call at port p leaves, on any words
 
