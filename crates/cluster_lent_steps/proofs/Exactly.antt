@@ -11,7 +11,7 @@ use lib.ListN.{getD, length}
 use borrow.Author.Tests.{le-leb, leb-true}
 use Rattle.clocked_model.specs.Promise.{hasRun, runsIdle}
 use Rattle.cluster_clock_model.proofs.Exactly as cycles
-use Rattle.cluster_clock_model.proofs.Exactly.{damage-fails, same, sound, ticks}
+use Rattle.cluster_clock_model.proofs.Exactly.{damage-fails, sound, ticks}
 use Rattle.cluster_clock_model.specs.Calls.{clockCleared, fresh, turned, turnOutcome, TurnOutcome}
 use Rattle.cluster_clock_model.specs.Promise.{clock, machine, Machine, TurnDamage, turnLeft, turnQueue, turnRefusals}
 use Rattle.cluster_clock_model.specs.declared.Stage.{Stage}
@@ -77,7 +77,7 @@ module _ (K levels : ℕ) (rs : List ClusterRecord) (ws : List ℕ) where
   idle-runs : (r : Request) → Shape K levels (length ws) → (TurnDamage K levels r qs ws → ⊥) → hasRun (turned K levels Idle qs ws .answer) ≡ true
   idle-runs r sh d =
       ap (λ (o : Step Answer Machine). hasRun (o .said))
-      (clocks.idle-runs (clock K levels) (turnQueue K levels) (same K levels) (ticks K levels) r (machine qs ws) (shape-means K levels (length ws) .holds sh) (no-damage-sound r d))
+      (clocks.idle-runs (ticks K levels) r (machine qs ws) (shape-means K levels (length ws) .holds sh) (no-damage-sound r d))
 
   -- what a refused cycle leaves, in the host's memory
   left-as : readable (levels - 1) rs ≡ true → (n : Refusal) → (runsIdle n ≡ true → hasRun (turned K levels Idle qs ws .answer) ≡ true) → lentOf levels rs (turnLeft K levels qs ws n) ≡ lentLeft K levels rs ws n

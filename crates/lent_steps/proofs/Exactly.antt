@@ -7,7 +7,7 @@ use lib.Dec.{leb, ltb}
 use lib.ListN.{length}
 use Rattle.clocked_model.proofs.Drain as model
 use Rattle.clocked_model.proofs.Exactly as cycles
-use Rattle.clocked_model.proofs.Exactly.{no-damage-sound, same, timed}
+use Rattle.clocked_model.proofs.Exactly.{no-damage-sound, timed}
 use Rattle.clocked_model.specs.Calls.{clockedCleared, cycled, cycleOutcome, CycleOutcome, drainOutcome, DrainOutcome, drains, fresh}
 use Rattle.clocked_model.specs.Promise.{clock, clockedQueue, CycleDamage, cycleLeft, cycleRefusals, drainLeft, drainRefusals, hasRun, idles, isBadShape, machine, Machine, runsIdle}
 use Rattle.clocked_model.specs.declared.State.{State}
@@ -59,7 +59,7 @@ module _ (m levels : ℕ) (mark : Bool) (rs : List Record) (ws : List ℕ) where
   idle-runs : (r : Request) → Shape m levels (length ws) → (CycleDamage m levels r s ws → ⊥) → hasRun (cycled m levels Idle s ws .answer) ≡ true
   idle-runs r sh d =
       ap (λ (o : Step Answer Machine). hasRun (o .said))
-      (clocks.idle-runs (clock m levels) (clockedQueue m levels) (same m levels) (timed m levels) r (machine s ws) (shape-means m levels (length ws) .holds sh) (no-damage-sound m levels r s ws d))
+      (clocks.idle-runs (timed m levels) r (machine s ws) (shape-means m levels (length ws) .holds sh) (no-damage-sound m levels r s ws d))
 
   -- what a refused cycle leaves, in the host's memory
   left-as : readable (levels - 1) rs ≡ true → (n : Refusal) → (runsIdle n ≡ true → hasRun (cycled m levels Idle s ws .answer) ≡ true) → lentOf levels rs (cycleLeft m levels s ws n) ≡ lentLeft m levels mark rs ws n
