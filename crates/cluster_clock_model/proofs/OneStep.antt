@@ -1,5 +1,5 @@
--- Each level does its own step, on the words and the records as they stood at the cycle's start, and writes no other; and it reads no more than its own level, the nodes that
--- wait in it and above it, and their children.
+-- Each level does its own step, on the words and the records as they stood at the cycle's start, and writes no other; and it reads no more than its own level, the
+-- nodes that wait in it and above it, and their children.
 use Prim.Native.Nat.{_*_, _+_, _<_, _≤_, pred, suc, zero, ℕ}
 use native.Mathlib.Nat.{not-suc-le-zero}
 use native.Mathlib.Omega.{arith}

@@ -210,7 +210,8 @@ module _ {M : Type 0} {k : Clock Request M} {queue : Request → M → Step Answ
   pub all-held : (x : M) → Kept x → ((f : Element → Bool) → stored x f ≡ 0) → (rs : List Request) → Holds (stored (leaves queue rs x)) rs (answers queue rs x)
   all-held x kept bare rs f = omega (arith, all-sum queue Kept (next-kept is) stored (cycle-sum is bag) rs x kept f, bare f)
 
-  -- ---- POP-THEN-PUSH: "a replace is a pop and then a push" (02 [4]), by cycles. A replace of an element that has a tag is refused where a pop is, and what a pop leaves has room
+  -- ---- POP-THEN-PUSH: "a replace is a pop and then a push" (02 [4]), by cycles. A replace of an element that has a tag is refused where a pop is, and what a pop
+  -- leaves has room
   pub record Swaps : Type 0 where
     pub kinds : (r : Request) (x : M) → Kind r (k .gives r x)
     pub alike : (e : Element) (x : M) → Kept x → (Untagged (Replace e) → ⊥) → comes k (Replace e) x .answer ≡ comes k Pop x .answer

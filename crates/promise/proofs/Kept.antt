@@ -201,7 +201,8 @@ module _ {S : Type 0} {q : Queue S} {Kept : S → Type 0} (is : IsQueue q Kept) 
       → q .stored (leaves steps rs s) f + allGiven rs (answers steps rs s) f ≡ q .stored s f + allBrought rs (answers steps rs s) f
   kept-sums s kept rs f = all-sum steps Kept called-kept (q .stored) call-sum rs s kept f
 
-  -- ---- a replace is a pop and then a push. What a queue has to show of it: a replace of an element that has a tag is refused where a pop is, and what a pop leaves has room
+  -- ---- a replace is a pop and then a push. What a queue has to show of it: a replace of an element that has a tag is refused where a pop is, and what a pop leaves
+  -- has room
   pub record Swaps : Type 0 where
     pub pops : (s : S) → Clear (q .asked Pop s)
     pub alike : (x : Element) (s : S) → Kept s → (Untagged (Replace x) → ⊥) → ruleAt q (Replace x) s .answer ≡ ruleAt q Pop s .answer

@@ -157,7 +157,8 @@ module _ {S : Type 0} (q : Queue S) where
 abbrev pub stepping : {S : Type 0} → (Request → S → Outcome S) → Request → S → Step Answer S
 stepping calls r s = step (calls r s .answer) (calls r s .words)
 
--- ---- REPLACE: "a replace is a pop and then a push" (02 [4]), of an x that has a tag, on the words s: of the pair the words may lie elsewhere, but what is answered and what is held is the same.
+-- ---- REPLACE: "a replace is a pop and then a push" (02 [4]), of an x that has a tag, on the words s: of the pair the words may lie elsewhere, but what is answered
+-- and what is held is the same.
 -- calls are the queue's push, pop and replace, stored is what stands in the store
 module _ {S : Type 0} (calls : Request → S → Outcome S) (stored : S → (Element → Bool) → ℕ) where
   pub record PopThenPush (x : Element) (s : S) : Type 0 where

@@ -1,5 +1,5 @@
--- An operation on its way down a machine that works level by level: its work at level i in this cycle, and what that leaves for level i + 1 in the next, whatever is asked then. Said
--- once for every machine in which each level hands down to the next.
+-- An operation on its way down a machine that works level by level: its work at level i in this cycle, and what that leaves for level i + 1 in the next, whatever is
+-- asked then. Said once for every machine in which each level hands down to the next.
 use Prim.Native.Nat.{_+_, _≤_, suc, ℕ}
 use native.Mathlib.Nat.{add-zero}
 use native.Mathlib.Omega.{arith}
