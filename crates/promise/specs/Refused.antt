@@ -15,7 +15,7 @@ use Rattle.strip.specs.declared.Request.{Request}
 use Rattle.strip.specs.declared.Request.the-variants.{Idle, Pop, Push, Replace}
 
 -- the refusal of a number
-abbrev refusalOf : ℕ → Refusal
+abbrev pub refusalOf : ℕ → Refusal
 refusalOf n = getD (BadShape ∷ Damaged ∷ TooSoon ∷ BadRank ∷ Full ∷ Empty ∷ NoTag ∷ BadPort ∷ []) (pred n) BadShape
 
 numbered : (r : Refusal) → refusalOf (refusalNumber r) ≡ r
