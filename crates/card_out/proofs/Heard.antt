@@ -6,7 +6,7 @@ use mathlib.Core.List.{[], _∷_, List, map}
 use mathlib.Core.Path.{_∙_, _≡_, ap, ap₂, refl, subst, sym}
 use lib.ListN.{getD, length, length-set, set}
 use lib.Seq.{getD-set-other, getD-set-same}
-use Rattle.card_out.specs.Heard.{heard, heardAll, Heard, heardElement, told}
+use Rattle.card_out.specs.Heard.{heard, heardAll, Heard, heardElement}
 use Rattle.card_out.specs.Out.{answerOut, answerWords, countAfter, CountAfter}
 use Rattle.promise.specs.Queue.{answers, leaves, Step}
 use Rattle.promise.specs.Served.{allBrought, allGiven, Holds, Kind, Least, least-same}

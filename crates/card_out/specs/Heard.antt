@@ -1,24 +1,19 @@
 -- What a caller in C hears: the number returned and the words of `out`, and the answer that these stand for. What is promised of a list of calls through C is said of what is heard.
-use Prim.Native.Nat.{pred, ℕ}
+use Prim.Native.Nat.{ℕ}
 use mathlib.Core.Bool.{Bool, cond}
 use mathlib.Core.List.{[], _∷_, List, map}
 use lib.Dec.{eqb}
 use lib.ListN.{getD}
 use Rattle.card_out.specs.Out.{CountAfter}
 use Rattle.promise.specs.Queue.{answers, leaves, Step}
+use Rattle.promise.specs.Refused.{refusalOf}
 use Rattle.promise.specs.Served.{Holds, Least}
 use Rattle.strip.specs.Answers.{element}
 use Rattle.strip.specs.declared.Answer.{Answer}
 use Rattle.strip.specs.declared.Answer.the-variants.{Done, Out, Refused}
 use Rattle.strip.specs.declared.Element.{Element}
-use Rattle.strip.specs.declared.Refusal.{Refusal}
-use Rattle.strip.specs.declared.Refusal.the-variants.{BadPort, BadRank, BadShape, Damaged, Empty, Full, NoTag, TooSoon}
 use Rattle.strip.specs.declared.Request.{Request}
 use Rattle.strip.specs.declared.Request.the-variants.{Idle, Pop, Push, Replace}
-
--- the refusal of a number, 1 to 8
-abbrev pub refusalOf : ℕ → Refusal
-refusalOf n = getD (BadShape ∷ Damaged ∷ TooSoon ∷ BadRank ∷ Full ∷ Empty ∷ NoTag ∷ BadPort ∷ []) (pred n) BadShape
 
 -- the element in the first three words: rank, tag, length
 abbrev pub heardElement : List ℕ → Element
