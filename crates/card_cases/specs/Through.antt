@@ -12,7 +12,8 @@ use Rattle.card.specs.Fair.{fairPop, fairPush, fairReset}
 use Rattle.card.specs.History.{broughtBy, codeOf}
 use Rattle.card.specs.Ports.{portsPop, portsPush, portsReplace}
 use Rattle.card.specs.Tree.{treePop, treePush, treeReplace}
-use Rattle.card_out.specs.Heard.{Ask, heard, heardAll, heardElement, pop, push, refusalOf, replace, wanted}
+use Rattle.card_out.specs.Heard.{Ask, heard, heardAll, heardElement, pop, push, replace, wanted}
+use Rattle.promise.specs.Refused.{refusalOf}
 use Rattle.card_out.specs.Out.{answerOut, countAfter, CountAfter}
 use Rattle.cluster_lent.specs.History.{Memory, memory}
 use Rattle.fair_model.specs.Calls.{Desk, desk}
