@@ -14,3 +14,4 @@ pub mod CasesTree
 pub mod CasesCluster
 pub mod CasesClock
 pub mod CasesSize
+pub mod CasesHanded

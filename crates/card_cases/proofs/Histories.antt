@@ -6,6 +6,7 @@ use lib.Dec.{lit≤}
 use lib.ListN.{length}
 use borrow.Author.Tests.{le-leb}
 use Rattle.bucket_model.proofs.Exactly as bucketTable
+use Rattle.bucket_model.proofs.Facts.{shape-means}
 use Rattle.bucket_model.proofs.Kind as bucketKind
 use Rattle.bucket_model.proofs.Promises as bucketPromises
 use Rattle.bucket_model.proofs.Served.{answerOf, served-holds, served-least}
@@ -143,6 +144,10 @@ module _ (d n : ℕ) (out : List ℕ) (room : answerWords ≤ length out) where
 
     reached : (qs : List Request) → Reached (queue d n) (leaves (bucketQueue (queue d n)) qs clear)
     reached qs = record { bits = b; words = w; shaped = sh; calls = map ask qs; is = seen-after (queue d n) qs clear }
+
+    pub bucket-cleared : bucketClear b w d n .number ≡ 0
+    unfolding bucket.cleared
+    bucket-cleared = rw (shape-means (queue d n) b w .holds sh)
 
     -- HEARD
     pub bucket-heard : (cs : List Ask) → Heard wanted (bucketC d n out) (storedBy (queue d n)) cs (store (bucketClear b w d n .bits) (bucketClear b w d n .words))

@@ -15,9 +15,12 @@ use Rattle.card_out.proofs.Heard.{heard-same}
 use Rattle.card_out.specs.Heard.{Ask, heardAll, pop, push, replace, wanted}
 use Rattle.card_out.specs.Out.{answerWords, CountAfter}
 use Rattle.laws.specs.Ladder.{Exactly, Ladder}
+use Rattle.laws.specs.Means.{means-and}
 use Rattle.ports_model.proofs.Exactly as table
+use Rattle.ports_model.proofs.Facts.{limits-mean, shape-means}
 use Rattle.ports_model.proofs.Kind.{kind}
 use Rattle.ports_model.proofs.Promises.{ports-answer}
+use Rattle.ports_model.specs.Calls.{cleared}
 use Rattle.ports_model.specs.Causes.{Fair, popLadder, pushLadder, replaceLadder, Shaped}
 use Rattle.ports_model.specs.Lists.{none, served}
 use Rattle.ports_model.specs.Runs.{asked, called}
@@ -86,6 +89,10 @@ module _ (d n k : ℕ) (out : List ℕ) (room : answerWords ≤ length out) wher
   module _ (lim b w : List ℕ) (sh : Shaped (shape d n k) b w) (fair : Fair (shape d n k) lim) (cs : List PortAsk) where
     abbrev clear : Store
     clear = store (portsClear b w d n k lim .bits) (portsClear b w d n k lim .words)
+
+    pub ports-cleared : portsClear b w d n k lim .number ≡ 0
+    unfolding cleared
+    ports-cleared = rw (means-and (shape-means s b w) (limits-mean s lim) .holds (sh, fair))
 
     -- on the words, as the model has them ..
     pub ports-same : heardAll portHears cs (answers (portsC d n k out) cs (store (portsClear b w d n k lim .bits) (portsClear b w d n k lim .words))) ≡ answers (called (shape d n k)) (map portAsks cs) (store (portsClear b w d n k lim .bits) (portsClear b w d n k lim .words))
