@@ -11,7 +11,7 @@ use Rattle.bucket_model.proofs.Kind as bucketKind
 use Rattle.bucket_model.proofs.Promises as bucketPromises
 use Rattle.bucket_model.proofs.Served.{answerOf, served-holds, served-least}
 use Rattle.bucket_model.specs.Calls as bucket
-use Rattle.bucket_model.specs.Causes.{popLadder, pushLadder, replaceLadder, Shaped}
+use Rattle.bucket_model.specs.Causes.{callTable, Shaped}
 use Rattle.bucket_model.specs.Layout.{Laid, queue}
 use Rattle.bucket_model.specs.declared.Lay.{Lay}
 use Rattle.bucket_model.specs.Plain.{after, ask, asked, called, plainSays, plainWith, Reached, says, store, Store}
@@ -27,10 +27,11 @@ use Rattle.cluster_model.proofs.Damages as clusterShape
 use Rattle.cluster_model.proofs.Exactly as clusterTable
 use Rattle.cluster_model.proofs.Promises as clusterPromises
 use Rattle.cluster_model.specs.Promise as cluster
-use Rattle.laws.specs.Ladder.{Exactly, Ladder}
+use Rattle.laws.specs.Ladder.{Exactly, fine, Ladder}
 use Rattle.promise.proofs.Drains.{exactly-as}
 use Rattle.promise.specs.Calls.{left, Outcome}
 use Rattle.promise.specs.Queue.{answers, leaves, step, Step}
+use Rattle.promise.specs.Table.{ladder}
 use Rattle.strip.specs.Answers.{blank, element, numberOf, untagged}
 use Rattle.strip.specs.declared.Answer.{Answer}
 use Rattle.strip.specs.declared.Answer.the-variants.{Refused}
@@ -105,9 +106,7 @@ seen-says k [] s = refl
 seen-says k (q ∷ qs) s = ap (λ (l : List Answer). asked k q s .answer ∷ l) (seen-says k qs (bucketQueue k q s .next))
 
 abbrev pub bucketTables : (k : Lay) → Ask → Store → Ladder Refusal
-bucketTables k (push x) s = pushLadder k (s .bits) (s .words) x
-bucketTables k pop s = popLadder k (s .bits) (s .words)
-bucketTables k (replace x) s = replaceLadder k (s .bits) (s .words) x
+bucketTables k c s = ladder (callTable k (s .bits) (s .words) (wanted c)) fine
 
 abbrev bucketStep : bucket.Outcome → Step Answer Store
 bucketStep o = step (o .answer) (store (o .bits) (o .words))
@@ -123,13 +122,9 @@ module _ (d n : ℕ) (out : List ℕ) (room : answerWords ≤ length out) where
   bucket-is (replace x) s = rw (le-leb answerWords (length out) room)
 
   table : (c : Ask) (s : Store) → Exactly (λ (o : Step Answer Store). numberOf (o .said)) (λ n. step (Refused n) s) (bucketQueue k (wanted c) s) (bucketTables k c s)
-  unfolding asked
-  table (push x) s =
-      exactly-as (λ (o : bucket.Outcome). numberOf (o .answer)) (λ r. bucket.refused r (s .bits) (s .words)) bucketStep (λ (o : Step Answer Store). numberOf (o .said)) (λ o. refl) _ (bucketTables k (push x) s) (bucketTable.exactly-push k (s .bits) (s .words) x)
-  table pop s =
-      exactly-as (λ (o : bucket.Outcome). numberOf (o .answer)) (λ r. bucket.refused r (s .bits) (s .words)) bucketStep (λ (o : Step Answer Store). numberOf (o .said)) (λ o. refl) _ (bucketTables k pop s) (bucketTable.exactly-pop k (s .bits) (s .words))
-  table (replace x) s =
-      exactly-as (λ (o : bucket.Outcome). numberOf (o .answer)) (λ r. bucket.refused r (s .bits) (s .words)) bucketStep (λ (o : Step Answer Store). numberOf (o .said)) (λ o. refl) _ (bucketTables k (replace x) s) (bucketTable.exactly-replace k (s .bits) (s .words) x)
+  table c s =
+      exactly-as (λ (o : bucket.Outcome). numberOf (o .answer)) (λ r. bucket.refused r (s .bits) (s .words)) bucketStep (λ (o : Step Answer Store). numberOf (o .said)) (λ o. refl) (asked k (wanted c) s) (bucketTables k c s)
+      (bucketTable.exactly k (s .bits) (s .words) (wanted c))
 
   pub bucket-exactly : (c : Ask) (s : Store) → Exactly (λ (o : Step CountAfter Store). o .said .number) (refusedC out c s) (bucketC d n out c s) (bucketTables k c s)
   bucket-exactly c s = through.exactly (bucketQueue k) (bucketKind.kind k) out room (bucketC d n out) bucket-is c s (bucketTables k c s) (table c s)

@@ -25,7 +25,7 @@ use Rattle.clocked_model.proofs.Demand.{start-in-step}
 use Rattle.clocked_model.proofs.Exactly as cycles
 use Rattle.clocked_model.proofs.Lost as lost
 use Rattle.clocked_model.specs.Lost.{remaining}
-use Rattle.clocked_model.specs.Promise.{clearedMachine, clock, clockedQueue, Machine}
+use Rattle.clocked_model.specs.Promise.{clearedMachine, clockedQueue, Machine}
 use Rattle.cluster_clock_model.proofs.Exactly as turns
 use Rattle.cluster_clock_model.proofs.Promises as heap
 use Rattle.cluster_clock_model.specs.Calls.{drains}
@@ -41,7 +41,7 @@ use Rattle.laws.specs.Ladder.{Exactly}
 use Rattle.lent_steps.proofs.Exactly as treeTable
 use Rattle.lent_steps.specs.Lent.{lentCycled, LentOutcome as TreeOutcome}
 use Rattle.lent_steps.specs.Refusals as trees
-use Rattle.promise.proofs.Clock as clocks
+use Rattle.promise.proofs.InFlight as clocks
 use Rattle.promise.proofs.Drains.{exactly-as}
 use Rattle.promise.specs.Queue.{answers, leaves, step, Step}
 use Rattle.strip.specs.Answers.{blank, numberOf, refusalNumber}
@@ -111,9 +111,9 @@ clocked-heard m zero out room x sh long some rs = absurd (not-suc-le-zero (sh .s
 clocked-heard m (suc k) out room x sh long some rs =
     beside (clockedC m (suc k) out room) (clockedQueue m (suc k)) (kept.Holds m (suc k)) (same m (suc k) out room) (keep m (suc k) out room) (remaining m (suc k)) rs (clearC m (suc k) x) (clearedMachine m (suc k) (x .store))
     (tree.clear-holds m (suc k) x sh long some)
-    (clocks.all-held (clock m (suc k)) (clockedQueue m (suc k)) (cycles.same m (suc k)) (lost.Going m k) (lost.is-clock m k) (remaining m (suc k)) (lost.bag m k) (clearedMachine m (suc k) (x .store)) going (lost.start-remains m k (x .store) sh) rs)
-    (λ r. clocks.cycle-least (clock m (suc k)) (clockedQueue m (suc k)) (cycles.same m (suc k)) (lost.Going m k) (lost.is-clock m k) (λ r. r) (remaining m (suc k)) (lost.lowest m k) r (leaves (clockedQueue m (suc k)) rs (clearedMachine m (suc k) (x .store)))
-    (clocks.ran-kept (clock m (suc k)) (clockedQueue m (suc k)) (cycles.same m (suc k)) (lost.Going m k) (lost.is-clock m k) (clearedMachine m (suc k) (x .store)) going rs))
+    (clocks.all-held (lost.is-clock m k) (lost.bag m k) (clearedMachine m (suc k) (x .store)) going (lost.start-remains m k (x .store) sh) rs)
+    (λ r. clocks.cycle-least (lost.is-clock m k) (lost.lowest m k) r (leaves (clockedQueue m (suc k)) rs (clearedMachine m (suc k) (x .store)))
+    (clocks.ran-kept (lost.is-clock m k) (clearedMachine m (suc k) (x .store)) going rs))
   where
     going : lost.Going m k (clearedMachine m (suc k) (x .store))
     going = (_, start-in-step m k (x .store) sh)

@@ -14,19 +14,20 @@ use Rattle.card_cases.specs.Through.{PortAsk, portAsks, portHears, ports
 use Rattle.card_out.proofs.Heard.{heard-same}
 use Rattle.card_out.specs.Heard.{Ask, heardAll, pop, push, replace, wanted}
 use Rattle.card_out.specs.Out.{answerWords, CountAfter}
-use Rattle.laws.specs.Ladder.{Exactly, Ladder}
+use Rattle.laws.specs.Ladder.{Exactly, fine, Ladder}
 use Rattle.laws.specs.Means.{means-and}
 use Rattle.ports_model.proofs.Exactly as table
 use Rattle.ports_model.proofs.Facts.{limits-mean, shape-means}
 use Rattle.ports_model.proofs.Kind.{kind}
 use Rattle.ports_model.proofs.Promises.{ports-answer}
 use Rattle.ports_model.specs.Calls.{cleared}
-use Rattle.ports_model.specs.Causes.{Fair, popLadder, pushLadder, replaceLadder, Shaped}
+use Rattle.ports_model.specs.Causes.{callTable, Fair, Shaped}
 use Rattle.ports_model.specs.Lists.{none, served}
 use Rattle.ports_model.specs.Runs.{asked, called}
 use Rattle.ports_model.specs.declared.Shape.{Shape}
 use Rattle.promise.proofs.Drains.{exactly-as}
 use Rattle.promise.specs.Queue.{answers, step, Step}
+use Rattle.promise.specs.Table.{ladder}
 use Rattle.strip.specs.Answers.{numberOf}
 use Rattle.strip.specs.declared.Answer.{Answer}
 use Rattle.strip.specs.declared.Answer.the-variants.{Refused}
@@ -38,9 +39,7 @@ abbrev portQueue : Shape → ℕ → Request → Store → Step Answer Store
 portQueue s p r x = step (asked s p r x .answer) (store (asked s p r x .bits) (asked s p r x .words))
 
 abbrev pub portTable : Shape → ℕ → Ask → Store → Ladder Refusal
-portTable s p (push e) x = pushLadder s p (x .bits) (x .words) e
-portTable s p pop x = popLadder s p (x .bits) (x .words)
-portTable s p (replace e) x = replaceLadder s p (x .bits) (x .words) e
+portTable s p c x = ladder (callTable s p (x .bits) (x .words) (wanted c)) fine
 
 abbrev stepOf : bucket.Outcome → Step Answer Store
 stepOf o = step (o .answer) (store (o .bits) (o .words))
