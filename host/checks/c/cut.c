@@ -4,6 +4,7 @@
  * check, and every element whose slot the call did not touch is in it.
  */
 #include "card.h"
+#include "random.h"
 #include <stdio.h>
 #include <string.h>
 
@@ -13,15 +14,8 @@
 #define SLOTS (WORDS / 4)
 
 static uint32_t before[WORDS], after[WORDS], cut[WORDS], mended[WORDS], out[CARD_OUT_WORDS];
-static uint32_t seed = 20240607u, passed, broken;
+static uint32_t passed, broken;
 static int failed = 0;
-
-static uint32_t word(void) {
-    seed ^= seed << 13;
-    seed ^= seed >> 17;
-    seed ^= seed << 5;
-    return seed;
-}
 
 static void must(const char *what, int holds) {
     if (holds) return;

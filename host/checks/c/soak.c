@@ -5,6 +5,7 @@
  * A compiler evaluates the arguments of a call in an order of its own, so every number is drawn before its call.
  */
 #include "card.h"
+#include "random.h"
 #include <stdio.h>
 
 #define STORE CARD_BUCKET_WORDS(3, 4096)
@@ -19,7 +20,7 @@ static struct card_record records[CARD_RECORDS(15) + BEHIND];
 static struct card_cluster_record stages[CARD_RECORDS(15) + BEHIND];
 
 static uint64_t hash;
-static uint32_t calls, numbers[13], strange, seed = 20240607u;
+static uint32_t calls, numbers[13], strange;
 
 /* the shape, and how many words and records its slices need */
 static uint32_t shape[3], words, words64, pending;
@@ -31,13 +32,6 @@ static card_len n, n2, n3, no;
 static uint32_t pushes, pops, replaces, ranks;
 
 enum turn { PUSH, POP, REPLACE, HELD, OTHER, CLEAR };
-
-static uint32_t word(void) {
-    seed ^= seed << 13;
-    seed ^= seed >> 17;
-    seed ^= seed << 5;
-    return seed;
-}
 
 static uint32_t below(uint32_t limit) { return word() % limit; }
 

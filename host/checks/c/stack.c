@@ -3,6 +3,7 @@
  * longer painted is counted. The most of many calls is written, on the deepest shapes, stores full and empty, sound and spoilt.
  */
 #include "card.h"
+#include "random.h"
 #include <stdio.h>
 
 #if defined __x86_64__
@@ -51,14 +52,6 @@ static uint32_t store[CARD_TREE_WORDS(2, 15)], second[CARD_TREE_WORDS(2, 15)], s
 static uint64_t bits[CARD_PORTS_BITS(2, 16)];
 static struct card_record records[CARD_RECORDS(15)];
 static struct card_cluster_record stages[CARD_RECORDS(15)];
-static uint32_t seed = 20240607u;
-
-static uint32_t word(void) {
-    seed ^= seed << 13;
-    seed ^= seed >> 17;
-    seed ^= seed << 5;
-    return seed;
-}
 
 /* Now and then a word is spoilt, and set right again after the calls. */
 static uint32_t spoilt, was;

@@ -5,6 +5,7 @@
  */
 #define _DEFAULT_SOURCE 1
 #include "card.h"
+#include "random.h"
 #include <signal.h>
 #include <stdio.h>
 #include <string.h>
@@ -17,15 +18,8 @@
 #define WORDS CARD_TREE_WORDS(4, 3)
 
 static uint32_t before[WORDS], after[WORDS], seen[WORDS], mended[WORDS], out[CARD_OUT_WORDS];
-static uint32_t seed = 20240607u, what, rank, tag, states;
+static uint32_t what, rank, tag, states;
 static int failed = 0;
-
-static uint32_t word(void) {
-    seed ^= seed << 13;
-    seed ^= seed >> 17;
-    seed ^= seed << 5;
-    return seed;
-}
 
 static void must(const char *text, int holds) {
     if (holds) return;
