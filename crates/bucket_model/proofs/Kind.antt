@@ -1,7 +1,5 @@
 -- The kind of an answer, for all inputs: of a call that is not refused a push answers done, a pop and a replace answer an element. No call takes in an element without a tag.
 use mathlib.Core.Path.{_≡_}
-use mathlib.Core.List.{List}
-use Prim.Native.Nat.{ℕ}
 use Rattle.promise.proofs.Calls.{grants-kind}
 use Rattle.promise.proofs.Tabled.{granted, keeps}
 use Rattle.promise.specs.Served.{Kind}

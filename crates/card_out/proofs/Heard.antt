@@ -73,12 +73,6 @@ heard-push x Done out k = refl
 heard-push x (Out e) out k = sym (k refl)
 heard-push x (Refused n) out k = heard-refused (Push x) n out
 
-pub heard-idle : (a : Answer) (out : List ℕ) → (numberOf a ≡ 0 → a ≡ Done) → heard Idle (countAfter (numberOf a) out) ≡ a
-unfolding heard
-heard-idle Done out k = refl
-heard-idle (Out e) out k = sym (k refl)
-heard-idle (Refused n) out k = heard-refused Idle n out
-
 -- ---- a list of calls: where each is heard as the queue answers it and keeps what relates the two states, a list of them is and does
 module _ {C A X S : Type 0} (hears : C → CountAfter → A) (callC : C → X → Step CountAfter X) (queue : C → S → Step A S) (R : X → S → Type 0)
     (same : (c : C) (x : X) (s : S) → R x s → hears c (callC c x .said) ≡ queue c s .said) (keep : (c : C) (x : X) (s : S) → R x s → R (callC c x .next) (queue c s .next)) where

@@ -13,7 +13,7 @@ use Rattle.clocked_model.specs.Promise.{hasRun, runsIdle}
 use Rattle.cluster_clock_model.proofs.Exactly as cycles
 use Rattle.cluster_clock_model.proofs.Exactly.{damage-fails, sound, ticks}
 use Rattle.cluster_clock_model.specs.Calls.{clockCleared, fresh, turned, turnOutcome, TurnOutcome}
-use Rattle.cluster_clock_model.specs.Promise.{clock, machine, Machine, TurnDamage, turnLeft, turnQueue, turnRefusals}
+use Rattle.cluster_clock_model.specs.Promise.{machine, Machine, TurnDamage, turnLeft, turnRefusals}
 use Rattle.cluster_clock_model.specs.declared.Stage.{Stage}
 use Rattle.cluster_lent_steps.specs.Lent.{kindsOk, lentCleared, lentOf, lentOutcome, LentOutcome, lentTurned, noRecord, readable, recordsBack, stagesRead}
 use Rattle.cluster_lent_steps.specs.Refusals.{lentClearLeft, lentClearRefusals, lentLeft, lentRefusals, Readable}

@@ -9,7 +9,7 @@ use Rattle.clocked_model.proofs.Drain as model
 use Rattle.clocked_model.proofs.Exactly as cycles
 use Rattle.clocked_model.proofs.Exactly.{no-damage-sound, timed}
 use Rattle.clocked_model.specs.Calls.{clockedCleared, cycled, cycleOutcome, CycleOutcome, drainOutcome, DrainOutcome, drains, fresh}
-use Rattle.clocked_model.specs.Promise.{clock, clockedQueue, CycleDamage, cycleLeft, cycleRefusals, drainLeft, drainRefusals, hasRun, idles, isBadShape, machine, Machine, runsIdle}
+use Rattle.clocked_model.specs.Promise.{CycleDamage, cycleLeft, cycleRefusals, drainLeft, drainRefusals, hasRun, idles, isBadShape, machine, Machine, runsIdle}
 use Rattle.clocked_model.specs.declared.State.{State}
 use Rattle.laws.specs.Ladder.{climb, climb-fine, Exactly, fine, left-behind, rung}
 use Rattle.laws.specs.Means.{Means, means-and, means-by, means-leb}

@@ -24,7 +24,7 @@ use Rattle.strip.specs.declared.Request.the-variants.{Push}
 use Rattle.tree_model.proofs.Exactly.{is-shape, shape-is}
 use Rattle.tree_model.proofs.Promises.{call-sum, called-kept, is-queue, Kept, kept-sum, past-stands, start-empty, start-kept, stored-holding, tagged}
 use Rattle.tree_model.proofs.Slice.{clear-zeroes}
-use Rattle.tree_model.specs.Calls.{called, Outcome, rootOf, shapeOk, tree}
+use Rattle.tree_model.specs.Calls.{called, Outcome, rootOf, shapeOk}
 use Rattle.tree_model.specs.Damage.{room}
 use Rattle.tree_model.specs.Node.{isEmpty, sumCounts}
 use Rattle.tree_model.specs.Promise.{after, Shape, start, storedCount, treeQueue}
