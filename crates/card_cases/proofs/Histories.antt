@@ -28,7 +28,7 @@ use Rattle.cluster_model.proofs.Exactly as clusterTable
 use Rattle.cluster_model.proofs.Promises as clusterPromises
 use Rattle.cluster_model.specs.Promise as cluster
 use Rattle.laws.specs.Ladder.{Exactly, fine, Ladder}
-use Rattle.promise.proofs.Drains.{exactly-as}
+use Rattle.promise.proofs.Handed.{exactly-as}
 use Rattle.promise.specs.Calls.{left, Outcome}
 use Rattle.promise.specs.Queue.{answers, leaves, step, Step}
 use Rattle.promise.specs.Table.{ladder}

@@ -42,7 +42,7 @@ use Rattle.lent_steps.proofs.Exactly as treeTable
 use Rattle.lent_steps.specs.Lent.{lentCycled, LentOutcome as TreeOutcome}
 use Rattle.lent_steps.specs.Refusals as trees
 use Rattle.promise.proofs.InFlight as clocks
-use Rattle.promise.proofs.Drains.{exactly-as}
+use Rattle.promise.proofs.Handed.{exactly-as}
 use Rattle.promise.specs.Queue.{answers, leaves, step, Step}
 use Rattle.strip.specs.Answers.{blank, numberOf, refusalNumber}
 use Rattle.strip.specs.declared.Answer.{Answer}

@@ -18,7 +18,7 @@ use Rattle.fair_model.specs.declared.FairAnswer.the-variants.{Accepted, Denied,
 use Rattle.fair_model.specs.declared.FairRefusal.{FairRefusal}
 use Rattle.fair_model.specs.declared.FairRefusal.the-variants.{BadStrip, ClockSpent, NotEmpty, Queue}
 use Rattle.laws.specs.Ladder.{Exactly}
-use Rattle.promise.proofs.Drains.{exactly-as}
+use Rattle.promise.proofs.Handed.{exactly-as}
 use Rattle.promise.specs.Queue.{answers, leaves, step, Step}
 use Rattle.strip.specs.Answers.{elementOf}
 use Rattle.strip.specs.declared.Answer.the-variants.{Out}

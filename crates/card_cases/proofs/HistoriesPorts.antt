@@ -25,7 +25,7 @@ use Rattle.ports_model.specs.Causes.{callTable, Fair, Shaped}
 use Rattle.ports_model.specs.Lists.{none, served}
 use Rattle.ports_model.specs.Runs.{asked, called}
 use Rattle.ports_model.specs.declared.Shape.{Shape}
-use Rattle.promise.proofs.Drains.{exactly-as}
+use Rattle.promise.proofs.Handed.{exactly-as}
 use Rattle.promise.specs.Queue.{answers, step, Step}
 use Rattle.promise.specs.Table.{ladder}
 use Rattle.strip.specs.Answers.{numberOf}

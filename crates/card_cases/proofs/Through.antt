@@ -9,7 +9,7 @@ use Rattle.card_out.proofs.Heard.{answers-seen, heard-in-step, heard-promised, 
 use Rattle.card_out.specs.Heard.{Ask, heard, heardAll, Heard, pop, push, replace, wanted}
 use Rattle.card_out.specs.Out.{answerWords, CountAfter}
 use Rattle.laws.specs.Ladder.{Exactly, Ladder}
-use Rattle.promise.proofs.Drains.{exactly-as}
+use Rattle.promise.proofs.Handed.{exactly-as}
 use Rattle.promise.specs.Queue.{answers, leaves, step, Step}
 use Rattle.promise.specs.Served.{Holds, Kind, Least}
 use Rattle.strip.specs.Answers.{blank, numberOf}

@@ -15,6 +15,7 @@ use Rattle.clocked_model.specs.declared.State.{State}
 use Rattle.laws.specs.Ladder.{Exactly, left-behind}
 use Rattle.promise.proofs.Clock.{idle-ran}
 use Rattle.promise.proofs.Drains as drain
+use Rattle.promise.proofs.Handed.{exactly-as}
 use Rattle.promise.specs.Clock.{drainedBy}
 use Rattle.promise.specs.Drains as close
 use Rattle.promise.specs.Drains.{Close, Drained, stopped}
@@ -106,7 +107,7 @@ module _ (m levels : ℕ) where
 
     -- EXACTLY: a drain is refused for the shape, or where an idle cycle within the budget meets damage, and leaves behind what the rule says
     pub exactly-drain : Exactly (λ (d : DrainOutcome). numberOf (d .answer)) (drainLeft m levels (drains m levels b s ws .cycles) s ws) (drains m levels b s ws) (drainRefusals m levels b s ws)
-    exactly-drain = rw drains-as (drain.exactly-as _ _ shown (λ d. numberOf (d .answer)) (λ d. refl) _ _ (drain.exactly-drain (timed m levels) b x))
+    exactly-drain = rw drains-as (exactly-as _ _ shown (λ d. numberOf (d .answer)) (λ d. refl) _ _ (drain.exactly-drain (timed m levels) b x))
 
     -- "Drain stops at 2 and reports the cycles already run, work left; at 1 it reports 0 and no work left"
     pub drain-refused : (n : Refusal) → numberOf (drains m levels b s ws .answer) ≡ refusalNumber n → drains m levels b s ws ≡ drainLeft m levels (drains m levels b s ws .cycles) s ws n

@@ -24,6 +24,7 @@ use Rattle.laws.specs.Ladder.{Exactly, left-behind}
 use Rattle.laws.specs.Tests.{and-true}
 use Rattle.promise.proofs.Clock.{idle-ran}
 use Rattle.promise.proofs.Drains as drain
+use Rattle.promise.proofs.Handed.{exactly-as}
 use Rattle.promise.specs.Clock.{drainedBy}
 use Rattle.promise.specs.Drains.{capped, Close, drained, Drained}
 use Rattle.promise.specs.Queue.{Step}
@@ -102,7 +103,7 @@ module _ (K levels : ℕ) where
 
     -- EXACTLY: a drain is refused for the shape, or where an idle cycle within the budget meets damage, and leaves behind what the rule says
     pub exactly-drain : Exactly (λ (d : DrainOutcome). numberOf (d .answer)) (drainLeft K levels (drains K levels b rs ws .cycles) rs ws) (drains K levels b rs ws) (drainRefusals K levels b rs ws)
-    exactly-drain = rw drains-as (drain.exactly-as _ _ shown (λ d. numberOf (d .answer)) (λ d. refl) _ _ (drain.exactly-drain (ticks K levels) b x))
+    exactly-drain = rw drains-as (exactly-as _ _ shown (λ d. numberOf (d .answer)) (λ d. refl) _ _ (drain.exactly-drain (ticks K levels) b x))
 
     -- "Drain stops at 2 and reports the cycles already run, work left; at 1 it reports 0 and no work left"
     pub drain-refused : (n : Refusal) → numberOf (drains K levels b rs ws .answer) ≡ refusalNumber n → drains K levels b rs ws ≡ drainLeft K levels (drains K levels b rs ws .cycles) rs ws n

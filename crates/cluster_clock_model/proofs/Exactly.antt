@@ -36,7 +36,7 @@ use Rattle.promise.specs.Queue.{step, Step}
 use Rattle.promise.proofs.Calls.{grants-kind, grants-zero, last-all, last-ladder, last-tags, last-told}
 use Rattle.promise.proofs.Clock as clocks
 use Rattle.promise.proofs.Clock.{Ticks}
-use Rattle.promise.proofs.Drains.{exactly-as}
+use Rattle.promise.proofs.Handed.{exactly-as}
 use Rattle.promise.specs.Calls as calls
 use Rattle.promise.specs.Calls.{lastTable, left, Outcome}
 use Rattle.promise.specs.Clock.{cycleLeft, cycling, runsIdle}

@@ -26,7 +26,7 @@ use Rattle.cluster_model.proofs.Damages.{shape-is}
 use Rattle.cluster_model.specs.Calls.{shapeOk}
 use Rattle.cluster_model.specs.Promise.{Shape}
 use Rattle.laws.specs.Ladder.{Exactly}
-use Rattle.lent_steps.proofs.Handed.{exactly-behind}
+use Rattle.promise.proofs.Handed.{exactly-behind}
 use Rattle.promise.specs.Queue.{leaves}
 use Rattle.strip.specs.Answers.{numberOf}
 use Rattle.strip.specs.declared.Answer.the-variants.{Refused}

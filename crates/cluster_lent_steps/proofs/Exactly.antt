@@ -26,7 +26,7 @@ use Rattle.laws.specs.Ladder.{climb, climb-fine, Exactly, fine, left-behind, ru
 use Rattle.laws.specs.Means.{Means, means-and, means-by, means-leb}
 use Rattle.laws.specs.Tests.{and-left, and-right, and-true}
 use Rattle.promise.proofs.Clock as clocks
-use Rattle.lent_steps.proofs.Handed.{exactly-behind, given-later}
+use Rattle.promise.proofs.Handed.{exactly-behind, given-later}
 use Rattle.promise.specs.Queue.{leaves, Step}
 use Rattle.promise.specs.Refused.{refusal-told, zero-told}
 use Rattle.promise.specs.Table.{decided-exactly, ends, needs}

@@ -21,7 +21,7 @@ use Rattle.lent_steps.specs.Refusals.{lentClearLeft, lentClearRefusals, 
 use Rattle.lent_steps.specs.Steps.{unread}
 use Rattle.lent_steps.specs.declared.Record.{Record}
 use Rattle.promise.proofs.Clock as clocks
-use Rattle.lent_steps.proofs.Handed.{exactly-behind, given-later}
+use Rattle.promise.proofs.Handed.{exactly-behind, given-later}
 use Rattle.promise.specs.Queue.{leaves, Step}
 use Rattle.promise.specs.Refused.{refusal-told, zero-told}
 use Rattle.promise.specs.Table.{decided-exactly, ends, needs}

@@ -7,5 +7,4 @@ pub mod Stood
 pub mod History
 pub mod Follows
 pub mod Drained
-pub mod Handed
 pub mod Exactly

@@ -9,7 +9,7 @@ use mathlib.Core.Path.{_∙_, _≡_, ap, refl, subst, sym}
 use lib.Dec.{leb}
 use lib.ListN.{replicate}
 use borrow.Author.Tests.{leb-false, leb-true}
-use Rattle.laws.specs.Ladder.{climb-by, climb-fine, climb-stop, Exactly, fine, Ladder, left-behind}
+use Rattle.laws.specs.Ladder.{climb-by, climb-fine, climb-stop, Exactly, fine, left-behind}
 use Rattle.laws.specs.Means.{means-no}
 use Rattle.promise.proofs.Clock.{damaged, idle-runs, shape-stays, Ticks}
 use Rattle.promise.specs.Clock.{asking, Clock, drainedBy}
@@ -220,10 +220,6 @@ module _ {S : Type 0} (queue : Request → S → Step Answer S) (pending : S →
           go true e =
               let waits : d .left ≡ true = c .left ∙ ap pending close-state ∙ j .waits (d .cycles) (leb-true (d .cycles) n e) in
               omega (arith, l waits, j .within, leb-true (d .cycles) n e)
-
--- each refusal given exactly for its cause, said of an outcome in another form
-pub exactly-as : {R O P A : Type 0} (says : O → A) (left : R → O) (f : O → P) (tells : P → A) → ((o : O) → tells (f o) ≡ says o) → (o : O) (l : Ladder R) → Exactly says left o l → Exactly tells (λ r. f (left r)) (f o) l
-exactly-as says left f tells h o l x = record { only = λ r e. x .only r (sym (h o) ∙ e ∙ h (left r)); always = λ r u. ap f (x .always r u) }
 
 -- ---- the drains of a clock
 module _ {C M : Type 0} {k : Clock C M} {queue : C → M → Step Answer M} (t : Ticks k queue) where

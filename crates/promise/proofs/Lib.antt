@@ -1,5 +1,6 @@
 pub mod Calls
 pub mod Tabled
+pub mod Handed
 pub mod Kept
 pub mod Clock
 pub mod Drains
