@@ -174,8 +174,8 @@ uint32_t card_tree_mend(const uint32_t *from, card_len from_len, uint32_t *to, c
 
 /* Sets the clock and all finishes to 0. Of the store it reads the root alone. Refused 1 for a short
    state; as card_tree_held is refused, 1 or 2; 11 while anything is held. A refusal changes nothing. */
-uint32_t card_fair_reset(uint32_t *state, card_len state_len, const uint32_t *store, card_len store_len,
-                         uint32_t order, uint32_t levels);
+uint32_t card_fair_reset(uint32_t *state, card_len state_len, const uint32_t *store,
+                         card_len store_len, uint32_t order, uint32_t levels);
 
 /* Takes a strip of a flow in. Refused 9, before all else, for a flow above 63, a weight of 0 or above
    1024, a length of 0 or above 9216; 1 for a short state; 10 where its finish is above 4294967295;
@@ -344,8 +344,8 @@ uint32_t card_clocked_drain(uint32_t *store, card_len store_len, uint32_t order,
                             card_len mark_len, uint32_t budget, uint32_t *out, card_len out_len);
 
 /* Gives the number of held elements in out[0]. Reads the root alone, no record. */
-uint32_t card_clocked_held(const uint32_t *store, card_len store_len, uint32_t order, uint32_t levels,
-                           uint32_t *out, card_len out_len);
+uint32_t card_clocked_held(const uint32_t *store, card_len store_len, uint32_t order,
+                           uint32_t levels, uint32_t *out, card_len out_len);
 
 /*
  * The cluster heap, worked by clock cycles: nothing is ever too soon, and there is no mark. Beside the

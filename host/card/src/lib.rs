@@ -37,6 +37,9 @@
 #[cfg(feature = "std")]
 extern crate std;
 
+#[macro_use]
+mod raw;
+
 mod bucket;
 pub mod calls;
 mod clocked;
@@ -47,7 +50,6 @@ mod mend;
 #[cfg(feature = "std")]
 mod owned;
 mod ports;
-mod raw;
 mod sizes;
 mod tree;
 

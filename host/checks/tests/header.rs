@@ -1,9 +1,10 @@
-//! Holds the three descriptions of the library's functions to each other: the C header, the Rust declarations, and the exported
-//! functions of the library's own source.
+//! Holds the three descriptions of the library's functions to each other: the C header, the list of the calls that Rust's functions are
+//! made of, and the exported functions of the library's own source.
 //!
 //! Each function's parameters must have the same names, types and order in all three, a slice being a pointer and then a length in the
-//! first two; the source's `usize`, of 64 bits, is `card_len` in C and `Len` in Rust.
+//! header; the source's `usize`, of 64 bits, is `card_len` in C. The header's declarations are written from the list, to the byte.
 
+use checks::table::{calls, of_list, written, Call, Kind, HEADER, LIST};
 use checks::{root, text};
 use std::collections::{BTreeMap, BTreeSet};
 
@@ -73,18 +74,14 @@ fn joined(flat: Vec<(String, String)>) -> Result<Vec<String>, String> {
     let mut out = Vec::new();
     let mut rest = flat.into_iter();
     while let Some((name, kind)) = rest.next() {
-        let slice = match kind.as_str() {
-            "*mut u32" => "&mut [u32]",
-            "*mut u64" => "&mut [u64]",
-            "*mut Record" => "&mut [Record]",
-            "*mut ClusterRecord" => "&mut [ClusterRecord]",
-            "*const u32" => "&[u32]",
-            "*const u64" => "&[u64]",
-            "u32" => {
+        let slice = match kind.split_once(' ') {
+            Some(("*mut", of)) => format!("&mut [{of}]"),
+            Some(("*const", of)) => format!("&[{of}]"),
+            None if kind == "u32" => {
                 out.push(format!("{name}: u32"));
                 continue;
             }
-            other => return Err(format!("{name} has the type {other}")),
+            _ => return Err(format!("{name} has the type {kind}")),
         };
         match rest.next() {
             Some((length, kind)) if kind == "Len" && length == format!("{name}_len") => {
@@ -143,28 +140,16 @@ fn of_source(text: &str) -> Result<Functions, String> {
     Ok(found)
 }
 
-/// The Rust declarations.
-fn of_rust(text: &str) -> Result<Functions, String> {
-    let text = without_comments(text);
-    let mut found = Functions::new();
-    let mut rest = text.as_str();
-    let key = "pub fn ";
-    while let Some(at) = rest.find(key) {
-        let (name, after) = rest[at + key.len()..].split_once('(').ok_or("no parenthesis after a name")?;
-        let (parameters, after) = to_the_end(after).ok_or("no closing parenthesis")?;
-        let (answer, after) = after.split_once(';').ok_or("no semicolon")?;
-        let answer = squeezed(answer).trim_start_matches("->").trim().replace("Len", "usize");
-        let mut flat = Vec::new();
-        for p in split(parameters) {
-            flat.push(name_and_type(&p)?);
-        }
-        let parameters = joined(flat).map_err(|e| format!("{name}: {e}"))?;
-        if found.insert(name.trim().to_string(), Function { parameters, answer }).is_some() {
-            return Err(format!("{name} stands there twice"));
-        }
-        rest = after;
-    }
-    Ok(found)
+/// The calls of the list.
+fn of_calls(calls: &[Call]) -> Functions {
+    let of = |(name, kind): &(String, Kind)| match kind {
+        Kind::Number => format!("{name}: u32"),
+        Kind::Slice(false, of) => format!("{name}: &[{of}]"),
+        Kind::Slice(true, of) => format!("{name}: &mut [{of}]"),
+    };
+    let answer = |call: &Call| String::from(if call.length { "usize" } else { "u32" });
+    let function = |call: &Call| Function { parameters: call.arguments.iter().map(of).collect(), answer: answer(call) };
+    calls.iter().map(|call| (call.name.clone(), function(call))).collect()
 }
 
 /// The text without the header's own small functions: each from its first word to the brace that closes it.
@@ -175,6 +160,12 @@ fn without_inlines(text: &str) -> String {
         out.push_str(part.split_once("\n}").map_or("", |(_, rest)| rest));
     }
     out
+}
+
+/// A record's name in Rust: its words begin large.
+fn camel(name: &str) -> String {
+    let large = |word: &str| word[..1].to_uppercase() + &word[1..];
+    name.split('_').filter(|word| !word.is_empty()).map(large).collect()
 }
 
 /// The C declarations.
@@ -205,18 +196,21 @@ fn of_header(text: &str) -> Result<Functions, String> {
         for p in split(parameters).into_iter().filter(|p| p != "void") {
             let at = p.rfind(|c: char| !(c.is_alphanumeric() || c == '_')).ok_or(format!("no type in {p}"))?;
             let (kind, n) = (squeezed(&p[..at + 1]), p[at + 1..].to_string());
-            let kind = match kind.as_str() {
-                "uint32_t" => "u32",
-                "card_len" => "Len",
-                "uint32_t *" => "*mut u32",
-                "uint64_t *" => "*mut u64",
-                "struct card_record *" => "*mut Record",
-                "struct card_cluster_record *" => "*mut ClusterRecord",
-                "const uint32_t *" => "*const u32",
-                "const uint64_t *" => "*const u64",
-                other => return Err(format!("{name}: {n} has the type {other}")),
+            let (lent, of) = match kind.strip_suffix(" *") {
+                Some(of) => of.strip_prefix("const ").map_or(("*mut ", of), |of| ("*const ", of)),
+                None => ("", kind.as_str()),
             };
-            flat.push((n, kind.to_string()));
+            let of = match of {
+                "uint32_t" => String::from("u32"),
+                "uint64_t" if !lent.is_empty() => String::from("u64"),
+                "card_len" if lent.is_empty() => String::from("Len"),
+                other => match other.strip_prefix("struct card_") {
+                    Some(record) if !lent.is_empty() => camel(record),
+                    _ => return Err(format!("{name}: {n} has the type {kind}")),
+                },
+            };
+            let kind = lent.to_string() + &of;
+            flat.push((n, kind));
         }
         let parameters = joined(flat).map_err(|e| format!("{name}: {e}"))?;
         if found.insert(name.to_string(), Function { parameters, answer }).is_some() {
@@ -228,12 +222,12 @@ fn of_header(text: &str) -> Result<Functions, String> {
 
 #[test]
 fn header_declarations_and_source_agree() {
-    let paths = ["host/card.h", "host/card/src/raw.rs", "crates/card/src"];
+    let paths = [HEADER, LIST, "crates/card/src"];
     // every module of the library's source
     let files = std::fs::read_dir(root().join(paths[2])).unwrap().map(|entry| entry.unwrap().path());
     let source: String =
         files.filter(|path| path.extension().map_or(false, |e| e == "rt")).map(|path| text(&path)).collect();
-    let tables = [of_header(&text(&root().join(paths[0]))), of_rust(&text(&root().join(paths[1]))), of_source(&source)];
+    let tables = [of_header(&text(&root().join(paths[0]))), Ok(of_calls(&calls())), of_source(&source)];
     let tables: Vec<Functions> =
         tables.into_iter().zip(paths).map(|(t, path)| t.unwrap_or_else(|e| panic!("{path}: {e}"))).collect();
     let names: BTreeSet<&String> = tables.iter().flat_map(|t| t.keys()).collect();
@@ -264,15 +258,64 @@ fn one_version() {
     assert_eq!(number("host/card/src/lib.rs", "pub const VERSION: u32 = ", ";"), version);
 }
 
-/// The safe layer has each function once, under the name without its first word.
+/// What the list's declarations would be stands in the header, to the byte, comments and all.
 #[test]
-fn the_safe_layer_has_every_call() {
-    let declared = of_rust(&text(&root().join("host/card/src/raw.rs"))).unwrap();
-    let calls = text(&root().join("host/card/src/calls.rs"));
-    for name in declared.keys() {
-        let short = name.trim_start_matches("card_");
-        assert_eq!(calls.matches(&format!("pub fn {short}(")).count(), 1, "{name}");
-        assert_eq!(calls.matches(&format!("raw::{name}(")).count(), 1, "{name}");
+fn the_header_is_written_from_the_list() {
+    let header = text(&root().join(HEADER));
+    let again = written(&header, &calls()).unwrap_or_else(|error| panic!("{HEADER}: {error}"));
+    for (line, (is, ought)) in header.lines().zip(again.lines()).enumerate() {
+        assert_eq!(is, ought, "{HEADER}:{}: `cargo run -p checks --bin header` writes it anew", line + 1);
+    }
+    assert!(header == again, "{HEADER}: `cargo run -p checks --bin header` writes it anew");
+    assert!(
+        calls().iter().all(|call| call.name == "card_version" || !call.says.is_empty()),
+        "a call without a comment"
+    );
+}
+
+/// What is written from a list: a slice as a pointer and a length, `const` where it is only read; comments, and lines that are full.
+#[test]
+fn declarations_from_a_list() {
+    let list = "calls! {
+        /// Of the one.
+        /// And more.
+        fn one(from: &[u64], to: &mut [u32], order, records: &mut [LongRecord], out: &mut [u32]);
+        // a word
+        #[doc = \"Rust's own.\"]
+        fn two() -> usize;
+    }";
+    let calls = of_list(list).unwrap();
+    let header = "a\n\n/* Old. */\nuint32_t card_one(uint32_t wrong,\n  uint32_t more);\n\n/* Apart. */\n#define B\ncard_len card_two();\nz\n";
+    let expected = "a\n
+/* Of the one.
+   And more. */
+uint32_t card_one(const uint64_t *from, card_len from_len, uint32_t *to, card_len to_len,
+                  uint32_t order, struct card_long_record *records, card_len records_len,
+                  uint32_t *out, card_len out_len);
+
+/* Apart. */
+#define B
+card_len card_two(void);
+z
+";
+    assert_eq!(written(header, &calls), Ok(String::from(expected)));
+    assert_eq!(written(expected, &calls), Ok(String::from(expected)));
+    // a call without a place, or with two
+    assert!(written("a\nuint32_t card_one();\n", &calls).unwrap_err().starts_with("card_two has 0 places"));
+    let twice = format!("{expected}card_len card_two();\n");
+    assert!(written(&twice, &calls).unwrap_err().starts_with("card_two has 2 places"));
+    // what is no call
+    for line in [
+        "fn a(b: u32);",
+        "fn a(b: [u32]);",
+        "fn a(b: &u32);",
+        "fn a(B);",
+        "fn a() -> u64;",
+        "fn a()",
+        "fn a(b;",
+        "fn a();\nfn a();",
+    ] {
+        assert!(of_list(line).is_err(), "{line}");
     }
 }
 
@@ -288,7 +331,8 @@ fn the_soak_and_the_stack_have_every_call() {
     }
 }
 
-/// Every unsafe block of the folder says why it is safe, and none stands outside the safe layer and the bench.
+/// Every unsafe block of the folder says why it is safe, and none stands outside the bench and the one file that calls the library: there
+/// one is every call's, and two look at how a record lies.
 #[test]
 fn every_unsafe_block_says_why() {
     fn walk(folder: &std::path::Path, found: &mut Vec<std::path::PathBuf>) {
@@ -302,7 +346,7 @@ fn every_unsafe_block_says_why() {
     }
     let mut files = Vec::new();
     walk(&root().join("host"), &mut files);
-    let mut blocks = 0;
+    let mut calling = 0;
     for file in files {
         let text = text(&file);
         let lines: Vec<&str> = text.lines().collect();
@@ -312,11 +356,11 @@ fn every_unsafe_block_says_why() {
                 let said = lines[..i].iter().rev().take(3).any(|l| l.contains("// SAFETY: "));
                 assert!(said, "{}:{}: an unsafe block without a word", file.display(), i + 1);
                 let at = file.strip_prefix(root()).unwrap();
-                let safe = at.ends_with("card/src/calls.rs") || at.starts_with("host/bench/src");
-                assert!(safe, "{}:{}: an unsafe block outside the safe layer", at.display(), i + 1);
-                blocks += 1;
+                let own = at.ends_with("card/src/raw.rs");
+                assert!(own || at.starts_with("host/bench/src"), "{}:{}: an unsafe block", at.display(), i + 1);
+                calling += own as u32;
             }
         }
     }
-    assert!(blocks >= 25);
+    assert_eq!(calling, 3);
 }
