@@ -1,6 +1,7 @@
 //! The bucket queue.
 
-use crate::{calls, refused, Element, Refusal};
+use crate::sizes::bucket_room;
+use crate::{calls, refused, Element, Lent, Refusal};
 
 /// A bucket queue over words of any kind: lent slices, arrays, or (with feature `std`) vectors of its own, see
 /// [`BucketQueue`](crate::BucketQueue).
@@ -21,7 +22,7 @@ use crate::{calls, refused, Element, Refusal};
 /// # Ok(())
 /// # }
 /// ```
-#[derive(Clone, Copy, PartialEq, Eq, Debug)]
+#[derive(PartialEq, Eq, Debug)]
 pub struct Bucket<B, W> {
     storeys: u32,
     nodes: u32,
@@ -29,7 +30,7 @@ pub struct Bucket<B, W> {
     words: W,
 }
 
-impl<B: AsRef<[u64]> + AsMut<[u64]>, W: AsRef<[u32]> + AsMut<[u32]>> Bucket<B, W> {
+impl<B: Lent<u64>, W: Lent<u32>> Bucket<B, W> {
     /// An empty queue with so many storeys and a pool of so many nodes: the words that it needs are cleared and chained, those behind
     /// them are never touched. Refused [`Refusal::BadShape`] where the storeys, the nodes or the number of words
     /// ([`bucket_bits`](crate::bucket_bits), [`bucket_words`](crate::bucket_words)) are not those of a queue; then nothing is written.
@@ -64,45 +65,17 @@ impl<B: AsRef<[u64]> + AsMut<[u64]>, W: AsRef<[u32]> + AsMut<[u32]>> Bucket<B, W
     pub fn words(&self) -> &[u32] {
         self.words.as_ref()
     }
+}
 
-    /// Empties the queue.
-    #[inline]
-    pub fn clear(&mut self) -> Result<(), Refusal> {
-        let (bits, words) = (self.bits.as_mut(), self.words.as_mut());
-        refused(calls::bucket_clear(bits, words, self.storeys, self.nodes))
-    }
+shape! {
+    Bucket<B, W> {
+        /// The number of storeys of bits.
+        storeys,
+        /// The number of nodes in the pool.
+        nodes,
+    } room bucket_room
+}
 
-    /// Takes an element in, behind those of its rank. Refused [`Refusal::BadRank`] above the last rank, [`Refusal::NoTag`] with
-    /// tag 0, [`Refusal::Full`] where no node is free.
-    #[inline]
-    pub fn push(&mut self, x: Element) -> Result<(), Refusal> {
-        let (bits, words) = (self.bits.as_mut(), self.words.as_mut());
-        refused(calls::bucket_push(bits, words, self.storeys, self.nodes, x.rank.0, x.tag.0, x.length.0))
-    }
-
-    /// Gives the first element of the lowest rank. Refused [`Refusal::Empty`] where nothing is held.
-    #[inline]
-    pub fn pop(&mut self) -> Result<Element, Refusal> {
-        let (bits, words, mut out) = (self.bits.as_mut(), self.words.as_mut(), [0; 3]);
-        refused(calls::bucket_pop(bits, words, self.storeys, self.nodes, &mut out))?;
-        Ok(Element::from(out))
-    }
-
-    /// A pop, and then a push of the new element: gives the first element of the lowest rank, even if the new rank is lower. Works
-    /// on a full queue. Refused [`Refusal::BadRank`] above the last rank, [`Refusal::NoTag`] with tag 0, [`Refusal::Empty`] where
-    /// nothing is held.
-    #[inline]
-    pub fn replace(&mut self, x: Element) -> Result<Element, Refusal> {
-        let (bits, words, mut out) = (self.bits.as_mut(), self.words.as_mut(), [0; 3]);
-        refused(calls::bucket_replace(bits, words, self.storeys, self.nodes, x.rank.0, x.tag.0, x.length.0, &mut out))?;
-        Ok(Element::from(out))
-    }
-
-    /// How many elements are held.
-    #[inline]
-    pub fn held(&self) -> Result<u32, Refusal> {
-        let (bits, words, mut out) = (self.bits.as_ref(), self.words.as_ref(), [0; 1]);
-        refused(calls::bucket_held(bits, words, self.storeys, self.nodes, &mut out))?;
-        Ok(out[0])
-    }
+operations! {
+    Bucket<B: u64, W: u32> on (bits, words) of (storeys, nodes): bucket_clear, bucket_push, bucket_pop, bucket_replace, bucket_held
 }

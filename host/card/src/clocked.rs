@@ -1,6 +1,6 @@
 //! The multi-way tree, worked by clock cycles.
 
-use crate::{calls, refused, Element, Refusal};
+use crate::{calls, refused, tree_slots, Element, Lent, Refusal};
 use core::fmt;
 
 /// What a cycle is asked for.
@@ -14,6 +14,20 @@ pub enum Request {
     Pop,
     /// Give the element of lowest rank, and then take this one in.
     Replace(Element),
+}
+
+impl Request {
+    /// Its number, and those of its element; 0 where there is none.
+    #[inline]
+    pub(crate) fn numbers(self) -> (u32, u32, u32, u32) {
+        let (number, x) = match self {
+            Request::Idle => (0, Element::default()),
+            Request::Push(x) => (1, x),
+            Request::Pop => (2, Element::default()),
+            Request::Replace(x) => (3, x),
+        };
+        (number, x.rank.0, x.tag.0, x.length.0)
+    }
 }
 
 /// What a drain reports.
@@ -101,7 +115,7 @@ impl From<Record> for [u32; 5] {
 /// # Ok(())
 /// # }
 /// ```
-#[derive(Clone, Copy, PartialEq, Eq, Debug)]
+#[derive(PartialEq, Eq, Debug)]
 pub struct Clocked<W, R> {
     order: u32,
     levels: u32,
@@ -110,7 +124,7 @@ pub struct Clocked<W, R> {
     mark: [u32; 1],
 }
 
-impl<W: AsRef<[u32]> + AsMut<[u32]>, R: AsRef<[Record]> + AsMut<[Record]>> Clocked<W, R> {
+impl<W: Lent<u32>, R: Lent<Record>> Clocked<W, R> {
     /// An empty tree with nothing pending and the mark off: the words and records that it needs are cleared, those behind them are never touched.
     /// Refused [`Refusal::BadShape`] where order, levels or the number of words ([`tree_words`](crate::tree_words)) or
     /// records ([`record_count`](crate::record_count)) are not those of a tree; then nothing is written.
@@ -151,82 +165,18 @@ impl<W: AsRef<[u32]> + AsMut<[u32]>, R: AsRef<[Record]> + AsMut<[Record]>> Clock
     pub fn mark(&self) -> bool {
         self.mark[0] != 0
     }
+}
 
-    /// Empties the tree: nothing held, nothing pending, the mark off.
-    #[inline]
-    pub fn clear(&mut self) -> Result<(), Refusal> {
-        let (words, records) = (self.words.as_mut(), self.records.as_mut());
-        refused(calls::clocked_clear(words, self.order, self.levels, records, &mut self.mark))
-    }
+shape! {
+    Clocked<W, R> {
+        /// The order.
+        order,
+        /// The number of levels.
+        levels,
+    } room tree_slots
+}
 
-    /// Runs one cycle. An idle cycle or a push answers rank 0, tag 0, length 0. Refused [`Refusal::TooSoon`], [`Refusal::Full`],
-    /// [`Refusal::Empty`] or [`Refusal::NoTag`] it runs as an idle cycle; after any other refusal everything stands.
-    #[inline]
-    pub fn cycle(&mut self, request: Request) -> Result<Element, Refusal> {
-        let (number, x) = match request {
-            Request::Idle => (0, Element::default()),
-            Request::Push(x) => (1, x),
-            Request::Pop => (2, Element::default()),
-            Request::Replace(x) => (3, x),
-        };
-        let (words, records, mut out) = (self.words.as_mut(), self.records.as_mut(), [0; 3]);
-        refused(calls::clocked_cycle(
-            words,
-            self.order,
-            self.levels,
-            records,
-            &mut self.mark,
-            number,
-            x.rank.0,
-            x.tag.0,
-            x.length.0,
-            &mut out,
-        ))?;
-        Ok(Element::from(out))
-    }
-
-    /// A cycle that takes an element in. Refused [`Refusal::NoTag`] with tag 0.
-    #[inline]
-    pub fn push(&mut self, x: Element) -> Result<(), Refusal> {
-        self.cycle(Request::Push(x)).map(|_| ())
-    }
-
-    /// A cycle that gives the element of lowest rank.
-    #[inline]
-    pub fn pop(&mut self) -> Result<Element, Refusal> {
-        self.cycle(Request::Pop)
-    }
-
-    /// A cycle that is a pop, and then a push of the new element: gives the element of lowest rank, even if the new rank is lower.
-    /// Refused [`Refusal::NoTag`] with tag 0, [`Refusal::Empty`] where nothing is held.
-    #[inline]
-    pub fn replace(&mut self, x: Element) -> Result<Element, Refusal> {
-        self.cycle(Request::Replace(x))
-    }
-
-    /// An idle cycle: pending work moves on.
-    #[inline]
-    pub fn idle(&mut self) -> Result<(), Refusal> {
-        self.cycle(Request::Idle).map(|_| ())
-    }
-
-    /// Runs idle cycles until nothing is pending or the budget is spent. Where a cycle would be refused, [`Stopped`] says why, and
-    /// how many cycles were run before it.
-    #[inline]
-    pub fn drain(&mut self, budget: u32) -> Result<Drained, Stopped> {
-        let (words, records, mut out) = (self.words.as_mut(), self.records.as_mut(), [0; 2]);
-        let number = calls::clocked_drain(words, self.order, self.levels, records, &mut self.mark, budget, &mut out);
-        match refused(number) {
-            Ok(()) => Ok(Drained { cycles: out[0], work_left: out[1] != 0 }),
-            Err(refusal) => Err(Stopped { refusal, cycles: out[0] }),
-        }
-    }
-
-    /// How many elements are held. Reads the root alone.
-    #[inline]
-    pub fn held(&self) -> Result<u32, Refusal> {
-        let mut out = [0; 1];
-        refused(calls::clocked_held(self.words.as_ref(), self.order, self.levels, &mut out))?;
-        Ok(out[0])
-    }
+cycles! {
+    Clocked<W: u32, R: Record> on (words) of (order, levels) pending (records, mark):
+        clocked_clear, clocked_cycle, clocked_drain, clocked_held
 }

@@ -1,6 +1,6 @@
 //! The cluster heap, worked by clock cycles.
 
-use crate::{calls, refused, Drained, Element, Refusal, Request, Stopped};
+use crate::{calls, cluster_places, refused, Drained, Element, Lent, Refusal, Request, Stopped};
 
 /// A pending record: what stands between a level from 2 and the one above it, for the next cycle. This is the library's own layout, so
 /// records may lie wherever the card keeps them.
@@ -60,7 +60,7 @@ impl From<ClusterRecord> for [u32; 6] {
 /// # Ok(())
 /// # }
 /// ```
-#[derive(Clone, Copy, PartialEq, Eq, Debug)]
+#[derive(PartialEq, Eq, Debug)]
 pub struct ClockedCluster<W, R> {
     places: u32,
     levels: u32,
@@ -68,7 +68,7 @@ pub struct ClockedCluster<W, R> {
     records: R,
 }
 
-impl<W: AsRef<[u32]> + AsMut<[u32]>, R: AsRef<[ClusterRecord]> + AsMut<[ClusterRecord]>> ClockedCluster<W, R> {
+impl<W: Lent<u32>, R: Lent<ClusterRecord>> ClockedCluster<W, R> {
     /// An empty heap with nothing pending: the words and records that it needs are cleared, those behind them are never touched. Refused
     /// [`Refusal::BadShape`] where places, levels or the number of words ([`cluster_words`](crate::cluster_words)) or records
     /// ([`record_count`](crate::record_count)) are not those of a heap; then nothing is written.
@@ -103,73 +103,18 @@ impl<W: AsRef<[u32]> + AsMut<[u32]>, R: AsRef<[ClusterRecord]> + AsMut<[ClusterR
     pub fn records(&self) -> &[ClusterRecord] {
         self.records.as_ref()
     }
+}
 
-    /// Empties the heap: nothing held, nothing pending.
-    #[inline]
-    pub fn clear(&mut self) -> Result<(), Refusal> {
-        let (words, records) = (self.words.as_mut(), self.records.as_mut());
-        refused(calls::clocked_cluster_clear(words, self.places, self.levels, records))
-    }
+shape! {
+    ClockedCluster<W, R> {
+        /// The number of places in a node.
+        places,
+        /// The number of levels.
+        levels,
+    } room cluster_places
+}
 
-    /// Runs one cycle. An idle cycle or a push answers rank 0, tag 0, length 0. Refused [`Refusal::Full`], [`Refusal::Empty`] or
-    /// [`Refusal::NoTag`] it runs as an idle cycle; after any other refusal everything stands.
-    #[inline]
-    pub fn cycle(&mut self, request: Request) -> Result<Element, Refusal> {
-        let (number, x) = match request {
-            Request::Idle => (0, Element::default()),
-            Request::Push(x) => (1, x),
-            Request::Pop => (2, Element::default()),
-            Request::Replace(x) => (3, x),
-        };
-        let (rank, tag, length) = (x.rank.0, x.tag.0, x.length.0);
-        let (words, records, mut out) = (self.words.as_mut(), self.records.as_mut(), [0; 3]);
-        let (places, levels) = (self.places, self.levels);
-        refused(calls::clocked_cluster_cycle(words, places, levels, records, number, rank, tag, length, &mut out))?;
-        Ok(Element::from(out))
-    }
-
-    /// A cycle that takes an element in. Refused [`Refusal::NoTag`] with tag 0, [`Refusal::Full`] where there is no room.
-    #[inline]
-    pub fn push(&mut self, x: Element) -> Result<(), Refusal> {
-        self.cycle(Request::Push(x)).map(|_| ())
-    }
-
-    /// A cycle that gives the element of lowest rank. Refused [`Refusal::Empty`] where nothing is held.
-    #[inline]
-    pub fn pop(&mut self) -> Result<Element, Refusal> {
-        self.cycle(Request::Pop)
-    }
-
-    /// A cycle that is a pop, and then a push of the new element: gives the element of lowest rank, even if the new rank is lower.
-    /// Refused [`Refusal::NoTag`] with tag 0, [`Refusal::Empty`] where nothing is held.
-    #[inline]
-    pub fn replace(&mut self, x: Element) -> Result<Element, Refusal> {
-        self.cycle(Request::Replace(x))
-    }
-
-    /// An idle cycle: pending work moves on.
-    #[inline]
-    pub fn idle(&mut self) -> Result<(), Refusal> {
-        self.cycle(Request::Idle).map(|_| ())
-    }
-
-    /// Runs idle cycles until nothing is pending or the budget is spent. Where a cycle would be refused, [`Stopped`] says why, and
-    /// how many cycles were run before it.
-    #[inline]
-    pub fn drain(&mut self, budget: u32) -> Result<Drained, Stopped> {
-        let (words, records, mut out) = (self.words.as_mut(), self.records.as_mut(), [0; 2]);
-        let number = calls::clocked_cluster_drain(words, self.places, self.levels, records, budget, &mut out);
-        match refused(number) {
-            Ok(()) => Ok(Drained { cycles: out[0], work_left: out[1] != 0 }),
-            Err(refusal) => Err(Stopped { refusal, cycles: out[0] }),
-        }
-    }
-
-    /// How many elements are held, in the middle of any work too. Reads the root alone.
-    #[inline]
-    pub fn held(&self) -> Result<u32, Refusal> {
-        let mut out = [0; 1];
-        refused(calls::clocked_cluster_held(self.words.as_ref(), self.places, self.levels, &mut out))?;
-        Ok(out[0])
-    }
+cycles! {
+    ClockedCluster<W: u32, R: ClusterRecord> on (words) of (places, levels) pending (records):
+        clocked_cluster_clear, clocked_cluster_cycle, clocked_cluster_drain, clocked_cluster_held
 }

@@ -1,6 +1,6 @@
 //! The cluster heap, one operation at a time.
 
-use crate::{calls, refused, Element, Refusal};
+use crate::{calls, cluster_places, refused, Element, Lent, Refusal};
 
 /// A binary heap with several places in each node, over words of any kind: a lent slice, an array, or (with feature `std`) a vector of
 /// its own, see [`ClusterQueue`](crate::ClusterQueue).
@@ -22,14 +22,14 @@ use crate::{calls, refused, Element, Refusal};
 /// # Ok(())
 /// # }
 /// ```
-#[derive(Clone, Copy, PartialEq, Eq, Debug)]
+#[derive(PartialEq, Eq, Debug)]
 pub struct Cluster<W> {
     places: u32,
     levels: u32,
     words: W,
 }
 
-impl<W: AsRef<[u32]> + AsMut<[u32]>> Cluster<W> {
+impl<W: Lent<u32>> Cluster<W> {
     /// An empty heap: the words that it needs are cleared, those behind them are never touched. Refused [`Refusal::BadShape`] where
     /// places, levels or the number of words ([`cluster_words`](crate::cluster_words)) are not those of a heap; then nothing is written.
     #[inline]
@@ -57,49 +57,17 @@ impl<W: AsRef<[u32]> + AsMut<[u32]>> Cluster<W> {
     pub fn words(&self) -> &[u32] {
         self.words.as_ref()
     }
+}
 
-    /// Empties the heap.
-    #[inline]
-    pub fn clear(&mut self) -> Result<(), Refusal> {
-        refused(calls::cluster_clear(self.words.as_mut(), self.places, self.levels))
-    }
+shape! {
+    Cluster<W> {
+        /// The number of places in a node.
+        places,
+        /// The number of levels.
+        levels,
+    } room cluster_places
+}
 
-    /// Takes an element in. Refused [`Refusal::NoTag`] with tag 0, [`Refusal::Full`] where there is no room.
-    #[inline]
-    pub fn push(&mut self, x: Element) -> Result<(), Refusal> {
-        refused(calls::cluster_push(self.words.as_mut(), self.places, self.levels, x.rank.0, x.tag.0, x.length.0))
-    }
-
-    /// Gives the element of lowest rank. Refused [`Refusal::Empty`] where nothing is held.
-    #[inline]
-    pub fn pop(&mut self) -> Result<Element, Refusal> {
-        let mut out = [0; 3];
-        refused(calls::cluster_pop(self.words.as_mut(), self.places, self.levels, &mut out))?;
-        Ok(Element::from(out))
-    }
-
-    /// A pop, and then a push of the new element: gives the element of lowest rank, even if the new rank is lower. Works on a full
-    /// heap. Refused [`Refusal::NoTag`] with tag 0, [`Refusal::Empty`] where nothing is held.
-    #[inline]
-    pub fn replace(&mut self, x: Element) -> Result<Element, Refusal> {
-        let mut out = [0; 3];
-        refused(calls::cluster_replace(
-            self.words.as_mut(),
-            self.places,
-            self.levels,
-            x.rank.0,
-            x.tag.0,
-            x.length.0,
-            &mut out,
-        ))?;
-        Ok(Element::from(out))
-    }
-
-    /// How many elements are held.
-    #[inline]
-    pub fn held(&self) -> Result<u32, Refusal> {
-        let mut out = [0; 1];
-        refused(calls::cluster_held(self.words.as_ref(), self.places, self.levels, &mut out))?;
-        Ok(out[0])
-    }
+operations! {
+    Cluster<W: u32> on (words) of (places, levels): cluster_clear, cluster_push, cluster_pop, cluster_replace, cluster_held
 }

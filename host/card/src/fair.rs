@@ -1,6 +1,6 @@
 //! Ranks from weights, above the tree.
 
-use crate::{calls, fair_words, refused, Element, Length, Rank, Refusal, Tag};
+use crate::{calls, fair_words, refused, tree_slots, Element, Length, Lent, Queue, Rank, Refusal, Tag};
 
 /// A flow: 0 to 63.
 #[derive(Clone, Copy, PartialEq, Eq, Hash, Debug, Default)]
@@ -9,6 +9,19 @@ pub struct Flow(pub u32);
 /// A weight: 1 to 1,024. A flow of twice the weight is served twice the cells.
 #[derive(Clone, Copy, PartialEq, Eq, Hash, Debug, Default)]
 pub struct Weight(pub u32);
+
+/// A strip of a flow: what a push takes in. Its rank comes from its weight and its length.
+#[derive(Clone, Copy, PartialEq, Eq, Hash, Debug, Default)]
+pub struct Strip {
+    /// Whose it is.
+    pub flow: Flow,
+    /// How much of the line its flow is to have.
+    pub weight: Weight,
+    /// What it is.
+    pub tag: Tag,
+    /// How long it is.
+    pub length: Length,
+}
 
 /// Fair ranks over words of any kind: lent slices, arrays, or (with feature `std`) vectors of its own, see
 /// [`FairQueue`](crate::FairQueue).
@@ -40,7 +53,7 @@ pub struct Weight(pub u32);
 /// # Ok(())
 /// # }
 /// ```
-#[derive(Clone, Copy, PartialEq, Eq, Debug)]
+#[derive(PartialEq, Eq, Debug)]
 pub struct Fair<S, W> {
     order: u32,
     levels: u32,
@@ -48,7 +61,7 @@ pub struct Fair<S, W> {
     words: W,
 }
 
-impl<S: AsRef<[u32]> + AsMut<[u32]>, W: AsRef<[u32]> + AsMut<[u32]>> Fair<S, W> {
+impl<S: Lent<u32>, W: Lent<u32>> Fair<S, W> {
     /// Nothing held, clock and finishes 0: the words that are needed are cleared, those behind them are never touched. Refused
     /// [`Refusal::BadShape`] where order, levels or the number of words ([`fair_words`](crate::fair_words),
     /// [`tree_words`](crate::tree_words)) are not those of a tree and a state; then nothing is written.
@@ -133,3 +146,34 @@ impl<S: AsRef<[u32]> + AsMut<[u32]>, W: AsRef<[u32]> + AsMut<[u32]>> Fair<S, W> 
         Ok(out[0])
     }
 }
+
+shape! {
+    Fair<S, W> {
+        /// The tree's order.
+        order,
+        /// The tree's number of levels.
+        levels,
+    } room tree_slots
+}
+
+impl<S: Lent<u32>, W: Lent<u32>> Queue for Fair<S, W> {
+    type Pushed = Strip;
+    #[inline]
+    fn push(&mut self, x: Strip) -> Result<(), Refusal> {
+        self.push(x.flow, x.weight, x.tag, x.length)
+    }
+    #[inline]
+    fn pop(&mut self) -> Result<Element, Refusal> {
+        self.pop()
+    }
+    #[inline]
+    fn held(&self) -> Result<u32, Refusal> {
+        self.held()
+    }
+    #[inline]
+    fn capacity(&self) -> usize {
+        self.capacity()
+    }
+}
+
+queue! { [S: Lent<u32>, W: Lent<u32>] Fair<S, W>: Clear }

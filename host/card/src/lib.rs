@@ -38,6 +38,8 @@
 extern crate std;
 
 #[macro_use]
+mod queue;
+#[macro_use]
 mod raw;
 
 mod bucket;
@@ -57,11 +59,12 @@ pub use bucket::Bucket;
 pub use clocked::{Clocked, Drained, Record, Request, Stopped};
 pub use clocked_cluster::{ClockedCluster, ClusterRecord};
 pub use cluster::Cluster;
-pub use fair::{Fair, Flow, Weight};
+pub use fair::{Fair, Flow, Strip, Weight};
 pub use mend::{Broken, Mended};
 #[cfg(feature = "std")]
 pub use owned::{BucketQueue, ClockedHeap, ClockedTree, ClusterQueue, FairQueue, PortsQueue, TreeQueue};
 pub use ports::{Limits, Port, Ports};
+pub use queue::{Clear, Lent, Machine, Queue, Replace};
 pub use sizes::{
     bucket_bits, bucket_ranks, bucket_words, cluster_places, cluster_words, fair_words, ports_bits, ports_words,
     record_count, tree_slots, tree_words,

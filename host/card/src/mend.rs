@@ -1,6 +1,6 @@
 //! The check of a tree's store, and its mending.
 
-use crate::{calls, refused, Refusal, Tree};
+use crate::{calls, refused, Lent, Refusal, Tree};
 use core::fmt;
 
 /// Why a store does not pass the check.
@@ -25,7 +25,7 @@ impl fmt::Display for Broken {
 impl std::error::Error for Broken {}
 
 /// A mended tree.
-#[derive(Clone, Copy, PartialEq, Eq, Debug)]
+#[derive(PartialEq, Eq, Debug)]
 pub struct Mended<W> {
     /// It holds every element of the first one's slots with a count not 0, less the skipped, and passes the check.
     pub tree: Tree<W>,
@@ -33,7 +33,7 @@ pub struct Mended<W> {
     pub skipped: u32,
 }
 
-impl<W: AsRef<[u32]> + AsMut<[u32]>> Tree<W> {
+impl<W: Lent<u32>> Tree<W> {
     /// Whether no slot of the store is broken; else the first that is. What passes is as good as a tree that was only ever used: no call
     /// on it, or on what calls leave of it, is refused as damaged.
     ///
@@ -54,7 +54,7 @@ impl<W: AsRef<[u32]> + AsMut<[u32]>> Tree<W> {
     /// slots with tag 0 are skipped. This one is left alone. Refused [`Refusal::BadShape`] where order, levels or the number of words of
     /// either are not those of a tree; then nothing is written.
     #[inline]
-    pub fn mend<V: AsRef<[u32]> + AsMut<[u32]>>(&self, mut words: V) -> Result<Mended<V>, Refusal> {
+    pub fn mend<V: Lent<u32>>(&self, mut words: V) -> Result<Mended<V>, Refusal> {
         let mut out = [0; 1];
         refused(calls::tree_mend(self.words(), words.as_mut(), self.order(), self.levels(), &mut out))?;
         Ok(Mended { tree: Tree::from_words(self.order(), self.levels(), words), skipped: out[0] })

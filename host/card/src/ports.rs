@@ -1,7 +1,7 @@
 //! Several ports on one pool of the bucket queue.
 
-use crate::sizes::PORTS;
-use crate::{calls, refused, Element, Refusal};
+use crate::sizes::{ports_room, PORTS};
+use crate::{bucket_ranks, calls, refused, Element, Lent, Refusal};
 
 /// What a port may count on, and what it may not pass.
 #[derive(Clone, Copy, PartialEq, Eq, Hash, Debug)]
@@ -37,7 +37,7 @@ pub struct Limits {
 /// # Ok(())
 /// # }
 /// ```
-#[derive(Clone, Copy, PartialEq, Eq, Debug)]
+#[derive(PartialEq, Eq, Debug)]
 pub struct Ports<B, W> {
     storeys: u32,
     nodes: u32,
@@ -53,7 +53,7 @@ pub struct Port<'a, B, W> {
     number: u32,
 }
 
-impl<B: AsRef<[u64]> + AsMut<[u64]>, W: AsRef<[u32]> + AsMut<[u32]>> Ports<B, W> {
+impl<B: Lent<u64>, W: Lent<u32>> Ports<B, W> {
     /// Empty ports, one for each of the limits, with so many storeys and one pool of so many nodes: the words that they need are cleared
     /// and chained, those behind them are never touched. Refused [`Refusal::BadShape`] where the storeys, the nodes, the limits or the
     /// number of words ([`ports_bits`](crate::ports_bits), [`ports_words`](crate::ports_words)) are not those of ports; then nothing is
@@ -91,10 +91,19 @@ impl<B: AsRef<[u64]> + AsMut<[u64]>, W: AsRef<[u32]> + AsMut<[u32]>> Ports<B, W>
         self.words.as_ref()
     }
 
-    /// How many ports there are, numbered from 0.
+    /// A port's floor and ceiling, as the words have them; none of a port that there is not.
     #[inline]
-    pub fn ports(&self) -> u32 {
-        self.ports
+    pub fn limits(&self, port: u32) -> Option<Limits> {
+        if port >= self.ports {
+            return None;
+        }
+        // behind the heads and tails, the nodes and the free link: held, floor and ceiling of each port
+        let before = 2 * bucket_ranks(self.storeys) as u64 * self.ports as u64 + 3 * self.nodes as u64 + 1;
+        let at = usize::try_from(before + 3 * port as u64 + 1).ok()?;
+        match self.words().get(at..)? {
+            [floor, ceiling, ..] => Some(Limits { floor: *floor, ceiling: *ceiling }),
+            _ => None,
+        }
     }
 
     /// Empties all ports and fixes their limits anew, one for each port that there is.
@@ -127,7 +136,25 @@ impl<B: AsRef<[u64]> + AsMut<[u64]>, W: AsRef<[u32]> + AsMut<[u32]>> Ports<B, W>
     }
 }
 
-impl<B: AsRef<[u64]> + AsMut<[u64]>, W: AsRef<[u32]> + AsMut<[u32]>> Port<'_, B, W> {
+shape! {
+    Ports<B, W> {
+        /// The number of storeys of bits.
+        storeys,
+        /// The number of nodes in the pool.
+        nodes,
+        /// How many ports there are, numbered from 0.
+        ports,
+    } room ports_room
+}
+
+impl<B: Lent<u64>, W: Lent<u32>> Port<'_, B, W> {
+    /// How many elements the port can hold, where the others leave it room: its ceiling, or the pool's nodes where they are fewer; 0 of a
+    /// port that there is not.
+    #[inline]
+    pub fn capacity(&self) -> usize {
+        self.of.limits(self.number).map_or(0, |limits| self.of.capacity().min(limits.ceiling as usize))
+    }
+
     /// Takes an element in, behind those of its rank. Refused [`Refusal::BadRank`] above the last rank, [`Refusal::NoTag`] with
     /// tag 0, [`Refusal::Full`] where the port's limits and the pool leave no room.
     #[inline]
@@ -164,3 +191,5 @@ impl<B: AsRef<[u64]> + AsMut<[u64]>, W: AsRef<[u32]> + AsMut<[u32]>> Port<'_, B,
         self.of.held(self.number)
     }
 }
+
+queue! { ['a, B: Lent<u64>, W: Lent<u32>] Port<'a, B, W>: Queue, Replace }

@@ -134,6 +134,14 @@ pub const fn bucket_words(storeys: u32, nodes: u32) -> usize {
     2 * ranks + 3 * nodes as usize + 2
 }
 
+/// How many elements a bucket queue can hold: as many as it has nodes; 0 for a bad shape.
+pub(crate) const fn bucket_room(storeys: u32, nodes: u32) -> usize {
+    if bucket_words(storeys, nodes) == 0 {
+        return 0;
+    }
+    nodes as usize
+}
+
 /// The most ports on one pool.
 pub(crate) const PORTS: usize = 16;
 
@@ -163,4 +171,12 @@ pub const fn ports_words(storeys: u32, nodes: u32, ports: u32) -> usize {
         return 0;
     }
     2 * ranks * ports + 3 * nodes as usize + 1 + 3 * ports
+}
+
+/// How many elements all ports on one pool can hold together: as many as it has nodes; 0 for a bad shape.
+pub(crate) const fn ports_room(storeys: u32, nodes: u32, ports: u32) -> usize {
+    if ports_words(storeys, nodes, ports) == 0 {
+        return 0;
+    }
+    nodes as usize
 }

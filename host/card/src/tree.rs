@@ -1,6 +1,6 @@
 //! The multi-way tree, one operation at a time.
 
-use crate::{calls, refused, Element, Refusal};
+use crate::{calls, refused, tree_slots, Element, Lent, Refusal};
 
 /// A multi-way tree over words of any kind: a lent slice, an array, or (with feature `std`) a vector of its own, see
 /// [`TreeQueue`](crate::TreeQueue).
@@ -23,14 +23,14 @@ use crate::{calls, refused, Element, Refusal};
 /// # Ok(())
 /// # }
 /// ```
-#[derive(Clone, Copy, PartialEq, Eq, Debug)]
+#[derive(PartialEq, Eq, Debug)]
 pub struct Tree<W> {
     order: u32,
     levels: u32,
     words: W,
 }
 
-impl<W: AsRef<[u32]> + AsMut<[u32]>> Tree<W> {
+impl<W: Lent<u32>> Tree<W> {
     /// An empty tree: the words that it needs are cleared, those behind them are never touched. Refused [`Refusal::BadShape`] where
     /// order, levels or the number of words ([`tree_words`](crate::tree_words)) are not those of a tree; then nothing is written.
     #[inline]
@@ -58,61 +58,15 @@ impl<W: AsRef<[u32]> + AsMut<[u32]>> Tree<W> {
     pub fn words(&self) -> &[u32] {
         self.words.as_ref()
     }
-
-    /// The order.
-    #[inline]
-    pub fn order(&self) -> u32 {
-        self.order
-    }
-
-    /// The number of levels.
-    #[inline]
-    pub fn levels(&self) -> u32 {
-        self.levels
-    }
-
-    /// Empties the tree.
-    #[inline]
-    pub fn clear(&mut self) -> Result<(), Refusal> {
-        refused(calls::tree_clear(self.words.as_mut(), self.order, self.levels))
-    }
-
-    /// Takes an element in. Refused [`Refusal::NoTag`] with tag 0, [`Refusal::Full`] where there is no room.
-    #[inline]
-    pub fn push(&mut self, x: Element) -> Result<(), Refusal> {
-        refused(calls::tree_push(self.words.as_mut(), self.order, self.levels, x.rank.0, x.tag.0, x.length.0))
-    }
-
-    /// Gives the element of lowest rank. Refused [`Refusal::Empty`] where nothing is held.
-    #[inline]
-    pub fn pop(&mut self) -> Result<Element, Refusal> {
-        let mut out = [0; 3];
-        refused(calls::tree_pop(self.words.as_mut(), self.order, self.levels, &mut out))?;
-        Ok(Element::from(out))
-    }
-
-    /// A pop, and then a push of the new element: gives the element of lowest rank, even if the new rank is lower. Works on a full
-    /// tree. Refused [`Refusal::NoTag`] with tag 0, [`Refusal::Empty`] where nothing is held.
-    #[inline]
-    pub fn replace(&mut self, x: Element) -> Result<Element, Refusal> {
-        let mut out = [0; 3];
-        refused(calls::tree_replace(
-            self.words.as_mut(),
-            self.order,
-            self.levels,
-            x.rank.0,
-            x.tag.0,
-            x.length.0,
-            &mut out,
-        ))?;
-        Ok(Element::from(out))
-    }
-
-    /// How many elements are held.
-    #[inline]
-    pub fn held(&self) -> Result<u32, Refusal> {
-        let mut out = [0; 1];
-        refused(calls::tree_held(self.words.as_ref(), self.order, self.levels, &mut out))?;
-        Ok(out[0])
-    }
 }
+
+shape! {
+    Tree<W> {
+        /// The order.
+        order,
+        /// The number of levels.
+        levels,
+    } room tree_slots
+}
+
+operations! { Tree<W: u32> on (words) of (order, levels): tree_clear, tree_push, tree_pop, tree_replace, tree_held }

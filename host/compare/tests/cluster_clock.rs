@@ -234,6 +234,8 @@ fn cases() {
         heap.words().chunks(10).map(|w| [w[0], w[1], w[2], w[3], w[6], w[7]]).collect()
     };
     let record = |heap: &ClockedHeap| <[u32; 6]>::from(heap.records()[0]);
+    // a second heap with the same words and records
+    let again = |heap: &ClockedHeap| ClockedHeap::from_words(2, 2, heap.words().to_vec(), heap.records().to_vec());
     let mut pushed = ClockedHeap::new(2, 2).unwrap();
     for rank in [5, 3, 8, 1] {
         pushed.push(x(rank)).unwrap();
@@ -243,15 +245,15 @@ fn cases() {
     assert_eq!(nodes(&pushed), [[1, 1, 1, 10, 3, 30], left, right]);
 
     // four pops in four cycles, and a fifth
-    let mut heap = pushed.clone();
+    let mut heap = again(&pushed);
     let ranks: Vec<u32> = (0..4).map(|_| heap.pop().unwrap().rank.0).collect();
     assert_eq!((ranks, heap.pop()), (vec![1, 3, 5, 8], Err(Refusal::Empty)));
 
     // a gap, and one idle cycle later it is filled from below
-    let mut heap = pushed.clone();
+    let mut heap = again(&pushed);
     assert_eq!(heap.pop(), Ok(x(1)));
     assert_eq!((nodes(&heap), record(&heap)), (vec![[1, 1, 0, 0, 3, 30], left, right], [2, 0, 0, 0, 0, 0]));
-    let mut busy = heap.clone();
+    let mut busy = again(&heap);
     heap.idle().unwrap();
     assert_eq!((nodes(&heap), record(&heap)), (vec![[1, 0, 5, 50, 3, 30], left, empty], [0; 6]));
 
@@ -263,7 +265,7 @@ fn cases() {
 
     // a newcomer on trial: it stays at equal rank, and goes below a lower one
     for (rank, root, below) in [(5, [5, 57], right), (6, [5, 50], [0, 0, 6, 57, 0, 0])] {
-        let mut heap = pushed.clone();
+        let mut heap = again(&pushed);
         let newcomer = Element::new(Rank(rank), Tag(57), Length(0));
         assert_eq!(heap.replace(newcomer), Ok(x(1)));
         assert_eq!((nodes(&heap)[0], record(&heap)), ([1, 1, rank, 57, 3, 30], [3, 0, 0, rank, 57, 0]));

@@ -1,8 +1,10 @@
 //! The safe Rust wrapper, used as its users do: beside the plain list, over lent words and over its own, handed out and back.
 
 use card_host::{
-    bucket_bits, bucket_ranks, bucket_words, calls, record_count, tree_slots, tree_words, Bucket, BucketQueue, Clocked,
-    ClockedTree, Drained, Element, Length, Rank, Record, Refusal, Request, Stopped, Tag, Tree, TreeQueue,
+    bucket_bits, bucket_ranks, bucket_words, calls, fair_words, record_count, tree_slots, tree_words, Bucket,
+    BucketQueue, Clear, Clocked, ClockedCluster, ClockedHeap, ClockedTree, Cluster, ClusterQueue, ClusterRecord,
+    Drained, Element, Fair, FairQueue, Flow, Length, Limits, Machine, Mended, Ports, PortsQueue, Queue, Rank, Record,
+    Refusal, Replace, Request, Stopped, Strip, Tag, Tree, TreeQueue, Weight,
 };
 use models::list::SortedList;
 use models::rng::{seed, Rng};
@@ -267,4 +269,134 @@ fn every_refusal_has_its_number_and_name() {
 #[test]
 fn the_library_is_the_one_that_the_wrapper_was_written_for() {
     assert_eq!(calls::version(), card_host::VERSION);
+}
+
+/// Fills a queue to the brim, replaces there, and empties it by rising ranks. `rest` stands between two calls.
+fn to_the_brim<Q: Replace>(queue: &mut Q, rest: impl Fn(&mut Q)) {
+    let room = queue.capacity() as u32;
+    assert_eq!((queue.held(), queue.pop().is_err()), (Ok(0), true));
+    let mut ranks: Vec<u32> = (0..room).map(|n| 7 * n % 31).collect();
+    for &rank in &ranks {
+        rest(queue);
+        assert_eq!(queue.push(element(rank, rank + 1, 64)), Ok(()));
+    }
+    rest(queue);
+    assert_eq!((queue.push(element(0, 1, 64)), queue.held()), (Err(Refusal::Full), Ok(room)));
+    rest(queue);
+    ranks.sort_unstable();
+    assert_eq!(queue.replace(element(40, 9, 9)).map(|x| x.rank), Ok(Rank(ranks.remove(0))));
+    ranks.push(40);
+    for rank in ranks {
+        rest(queue);
+        assert_eq!(queue.pop().map(|x| x.rank), Ok(Rank(rank)));
+    }
+    rest(queue);
+    assert_eq!((queue.pop(), queue.held()), (Err(Refusal::Empty), Ok(0)));
+}
+
+/// .. and clears it while something is held.
+fn to_the_brim_and_cleared<Q: Replace + Clear>(mut queue: Q, rest: impl Fn(&mut Q)) {
+    to_the_brim(&mut queue, &rest);
+    assert_eq!(queue.push(element(5, 50, 500)), Ok(()));
+    assert_eq!((queue.held(), queue.clear(), queue.held()), (Ok(1), Ok(()), Ok(0)));
+    to_the_brim(&mut queue, &rest);
+}
+
+fn by_cycles(queue: impl Machine) {
+    to_the_brim_and_cleared(queue, |queue| {
+        assert_eq!(queue.cycle(Request::Idle), Ok(Element::default()));
+        assert_eq!(queue.drain(99).map(|drained| drained.work_left), Ok(false));
+    });
+}
+
+/// Every queue is worked by the same text, through the traits.
+#[test]
+fn every_queue_by_the_traits() {
+    for (order, levels) in [(2, 1), (2, 5), (4, 3), (8, 2)] {
+        to_the_brim_and_cleared(TreeQueue::new(order, levels).unwrap(), |_| ());
+        by_cycles(ClockedTree::new(order, levels).unwrap());
+    }
+    for (places, levels) in [(2, 1), (3, 3), (5, 2), (16, 2)] {
+        to_the_brim_and_cleared(ClusterQueue::new(places, levels).unwrap(), |_| ());
+        to_the_brim_and_cleared(ClockedHeap::new(places, levels).unwrap(), |_| ());
+        by_cycles(ClockedHeap::new(places, levels).unwrap());
+    }
+    for (storeys, nodes) in [(2, 1), (2, 40), (3, 5)] {
+        to_the_brim_and_cleared(BucketQueue::new(storeys, nodes).unwrap(), |_| ());
+    }
+    let mut ports =
+        PortsQueue::new(2, 30, &[(1, 30), (9, 10), (0, 99)].map(|(floor, ceiling)| Limits { floor, ceiling })).unwrap();
+    assert_eq!([0, 1, 2, 3].map(|port| ports.port(port).capacity()), [30, 10, 30, 0]);
+    // the others' floors are kept from it
+    to_the_brim(&mut ports.port(1), |_| ());
+    assert_eq!(ports.limits(1), Some(Limits { floor: 9, ceiling: 10 }));
+    assert_eq!((ports.limits(3), PortsQueue::from_words(2, 30, 3, vec![], vec![0; 9]).limits(1)), (None, None));
+
+    // fair ranks take strips in
+    let mut fair = FairQueue::new(2, 2).unwrap();
+    let strip = |tag| Strip { flow: Flow(tag), weight: Weight(tag), tag: Tag(tag), length: Length(64) };
+    for tag in 1..=6 {
+        assert_eq!(Queue::push(&mut fair, strip(tag)), Ok(()));
+    }
+    assert_eq!(
+        (Queue::push(&mut fair, strip(7)), Queue::held(&fair), Queue::capacity(&fair)),
+        (Err(Refusal::Full), Ok(6), 6)
+    );
+    assert_eq!(Queue::pop(&mut fair).map(|x| x.tag), Ok(Tag(6)));
+    assert_eq!((Clear::clear(&mut fair), fair.held(), fair.clock()), (Ok(()), Ok(0), Rank(0)));
+}
+
+/// The numbers of a shape, each by its name, and the room that they give; none for a bad shape.
+#[test]
+fn shapes_and_rooms() {
+    let tree = Tree::from_words(4, 3, [0; 0]);
+    assert_eq!((tree.order(), tree.levels(), tree.capacity()), (4, 3, 84));
+    let clocked = Clocked::from_words(8, 2, [0; 0], [Record::default(); 0], false);
+    assert_eq!((clocked.order(), clocked.levels(), clocked.capacity()), (8, 2, 72));
+    let fair = Fair::from_words(2, 5, [0; 0], [0; 0]);
+    assert_eq!((fair.order(), fair.levels(), fair.capacity()), (2, 5, 62));
+    let cluster = Cluster::from_words(5, 4, [0; 0]);
+    assert_eq!((cluster.places(), cluster.levels(), cluster.capacity()), (5, 4, 75));
+    let heap = ClockedCluster::from_words(3, 2, [0; 0], [ClusterRecord::default(); 0]);
+    assert_eq!((heap.places(), heap.levels(), heap.capacity()), (3, 2, 9));
+    let bucket = Bucket::from_words(3, 70, [0; 0], [0; 0]);
+    assert_eq!((bucket.storeys(), bucket.nodes(), bucket.capacity()), (3, 70, 70));
+    let ports = Ports::from_words(2, 50, 7, [0; 0], [0; 0]);
+    assert_eq!((ports.storeys(), ports.nodes(), ports.ports(), ports.capacity()), (2, 50, 7, 50));
+    assert_eq!((Tree::from_words(3, 2, [0; 0]).capacity(), Cluster::from_words(1, 2, [0; 0]).capacity()), (0, 0));
+    assert_eq!(Bucket::from_words(2, 65_537, [0; 0], [0; 0]).capacity(), 0);
+    assert_eq!(Ports::from_words(2, 50, 17, [0; 0], [0; 0]).capacity(), 0);
+}
+
+/// Does not compile where the type is `Clone`, and so neither where it is `Copy`.
+macro_rules! never_copied {
+    ($($queue:ty),*) => {
+        $({
+            trait Told<A> {
+                fn told() {}
+            }
+            struct Twice;
+            impl<T> Told<()> for T {}
+            impl<T: Clone> Told<Twice> for T {}
+            <$queue as Told<_>>::told();
+        })*
+    };
+}
+
+/// A queue over arrays is not copied by a word like `=`: what is one queue stays one.
+#[test]
+fn no_queue_is_copied() {
+    never_copied!(Tree<[u32; 24]>, Cluster<[u32; 30]>, Bucket<[u64; 65], [u32; 8203]>, Ports<[u64; 65], [u32; 8205]>);
+    never_copied!(Fair<[u32; 65], [u32; 24]>, Clocked<[u32; 24], [Record; 1]>, ClockedCluster<[u32; 30], [ClusterRecord; 1]>);
+    never_copied!(
+        Mended<[u32; 24]>,
+        TreeQueue,
+        FairQueue,
+        ClusterQueue,
+        BucketQueue,
+        PortsQueue,
+        ClockedTree,
+        ClockedHeap
+    );
+    assert_eq!(Fair::cleared(2, 2, [9; fair_words()], [9; tree_words(2, 2)]).map(|queue| queue.capacity()), Ok(6));
 }
