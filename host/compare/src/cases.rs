@@ -1,6 +1,7 @@
 //! The paper's ten cases, its worked trace and its known mistakes, each as one check.
 
-use crate::side::{Card, Side};
+use crate::desk::{Who, STALE};
+use crate::side::{Side, Trees};
 use models::call::{Call, Op};
 use models::tree::SLOT;
 
@@ -13,9 +14,15 @@ fn same<T: PartialEq + std::fmt::Debug>(what: &str, got: T, expected: T) -> Done
     Err(format!("{what}: {got:?}, the paper says {expected:?}"))
 }
 
+/// A call's number, and its `out`.
+fn made(who: Who, call: &Call, side: &mut Side) -> (u32, [u32; 4]) {
+    let mut out = STALE;
+    (who.call::<Trees>(call, side, &mut out[..call.out]), out)
+}
+
 /// A queue of one of the three kinds, on words that are not 0 before it is cleared.
-struct Queue<'c, C: Card> {
-    card: &'c mut C,
+struct Queue {
+    who: Who,
     /// Shape and lengths; each call is made from it.
     call: Call,
     side: Side,
@@ -27,30 +34,30 @@ type Told = (u32, u32, u32);
 /// A call's number, and its answer's rank, tag and length.
 type Whole = (u32, u32, u32, u32);
 
-impl<'c, C: Card> Queue<'c, C> {
-    fn cleared(card: &'c mut C, call: Call) -> Result<Queue<'c, C>, String> {
+impl Queue {
+    fn cleared(who: Who, call: Call) -> Result<Queue, String> {
         let side = Side::new(call.words, call.bits, call.records);
-        let mut queue = Queue { card, call, side };
+        let mut queue = Queue { who, call, side };
         let clear = queue.call.clone();
-        same("clear", queue.side.apply(queue.card, &clear), 0)?;
+        same("clear", made(who, &clear, &mut queue.side).0, 0)?;
         Ok(queue)
     }
-    fn tree(card: &'c mut C, order: u32, levels: u32, slots: usize) -> Result<Queue<'c, C>, String> {
-        Queue::cleared(card, Call::tree(Op::TreeClear, order, levels, SLOT * slots))
+    fn tree(who: Who, order: u32, levels: u32, slots: usize) -> Result<Queue, String> {
+        Queue::cleared(who, Call::tree(Op::TreeClear, order, levels, SLOT * slots))
     }
-    fn machine(card: &'c mut C, order: u32, levels: u32, slots: usize) -> Result<Queue<'c, C>, String> {
+    fn machine(who: Who, order: u32, levels: u32, slots: usize) -> Result<Queue, String> {
         let records = levels as usize - 1;
-        Queue::cleared(card, Call::machine(Op::ClockedClear, order, levels, SLOT * slots, records))
+        Queue::cleared(who, Call::machine(Op::ClockedClear, order, levels, SLOT * slots, records))
     }
-    fn bucket(card: &'c mut C, nodes: u32) -> Result<Queue<'c, C>, String> {
-        Queue::cleared(card, Call::bucket(Op::BucketClear, 2, nodes, 65, 8192 + 3 * nodes as usize + 2))
+    fn bucket(who: Who, nodes: u32) -> Result<Queue, String> {
+        Queue::cleared(who, Call::bucket(Op::BucketClear, 2, nodes, 65, 8192 + 3 * nodes as usize + 2))
     }
-    fn deep_bucket(card: &'c mut C, nodes: u32) -> Result<Queue<'c, C>, String> {
-        Queue::cleared(card, Call::bucket(Op::BucketClear, 3, nodes, 4161, 524_288 + 3 * nodes as usize + 2))
+    fn deep_bucket(who: Who, nodes: u32) -> Result<Queue, String> {
+        Queue::cleared(who, Call::bucket(Op::BucketClear, 3, nodes, 4161, 524_288 + 3 * nodes as usize + 2))
     }
     /// Store A: cleared, then push 5/50, 3/30, 8/80, 1/10.
-    fn a(card: &'c mut C) -> Result<Queue<'c, C>, String> {
-        let mut queue = Queue::tree(card, 2, 2, 6)?;
+    fn a(who: Who) -> Result<Queue, String> {
+        let mut queue = Queue::tree(who, 2, 2, 6)?;
         for (rank, tag) in [(5, 50), (3, 30), (8, 80), (1, 10)] {
             same("push", queue.number(Op::TreePush, rank, tag), 0)?;
         }
@@ -59,8 +66,8 @@ impl<'c, C: Card> Queue<'c, C> {
 
     fn whole(&mut self, op: Op, request: u32, rank: u32, tag: u32, length: u32) -> Whole {
         let call = Call { op, request, rank, tag, length, ..self.call.clone() };
-        let number = self.side.apply(self.card, &call);
-        (number, self.side.out[0], self.side.out[1], self.side.out[2])
+        let (number, out) = made(self.who, &call, &mut self.side);
+        (number, out[0], out[1], out[2])
     }
     fn ask(&mut self, op: Op, request: u32, rank: u32, tag: u32) -> Told {
         let (number, first, second, _) = self.whole(op, request, rank, tag, 0);
@@ -97,18 +104,18 @@ impl<'c, C: Card> Queue<'c, C> {
 
 const A: [u32; 24] = [5, 50, 0, 2, 1, 10, 0, 2, 8, 80, 0, 1, 0, 0, 0, 0, 3, 30, 0, 1, 0, 0, 0, 0];
 
-fn case_1<C: Card>(c: &mut C) -> Done {
+fn case_1(c: Who) -> Done {
     same("A", Queue::a(c)?.words(), A.to_vec())
 }
 
-fn case_2<C: Card>(c: &mut C) -> Done {
+fn case_2(c: Who) -> Done {
     let mut t = Queue::a(c)?;
     let got: Vec<_> = (0..5).map(|_| t.pop()).collect();
     same("pops", got, vec![(0, 1, 10), (0, 3, 30), (0, 5, 50), (0, 8, 80), (6, 0, 0)])?;
     same("store", t.words(), vec![0; 24])
 }
 
-fn case_3<C: Card>(c: &mut C) -> Done {
+fn case_3(c: Who) -> Done {
     let mut t = Queue::a(c)?;
     same("replace 0/7", t.ask(Op::TreeReplace, 0, 0, 7), (0, 1, 10))?;
     let mut after = A.to_vec();
@@ -116,7 +123,7 @@ fn case_3<C: Card>(c: &mut C) -> Done {
     same("store", t.words(), after)
 }
 
-fn case_4<C: Card>(c: &mut C) -> Done {
+fn case_4(c: Who) -> Done {
     let mut t = Queue::a(c)?;
     same("replace 1/7", t.ask(Op::TreeReplace, 0, 1, 7), (0, 1, 10))?;
     let mut after = A.to_vec();
@@ -124,7 +131,7 @@ fn case_4<C: Card>(c: &mut C) -> Done {
     same("store", t.words(), after)
 }
 
-fn case_5<C: Card>(c: &mut C) -> Done {
+fn case_5(c: Who) -> Done {
     let mut t = Queue::a(c)?;
     same("replace 4/7", t.ask(Op::TreeReplace, 0, 4, 7), (0, 1, 10))?;
     let mut after = A.to_vec();
@@ -133,7 +140,7 @@ fn case_5<C: Card>(c: &mut C) -> Done {
     same("store", t.words(), after)
 }
 
-fn case_6<C: Card>(c: &mut C) -> Done {
+fn case_6(c: Who) -> Done {
     let mut m = Queue::machine(c, 2, 2, 6)?;
     for (rank, tag) in [(5, 50), (3, 30), (8, 80), (1, 10)] {
         same("push", m.push(rank, tag), (0, 0, 0))?;
@@ -149,13 +156,13 @@ fn case_6<C: Card>(c: &mut C) -> Done {
     same("record", m.records(), vec![0; 5])
 }
 
-fn case_7<C: Card>(c: &mut C) -> Done {
+fn case_7(c: Who) -> Done {
     let mut t = Queue::tree(c, 2, 2, 6)?;
     let got: Vec<u32> = (1..=7).map(|i| t.number(Op::TreePush, 10 - i, i)).collect();
     same("pushes", got, vec![0, 0, 0, 0, 0, 0, 5])
 }
 
-fn case_8<C: Card>(c: &mut C) -> Done {
+fn case_8(c: Who) -> Done {
     let mut q = Queue::bucket(c, 3)?;
     same("nodes", q.words()[8192..].to_vec(), vec![0, 0, 2, 0, 0, 3, 0, 0, 0, 1, 0])?;
     for (rank, tag, number) in [(7, 1, 0), (7, 2, 0), (4095, 3, 0), (0, 4, 5), (4096, 4, 4)] {
@@ -168,13 +175,13 @@ fn case_8<C: Card>(c: &mut C) -> Done {
 }
 
 /// Case 8 at three storeys: the last rank is 262,143.
-fn case_8_deep<C: Card>(c: &mut C) -> Done {
+fn case_8_deep(c: Who) -> Done {
     let mut q = Queue::deep_bucket(c, 3)?;
     same("nodes", q.words()[524_288..].to_vec(), vec![0, 0, 2, 0, 0, 3, 0, 0, 0, 1, 0])?;
     for (rank, tag, number) in [(7, 1, 0), (7, 2, 0), (262_143, 3, 0), (0, 4, 5), (262_144, 4, 4)] {
         same("push", q.number(Op::BucketPush, rank, tag), number)?;
     }
-    let bits = |q: &Queue<C>| [q.side.bits[0], q.side.bits[1], q.side.bits[64], q.side.bits[65], q.side.bits[4160]];
+    let bits = |q: &Queue| [q.side.bits[0], q.side.bits[1], q.side.bits[64], q.side.bits[65], q.side.bits[4160]];
     same("bits: top, middle, lowest", bits(&q), [1 | 1 << 63, 1, 1 << 63, 1 << 7, 1 << 63])?;
     for answer in [(0, 7, 1), (0, 7, 2), (0, 262_143, 3), (6, 0, 0)] {
         same("pop", q.pop(), answer)?;
@@ -182,7 +189,7 @@ fn case_8_deep<C: Card>(c: &mut C) -> Done {
     same("bits of an empty queue", bits(&q), [0; 5])
 }
 
-fn case_9<C: Card>(c: &mut C) -> Done {
+fn case_9(c: Who) -> Done {
     // one that holds the largest of the refused shapes: the capacity refuses it, not the slice
     let mut side = Side::new(SLOT * 349_524, 65, 0);
     for (order, levels, slots, number) in [
@@ -198,15 +205,15 @@ fn case_9<C: Card>(c: &mut C) -> Done {
         (4, 0, 0, 1),
     ] {
         let clear = |words| Call::tree(Op::TreeClear, order, levels, words);
-        same("clear", side.apply(c, &clear(SLOT * slots)), number)?;
+        same("clear", made(c, &clear(SLOT * slots), &mut side).0, number)?;
         if number == 0 {
-            same("clear of a short store", side.apply(c, &clear(SLOT * slots - 1)), 1)?;
+            same("clear of a short store", made(c, &clear(SLOT * slots - 1), &mut side).0, 1)?;
         }
     }
-    same("N = 0", side.apply(c, &Call::bucket(Op::BucketClear, 2, 0, 65, 8194)), 1)
+    same("N = 0", made(c, &Call::bucket(Op::BucketClear, 2, 0, 65, 8194), &mut side).0, 1)
 }
 
-fn case_10<C: Card>(c: &mut C) -> Done {
+fn case_10(c: Who) -> Done {
     let mut m = Queue::machine(c, 2, 2, 6)?;
     same("push", m.push(5, 50), (0, 0, 0))?;
     same("idle", m.idle(), (0, 0, 0))?;
@@ -226,7 +233,7 @@ fn case_10<C: Card>(c: &mut C) -> Done {
 }
 
 /// Push 1, 9, 2 into order 2: the 2 is still on its way and node 0 is empty.
-fn on_its_way<C: Card>(c: &mut C) -> Done {
+fn on_its_way(c: Who) -> Done {
     let mut m = Queue::machine(c, 2, 2, 6)?;
     for rank in [1, 9, 2] {
         same("push", m.push(rank, 10 * rank), (0, 0, 0))?;
@@ -239,7 +246,7 @@ fn on_its_way<C: Card>(c: &mut C) -> Done {
 }
 
 /// First in, first out within a bucket; freed room is used at once.
-fn in_turn<C: Card>(c: &mut C) -> Done {
+fn in_turn(c: Who) -> Done {
     let mut q = Queue::bucket(c, 2)?;
     same("push", q.number(Op::BucketPush, 7, 1), 0)?;
     same("push", q.number(Op::BucketPush, 7, 2), 0)?;
@@ -251,7 +258,7 @@ fn in_turn<C: Card>(c: &mut C) -> Done {
 }
 
 /// A replace is a pop and then a push: a lower newcomer goes into its own bucket, an empty queue refuses.
-fn pop_then_push<C: Card>(c: &mut C) -> Done {
+fn pop_then_push(c: Who) -> Done {
     let mut q = Queue::bucket(c, 2)?;
     same("replace on an empty queue", q.ask(Op::BucketReplace, 0, 7, 1), (6, 0, 0))?;
     same("push", q.number(Op::BucketPush, 7, 1), 0)?;
@@ -263,7 +270,7 @@ fn pop_then_push<C: Card>(c: &mut C) -> Done {
 }
 
 /// Equal ranks are not exchanged in a put, and the leftmost smallest count is chosen.
-fn ties<C: Card>(c: &mut C) -> Done {
+fn ties(c: Who) -> Done {
     let mut t = Queue::tree(c, 2, 2, 6)?;
     for tag in 1..=4 {
         same("push", t.number(Op::TreePush, 5, tag), 0)?;
@@ -275,7 +282,7 @@ fn ties<C: Card>(c: &mut C) -> Done {
 
 /// A replace with nothing held is refused and runs as an idle cycle, so that a pop just after it is not too soon; and a lower
 /// newcomer is taken in, not answered.
-fn empty_machine<C: Card>(c: &mut C) -> Done {
+fn empty_machine(c: Who) -> Done {
     let mut t = Queue::tree(c, 2, 2, 6)?;
     same("replace on an empty tree", t.ask(Op::TreeReplace, 0, 5, 50), (6, 0, 0))?;
     same("store", t.words(), vec![0; 24])?;
@@ -290,7 +297,7 @@ fn empty_machine<C: Card>(c: &mut C) -> Done {
 }
 
 /// Tag 0 is refused 7 in every queue, and the store stands: after 4 in the bucket queue, after 3 on the clock, before 5 and 6.
-fn untagged<C: Card>(c: &mut C) -> Done {
+fn untagged(c: Who) -> Done {
     let mut t = Queue::tree(c, 2, 2, 6)?;
     same("push 5/0", t.number(Op::TreePush, 5, 0), 7)?;
     same("replace 5/0", t.ask(Op::TreeReplace, 0, 5, 0), (7, 0, 0))?;
@@ -316,7 +323,7 @@ fn untagged<C: Card>(c: &mut C) -> Done {
 }
 
 /// Equal ranks in one node leave by lower tag; in different nodes in no promised order.
-fn lower_tag<C: Card>(c: &mut C) -> Done {
+fn lower_tag(c: Who) -> Done {
     let mut t = Queue::tree(c, 2, 2, 6)?;
     for tag in [9, 3] {
         same("push", t.number(Op::TreePush, 5, tag), 0)?;
@@ -338,7 +345,7 @@ fn lower_tag<C: Card>(c: &mut C) -> Done {
 }
 
 /// The highest rank with the highest tag is no empty slot, also where an empty one stands to its left.
-fn highest<C: Card>(c: &mut C) -> Done {
+fn highest(c: Who) -> Done {
     for order in [2, 4, 8] {
         let mut t = Queue::tree(c, order, 1, order as usize)?;
         for x in [1, u32::MAX] {
@@ -352,7 +359,7 @@ fn highest<C: Card>(c: &mut C) -> Done {
 }
 
 /// The length travels with its element through push, replace and pop of each queue: in slots, nodes and records, and in every answer.
-fn lengths<C: Card>(c: &mut C) -> Done {
+fn lengths(c: Who) -> Done {
     let a = [(5, 50, 500), (3, 30, 300), (8, 80, 800), (1, 10, 100)];
     let pushed = vec![5, 50, 500, 2, 1, 10, 100, 2, 8, 80, 800, 1, 0, 0, 0, 0, 3, 30, 300, 1, 0, 0, 0, 0];
     let swapped = vec![5, 50, 500, 2, 3, 30, 300, 2, 8, 80, 800, 1, 0, 0, 0, 0, 4, 7, 70, 1, 0, 0, 0, 0];
@@ -394,7 +401,7 @@ fn lengths<C: Card>(c: &mut C) -> Done {
 }
 
 /// The worked trace, by cycles.
-fn worked<C: Card>(c: &mut C) -> Done {
+fn worked(c: Who) -> Done {
     let mut m = Queue::machine(c, 2, 2, 6)?;
     same("push", m.push(5, 50), (0, 0, 0))?;
     same("pop", m.pop(), (3, 0, 0))?;
@@ -404,7 +411,7 @@ fn worked<C: Card>(c: &mut C) -> Done {
 }
 
 /// Every case with its name.
-pub fn all<C: Card>(c: &mut C) -> Vec<(&'static str, Done)> {
+pub fn all(c: Who) -> Vec<(&'static str, Done)> {
     vec![
         ("case 1: the words of store A", case_1(c)),
         ("case 2: A popped", case_2(c)),

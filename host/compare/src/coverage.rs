@@ -1,7 +1,7 @@
 //! What must have been met: each refusal that a call can give, each clause that can make it
 //! damaged, alone, and each cause of refusal 1, alone. A call that gave anything else fails too.
 
-use crate::harness::{Tally, EVENTS};
+use crate::harness::{Harness, EVENTS};
 use models::bucket::cause as b;
 use models::call::{Op, OPS};
 use models::tree::cause as t;
@@ -96,14 +96,14 @@ fn clause(op: Op, bit: u32) -> String {
 }
 
 /// Prints the counts and gives what was missed.
-pub fn check(tally: &Tally, verbose: bool) -> Vec<String> {
-    let mut missed = Vec::new();
+pub fn check(h: &Harness, verbose: bool) -> Vec<String> {
+    let (mut missed, rows) = (Vec::new(), &h.tally.rows);
     println!("  calls by refusal number:         0        1        2        3        4        5        6        7");
     for (i, &op) in OPS.iter().enumerate() {
-        let row: Vec<String> = tally.numbers[i].iter().map(|n| format!("{n:8}")).collect();
+        let row: Vec<String> = rows[i].numbers[..8].iter().map(|n| format!("{n:8}")).collect();
         println!("  {:24} {}", op.name(), row.join(" "));
-        for number in 0..8u32 {
-            let seen = tally.numbers[i][number as usize];
+        for number in 0..12u32 {
+            let seen = rows[i].numbers[number as usize];
             let can = numbers(op).contains(&number);
             if can && seen == 0 {
                 missed.push(format!("{} never answered {number}", op.name()));
@@ -113,12 +113,12 @@ pub fn check(tally: &Tally, verbose: bool) -> Vec<String> {
             }
         }
         for bit in 0..9 {
-            if shapes(op) >> bit & 1 == 1 && tally.shape[i][bit] == 0 {
+            if shapes(op) >> bit & 1 == 1 && rows[i].shapes[bit] == 0 {
                 missed.push(format!("{} was never refused 1 by this alone: {}", op.name(), s::NAMES[bit]));
             }
         }
         for bit in 0..64 {
-            let (sole, any) = (tally.damage[i][bit], tally.damage_any[i][bit]);
+            let (sole, any) = (rows[i].alone[bit], rows[i].met[bit]);
             if alone(op) >> bit & 1 == 1 && sole == 0 {
                 missed.push(format!("{} was never damaged by this alone: {}", op.name(), clause(op, bit as u32)));
             }
@@ -139,9 +139,9 @@ pub fn check(tally: &Tally, verbose: bool) -> Vec<String> {
         for bit in 0..64 {
             if alone(op) >> bit & 1 == 1 {
                 clauses += 1;
-                least = least.min(tally.damage[i][bit]);
+                least = least.min(rows[i].alone[bit]);
                 if verbose {
-                    println!("  {:16} {:8} {}", op.name(), tally.damage[i][bit], clause(op, bit as u32));
+                    println!("  {:16} {:8} {}", op.name(), rows[i].alone[bit], clause(op, bit as u32));
                 }
             }
         }
@@ -155,16 +155,16 @@ pub fn check(tally: &Tally, verbose: bool) -> Vec<String> {
         for bit in 0..9 {
             if shapes(op) >> bit & 1 == 1 {
                 causes += 1;
-                least = least.min(tally.shape[i][bit]);
+                least = least.min(rows[i].shapes[bit]);
                 if verbose {
-                    println!("  {:16} {:8} {}", op.name(), tally.shape[i][bit], s::NAMES[bit]);
+                    println!("  {:16} {:8} {}", op.name(), rows[i].shapes[bit], s::NAMES[bit]);
                 }
             }
         }
     }
     println!("  {causes} pairs of a call and a cause that alone makes it refuse 1, each met at least {least} times");
     for (event, name) in EVENTS {
-        let seen = tally.events[event as usize];
+        let seen = h.events[event as usize];
         println!("  {seen:8} {name}");
         if seen == 0 {
             missed.push(format!("never met: {name}"));

@@ -1,7 +1,9 @@
-//! Makes each call on both sides, counts it, and keeps the first difference.
+//! The desk of the tree, the bucket queue and the clocked tree: beside what every desk counts, events that a number does not show; the
+//! first difference is kept.
 
-use crate::side::{difference, other_answer, Card, Model, Side};
-use models::call::{Call, Op, Record, OPS};
+use crate::desk::{Desk, Tally, Who};
+use crate::side::{Side, Trees};
+use models::call::{Call, Op, Record};
 use models::{bucket, shape_cause, tree, No};
 
 /// Things that a single call's number does not show, each to be met at least once.
@@ -65,50 +67,23 @@ pub const EVENTS: [(Event, &str); 25] = [
     (Event::UntaggedFullOrEmpty, "push with tag 0 on a full queue or replace with tag 0 on an empty one, refused 7"),
 ];
 
-pub struct Tally {
-    /// How often each call gave each number.
-    pub numbers: [[u64; 8]; 18],
-    /// How often one clause alone made each call damaged, and how often a clause was among others.
-    pub damage: Vec<[u64; 64]>,
-    pub damage_any: Vec<[u64; 64]>,
-    /// How often one cause alone made each call refuse 1.
-    pub shape: [[u64; 9]; 18],
-    pub events: [u64; 25],
-}
-
-pub struct Harness<C: Card> {
-    pub library: C,
-    pub model: Model,
-    pub a: Side,
-    pub b: Side,
-    pub calls: u64,
+pub struct Harness {
+    pub desk: Desk<Trees>,
     pub tally: Tally,
+    pub events: [u64; 25],
     pub failed: Option<String>,
 }
 
-impl<C: Card> Harness<C> {
-    pub fn new(library: C) -> Harness<C> {
-        Harness {
-            library,
-            model: Model::default(),
-            a: Side::new(0, 0, 0),
-            b: Side::new(0, 0, 0),
-            calls: 0,
-            tally: Tally {
-                numbers: [[0; 8]; 18],
-                damage: vec![[0; 64]; 18],
-                damage_any: vec![[0; 64]; 18],
-                shape: [[0; 9]; 18],
-                events: [0; 25],
-            },
-            failed: None,
-        }
+impl Harness {
+    pub fn new(who: Who) -> Harness {
+        let desk = Desk { who, ..Desk::new(Side::new(0, 0, 0)) };
+        Harness { desk, tally: Tally::of::<Trees>(), events: [0; 25], failed: None }
     }
 
     /// Both sides as this one.
     pub fn set(&mut self, side: &Side) {
-        self.a.copy_from(side);
-        self.b.copy_from(side);
+        self.desk.library.copy_from(side);
+        self.desk.model.copy_from(side);
     }
 
     pub fn fail(&mut self, what: String) {
@@ -118,75 +93,52 @@ impl<C: Card> Harness<C> {
     }
 
     pub fn event(&mut self, event: Event) {
-        self.tally.events[event as usize] += 1;
+        self.events[event as usize] += 1;
     }
 
     /// Makes the call on both sides and compares everything. None where they differ (the first
     /// difference is kept), else the number.
     pub fn call(&mut self, k: &Call) -> Option<u32> {
-        self.compared(k, difference)
+        self.compared(k, true)
     }
 
     /// .. and compares the number and `out` alone: for many calls in a row on a large store. The words are compared by the next call
     /// that compares everything.
     pub fn answers(&mut self, k: &Call) -> Option<u32> {
-        self.compared(k, other_answer)
+        self.compared(k, false)
     }
 
-    fn compared(
-        &mut self,
-        k: &Call,
-        difference: impl Fn(&Call, u32, &Side, u32, &Side) -> Option<String>,
-    ) -> Option<u32> {
-        let before = Before::of(&self.b, k);
-        let number = self.library_call(k);
-        let expected = self.b.apply(&mut self.model, k);
-        self.calls += 1;
+    fn compared(&mut self, k: &Call, everything: bool) -> Option<u32> {
+        let before = Before::of(&self.desk.model, k);
+        let made = self.desk.made(&mut self.tally, k, everything);
+        let expected = self.desk.refused.map_or(0, No::number);
         self.count(k, expected, &before);
-        if let Some(d) = difference(k, number, &self.a, expected, &self.b) {
-            let text = format!("{d}\n      {}", before.text(&self.b, k));
-            self.fail(text);
-            return None;
+        match made {
+            Ok(number) => Some(number),
+            Err(what) => {
+                self.fail(format!("{} {what}\n      {}", k.text(), before.text(&self.desk.model, k)));
+                None
+            }
         }
-        Some(expected)
     }
 
-    fn library_call(&mut self, k: &Call) -> u32 {
-        self.a.apply(&mut self.library, k)
+    /// What the last call left in `out`.
+    pub fn out(&self) -> [u32; 4] {
+        self.desk.outs[1]
     }
 
     /// The element that the last call answered.
     pub fn answer(&self) -> models::Element {
-        models::element(self.b.out[0], self.b.out[1], self.b.out[2])
+        models::element(self.out()[0], self.out()[1], self.out()[2])
     }
 
     fn count(&mut self, k: &Call, number: u32, before: &Before) {
-        let op = OPS.iter().position(|o| *o == k.op).unwrap();
-        self.tally.numbers[op][number as usize] += 1;
-        match self.model.refused {
-            Some(No::Damaged(c)) => {
-                for bit in 0..64 {
-                    if c >> bit & 1 == 1 {
-                        self.tally.damage_any[op][bit] += 1;
-                        if c == 1 << bit {
-                            self.tally.damage[op][bit] += 1;
-                        }
-                    }
-                }
+        if let Some(No::BadShape(c)) = self.desk.refused {
+            if c & shape_cause::BOUNDARY != 0 && c & !shape_cause::BOUNDARY != 0 {
+                self.event(Event::BoundaryAndShape);
             }
-            Some(No::BadShape(c)) => {
-                for bit in 0..9 {
-                    if c == 1 << bit {
-                        self.tally.shape[op][bit] += 1;
-                    }
-                }
-                if c & shape_cause::BOUNDARY != 0 && c & !shape_cause::BOUNDARY != 0 {
-                    self.event(Event::BoundaryAndShape);
-                }
-            }
-            _ => {}
         }
-        let (cycles, left) = (self.b.out[0], self.b.out[1] == 1);
+        let (cycles, left) = (self.out()[0], self.out()[1] == 1);
         if k.op == Op::ClockedDrain {
             match number {
                 0 if k.budget == 0 && before.pending => {
@@ -205,7 +157,7 @@ impl<C: Card> Harness<C> {
             }
             if cycles > 0 {
                 for &(at, was) in &before.nothing_with_numbers {
-                    match self.b.records[at] {
+                    match self.desk.model.records[at] {
                         now if now == was => self.event(Event::DrainNothingWithNumbers),
                         [0, 0, 0, 0, 0] => self.event(Event::DrainNothingWithNumbersLoaded),
                         _ => {}
@@ -220,7 +172,7 @@ impl<C: Card> Harness<C> {
             }
             let ran = number != 1 && number != 2;
             for &(at, was) in before.nothing_with_numbers.iter().filter(|_| ran) {
-                let stands = self.b.records[at] == was;
+                let stands = self.desk.model.records[at] == was;
                 self.event(if stands { Event::NothingWithNumbers } else { Event::NothingWithNumbersLoaded });
             }
             if ran && before.past {
@@ -234,10 +186,10 @@ impl<C: Card> Harness<C> {
             if before.full {
                 self.event(Event::BucketReplaceFull);
             }
-            if k.rank == self.b.out[0] {
+            if k.rank == self.out()[0] {
                 self.event(Event::BucketReplaceSameBucket);
             }
-            if k.rank < self.b.out[0] {
+            if k.rank < self.out()[0] {
                 self.event(Event::BucketReplaceLower);
             }
         }
@@ -255,7 +207,7 @@ impl<C: Card> Harness<C> {
                 _ => {}
             }
         }
-        let lower = number == 0 && k.rank < self.b.out[0];
+        let lower = number == 0 && k.rank < self.out()[0];
         if lower && (k.op == Op::TreeReplace || k.op == Op::CycleReplace) {
             self.event(Event::TreeReplaceLower);
         }

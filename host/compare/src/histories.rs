@@ -2,7 +2,7 @@
 //! answers against the plain sorted list.
 
 use crate::harness::Harness;
-use crate::side::{Card, Side};
+use crate::side::Side;
 use models::boundary::OUT;
 use models::call::{Call, Op};
 use models::flight::Flight;
@@ -159,7 +159,7 @@ fn held_to_list(
 }
 
 /// One history of the one-at-a-time tree.
-pub fn tree<C: Card>(h: &mut Harness<C>, rng: &mut Rng, order: u32, levels: u32, calls: u64, fill: bool) {
+pub fn tree(h: &mut Harness, rng: &mut Rng, order: u32, levels: u32, calls: u64, fill: bool) {
     let capacity = Shape::new(order, levels).unwrap().capacity();
     let need = SLOT * capacity as usize;
     let words = need + rng.below(4) as usize;
@@ -196,7 +196,7 @@ pub fn tree<C: Card>(h: &mut Harness<C>, rng: &mut Rng, order: u32, levels: u32,
             Some(number) => number,
             None => return,
         };
-        if let Err(what) = held_to_list(&mut list, op, x, capacity, number, h.answer(), h.b.out[0]) {
+        if let Err(what) = held_to_list(&mut list, op, x, capacity, number, h.answer(), h.out()[0]) {
             return h.fail(format!("order {order}, levels {levels}, call {n} of a history: {what}"));
         }
     }
@@ -208,7 +208,7 @@ pub fn tree<C: Card>(h: &mut Harness<C>, rng: &mut Rng, order: u32, levels: u32,
             None => return,
         };
         let none = element(0, 0, 0);
-        if let Err(what) = held_to_list(&mut list, Op::TreePop, none, capacity, number, h.answer(), h.b.out[0]) {
+        if let Err(what) = held_to_list(&mut list, Op::TreePop, none, capacity, number, h.answer(), h.out()[0]) {
             return h.fail(format!("order {order}, levels {levels}, emptying: {what}"));
         }
         left = number != 6;
@@ -248,7 +248,7 @@ fn bucket_ranks(rng: &mut Rng, storeys: u32) -> Vec<u32> {
 }
 
 /// One history of the bucket queue: exact elements.
-pub fn bucket<C: Card>(h: &mut Harness<C>, rng: &mut Rng, storeys: u32, nodes: u32, calls: u64, fill: bool) {
+pub fn bucket(h: &mut Harness, rng: &mut Rng, storeys: u32, nodes: u32, calls: u64, fill: bool) {
     let need = bucket::words(storeys, nodes as u64) as usize;
     let (bits, words) = (bucket::bits(storeys) + rng.below(3) as usize, need + rng.below(4) as usize);
     let ranks = bucket::ranks(storeys) as u32;
@@ -315,7 +315,7 @@ pub fn bucket<C: Card>(h: &mut Harness<C>, rng: &mut Rng, storeys: u32, nodes: u
         };
         let got = match op {
             Op::BucketPush => none,
-            Op::BucketHeld => element(h.b.out[0], 0, 0),
+            Op::BucketHeld => element(h.out()[0], 0, 0),
             _ => h.answer(),
         };
         if (number, got) != expected {
@@ -329,7 +329,7 @@ pub fn bucket<C: Card>(h: &mut Harness<C>, rng: &mut Rng, storeys: u32, nodes: u
 
 /// One history of the clocked tree, beside the one-at-a-time model on the same list. After every cycle
 /// and drain nothing is lost in flight.
-pub fn clocked<C: Card>(h: &mut Harness<C>, rng: &mut Rng, order: u32, levels: u32, calls: u64) {
+pub fn clocked(h: &mut Harness, rng: &mut Rng, order: u32, levels: u32, calls: u64) {
     let capacity = Shape::new(order, levels).unwrap().capacity();
     let need = SLOT * capacity as usize;
     let words = need + rng.below(4) as usize;
@@ -361,17 +361,17 @@ pub fn clocked<C: Card>(h: &mut Harness<C>, rng: &mut Rng, order: u32, levels: u
             if h.call(&k) != Some(0) {
                 return h.fail(format!("order {order}, levels {levels}: a drain was refused"));
             }
-            let (cycles, left) = (h.b.out[0], h.b.out[1]);
+            let (cycles, left) = (h.out()[0], h.out()[1]);
             if cycles > budget || cycles > levels - 1 || (left == 1 && cycles != budget) {
                 return h.fail(format!("a drain with budget {budget} ran {cycles} cycles, left {left}"));
             }
             if cycles > 0 {
                 mark = false;
             }
-            if let Err(what) = flight.check(&h.a.words, &h.a.records) {
+            if let Err(what) = flight.check(&h.desk.library.words, &h.desk.library.records) {
                 return h.fail(format!("order {order}, levels {levels}, call {n}, a drain: {what}"));
             }
-            if left == 0 && h.b.words[..need] != alone[..] {
+            if left == 0 && h.desk.model.words[..need] != alone[..] {
                 return h.fail(format!(
                     "order {order}, levels {levels}, call {n}: drained, yet not the store of one at a time"
                 ));
@@ -383,8 +383,8 @@ pub fn clocked<C: Card>(h: &mut Harness<C>, rng: &mut Rng, order: u32, levels: u
                 Some(number) => number,
                 None => return,
             };
-            if (number, h.b.out[0]) != (0, list.held() as u32) {
-                return h.fail(format!("held answered {}; the list holds {}", h.b.out[0], list.held()));
+            if (number, h.out()[0]) != (0, list.held() as u32) {
+                return h.fail(format!("held answered {}; the list holds {}", h.out()[0], list.held()));
             }
             continue;
         }
@@ -438,19 +438,19 @@ pub fn clocked<C: Card>(h: &mut Harness<C>, rng: &mut Rng, order: u32, levels: u
         if number == 0 && request >= 2 {
             flight.answered_out(answer);
         }
-        if let Err(what) = flight.check(&h.a.words, &h.a.records) {
+        if let Err(what) = flight.check(&h.desk.library.words, &h.desk.library.records) {
             return h.fail(format!("order {order}, levels {levels}, cycle {n}, request {request} {x:?}: {what}"));
         }
         mark = request != 0 && number == 0;
-        if h.b.mark[0] != mark as u32 {
-            return h.fail(format!("the mark is {}, by its rule {mark}", h.b.mark[0]));
+        if h.desk.model.mark[0] != mark as u32 {
+            return h.fail(format!("the mark is {}, by its rule {mark}", h.desk.model.mark[0]));
         }
     }
     let k = Call::machine(Op::ClockedDrain, order, levels, words, records).budget(levels);
-    if h.call(&k) != Some(0) || h.b.out[1] != 0 {
+    if h.call(&k) != Some(0) || h.out()[1] != 0 {
         return h.fail(format!("order {order}, levels {levels}: the last drain left work"));
     }
-    if h.b.words[..need] != alone[..] {
+    if h.desk.model.words[..need] != alone[..] {
         h.fail(format!("order {order}, levels {levels}: drained, yet not the store of one at a time"));
     }
 }

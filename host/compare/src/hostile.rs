@@ -3,7 +3,7 @@
 
 use crate::harness::Harness;
 use crate::histories::{larger, shapes_up_to, SMALLER};
-use crate::side::{Card, Side};
+use crate::side::Side;
 use models::boundary::OUT;
 use models::call::{Call, Op, Record};
 use models::rng::Rng;
@@ -269,16 +269,16 @@ fn misshape(rng: &mut Rng, k: &mut Call, need: usize) {
 fn lay(side: &mut Side, rng: &mut Rng, store: &[u32], longer: usize) {
     side.words.clear();
     side.words.extend_from_slice(store);
-    for _ in 0..longer + crate::side::GUARD {
+    for _ in 0..longer + crate::desk::GUARD {
         side.words.push(rng.word());
     }
 }
 
 /// Hostile calls of the one-at-a-time tree.
-pub fn tree<C: Card>(h: &mut Harness<C>, rng: &mut Rng, calls: u64) {
-    let until = h.calls + calls;
+pub fn tree(h: &mut Harness, rng: &mut Rng, calls: u64) {
+    let until = h.tally.calls + calls;
     let mut side = Side::new(0, 0, 0);
-    while h.calls < until {
+    while h.tally.calls < until {
         let (order, levels) = small(rng);
         let garbage = rng.once_in(4);
         let base = if garbage { garbage_tree(rng, order, levels) } else { sound_tree(rng, order, levels) };
@@ -373,10 +373,10 @@ fn spoil_records(rng: &mut Rng, order: u32, levels: u32, store: &[u32], records:
 }
 
 /// Hostile calls of the clocked tree.
-pub fn clocked<C: Card>(h: &mut Harness<C>, rng: &mut Rng, calls: u64) {
-    let until = h.calls + calls;
+pub fn clocked(h: &mut Harness, rng: &mut Rng, calls: u64) {
+    let until = h.tally.calls + calls;
     let mut side = Side::new(0, 0, 0);
-    while h.calls < until {
+    while h.tally.calls < until {
         let (order, levels) = small(rng);
         let (base, records, mark) = match rng.below(5) {
             0 => (garbage_tree(rng, order, levels), vec![[0; 5]; levels as usize - 1], vec![rng.below(2) as u32]),
@@ -394,7 +394,7 @@ pub fn clocked<C: Card>(h: &mut Harness<C>, rng: &mut Rng, calls: u64) {
             side.records.extend_from_slice(&spoilt);
             // behind the records of this shape stand others, which no call may look at
             let further = rng.pick(&[0, 0, 1, 2, 9]);
-            for _ in 0..further + crate::side::GUARD {
+            for _ in 0..further + crate::desk::GUARD {
                 side.records.push([(); 5].map(|()| rng.word()));
             }
             side.mark = vec![mark[0], rng.word()];
@@ -590,10 +590,10 @@ fn bucket_ranks(rng: &mut Rng, storeys: u32) -> Vec<u32> {
 }
 
 /// Hostile calls of the bucket queue.
-pub fn bucket<C: Card>(h: &mut Harness<C>, rng: &mut Rng, storeys: u32, calls: u64) {
-    let until = h.calls + calls;
+pub fn bucket(h: &mut Harness, rng: &mut Rng, storeys: u32, calls: u64) {
+    let until = h.tally.calls + calls;
     let (tower, last) = (bucket::bits(storeys), bucket::ranks(storeys) as u32 - 1);
-    while h.calls < until {
+    while h.tally.calls < until {
         let nodes = match rng.below(30) {
             0 => 1 + rng.below(300) as u32,
             1 => 4096,
@@ -663,7 +663,7 @@ pub fn bucket<C: Card>(h: &mut Harness<C>, rng: &mut Rng, storeys: u32, calls: u
 }
 
 /// Every tree call of an order and levels, on lengths near the `need`ed one. False where something differs.
-fn edge<C: Card>(h: &mut Harness<C>, rng: &mut Rng, o: u32, l: u32, need: usize) -> bool {
+fn edge(h: &mut Harness, rng: &mut Rng, o: u32, l: u32, need: usize) -> bool {
     let taken = Shape::new(o, l).is_some();
     let records = if taken { l as usize - 1 } else { 14 };
     let lengths = if taken { vec![need - 1, need, need + 1, 0] } else { vec![need, 0] };
@@ -706,7 +706,7 @@ fn cleared(words: usize) -> Side {
 
 /// Every order and number of levels near the rules' edges, every length near the one that is
 /// needed, for every call.
-pub fn edges<C: Card>(h: &mut Harness<C>, rng: &mut Rng) {
+pub fn edges(h: &mut Harness, rng: &mut Rng) {
     let most = SLOT * SMALLER as usize;
     let base = cleared(most);
     let mut orders = ORDERS.to_vec();
@@ -781,7 +781,7 @@ pub fn edges<C: Card>(h: &mut Harness<C>, rng: &mut Rng) {
 
 /// Every store that can be put together from a few slots, links, records and marks, with every
 /// call on each.
-pub fn small_stores<C: Card>(h: &mut Harness<C>, _: &mut Rng) {
+pub fn small_stores(h: &mut Harness, _: &mut Rng) {
     // order 2, one level: two slots
     let mut slots = Vec::new();
     for count in 0..3 {
@@ -930,7 +930,7 @@ pub fn small_stores<C: Card>(h: &mut Harness<C>, _: &mut Rng) {
 }
 
 /// Three storeys: a few ranks held, each bit on the way to a few ranks turned, every call on each such store.
-pub fn deep_bits<C: Card>(h: &mut Harness<C>, _: &mut Rng) {
+pub fn deep_bits(h: &mut Harness, _: &mut Rng) {
     // in one group, in another and the last of all; the second and third in words side by side
     let ranks = [5, 4096 * 7 + 5, 4096 * 7 + 70, 262_143];
     let t = Target { storeys: 3, nodes: 4, ranks: ranks.to_vec() };

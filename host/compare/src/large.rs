@@ -2,7 +2,7 @@
 //! of so large a store after the last call of a stretch, and after every call at the brim.
 
 use crate::harness::Harness;
-use crate::side::{Card, Side};
+use crate::side::Side;
 use models::boundary::OUT;
 use models::call::{Call, Op};
 use models::rng::Rng;
@@ -21,7 +21,7 @@ fn any(rng: &mut Rng) -> Element {
 }
 
 /// One history of the one-at-a-time tree: up to the brim, calls there, and down to nothing by rising ranks.
-pub fn tree<C: Card>(h: &mut Harness<C>, rng: &mut Rng, order: u32, levels: u32) {
+pub fn tree(h: &mut Harness, rng: &mut Rng, order: u32, levels: u32) {
     let capacity = Shape::new(order, levels).unwrap().capacity();
     let words = SLOT * capacity as usize + rng.below(4) as usize;
     let ask = |op| Call::tree(op, order, levels, words);
@@ -49,7 +49,7 @@ pub fn tree<C: Card>(h: &mut Harness<C>, rng: &mut Rng, order: u32, levels: u32)
     if h.call(&ask(Op::TreeHeld)).is_none() {
         return;
     }
-    let held = h.b.out[0];
+    let held = h.out()[0];
     let mut last = 0;
     for n in 0..held {
         if h.answers(&ask(Op::TreePop)) != Some(0) || h.answer().rank < last {
@@ -57,7 +57,7 @@ pub fn tree<C: Card>(h: &mut Harness<C>, rng: &mut Rng, order: u32, levels: u32)
         }
         last = h.answer().rank;
     }
-    if h.call(&ask(Op::TreePop)) != Some(6) || h.b.words[..SLOT * capacity as usize].iter().any(|w| *w != 0) {
+    if h.call(&ask(Op::TreePop)) != Some(6) || h.desk.model.words[..SLOT * capacity as usize].iter().any(|w| *w != 0) {
         h.fail(format!("order {order}, levels {levels}: something is left of an emptied tree"));
     }
 }
@@ -91,7 +91,7 @@ impl Beside {
 }
 
 /// One history of the clocked tree: pushes without a pause, so that every level has work, up to the brim, and requests of every kind there.
-pub fn clocked<C: Card>(h: &mut Harness<C>, rng: &mut Rng, order: u32, levels: u32) {
+pub fn clocked(h: &mut Harness, rng: &mut Rng, order: u32, levels: u32) {
     let capacity = Shape::new(order, levels).unwrap().capacity();
     let need = SLOT * capacity as usize;
     let (words, records) = (need + rng.below(4) as usize, levels as usize - 1 + rng.below(3) as usize);
@@ -117,10 +117,10 @@ pub fn clocked<C: Card>(h: &mut Harness<C>, rng: &mut Rng, order: u32, levels: u
             ));
         }
     }
-    if h.call(&machine(Op::ClockedDrain).budget(levels)) != Some(0) || h.b.out[1] != 0 {
+    if h.call(&machine(Op::ClockedDrain).budget(levels)) != Some(0) || h.out()[1] != 0 {
         return h.fail(format!("order {order}, levels {levels}: the last drain left work"));
     }
-    if h.b.words[..need] != alone.words[..] {
+    if h.desk.model.words[..need] != alone.words[..] {
         h.fail(format!("order {order}, levels {levels}: drained, yet not the store of one at a time"));
     }
 }

@@ -1,203 +1,43 @@
-//! The library's clocked cluster heap held to the plain model, cycle by cycle, every word and every record: histories from a cleared
-//! machine, beside a plain list; stores and records that no call has written; and the wrapper as its users use it.
+//! What is the clocked cluster heap's own, beside what `queues` has of every machine: its words are the plain heap's once drained, which
+//! clauses are met, small machines, the worked cases; and the wrapper as its users use it.
 
 use card_host::{
-    calls, cluster_words, record_count, ClockedCluster, ClockedHeap, ClusterRecord, Drained, Element, Length, Rank,
-    Refusal, Request, Stopped, Tag,
+    cluster_words, record_count, ClockedCluster, ClockedHeap, ClusterRecord, Drained, Element, Length, Rank, Refusal,
+    Request, Stopped, Tag,
 };
-use models::cluster_clock::{self, at_rest, cause, in_flight, Record};
-use models::list::SortedList;
+use compare::desk::{Desk, Store, Tally};
+use compare::drive::{hostile_cycles, Driven};
+use compare::queues::{self, Ask, Cluster};
+use models::cluster_clock::cause;
 use models::rng::{seed, Rng};
-use models::{element, Causes, No};
+use models::{element, Causes};
 
-const SHAPES: [(u32, u32); 9] = [(2, 1), (2, 2), (2, 3), (2, 6), (3, 3), (4, 3), (5, 2), (16, 2), (3, 1)];
+type Machine = Desk<queues::ClockedCluster>;
 
-/// A call, and how long the answer's slice is.
-#[derive(Clone, Copy, Debug)]
-enum Ask {
-    Cycle(u32, models::Element, usize),
-    Drain(u32, usize),
-    Held(usize),
-}
-
-/// What was answered: how often each number by an idle cycle, a push, a pop, a replace, another request, a drain and a held; and which
-/// clauses were met by a damaged call.
-#[derive(Default)]
-struct Tally {
-    numbers: [[u64; 8]; 7],
-    met: [Causes; 7],
-}
-
-/// A machine on both sides.
-#[derive(Clone)]
-struct Machine {
-    places: u32,
-    levels: u32,
-    store: [Vec<u32>; 2],
-    records: (Vec<ClusterRecord>, Vec<Record>),
-}
-
-fn numbers(records: &[ClusterRecord]) -> Vec<Record> {
-    records.iter().map(|r| (*r).into()).collect()
-}
-
-impl Machine {
-    fn new(places: u32, levels: u32, store: Vec<u32>, records: Vec<Record>) -> Machine {
-        let own = records.iter().map(|r| (*r).into()).collect();
-        Machine { places, levels, store: [store.clone(), store], records: (own, records) }
-    }
-
-    /// A cleared machine, with some words and records behind.
-    fn fresh(places: u32, levels: u32) -> Machine {
-        let (words, records) = (cluster_words(places, levels) + 2, record_count(levels) + 2);
-        let mut machine = Machine::new(places, levels, vec![7; words], vec![[9; 6]; records]);
-        assert_eq!(machine.clear(), 0);
-        machine
-    }
-
-    fn same(&self, what: &dyn std::fmt::Debug) {
-        let (places, levels) = (self.places, self.levels);
-        assert!(self.store[0] == self.store[1], "the words after {what:?}, {places} places, {levels} levels");
-        assert_eq!(numbers(&self.records.0), self.records.1, "after {what:?}, {places} places, {levels} levels");
-    }
-
-    fn clear(&mut self) -> u32 {
-        let ([store, plain], (records, plain_records)) = (&mut self.store, &mut self.records);
-        let number = calls::clocked_cluster_clear(store, self.places, self.levels, records);
-        let told = cluster_clock::clear(plain, self.places, self.levels, plain_records);
-        assert_eq!(number, told.map_or_else(No::number, |()| 0));
-        self.same(&"clear");
-        number
-    }
-
-    /// One call on both sides: the same number, the same `out`, and the same words and records afterwards.
-    fn both(&mut self, tally: &mut Tally, ask: Ask) -> (u32, Vec<u32>) {
-        let (places, levels) = (self.places, self.levels);
-        let ([store, plain], (records, plain_records)) = (&mut self.store, &mut self.records);
-        let (Ask::Cycle(_, _, len) | Ask::Drain(_, len) | Ask::Held(len)) = ask;
-        let (mut out, mut plain_out) = (vec![9; len], vec![9; len]);
-        let (kind, number, told) = match ask {
-            Ask::Cycle(request, x, _) => {
-                let (r, t, l) = (x.rank, x.tag, x.length);
-                let number = calls::clocked_cluster_cycle(store, places, levels, records, request, r, t, l, &mut out);
-                let told = cluster_clock::cycled(plain, places, levels, plain_records, request, x, &mut plain_out);
-                (request.min(4) as usize, number, told)
-            }
-            Ask::Drain(budget, _) => {
-                let number = calls::clocked_cluster_drain(store, places, levels, records, budget, &mut out);
-                (5, number, cluster_clock::drain(plain, places, levels, plain_records, budget, &mut plain_out))
-            }
-            Ask::Held(_) => {
-                let number = calls::clocked_cluster_held(store, places, levels, &mut out);
-                (6, number, cluster_clock::held(plain, places, levels, &mut plain_out))
-            }
-        };
-        let said = told.map_or_else(No::number, |()| 0);
-        assert_eq!((number, &out), (said, &plain_out), "{ask:?}, {places} places, {levels} levels, {told:?}");
-        self.same(&ask);
-        tally.numbers[kind][number as usize] += 1;
-        if let Err(No::Damaged(c)) = told {
-            tally.met[kind] |= c;
-        }
-        (number, out)
-    }
-
-    /// What is held in the middle of any work, in one order.
-    fn elements(&self) -> Vec<models::Element> {
-        let mut all = in_flight(&self.store[0], self.places, self.levels, &self.records.1);
-        all.sort_unstable();
-        all
-    }
-}
-
-/// Each call gave each of the numbers that it can give here, and no other.
-fn gave(tally: &Tally, can: [&[usize]; 7]) {
-    for (kind, can) in can.into_iter().enumerate() {
-        for (number, &times) in tally.numbers[kind].iter().enumerate() {
-            assert_eq!(times > 0, can.contains(&number), "call {kind}, number {number}: {times} times");
-        }
-    }
-}
-
-/// Any list of cycles from a cleared machine: refusals and ranks are those of the plain list, nothing is too soon, nothing is lost in
-/// flight, held is exact at every moment, and a drain of at most levels less one cycles leaves a heap that keeps the rules.
-#[test]
-fn histories() {
-    let mut rng = Rng::new(seed(), 550);
-    let mut tally = Tally::default();
-    for (places, levels) in SHAPES {
-        for ranks in [3, 12, 1 << 32] {
-            let mut machine = Machine::fresh(places, levels);
-            let mut list = SortedList::new();
-            let room = places as usize * ((1 << levels) - 1);
-            for n in 0..1200u32 {
-                let tag = if rng.once_in(30) { 0 } else { n + 1 };
-                let x = element(rng.below(ranks) as u32, tag, rng.word());
-                // long stretches of mostly pushes, then of mostly pops, each cycle with a request or not
-                let request = match rng.below(12) {
-                    0..=5 => 1 + (n / 100 % 2),
-                    6 | 7 => 3,
-                    8 => 1,
-                    9 => 2,
-                    10 => 0,
-                    _ => 9,
-                };
-                if request == 9 {
-                    let (number, out) = machine.both(&mut tally, Ask::Drain(rng.pick(&[0, 1, 2, 99]), 2));
-                    assert!(number == 0 && out[0] < levels.max(1));
-                    if out[1] == 0 {
-                        assert!(at_rest(&machine.store[0], places, levels), "the rules of a heap after a drain");
-                    }
-                    continue;
-                }
-                let (number, out) = machine.both(&mut tally, Ask::Cycle(request, x, 3));
-                let expected = match request {
-                    0 => 0,
-                    1 | 3 if x.tag == 0 => 7,
-                    1 if list.held() == room => 5,
-                    2 | 3 if list.held() == 0 => 6,
-                    _ => 0,
-                };
-                assert_eq!(number, expected, "request {request}");
-                if number == 0 && request >= 2 {
-                    // the lowest rank, and an element that was held
-                    assert_eq!(Some(out[0]), list.lowest());
-                    assert!(list.take_out(element(out[0], out[1], out[2])));
-                }
-                if number == 0 && (request == 1 || request == 3) {
-                    list.push(x);
-                }
-                let mut held = list.elements().to_vec();
-                held.sort_unstable();
-                assert_eq!(machine.elements(), held, "nothing is lost in flight");
-                assert_eq!(machine.both(&mut tally, Ask::Held(1)), (0, vec![held.len() as u32]));
-            }
-        }
-    }
-    gave(&tally, [&[0], &[0, 5, 7], &[0, 6], &[0, 6, 7], &[], &[0], &[0]]);
+/// A machine of this shape that is cleared.
+fn fresh(tally: &mut Tally, shape: (u32, u32)) -> Machine {
+    let mut machine = Machine::new(queues::ClockedCluster::blank(shape, 2));
+    assert_eq!(machine.both(tally, Ask::Clear).0, 0);
+    machine
 }
 
 /// Where each operation is drained before the next, the words are those of the heap worked one operation at a time.
 #[test]
 fn drained_each_time_it_is_the_plain_heap() {
     let mut rng = Rng::new(seed(), 551);
-    let mut tally = Tally::default();
-    for (places, levels) in SHAPES {
-        let mut machine = Machine::fresh(places, levels);
-        let mut store = vec![0; cluster_words(places, levels)];
+    let (mut tally, mut plain_tally) = (Tally::of::<queues::ClockedCluster>(), Tally::of::<Cluster>());
+    for &shape in queues::ClockedCluster::SHAPES {
+        let (mut machine, mut plain) = (fresh(&mut tally, shape), Desk::<Cluster>::new(Cluster::blank(shape, 0)));
+        plain.both(&mut plain_tally, Ask::Clear);
         for n in 0..600u32 {
             let x = element(rng.below(20) as u32, n + 1, n);
             let request = 1 + rng.pick(&[n / 60 % 2, 0, 1, 2]);
             let got = machine.both(&mut tally, Ask::Cycle(request, x, 3));
             assert_eq!(machine.both(&mut tally, Ask::Drain(99, 2)).1[1], 0);
-            let mut out = [0; 3];
-            let number = match request {
-                1 => calls::cluster_push(&mut store, places, levels, x.rank, x.tag, x.length),
-                2 => calls::cluster_pop(&mut store, places, levels, &mut out),
-                _ => calls::cluster_replace(&mut store, places, levels, x.rank, x.tag, x.length, &mut out),
-            };
-            assert_eq!(got, (number, out.to_vec()));
-            assert_eq!(machine.store[0][..store.len()], store);
+            let (number, mut out) = plain.both(&mut plain_tally, Ask::request(request, x));
+            out.resize(3, 0);
+            assert_eq!(got, (number, out));
+            assert_eq!(machine.library.words[..plain.library.words.len()], plain.library.words[..]);
         }
     }
 }
@@ -274,88 +114,24 @@ fn cases() {
     }
 }
 
-/// A machine in the middle of its work, as the model leaves it.
-fn busy(rng: &mut Rng, places: u32, levels: u32) -> (Vec<u32>, Vec<Record>) {
-    let (mut store, mut records) = (vec![0; cluster_words(places, levels)], vec![[0; 6]; record_count(levels)]);
-    let held = rng.below(4 * places as u64 * levels as u64 + 1);
-    for n in 0..held {
-        let x = element(rng.below(12) as u32, 1 + n as u32, rng.below(99) as u32);
-        let request = rng.pick(&[1, 1, 1, 2, 3]);
-        let _ = cluster_clock::cycled(&mut store, places, levels, &mut records, request, x, &mut [0; 3]);
-    }
-    (store, records)
-}
-
-/// Machines with words and records spoilt, and machines of garbage; shapes that are none, slices that are too short.
+/// Each clause was met by each call that can be damaged by it, on machines with words and records spoilt.
 #[test]
-fn hostile() {
-    let mut rng = Rng::new(seed(), 553);
-    let mut tally = Tally::default();
-    for round in 0..16_000 {
-        let (mut places, mut levels) = rng.pick(&SHAPES);
-        let (mut store, mut records) = busy(&mut rng, places, levels);
-        for _ in 0..rng.pick(&[0, 1, 1, 2]) {
-            let at = match rng.below(3) {
-                // the upper nodes are read most
-                0 => rng.below(store.len() as u64) as usize,
-                _ => rng.below(store.len().min(8 * places as usize + 4) as u64) as usize,
-            };
-            store[at] = rng.pick(&[0, 0, 1, 1, 2, 3, 9, 5460, 1 << 31, u32::MAX]);
-        }
-        if !records.is_empty() {
-            for _ in 0..rng.pick(&[0, 0, 1, 1, 2]) {
-                let at = rng.below(records.len() as u64) as usize;
-                let nodes = 1 << (at + 1);
-                let node = rng.pick(&[0, 0, 1, nodes / 2 - 1, nodes / 2, nodes - 1, nodes, u32::MAX]);
-                let place = rng.pick(&[0, 0, 1, places - 1, places, u32::MAX]);
-                let (kind, rank) = (rng.pick(&[0, 1, 1, 2, 2, 3, 3]), rng.below(12) as u32);
-                records[at] = [kind, node, place, rank, rng.word(), rng.word()];
-                if rng.once_in(40) {
-                    records[at][0] = rng.pick(&[4, 5, 1 << 31, u32::MAX]);
-                }
-            }
-        }
-        if round % 20 == 0 {
-            store.iter_mut().for_each(|w| *w = rng.below(3) as u32);
-        }
-        match rng.below(60) {
-            0 => store.truncate(store.len() - 1),
-            1 => drop(records.pop()),
-            2 => places = rng.pick(&[0, 1, 17, 1 << 31, u32::MAX]),
-            3 => levels = rng.pick(&[0, 12, 31, 32, 33, 64, u32::MAX]),
-            4 => records.push([5; 6]),
-            _ => {}
-        }
-        let mut machine = Machine::new(places, levels, store, records);
-        for _ in 0..3 {
-            let x = element(rng.below(12) as u32, rng.below(5) as u32, rng.word());
-            let ask = match rng.below(12) {
-                0 | 1 => Ask::Drain(rng.pick(&[0, 1, 2, 9, u32::MAX]), rng.pick(&[0, 1, 2, 2, 2, 3])),
-                2 => Ask::Held(rng.pick(&[0, 1, 1, 2])),
-                n => {
-                    let request = if rng.once_in(40) { rng.pick(&[4, 9, u32::MAX]) } else { n as u32 % 4 };
-                    Ask::Cycle(request, x, rng.pick(&[0, 2, 3, 3, 3, 3, 3, 4]))
-                }
-            };
-            machine.both(&mut tally, ask);
-        }
-    }
-    let any: &[usize] = &[0, 1, 2];
-    gave(&tally, [any, &[0, 1, 2, 5, 7], &[0, 1, 2, 6], &[0, 1, 2, 6, 7], &[1], any, any]);
+fn every_clause_is_met() {
+    let tally = hostile_cycles::<queues::ClockedCluster, 6>(553, 16_000);
     let pending: Causes = cause::ALL.iter().map(|(clause, _)| clause).sum::<Causes>() & !cause::ROOT;
     let all = pending | cause::ROOT;
-    for (kind, can) in [pending, all, all, all, 0, pending, cause::ROOT].into_iter().enumerate() {
-        let missed: Vec<&str> =
-            cause::ALL.iter().filter(|(c, _)| can & !tally.met[kind] & c != 0).map(|(_, name)| *name).collect();
-        assert!(missed.is_empty(), "call {kind} was never damaged by {missed:?}");
-        assert_eq!(tally.met[kind] & !can, 0, "call {kind}");
+    for (row, can) in tally.rows.iter().zip([0, pending, all, all, all, 0, pending, cause::ROOT]) {
+        let missed = cause::ALL.iter().filter(|(c, _)| can & !row.clauses() & c != 0);
+        let missed: Vec<&str> = missed.map(|(_, name)| *name).collect();
+        assert!(missed.is_empty(), "{} was never damaged by {missed:?}", row.name);
+        assert_eq!(row.clauses() & !can, 0, "{}", row.name);
     }
 }
 
 /// Every store of two nodes deep that can be put together from a few places, counts and records, with every request on each.
 #[test]
 fn small_machines() {
-    let mut tally = Tally::default();
+    let mut tally = Tally::of::<queues::ClockedCluster>();
     let places = [[0, 0, 0, 0], [5, 50, 1, 1], [4, 40, 1, 1]];
     let records = [
         [0; 6],
@@ -376,41 +152,17 @@ fn small_machines() {
             for words in [&a[..], &b, &[0, 0], &c, &[0; 4], &[0, 0], &d, &[8, 80, 1, 1]] {
                 store.extend(words);
             }
+            let machine =
+                |record| Machine::new(Store { records: vec![record].into(), ..Store::of((2, 2), store.clone()) });
             for record in records {
                 for request in 0..4 {
-                    let mut machine = Machine::new(2, 2, store.clone(), vec![record]);
-                    machine.both(&mut tally, Ask::Cycle(request, element(5, 55, 5), 3));
+                    machine(record).both(&mut tally, Ask::Cycle(request, element(5, 55, 5), 3));
                 }
-                Machine::new(2, 2, store.clone(), vec![record]).both(&mut tally, Ask::Drain(9, 2));
+                machine(record).both(&mut tally, Ask::Drain(9, 2));
             }
         }
     }
-    assert!(tally.numbers[..4].iter().all(|n| n[0] > 100 && n[2] > 100), "{:?}", tally.numbers);
-}
-
-/// Shapes at and beyond the last that are taken; refused, nothing is written.
-#[test]
-fn shapes() {
-    let mut tally = Tally::default();
-    for places in 0..19 {
-        for levels in 0..14 {
-            let words = cluster_words(places, levels);
-            let taken = words > 0;
-            let records = record_count(levels);
-            let mut machine = Machine::new(places, levels, vec![5; words], vec![[5; 6]; records]);
-            assert_eq!(machine.clear(), !taken as u32);
-            if taken {
-                let mut short = Machine::new(places, levels, vec![5; words - 1], vec![[0; 6]; records]);
-                assert_eq!(short.clear(), 1);
-                assert_eq!(short.both(&mut tally, Ask::Cycle(0, element(0, 0, 0), 3)).0, 1);
-                if records > 0 {
-                    let mut few = Machine::new(places, levels, vec![0; words], vec![[0; 6]; records - 1]);
-                    assert_eq!((few.clear(), few.both(&mut tally, Ask::Drain(9, 2)).0), (1, 1));
-                    assert_eq!(few.both(&mut tally, Ask::Held(1)).0, 0);
-                }
-            }
-        }
-    }
+    assert!(tally.rows[1..5].iter().all(|row| row.numbers[0] > 100 && row.numbers[2] > 100));
 }
 
 #[test]

@@ -2,38 +2,26 @@
 //! of different weights are served; stores, states and numbers that no call has written; and the wrapper as its users use it.
 
 use card_host::{calls, fair_words, tree_words, Element, Fair, FairQueue, Flow, Length, Rank, Refusal, Tag, Weight};
-use models::fair::{self, Ledger, FLOWS, HEAVIEST, LONGEST, STATE};
+use compare::desk::{self, Store, Tally};
+use compare::queues::{self, FairAsk as Ask};
+use models::fair::{Ledger, FLOWS, HEAVIEST, LONGEST, STATE};
 use models::rng::{seed, Rng};
-use models::{element, tree, No};
+use models::{element, tree};
 
 const SHAPES: [(u32, u32); 7] = [(2, 1), (2, 2), (2, 5), (4, 1), (4, 3), (8, 2), (8, 3)];
 
-/// A call of fair ranks: its numbers, and how long the answer's slice is.
-#[derive(Clone, Copy, Debug)]
-enum Ask {
-    Reset,
-    Push { flow: u32, weight: u32, tag: u32, length: u32 },
-    Pop { out: usize },
-    Held { out: usize },
-}
-
-/// A state and a store on both sides.
-#[derive(Clone)]
+/// A state and a store on both sides, and what was answered of them.
 struct Desk {
-    order: u32,
-    levels: u32,
-    state: [Vec<u32>; 2],
-    store: [Vec<u32>; 2],
-    /// How often each number was answered by a reset, a push, a pop and a held.
-    numbers: [[u64; 12]; 4],
+    desk: desk::Desk<queues::Fair>,
+    tally: Tally,
     /// How often a reset with a state of enough words was refused for the tree's shape.
     shapeless: u64,
 }
 
 impl Desk {
     fn new(order: u32, levels: u32, state: Vec<u32>, store: Vec<u32>) -> Desk {
-        let (state, store) = ([state.clone(), state], [store.clone(), store]);
-        Desk { order, levels, state, store, numbers: [[0; 12]; 4], shapeless: 0 }
+        let store = Store { state: state.into(), ..Store::of((order, levels), store) };
+        Desk { desk: desk::Desk::new(store), tally: Tally::of::<queues::Fair>(), shapeless: 0 }
     }
 
     /// A cleared store and a state that is reset, each with some words behind.
@@ -43,53 +31,16 @@ impl Desk {
         desk
     }
 
-    /// One call on both sides: the same number, the same `out`, and the same words afterwards. Gives the number and `out`.
+    /// One call on both sides. Gives the number and `out`.
     fn both(&mut self, ask: Ask) -> (u32, Vec<u32>) {
-        let (order, levels) = (self.order, self.levels);
-        let ([state, plain_state], [store, plain_store]) = (&mut self.state, &mut self.store);
-        let said = |answer: Result<(), No>| answer.map_or_else(No::number, |()| 0);
-        let (kind, number, told, out, plain_out) = match ask {
-            Ask::Reset => {
-                let number = calls::fair_reset(state, store, order, levels);
-                (0, number, said(fair::reset(plain_state, plain_store, order, levels)), vec![], vec![])
-            }
-            Ask::Push { flow, weight, tag, length } => {
-                let number = calls::fair_push(state, store, order, levels, flow, weight, tag, length);
-                let told = fair::push(plain_state, plain_store, order, levels, flow, weight, tag, length);
-                (1, number, said(told), vec![], vec![])
-            }
-            Ask::Pop { out } => {
-                let (mut a, mut b) = (vec![9; out], vec![9; out]);
-                let number = calls::fair_pop(state, store, order, levels, &mut a);
-                (2, number, said(fair::pop(plain_state, plain_store, order, levels, &mut b)), a, b)
-            }
-            Ask::Held { out } => {
-                let (mut a, mut b) = (vec![9; out], vec![9; out]);
-                let number = calls::fair_held(store, order, levels, &mut a);
-                (3, number, said(fair::held(plain_store, order, levels, &mut b)), a, b)
-            }
-        };
-        assert_eq!((number, &out), (told, &plain_out), "{ask:?}, order {order}, levels {levels}");
-        assert_eq!((&self.state[0], &self.store[0]), (&self.state[1], &self.store[1]), "{ask:?}");
-        self.numbers[kind][number as usize] += 1;
-        self.shapeless += u64::from(kind == 0 && number == 1 && self.state[0].len() >= STATE);
+        let (number, out) = self.desk.both(&mut self.tally, ask);
+        let reset = matches!(ask, Ask::Reset);
+        self.shapeless += u64::from(reset && number == 1 && self.state().len() >= STATE);
         (number, out)
     }
-}
 
-/// Adds up what several desks answered.
-fn add(all: &mut [[u64; 12]; 4], more: &[[u64; 12]; 4]) {
-    for (a, b) in all.iter_mut().flatten().zip(more.iter().flatten()) {
-        *a += b;
-    }
-}
-
-/// Each call gave each of the numbers that it can give here, and no other.
-fn gave(numbers: &[[u64; 12]; 4], can: [&[usize]; 4]) {
-    for (kind, can) in can.into_iter().enumerate() {
-        for (number, &times) in numbers[kind].iter().enumerate() {
-            assert_eq!(times > 0, can.contains(&number), "call {kind}, number {number}: {times} times");
-        }
+    fn state(&self) -> &[u32] {
+        &self.desk.library.state
     }
 }
 
@@ -107,7 +58,7 @@ fn some_length(rng: &mut Rng) -> u32 {
 #[test]
 fn histories_keep_the_bound() {
     let mut rng = Rng::new(seed(), 1000);
-    let (mut numbers, mut looked, mut reached) = ([[0; 12]; 4], 0, 0);
+    let (mut tally, mut looked, mut reached) = (Tally::of::<queues::Fair>(), 0, 0);
     for (order, levels) in SHAPES {
         for flows in [[0, 1, 2], [61, 62, 63]] {
             let mut desk = Desk::fresh(order, levels);
@@ -130,7 +81,7 @@ fn histories_keep_the_bound() {
                         };
                         let answer = desk.both(Ask::Push { flow, weight, tag, length }).0;
                         if answer == 0 {
-                            ledger.pushed(flow, weight, element(desk.state[0][1 + flow as usize], tag, length));
+                            ledger.pushed(flow, weight, element(desk.state()[1 + flow as usize], tag, length));
                         }
                     }
                     10 => {
@@ -141,7 +92,7 @@ fn histories_keep_the_bound() {
                         assert_eq!(desk.both(Ask::Held { out: 1 }), (0, vec![held]));
                     }
                     _ => {
-                        let clock = desk.state[0][0];
+                        let clock = desk.state()[0];
                         let (number, out) = desk.both(Ask::Pop { out: 3 });
                         if number == 0 {
                             assert!(out[0] >= clock, "the clock does not fall");
@@ -150,17 +101,14 @@ fn histories_keep_the_bound() {
                         }
                     }
                 }
-                assert!(
-                    ledger.waiting.iter().all(|s| s.element.rank >= desk.state[0][0]),
-                    "no rank is below the clock"
-                );
+                assert!(ledger.waiting.iter().all(|s| s.element.rank >= desk.state()[0]), "no rank is below the clock");
             }
             looked += ledger.looked;
             reached += ledger.reached;
-            add(&mut numbers, &desk.numbers);
+            tally.add(&desk.tally);
         }
     }
-    gave(&numbers, [&[0, 11], &[0, 5, 7], &[0, 6], &[0]]);
+    tally.gave(&[&[0, 11], &[0, 5, 7], &[0, 6], &[0]]);
     assert!(looked > 10_000, "the bound was looked at {looked} times, and reached {reached} times");
 }
 
@@ -179,7 +127,7 @@ fn the_bound_is_reached() {
                 ledger.popped(element(out[0], out[1], out[2]), |_| 0).unwrap();
             } else {
                 assert_eq!(desk.both(Ask::Push { flow, weight: 1, tag, length: LONGEST }).0, 0);
-                ledger.pushed(flow, 1, element(desk.state[0][1 + flow as usize], tag, LONGEST));
+                ledger.pushed(flow, 1, element(desk.state()[1 + flow as usize], tag, LONGEST));
             }
         }
         assert_eq!((ledger.reached, ledger.waiting.len()), (1, 2), "order {order}");
@@ -198,30 +146,28 @@ fn the_clock_is_spent() {
     // its last finish is 4,293,918,720: what is left is 1,048,575, and a finish may be the highest rank
     assert_eq!(desk.both(Ask::Push { flow: 5, weight: 1, tag: 1, length: 16 * 64 }).0, 10);
     assert_eq!(desk.both(Ask::Push { flow: 5, weight: 1, tag: 1, length: 15 * 64 }).0, 0);
-    assert_eq!(desk.state[0][6], 4_294_901_760);
+    assert_eq!(desk.state()[6], 4_294_901_760);
     assert_eq!(desk.both(Ask::Push { flow: 5, weight: 2, tag: 1, length: 128 }).0, 10);
     assert_eq!(desk.both(Ask::Push { flow: 6, weight: 1, tag: 1, length: LONGEST }).0, 0);
     // 65,535 more: one cell of each of 1,024 / 64 steps, and so on to the top
     for weight in [2, 4, 8, 16, 32, 64, 128, 256, 512, 1024] {
         assert_eq!(desk.both(Ask::Push { flow: 5, weight, tag: 1, length: 1 }).0, 0);
     }
-    assert_eq!(desk.state[0][6], 4_294_967_232);
+    assert_eq!(desk.state()[6], 4_294_967_232);
     assert_eq!(desk.both(Ask::Push { flow: 5, weight: 1024, tag: 1, length: 1 }).0, 10);
     assert_eq!(desk.both(Ask::Reset).0, 11);
     for _ in 0..467 {
         assert_eq!(desk.both(Ask::Pop { out: 3 }).0, 0);
     }
-    assert_eq!((desk.both(Ask::Pop { out: 3 }), desk.state[0][0]), ((6, vec![0; 3]), 4_294_967_232));
+    assert_eq!((desk.both(Ask::Pop { out: 3 }), desk.state()[0]), ((6, vec![0; 3]), 4_294_967_232));
     assert_eq!(desk.both(Ask::Push { flow: 7, weight: 1, tag: 1, length: 64 }).0, 10);
     assert_eq!(desk.both(Ask::Reset).0, 0);
     assert_eq!(desk.both(long).0, 0);
     // the highest rank itself is a finish
     desk.both(Ask::Pop { out: 3 });
-    for side in 0..2 {
-        desk.state[side][0] = u32::MAX - 64;
-    }
+    desk.desk.change(|store| store.state[0] = u32::MAX - 64);
     assert_eq!(desk.both(Ask::Push { flow: 9, weight: 1024, tag: 1, length: 64 }).0, 0);
-    assert_eq!(desk.state[0][10], u32::MAX);
+    assert_eq!(desk.state()[10], u32::MAX);
 }
 
 /// The worked case: strips of one cell and of three, of weights 1 and 2, and a flow that comes late.
@@ -259,7 +205,7 @@ fn edge(rng: &mut Rng, limit: u32) -> u32 {
 #[test]
 fn hostile() {
     let mut rng = Rng::new(seed(), 1001);
-    let (mut numbers, mut shapeless) = ([[0; 12]; 4], 0);
+    let (mut tally, mut shapeless) = (Tally::of::<queues::Fair>(), 0);
     for round in 0..6000 {
         let (mut order, mut levels) = rng.pick(&SHAPES);
         let words = tree_words(order, levels);
@@ -304,11 +250,11 @@ fn hostile() {
             };
             desk.both(ask);
         }
-        add(&mut numbers, &desk.numbers);
+        tally.add(&desk.tally);
         shapeless += desk.shapeless;
     }
     assert!(shapeless > 0, "no reset over a shape that is none");
-    gave(&numbers, [&[0, 1, 2, 11], &[0, 1, 2, 5, 7, 9, 10], &[0, 1, 2, 6], &[0, 1, 2]]);
+    tally.gave(&[&[0, 1, 2, 11], &[0, 1, 2, 5, 7, 9, 10], &[0, 1, 2, 6], &[0, 1, 2]]);
 }
 
 /// Where several causes hold, the earlier test answers: 9, a short state's 1, 10, then the tree's own.
@@ -346,7 +292,7 @@ fn every_weight() {
         for length in [1, LONGEST] {
             assert_eq!(desk.both(Ask::Push { flow: 3, weight, tag: 1, length }).0, 0);
             let finish = (length + 63) / 64 * (65_536 / weight);
-            assert_eq!(desk.state[0][4], finish);
+            assert_eq!(desk.state()[4], finish);
             assert_eq!(desk.both(Ask::Pop { out: 3 }), (0, vec![finish, 1, length]));
             assert_eq!(desk.both(Ask::Reset).0, 0);
         }

@@ -7,8 +7,8 @@
 //! calls. Its parts share one tally of what was met, so it is one program with a main of its own; it closes with a count as every test of
 //! cargo's does.
 
+use compare::desk::Who;
 use compare::harness::Harness;
-use compare::side::{Card, Linked, Model};
 use compare::{cases, coverage, histories, hostile, large};
 use models::rng::{self, Rng};
 use std::time::Instant;
@@ -35,19 +35,19 @@ impl Score {
 }
 
 /// Runs one part on the harness: its calls are counted, its first difference is kept.
-fn part<C: Card>(
+fn part(
     score: &mut Score,
-    h: &mut Harness<C>,
+    h: &mut Harness,
     seed: u64,
     name: &str,
     stream: u64,
-    run: impl FnOnce(&mut Harness<C>, &mut Rng),
+    run: impl FnOnce(&mut Harness, &mut Rng),
 ) {
-    let (before, start) = (h.calls, Instant::now());
+    let (before, start) = (h.tally.calls, Instant::now());
     h.failed = None;
     let mut rng = Rng::new(seed, stream);
     run(h, &mut rng);
-    let calls = h.calls - before;
+    let calls = h.tally.calls - before;
     let result = match h.failed.take() {
         None => Ok(format!(": {calls} calls compared, {} ms", start.elapsed().as_millis())),
         Some(what) => Err(format!("seed {seed}, call {calls} of this part: {what}")),
@@ -74,16 +74,16 @@ impl Plan {
     }
 }
 
-fn run<C: Card>(library: C, plan: &Plan) -> Score {
+fn run(who: Who, plan: &Plan) -> Score {
     let seed = plan.seed;
     let mut score = Score { passed: 0, failed: 0 };
-    let mut h = Harness::new(library);
+    let mut h = Harness::new(who);
 
-    for (name, result) in cases::all(&mut Model::default()) {
+    for (name, result) in cases::all(Who::Model) {
         score.note(&format!("model, {name}"), result.map(|()| String::new()));
     }
     score.note("model, the worked trace by the trace program", cases::trace().map(|()| String::new()));
-    for (name, result) in cases::all(&mut h.library) {
+    for (name, result) in cases::all(who) {
         score.note(&format!("library, {name}"), result.map(|()| String::new()));
     }
 
@@ -177,18 +177,21 @@ fn run<C: Card>(library: C, plan: &Plan) -> Score {
         hostile::bucket(h, rng, 3, plan.of(2_000))
     });
 
-    println!("{} calls compared", h.calls);
+    println!("{} calls compared", h.tally.calls);
     if plan.brief {
         return score;
     }
     if score.failed == 0 {
-        let missed = coverage::check(&h.tally, plan.verbose);
+        let missed = coverage::check(&h, plan.verbose);
         let result = if missed.is_empty() { Ok(String::new()) } else { Err(missed.join("\n      ")) };
         score.note("every refusal, clause and cause was met", result);
     }
-    let enough = h.calls >= 1_000_000;
+    let enough = h.tally.calls >= 1_000_000;
     if score.failed == 0 {
-        score.note("a million calls or more", if enough { Ok(String::new()) } else { Err(format!("{}", h.calls)) });
+        score.note(
+            "a million calls or more",
+            if enough { Ok(String::new()) } else { Err(format!("{}", h.tally.calls)) },
+        );
     }
     score
 }
@@ -215,7 +218,7 @@ fn main() {
     }
     println!("seed {}", plan.seed);
     let start = Instant::now();
-    let score = if own { run(Model::default(), &plan) } else { run(Linked, &plan) };
+    let score = run(if own { Who::Model } else { Who::Library }, &plan);
     let (result, seconds) = (if score.failed == 0 { "ok" } else { "FAILED" }, start.elapsed().as_secs_f32());
     println!("\ntest result: {result}. {} passed; {} failed; finished in {seconds:.2}s\n", score.passed, score.failed);
     if score.failed != 0 {

@@ -2,7 +2,9 @@
 //! the wrapper as its users use it.
 
 use card_host::{calls, tree_words, Broken, Mended, Refusal, Tree};
-use models::mend::{self, put, why, Slot, Store, WORDS};
+use compare::desk::{Desk, Store, Tally};
+use compare::queues::{self, MendAsk};
+use models::mend::{put, why, Slot, Store as Slots, WORDS};
 use models::rng::{seed, Rng};
 
 const SHAPES: [(u32, u32); 8] = [(2, 1), (2, 2), (2, 3), (2, 6), (4, 1), (4, 3), (8, 2), (8, 3)];
@@ -10,24 +12,20 @@ const SHAPES: [(u32, u32); 8] = [(2, 1), (2, 2), (2, 3), (2, 6), (4, 1), (4, 3),
 /// Both on the same slices: the number, `out`, and every word of the second store, those behind the shape's too. The first stands.
 /// Gives why the first broken slot is so, 0 where none is.
 fn same(from: &[u32], to: &[u32], order: u32, levels: u32) -> u32 {
+    let store = Store { state: to.to_vec().into(), ..Store::of((order, levels), from.to_vec()) };
+    let (sound, mut tally) = (Desk::<queues::Mend>::new(store), Tally::of::<queues::Mend>());
     for len in [0, 1, 2, 4] {
-        let (mut a, mut b) = (vec![7; len], vec![7; len]);
-        let (x, y) = (calls::tree_check(from, order, levels, &mut a), mend::check(from, order, levels, &mut b));
-        assert_eq!((x, &a), (y, &b), "check, order {order}, levels {levels}, {from:?}");
+        sound.clone().both(&mut tally, MendAsk::Check(len));
     }
-    let first = from.to_vec();
     for len in [0, 1, 3] {
-        let (mut a, mut b) = (vec![7; len], vec![7; len]);
-        let (mut v, mut w) = (to.to_vec(), to.to_vec());
-        let x = calls::tree_mend(from, &mut v, order, levels, &mut a);
-        let y = mend::mend(from, &mut w, order, levels, &mut b);
-        assert_eq!((x, &a, &v), (y, &b, &w), "mend, order {order}, levels {levels}, {from:?}");
-        if x == 0 {
-            mended(from, &v, order, levels, a[0]);
+        let mut desk = sound.clone();
+        let (number, out) = desk.both(&mut tally, MendAsk::Mend(len));
+        assert_eq!(&desk.library.words[..], from);
+        if number == 0 {
+            mended(from, &desk.library.state, order, levels, out[0]);
         }
     }
-    assert_eq!(from, first);
-    Store::new(from, order, levels).and_then(|s| s.first_broken()).map_or(0, |(_, why)| why)
+    Slots::new(from, order, levels).and_then(|s| s.first_broken()).map_or(0, |(_, why)| why)
 }
 
 /// What the mender promises, beside the model: it passes, and has every element of the first, less the skipped.
@@ -35,7 +33,7 @@ fn mended(from: &[u32], to: &[u32], order: u32, levels: u32, skipped: u32) {
     let mut out = [7; 2];
     assert_eq!((calls::tree_check(to, order, levels, &mut out), out), (0, [1, 0]), "{from:?}");
     let elements = |words: &[u32]| {
-        let held = Store::new(words, order, levels).expect("a store").held();
+        let held = Slots::new(words, order, levels).expect("a store").held();
         held.into_iter().map(|s| Slot { count: 1, ..s }).collect::<Vec<Slot>>()
     };
     let (mut before, mut after) = (elements(from), elements(to));

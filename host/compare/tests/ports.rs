@@ -4,40 +4,25 @@
 use card_host::{
     calls, ports_bits, ports_words, BucketQueue, Element, Length, Limits, Ports, PortsQueue, Rank, Refusal, Tag,
 };
+use compare::desk::{self, Store, Tally};
+use compare::queues::{self, Ask, PortsAsk};
 use models::bucket::cause as b;
+use models::element;
 use models::ports::{self, cause, Lent, Plain, Shape};
 use models::rng::{seed, Rng};
-use models::{element, Causes, No};
 
-/// A call at a port, and how long the answer's slice is.
-#[derive(Clone, Copy, Debug)]
-enum Ask {
-    Push(models::Element),
-    Pop { out: usize },
-    Replace(models::Element, usize),
-    Held { out: usize },
-}
-
-/// A store on both sides.
+/// A store of several ports on both sides.
 #[derive(Clone)]
-struct Desk {
-    storeys: u32,
-    nodes: u32,
-    ports: u32,
-    bits: [Vec<u64>; 2],
-    words: [Vec<u32>; 2],
-}
+struct Desk(desk::Desk<queues::Ports>);
 
-/// What was answered: how often each number by a push, a pop, a replace and a held, and which clauses made each damaged by themselves.
-#[derive(Default)]
-struct Tally {
-    numbers: [[u64; 9]; 4],
-    alone: [Causes; 4],
+fn tally() -> Tally {
+    Tally::of::<queues::Ports>()
 }
 
 impl Desk {
     fn new(storeys: u32, nodes: u32, ports: u32, bits: Vec<u64>, words: Vec<u32>) -> Desk {
-        Desk { storeys, nodes, ports, bits: [bits.clone(), bits], words: [words.clone(), words] }
+        let shape = [storeys, nodes, ports];
+        Desk(desk::Desk::new(Store { shape, bits: bits.into(), ..Store::of((storeys, nodes), words) }))
     }
 
     /// A store that is cleared, with some words behind.
@@ -49,72 +34,29 @@ impl Desk {
         desk
     }
 
-    fn same(&self, what: &dyn std::fmt::Debug) {
-        let (storeys, nodes, ports) = (self.storeys, self.nodes, self.ports);
-        let text = || format!("{what:?}, {storeys} storeys, {nodes} nodes, {ports} ports");
-        assert!(self.bits[0] == self.bits[1], "bits after {}", text());
-        if self.words[0] != self.words[1] {
-            let at = (0..self.words[0].len()).find(|&i| self.words[0][i] != self.words[1][i]).unwrap();
-            panic!("word {at} is {}, not {}, after {}", self.words[0][at], self.words[1][at], text());
-        }
-    }
-
     fn clear(&mut self, limits: &[u32]) -> u32 {
-        let (storeys, nodes, ports) = (self.storeys, self.nodes, self.ports);
-        let ([bits, plain_bits], [words, plain_words]) = (&mut self.bits, &mut self.words);
-        let number = calls::ports_clear(bits, words, storeys, nodes, ports, limits);
-        let told = ports::clear(plain_bits, plain_words, storeys, nodes, ports, limits);
-        assert_eq!(number, told.map_or_else(No::number, |()| 0), "clear, {storeys}, {nodes}, {limits:?}");
-        self.same(&("clear", limits));
-        number
+        self.0.both(&mut tally(), PortsAsk::Clear(limits.to_vec())).0
     }
 
-    /// One call on both sides: the same number, the same `out`, and the same words afterwards. Gives the number and `out`.
+    /// One call on both sides. Gives the number and `out`.
     fn both(&mut self, tally: &mut Tally, port: u32, ask: Ask) -> (u32, Vec<u32>) {
-        let (storeys, nodes, ports) = (self.storeys, self.nodes, self.ports);
-        let ([bits, plain_bits], [words, plain_words]) = (&mut self.bits, &mut self.words);
-        let lent = Lent { bits: plain_bits, words: plain_words, storeys, nodes, ports, port };
-        let len = match ask {
-            Ask::Push(_) => 0,
-            Ask::Pop { out } | Ask::Replace(_, out) | Ask::Held { out } => out,
-        };
-        let (mut out, mut plain_out) = (vec![9; len], vec![9; len]);
-        let (kind, number, told) = match ask {
-            Ask::Push(x) => {
-                (0, calls::ports_push(bits, words, storeys, nodes, ports, port, x.rank, x.tag, x.length), lent.push(x))
-            }
-            Ask::Pop { .. } => {
-                (1, calls::ports_pop(bits, words, storeys, nodes, ports, port, &mut out), lent.pop(&mut plain_out))
-            }
-            Ask::Replace(x, _) => {
-                let (rank, tag, length) = (x.rank, x.tag, x.length);
-                let number =
-                    calls::ports_replace(bits, words, storeys, nodes, ports, port, rank, tag, length, &mut out);
-                (2, number, lent.replace(x, &mut plain_out))
-            }
-            Ask::Held { .. } => {
-                (3, calls::ports_held(bits, words, storeys, nodes, ports, port, &mut out), lent.held(&mut plain_out))
-            }
-        };
-        let said = told.map_or_else(No::number, |()| 0);
-        assert_eq!((number, &out), (said, &plain_out), "{ask:?} at {port}, {storeys}, {nodes}, {ports}, {told:?}");
-        self.same(&(port, ask));
-        tally.numbers[kind][number as usize] += 1;
-        if let Err(No::Damaged(c)) = told {
-            if c.count_ones() == 1 {
-                tally.alone[kind] |= c;
-            }
-        }
-        (number, out)
+        self.0.both(tally, PortsAsk::At(port, ask))
     }
-}
 
-/// Each call gave each of the numbers that it can give here, and no other.
-fn gave(tally: &Tally, can: [&[usize]; 4]) {
-    for (kind, can) in can.into_iter().enumerate() {
-        for (number, &times) in tally.numbers[kind].iter().enumerate() {
-            assert_eq!(times > 0, can.contains(&number), "call {kind}, number {number}: {times} times");
-        }
+    fn shape(&self) -> [u32; 3] {
+        self.0.library.shape
+    }
+
+    fn ports(&self) -> u32 {
+        self.shape()[2]
+    }
+
+    fn words(&self) -> &[u32] {
+        &self.0.library.words
+    }
+
+    fn bits(&self) -> &[u64] {
+        &self.0.library.bits
     }
 }
 
@@ -148,7 +90,7 @@ fn some_rank(rng: &mut Rng, ranks: u32) -> u32 {
 fn history(rng: &mut Rng, storeys: u32, nodes: u32, limits: &[u32], rounds: u32, tally: &mut Tally) {
     let mut desk = Desk::fresh(storeys, nodes, limits);
     let mut plain = Plain::new(storeys, nodes, limits);
-    let count = desk.ports;
+    let count = desk.ports();
     for n in 0..rounds {
         let known = count as u64 + rng.once_in(9) as u64;
         let port = rng.below(known) as u32;
@@ -157,11 +99,11 @@ fn history(rng: &mut Rng, storeys: u32, nodes: u32, limits: &[u32], rounds: u32,
         let filling = n / 150 % 2 == 0;
         let ask = match rng.below(10) {
             0..=3 if filling => Ask::Push(x),
-            0..=3 => Ask::Pop { out: 3 },
+            0..=3 => Ask::Pop(3),
             4 | 5 => Ask::Push(x),
-            6 => Ask::Pop { out: 3 },
+            6 => Ask::Pop(3),
             7 | 8 => Ask::Replace(x, 3),
-            _ => Ask::Held { out: 1 },
+            _ => Ask::Held(1),
         };
         let got = desk.both(tally, port, ask);
         let at = port as usize;
@@ -170,13 +112,13 @@ fn history(rng: &mut Rng, storeys: u32, nodes: u32, limits: &[u32], rounds: u32,
             Err(number) => (number, vec![0; 3]),
         };
         let expected = match ask {
-            Ask::Held { .. } if port == count => (8, vec![0]),
+            Ask::Held(_) if port == count => (8, vec![0]),
             Ask::Push(_) if port == count => (8, vec![]),
             _ if port == count => (8, vec![0; 3]),
             Ask::Push(x) => (plain.push(at, x), vec![]),
-            Ask::Pop { .. } => element(plain.pop(at)),
+            Ask::Pop(_) => element(plain.pop(at)),
             Ask::Replace(x, _) => element(plain.replace(at, x)),
-            Ask::Held { .. } => (0, vec![plain.ports[at].2.held() as u32]),
+            _ => (0, vec![plain.ports[at].2.held() as u32]),
         };
         assert_eq!(got, expected, "{ask:?} at port {port}, {nodes} nodes, {limits:?}");
     }
@@ -185,14 +127,14 @@ fn history(rng: &mut Rng, storeys: u32, nodes: u32, limits: &[u32], rounds: u32,
 #[test]
 fn histories() {
     let mut rng = Rng::new(seed(), 800);
-    let mut tally = Tally::default();
+    let mut tally = tally();
     for (nodes, limits) in HALLS {
         history(&mut rng, 2, nodes, limits, 2000, &mut tally);
     }
     for (nodes, limits) in [HALLS[1], HALLS[3], (65_536, &[5, 9, 0, 65_536])] {
         history(&mut rng, 3, nodes, limits, 120, &mut tally);
     }
-    gave(&tally, [&[0, 4, 5, 7, 8], &[0, 6, 8], &[0, 4, 6, 7, 8], &[0, 8]]);
+    tally.gave(&[&[], &[0, 4, 5, 7, 8], &[0, 6, 8], &[0, 4, 6, 7, 8], &[0, 8]]);
 }
 
 /// What the others do can touch the yes or no of a port's push above its floor, and nothing else: two histories that agree in a port's
@@ -200,26 +142,25 @@ fn histories() {
 #[test]
 fn a_port_is_apart() {
     let mut rng = Rng::new(seed(), 801);
-    let mut tally = Tally::default();
+    let mut tally = tally();
     let (mut asked, mut parted) = (0, 0);
     for round in 0..60 {
         let (nodes, limits) = HALLS[1 + round % 4];
         let (mut one, mut other) = (Desk::fresh(2, nodes, limits), Desk::fresh(2, nodes, limits));
-        let count = one.ports as u64;
+        let count = one.ports() as u64;
         let mine = rng.below(count) as u32;
         for n in 0..200 {
             for desk in [&mut one, &mut other] {
                 for _ in 0..rng.below(3) {
                     let port = (mine + 1 + rng.below(count - 1) as u32) % count as u32;
                     let x = element(rng.below(70) as u32, 1 + n, 64);
-                    let ask = rng.pick(&[Ask::Push(x), Ask::Push(x), Ask::Pop { out: 3 }, Ask::Replace(x, 3)]);
+                    let ask = rng.pick(&[Ask::Push(x), Ask::Push(x), Ask::Pop(3), Ask::Replace(x, 3)]);
                     desk.both(&mut tally, port, ask);
                 }
             }
             let x = element(rng.below(70) as u32, 1 + n, rng.word());
-            let ask =
-                rng.pick(&[Ask::Push(x), Ask::Push(x), Ask::Pop { out: 3 }, Ask::Replace(x, 3), Ask::Held { out: 1 }]);
-            let held = one.words[0][Shape::new(2, nodes, one.ports).unwrap().held(mine)];
+            let ask = rng.pick(&[Ask::Push(x), Ask::Push(x), Ask::Pop(3), Ask::Replace(x, 3), Ask::Held(1)]);
+            let held = one.words()[Shape::new(2, nodes, one.ports()).unwrap().held(mine)];
             let (a, b) = (one.both(&mut tally, mine, ask), other.both(&mut tally, mine, ask));
             asked += 1;
             if a != b {
@@ -283,26 +224,27 @@ fn used(rng: &mut Rng, storeys: u32, nodes: u32, limits: &[u32]) -> Desk {
 /// Spoils a word that calls at a port and a rank read, which it gives: a port's three, the free link, a head, a tail, a node's next, a
 /// word of bits.
 fn spoil(rng: &mut Rng, desk: &mut Desk) -> (u32, u32) {
-    let shape = Shape::new(desk.storeys, desk.nodes, desk.ports).unwrap();
-    let port = rng.below(desk.ports as u64) as u32;
-    let (seat, n) = (shape.seat(port), desk.nodes);
-    let ranks = 64usize.pow(desk.storeys);
+    let [storeys, n, ports] = desk.shape();
+    let shape = Shape::new(storeys, n, ports).unwrap();
+    let port = rng.below(ports as u64) as u32;
+    let seat = shape.seat(port);
+    let ranks = 64usize.pow(storeys);
     // the lowest that is held, or any
-    let heads = [0, 1, 64, 65].map(|rank| (rank, desk.words[0][seat.heads + rank]));
+    let heads = [0, 1, 64, 65].map(|rank| (rank, desk.words()[seat.heads + rank]));
     let lowest = heads.into_iter().find(|(_, head)| *head != 0).unwrap_or_default();
     let rank = if rng.once_in(2) { lowest.0 } else { few(rng) as usize };
     if rng.below(3) == 0 {
-        let lowest = match desk.storeys {
+        let lowest = match storeys {
             2 => 1 + rank / 64,
             _ => 65 + rank / 64,
         };
         let at = seat.bits + rng.pick(&[0, 0, lowest, lowest, 1]);
         let bit = 1u64 << rng.pick(&[rank % 64, rank / 64, 0, 63]);
-        let to = rng.pick(&[0, desk.bits[0][at] ^ bit, desk.bits[0][at] | bit]);
-        desk.bits.iter_mut().for_each(|bits| bits[at] = to);
+        let to = rng.pick(&[0, desk.bits()[at] ^ bit, desk.bits()[at] | bit]);
+        desk.0.change(|store| store.bits[at] = to);
         return (port, rank as u32);
     }
-    let words = &desk.words[0];
+    let words = desk.words();
     let (free, tail) = (words[seat.free], words[seat.heads + ranks + rank]);
     // a node that the calls reach, or any
     let any = 1 + rng.below(n as u64) as u32;
@@ -317,7 +259,7 @@ fn spoil(rng: &mut Rng, desk: &mut Desk) -> (u32, u32) {
     let old = words[at];
     let any = [0, 1, n, n + 1, n + 1, free, tail, lowest.1, old.wrapping_add(1), old.wrapping_sub(1), u32::MAX];
     let to = if rng.once_in(12) { rng.word() } else { rng.pick(&any) };
-    desk.words.iter_mut().for_each(|words| words[at] = to);
+    desk.0.change(|store| store.words[at] = to);
     (port, rank as u32)
 }
 
@@ -325,8 +267,8 @@ fn spoil(rng: &mut Rng, desk: &mut Desk) -> (u32, u32) {
 #[test]
 fn hostile() {
     let mut rng = Rng::new(seed(), 803);
-    let mut tally = Tally::default();
-    for round in 0..12_000 {
+    let mut tally = tally();
+    for round in 0..30_000 {
         let (nodes, limits) = HALLS[rng.below(4) as usize];
         let mut desk = used(&mut rng, 2, nodes, limits);
         let (mut port, mut rank) = spoil(&mut rng, &mut desk);
@@ -335,25 +277,30 @@ fn hostile() {
         }
         if round % 40 == 0 {
             let small = rng.below(2) == 0;
-            for at in 0..desk.words[0].len() {
+            for at in 0..desk.words().len() {
                 let word = if small { rng.below(nodes as u64 + 2) as u32 } else { rng.word() };
-                desk.words.iter_mut().for_each(|words| words[at] = word);
+                desk.0.change(|store| store.words[at] = word);
             }
         }
-        match rng.below(40) {
-            0 => desk.words.iter_mut().for_each(|w| w.truncate(w.len() - 3)),
-            1 => desk.bits.iter_mut().for_each(|b| b.truncate(b.len() - 2)),
-            2 => desk.storeys = rng.pick(&[0, 1, 3, 4, 1 << 31, u32::MAX]),
-            3 => desk.nodes = rng.pick(&[0, 65_537, 1 << 31, u32::MAX]),
-            4 => desk.ports = rng.pick(&[0, 17, 1 << 31, u32::MAX]),
+        let kind = rng.below(40);
+        let number = match kind {
+            2 => rng.pick(&[0, 1, 3, 4, 1 << 31, u32::MAX]),
+            3 => rng.pick(&[0, 65_537, 1 << 31, u32::MAX]),
+            4 => rng.pick(&[0, 17, 1 << 31, u32::MAX]),
+            _ => 0,
+        };
+        desk.0.change(|store| match kind {
+            0 => store.words.shorten(3),
+            1 => store.bits.shorten(2),
+            2..=4 => store.shape[kind as usize - 2] = number,
             // another number of nodes or ports than the store was cleared for
-            5 if nodes > 1 => desk.nodes = nodes - 1,
-            6 if desk.ports > 1 => desk.ports -= 1,
+            5 if nodes > 1 => store.shape[1] = nodes - 1,
+            6 if store.shape[2] > 1 => store.shape[2] -= 1,
             _ => {}
-        }
+        });
         for _ in 0..4 {
             match rng.below(30) {
-                0 => port = rng.pick(&[desk.ports, 16, 17, u32::MAX]),
+                0 => port = rng.pick(&[desk.ports(), 16, 17, u32::MAX]),
                 1..=4 => port = rng.below(limits.len() as u64 / 2) as u32,
                 5..=9 => rank = few(&mut rng),
                 10 => rank = 4096,
@@ -362,14 +309,14 @@ fn hostile() {
             let x = element(rank, if rng.once_in(20) { 0 } else { 7 }, rng.word());
             let ask = match rng.below(9) {
                 0..=2 => Ask::Push(x),
-                3 | 4 => Ask::Pop { out: rng.pick(&[0, 2, 3, 3, 3, 3, 4]) },
+                3 | 4 => Ask::Pop(rng.pick(&[0, 2, 3, 3, 3, 3, 4])),
                 5..=7 => Ask::Replace(x, rng.pick(&[0, 2, 3, 3, 3, 3, 4])),
-                _ => Ask::Held { out: rng.pick(&[0, 1, 1, 2]) },
+                _ => Ask::Held(rng.pick(&[0, 1, 1, 2])),
             };
             desk.both(&mut tally, port, ask);
         }
     }
-    gave(&tally, [&[0, 1, 2, 4, 5, 7, 8], &[0, 1, 2, 6, 8], &[0, 1, 2, 4, 6, 7, 8], &[0, 1, 2, 8]]);
+    tally.gave(&[&[], &[0, 1, 2, 4, 5, 7, 8], &[0, 1, 2, 6, 8], &[0, 1, 2, 4, 6, 7, 8], &[0, 1, 2, 8]]);
     // each clause made each call damaged by itself
     let whole = cause::FLOOR
         | cause::CEILING
@@ -387,11 +334,11 @@ fn hostile() {
     let can = [whole | links | b::GROUP_UNSET | taken, pop, pop | after, whole];
     // that the newcomer's tail is the freed node is met alone in a full pool: `a_tail_that_is_given_back`
     let seldom = b::TAKEN_TAIL << b::SECOND;
-    for (kind, can) in can.into_iter().enumerate() {
-        let missed = can & !tally.alone[kind] & !seldom;
+    for (row, can) in tally.rows[1..].iter().zip(can) {
+        let missed = can & !row.clauses_alone() & !seldom;
         let names: Vec<String> = (0..64).filter(|bit| missed >> bit & 1 == 1).map(name).collect();
-        assert!(missed == 0, "call {kind} was never damaged by these alone: {names:?}");
-        assert_eq!(tally.alone[kind] & !can, 0, "call {kind}");
+        assert!(missed == 0, "{} was never damaged by these alone: {names:?}", row.name);
+        assert_eq!(row.clauses_alone() & !can, 0, "{}", row.name);
     }
 }
 
@@ -408,29 +355,29 @@ fn name(bit: u32) -> String {
 #[test]
 fn hostile_at_three_storeys() {
     let mut rng = Rng::new(seed(), 804);
-    let mut tally = Tally::default();
+    let mut tally = tally();
     let sound = used(&mut rng, 3, 10, &[2, 9, 1, 10]);
     for round in 0..120 {
         let mut desk = sound.clone();
         let (port, rank) = spoil(&mut rng, &mut desk);
         let x = element(rank, 7, round);
-        let asks = [Ask::Push(x), Ask::Pop { out: 3 }, Ask::Replace(x, 3), Ask::Held { out: 1 }];
+        let asks = [Ask::Push(x), Ask::Pop(3), Ask::Replace(x, 3), Ask::Held(1)];
         desk.both(&mut tally, port, asks[round as usize % 4]);
     }
-    assert!(tally.numbers.iter().all(|n| n[2] > 0) && tally.numbers[3][0] > 0, "{:?}", tally.numbers);
+    assert!(tally.rows[1..].iter().all(|row| row.numbers[2] > 0) && tally.rows[4].numbers[0] > 0);
 }
 
 /// A replace in a full pool whose newcomer would join behind the very node that the pop frees.
 #[test]
 fn a_tail_that_is_given_back() {
-    let mut tally = Tally::default();
+    let mut tally = tally();
     let mut desk = Desk::fresh(2, 2, &[0, 2]);
     for rank in [0, 64] {
         desk.both(&mut tally, 0, Ask::Push(element(rank, 5, 5)));
     }
-    desk.words.iter_mut().for_each(|words| words[4096 + 64] = words[0]);
+    desk.0.change(|store| store.words[4096 + 64] = store.words[0]);
     assert_eq!(desk.both(&mut tally, 0, Ask::Replace(element(64, 6, 6), 3)).0, 2);
-    assert_eq!(tally.alone[2], b::TAKEN_TAIL << b::SECOND);
+    assert_eq!(tally.rows[3].clauses_alone(), b::TAKEN_TAIL << b::SECOND);
 }
 
 /// Numbers, lengths and limits at and beyond the last that are taken; refused, nothing is written.
@@ -471,16 +418,16 @@ fn shapes_and_limits() {
 /// Where several causes hold, the earlier test answers: 1, 8, 4, 7, 2, then 5 or 6.
 #[test]
 fn the_order_of_refusals() {
-    let mut tally = Tally::default();
+    let mut tally = tally();
     let mut ask = |desk: &Desk, port, ask| desk.clone().both(&mut tally, port, ask).0;
     let bad = element(4096, 0, 0);
     let sound = Desk::fresh(2, 3, &[1, 3, 0, 9]);
     let mut damaged = sound.clone();
     let free = Shape::new(2, 3, 2).unwrap().free();
-    damaged.words.iter_mut().for_each(|w| w[free] = 9);
+    damaged.0.change(|store| store.words[free] = 9);
     let mut none = damaged.clone();
-    none.ports = 17;
-    for other in [Ask::Push(bad), Ask::Replace(bad, 3), Ask::Pop { out: 3 }, Ask::Held { out: 1 }] {
+    none.0.change(|store| store.shape[2] = 17);
+    for other in [Ask::Push(bad), Ask::Replace(bad, 3), Ask::Pop(3), Ask::Held(1)] {
         assert_eq!(ask(&none, 17, other), 1);
         assert_eq!(ask(&damaged, 2, other), 8);
     }
@@ -488,12 +435,12 @@ fn the_order_of_refusals() {
         assert_eq!(ask(&damaged, 1, Ask::Push(x)), number);
         assert_eq!(ask(&damaged, 1, Ask::Replace(x, 3)), number);
     }
-    assert_eq!(ask(&damaged, 1, Ask::Pop { out: 3 }), 2);
+    assert_eq!(ask(&damaged, 1, Ask::Pop(3)), 2);
     assert_eq!(ask(&sound, 1, Ask::Replace(element(5, 5, 5), 3)), 6);
-    assert_eq!(ask(&sound, 2, Ask::Pop { out: 2 }), 1);
+    assert_eq!(ask(&sound, 2, Ask::Pop(2)), 1);
     // a full port with a damaged bucket is full
     let mut full = Desk::fresh(2, 3, &[0, 0]);
-    full.words.iter_mut().for_each(|w| w[5] = 1);
+    full.0.change(|store| store.words[5] = 1);
     assert_eq!(ask(&full, 0, Ask::Push(element(5, 5, 5))), 5);
 }
 

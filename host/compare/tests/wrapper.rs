@@ -351,13 +351,13 @@ fn every_queue_by_the_traits() {
 fn shapes_and_rooms() {
     let tree = Tree::from_words(4, 3, [0; 0]);
     assert_eq!((tree.order(), tree.levels(), tree.capacity()), (4, 3, 84));
-    let clocked = Clocked::from_words(8, 2, [0; 0], [Record::default(); 0], false);
+    let clocked = Clocked::from_words(8, 2, [0; 0], [Record::default(); 1], false);
     assert_eq!((clocked.order(), clocked.levels(), clocked.capacity()), (8, 2, 72));
     let fair = Fair::from_words(2, 5, [0; 0], [0; 0]);
     assert_eq!((fair.order(), fair.levels(), fair.capacity()), (2, 5, 62));
     let cluster = Cluster::from_words(5, 4, [0; 0]);
     assert_eq!((cluster.places(), cluster.levels(), cluster.capacity()), (5, 4, 75));
-    let heap = ClockedCluster::from_words(3, 2, [0; 0], [ClusterRecord::default(); 0]);
+    let heap = ClockedCluster::from_words(3, 2, [0; 0], [ClusterRecord::default(); 1]);
     assert_eq!((heap.places(), heap.levels(), heap.capacity()), (3, 2, 9));
     let bucket = Bucket::from_words(3, 70, [0; 0], [0; 0]);
     assert_eq!((bucket.storeys(), bucket.nodes(), bucket.capacity()), (3, 70, 70));

@@ -85,7 +85,16 @@ fn answer(result: Result<Element, No>, out: &mut [u32]) -> Result<(), No> {
     tell::<OUT>(result.map(|x| [x.rank, x.tag, x.length]), out)
 }
 
-fn count(result: Result<u32, No>, out: &mut [u32]) -> Result<(), No> {
+/// A call that answers an element: it is made where `out` has room for one.
+pub fn told(out: &mut [u32], call: impl FnOnce() -> Result<Element, No>) -> Result<(), No> {
+    let fault = out_fault(out, OUT);
+    answer(if fault == 0 { call() } else { Err(No::BadShape(fault)) }, out)
+}
+
+/// A call that answers a count.
+pub fn counted(out: &mut [u32], call: impl FnOnce() -> Result<u32, No>) -> Result<(), No> {
+    let fault = out_fault(out, 1);
+    let result = if fault == 0 { call() } else { Err(No::BadShape(fault)) };
     tell(result.map(|n| [n]), out)
 }
 
@@ -123,11 +132,7 @@ pub fn tree_push(store: &mut [u32], order: u32, levels: u32, rank: u32, tag: u32
 }
 
 pub fn tree_pop(store: &mut [u32], order: u32, levels: u32, out: &mut [u32]) -> Result<(), No> {
-    let fault = out_fault(out, OUT);
-    if fault != 0 {
-        return answer(Err(No::BadShape(fault)), out);
-    }
-    answer(tree::pop(store, order, levels), out)
+    told(out, || tree::pop(store, order, levels))
 }
 
 pub fn tree_replace(
@@ -139,19 +144,11 @@ pub fn tree_replace(
     length: u32,
     out: &mut [u32],
 ) -> Result<(), No> {
-    let fault = out_fault(out, OUT);
-    if fault != 0 {
-        return answer(Err(No::BadShape(fault)), out);
-    }
-    answer(tree::replace(store, order, levels, element(rank, tag, length)), out)
+    told(out, || tree::replace(store, order, levels, element(rank, tag, length)))
 }
 
 pub fn tree_held(store: &[u32], order: u32, levels: u32, out: &mut [u32]) -> Result<(), No> {
-    let fault = out_fault(out, 1);
-    if fault != 0 {
-        return count(Err(No::BadShape(fault)), out);
-    }
-    count(tree::held(store, order, levels), out)
+    counted(out, || tree::held(store, order, levels))
 }
 
 pub fn bucket_clear(bits: &mut [u64], words: &mut [u32], storeys: u32, nodes: u32) -> Result<(), No> {
@@ -171,11 +168,7 @@ pub fn bucket_push(
 }
 
 pub fn bucket_pop(bits: &mut [u64], words: &mut [u32], storeys: u32, nodes: u32, out: &mut [u32]) -> Result<(), No> {
-    let fault = out_fault(out, OUT);
-    if fault != 0 {
-        return answer(Err(No::BadShape(fault)), out);
-    }
-    answer(bucket::pop(bits, words, storeys, nodes), out)
+    told(out, || bucket::pop(bits, words, storeys, nodes))
 }
 
 pub fn bucket_replace(
@@ -188,19 +181,11 @@ pub fn bucket_replace(
     length: u32,
     out: &mut [u32],
 ) -> Result<(), No> {
-    let fault = out_fault(out, OUT);
-    if fault != 0 {
-        return answer(Err(No::BadShape(fault)), out);
-    }
-    answer(bucket::replace(bits, words, storeys, nodes, element(rank, tag, length)), out)
+    told(out, || bucket::replace(bits, words, storeys, nodes, element(rank, tag, length)))
 }
 
 pub fn bucket_held(bits: &[u64], words: &[u32], storeys: u32, nodes: u32, out: &mut [u32]) -> Result<(), No> {
-    let fault = out_fault(out, 1);
-    if fault != 0 {
-        return count(Err(No::BadShape(fault)), out);
-    }
-    count(bucket::held(bits, words, storeys, nodes), out)
+    counted(out, || bucket::held(bits, words, storeys, nodes))
 }
 
 /// Clear reads neither the records nor the mark's word: only their lengths matter.
@@ -298,9 +283,5 @@ pub fn clocked_drain(
 }
 
 pub fn clocked_held(store: &[u32], order: u32, levels: u32, out: &mut [u32]) -> Result<(), No> {
-    let fault = out_fault(out, 1);
-    if fault != 0 {
-        return count(Err(No::BadShape(fault)), out);
-    }
-    count(clocked::held(store, order, levels), out)
+    counted(out, || clocked::held(store, order, levels))
 }

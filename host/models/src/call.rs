@@ -44,28 +44,31 @@ pub const OPS: [Op; 18] = [
     Op::ClockedHeld,
 ];
 
+/// Their names.
+pub const NAMES: [&str; 18] = [
+    "tree clear",
+    "tree push",
+    "tree pop",
+    "tree replace",
+    "tree held",
+    "bucket clear",
+    "bucket push",
+    "bucket pop",
+    "bucket replace",
+    "bucket held",
+    "clocked clear",
+    "cycle idle",
+    "cycle push",
+    "cycle pop",
+    "cycle replace",
+    "cycle other",
+    "clocked drain",
+    "clocked held",
+];
+
 impl Op {
     pub fn name(self) -> &'static str {
-        match self {
-            Op::TreeClear => "tree clear",
-            Op::TreePush => "tree push",
-            Op::TreePop => "tree pop",
-            Op::TreeReplace => "tree replace",
-            Op::TreeHeld => "tree held",
-            Op::BucketClear => "bucket clear",
-            Op::BucketPush => "bucket push",
-            Op::BucketPop => "bucket pop",
-            Op::BucketReplace => "bucket replace",
-            Op::BucketHeld => "bucket held",
-            Op::ClockedClear => "clocked clear",
-            Op::CycleIdle => "cycle idle",
-            Op::CyclePush => "cycle push",
-            Op::CyclePop => "cycle pop",
-            Op::CycleReplace => "cycle replace",
-            Op::CycleOther => "cycle other",
-            Op::ClockedDrain => "clocked drain",
-            Op::ClockedHeld => "clocked held",
-        }
+        NAMES[self as usize]
     }
     pub fn is_bucket(self) -> bool {
         Op::BucketClear <= self && self <= Op::BucketHeld
