@@ -1,26 +1,16 @@
 -- "its ranks agree with the tree's for any calls both accept" (02 [2]): for any list of calls that each takes from a cleared store, both answer the
 -- ranks of the plain list. Any K, order and levels.
-use Prim.Native.Nat.{suc, zero, ℕ}
-use native.Mathlib.Nat.{not-suc-le-zero}
-use mathlib.Core.List.{[], List, map}
-use mathlib.Core.Path.{_∙_, _≡_, sym}
-use lib.ListN.{length}
+use Rattle.laws.specs.Prelude.{Answer, Element, List, Pop, Replace, Request, [], _∙_, _≡_, length, map, not-suc-le-zero, numberOf, rankOf, suc, sym, zero, ℕ}
 use Rattle.agreement.proofs.Ranks.{ranks-plain, same-empty}
 use Rattle.agreement.specs.Plain.{plain, Taken}
 use Rattle.cluster_model.proofs.Exactly as heap-exactly
 use Rattle.cluster_model.proofs.Promises as heap
 use Rattle.cluster_model.specs.Calls as heap-calls
 use Rattle.cluster_model.specs.Promise as heap-says
-use Rattle.promise.specs.Queue.{answers}
-use Rattle.strip.specs.Answers.{numberOf, rankOf}
-use Rattle.strip.specs.declared.Answer.{Answer}
-use Rattle.strip.specs.declared.Element.{Element}
-use Rattle.strip.specs.declared.Request.{Request}
-use Rattle.strip.specs.declared.Request.the-variants.{Pop, Replace}
+use Rattle.promise.specs.Prelude.{answers}
 use Rattle.tree_model.proofs.Exactly as tree-exactly
 use Rattle.tree_model.proofs.Promises as tree
-use Rattle.tree_model.specs.Calls.{called}
-use Rattle.tree_model.specs.Damage.{room}
+use Rattle.tree_model.specs.Prelude.{called, room}
 use Rattle.tree_model.specs.Promise as tree-says
 
 -- both answer a replace that they take as a pop

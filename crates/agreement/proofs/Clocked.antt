@@ -1,11 +1,6 @@
 -- "from a cleared machine, for any list of cycles, refusals and ranks are those of the plain list in rank order" (02 [5]), as are those of one operation at a time
 -- (`Refusals.antt`), so that the two cluster heaps of one shape answer the same numbers and ranks, call by call. Any K and levels.
-use Prim.Native.Nat.{suc, zero, ℕ}
-use native.Mathlib.Nat.{not-suc-le-zero}
-use mathlib.Core.Bool.{Bool}
-use mathlib.Core.List.{[], List, map}
-use mathlib.Core.Path.{_∙_, _≡_, ap, sym}
-use lib.ListN.{length}
+use Rattle.laws.specs.Prelude.{Answer, Bool, Element, List, Pop, Replace, Request, [], _∙_, _≡_, ap, length, map, not-suc-le-zero, numberOf, suc, sym, zero, ℕ}
 use Rattle.agreement.proofs.Agreement.{heapSaid}
 use Rattle.agreement.proofs.Refusals.{heap-plainly, ruled-number}
 use Rattle.agreement.proofs.Ranks.{ranks-plainly, whole-empty}
@@ -15,48 +10,38 @@ use Rattle.cluster_clock_model.proofs.Kept as clock-kept
 use Rattle.cluster_clock_model.proofs.Promises as clock
 use Rattle.cluster_clock_model.proofs.Rest as clock-rest
 use Rattle.cluster_clock_model.specs.Promise as clock-says
-use Rattle.cluster_clock_model.specs.Promise.{Machine}
-use Rattle.cluster_model.specs.Calls.{heldIn, opOf, rule}
-use Rattle.cluster_model.specs.Heap.{room}
-use Rattle.cluster_model.specs.Node.{lowElem}
-use Rattle.cluster_model.specs.Promise.{Shape}
-use Rattle.cluster_model.specs.Way.{nodeIn}
-use Rattle.promise.specs.Queue.{answers}
-use Rattle.promise.specs.Served.{always, Least}
-use Rattle.strip.specs.Answers.{numberOf}
-use Rattle.strip.specs.declared.Answer.{Answer}
-use Rattle.strip.specs.declared.Element.{Element}
-use Rattle.strip.specs.declared.Request.{Request}
-use Rattle.strip.specs.declared.Request.the-variants.{Pop, Replace}
+use Rattle.cluster_clock_model.specs.Prelude.{Machine}
+use Rattle.cluster_model.specs.Prelude.{Shape, heldIn, lowElem, nodeIn, opOf, room, rule}
+use Rattle.promise.specs.Prelude.{Least, always, answers}
 
 -- ---- by cycles
 module _ (K k : ℕ) where
   abbrev held : Machine → (Element → Bool) → ℕ
   held x = clock-says.remaining K (suc k) x
 
-  clock-least : (r : Request) (x : Machine) → clock-kept.Kept K k x → Least (held x) r (clock-says.turnQueue K (suc k) r x .said)
+  clock-least : (r : Request) (x : Machine) → clock-kept.Kept K k x → Least (held x) r (clock-says.cycleQueue K (suc k) r x .said)
   clock-least r x kept = clock.kept-gives K k x kept r
 
-  clock-number : (r : Request) (x : Machine) → clock-kept.Kept K k x → numberOf (clock-says.turnQueue K (suc k) r x .said) ≡ numberFor (room K (suc k)) r (held x always)
+  clock-number : (r : Request) (x : Machine) → clock-kept.Kept K k x → numberOf (clock-says.cycleQueue K (suc k) r x .said) ≡ numberFor (room K (suc k)) r (held x always)
   unfolding rule
   clock-number r x kept =
       ap numberOf (clock-kept.kept-answer K k x kept r) ∙ ruled-number opOf (room K (suc k)) r (heldIn K (suc k) (x .words)) (lowElem (nodeIn K (x .words) 0 .places))
       ∙ ap (numberFor (room K (suc k)) r) (clock-kept.kept-held K k x kept ∙ clock.kept-remains K k x kept always)
 
-  clock-pop : (y : Element) (x : Machine) → clock-kept.Kept K k x → numberOf (clock-says.turnQueue K (suc k) (Replace y) x .said) ≡ 0
-      → clock-says.turnQueue K (suc k) (Replace y) x .said ≡ clock-says.turnQueue K (suc k) Pop x .said
+  clock-pop : (y : Element) (x : Machine) → clock-kept.Kept K k x → numberOf (clock-says.cycleQueue K (suc k) (Replace y) x .said) ≡ 0
+      → clock-says.cycleQueue K (suc k) (Replace y) x .said ≡ clock-says.cycleQueue K (suc k) Pop x .said
   clock-pop y x kept e = clock.kept-replaces K k x kept y (λ u. clock-exactly.barred K (suc k) (Replace y) (x .records) (x .words) u e) .answer
 
 module _ (rs : List Request) where
   -- what the clocked heap answers from a cleared machine
   abbrev pub clockSaid : ℕ → ℕ → List ℕ → List Answer
-  clockSaid K levels ws = clock-says.turnAnswers K levels rs ws
+  clockSaid K levels ws = clock-says.cycleAnswers K levels rs ws
 
   -- CLOCK-PLAIN: refusals and ranks are those of the plain list in rank order
   pub clock-plain : (K levels : ℕ) (ws : List ℕ) → Shape K levels (length ws) → map numberRank (clockSaid K levels ws) ≡ answers (plainly (room K levels)) rs []
   clock-plain K zero ws sh = absurd (not-suc-le-zero (sh .some))
   clock-plain K (suc k) ws sh =
-      ranks-plainly (clock-says.turnQueue K (suc k)) (clock-kept.Kept K k) (clock.next-kept K k) (clock-says.remaining K (suc k)) (clock.cycle-sum K k) (clock-least K k) (clock-pop K k)
+      ranks-plainly (clock-says.cycleQueue K (suc k)) (clock-kept.Kept K k) (clock.next-kept K k) (clock-says.remaining K (suc k)) (clock.cycle-sum K k) (clock-least K k) (clock-pop K k)
       (λ r x. clock-exactly.kind K (suc k) r (x .records) (x .words)) (room K (suc k)) (clock-number K k) rs (clock-says.clearedMachine K (suc k) ws) [] (clock-rest.start-flying K k ws sh)
       (whole-empty _ _ _ _ _ _ _ _ _ _ _ (clock.start-remains K k ws sh))
 

@@ -1,23 +1,8 @@
 -- Where a queue takes every request of a list, its ranks are those of the plain list: for any queue that holds what went in and has not come out,
 -- gives the least, and answers a replace as a pop.
-use Prim.Native.Nat.{_+_, _<_, _≤_, suc, zero, ℕ}
-use native.Mathlib.Nat.{not-suc-le-zero}
-use native.Mathlib.Omega.{arith}
-use mathlib.Core.Bool.{Bool, cond, false, true}
-use mathlib.Core.List.{[], _∷_, List, map}
-use mathlib.Core.Path.{_∙_, _≡_, ap, ap₂, refl, subst, sym}
-use lib.Dec.{ltb}
-use lib.ListN.{length}
-use borrow.Author.Tests.{le-ltb, lt-ltb, ltb-false, ltb-true}
+use Rattle.laws.specs.Prelude.{Answer, Bool, Done, Element, Idle, List, Out, Pop, Push, Refused, Replace, Request, [], _+_, _<_, _∙_, _∷_, _≡_, _≤_, ap, ap₂, arith, blank, cond, elementOf, false, le-ltb, length, lt-ltb, ltb, ltb-false, ltb-true, map, not-suc-le-zero, numberOf, rankOf, refl, subst, suc, sym, true, zero, ℕ}
 use Rattle.agreement.specs.Plain.{insert, numbered, numberFor, plain, plainly, Taken}
-use Rattle.promise.specs.Queue.{answers, Step}
-use Rattle.promise.specs.Served.{always, brought, given, hit, Kind, Least, lower, unrefused}
-use Rattle.strip.specs.Answers.{blank, elementOf, numberOf, rankOf}
-use Rattle.strip.specs.declared.Answer.{Answer}
-use Rattle.strip.specs.declared.Answer.the-variants.{Done, Out, Refused}
-use Rattle.strip.specs.declared.Element.{Element}
-use Rattle.strip.specs.declared.Request.{Request}
-use Rattle.strip.specs.declared.Request.the-variants.{Idle, Pop, Push, Replace}
+use Rattle.promise.specs.Prelude.{Kind, Least, Step, always, answers, brought, given, hit, lower, unrefused}
 
 -- ---- a list in rank order: how many of its ranks are below q
 unfoldable below : ℕ → List ℕ → ℕ

@@ -1,37 +1,18 @@
 -- With refusals: for any calls from a cleared store, refused ones among them, tree and cluster heap answer the numbers and ranks of a plain list with room for
 -- their capacity. So of one capacity they answer alike, call by call; and of two, as long as neither is full. Any K, order and levels.
-use Prim.Native.Nat.{suc, zero, ℕ}
-use native.Mathlib.Nat.{not-suc-le-zero}
-use mathlib.Core.Bool.{Bool, cond, false, true}
-use mathlib.Core.List.{[], _∷_, List, map}
-use mathlib.Core.Path.{_∙_, _≡_, ap, refl, subst, sym}
-use lib.Dec.{eqb, ltb}
-use lib.ListN.{length}
+use Rattle.laws.specs.Prelude.{Bool, Done, Element, Empty, Full, Idle, List, NoTag, Out, Pop, Push, Refused, Replace, Request, [], _∙_, _∷_, _≡_, ap, cond, eqb, false, length, ltb, map, not-suc-le-zero, numberOf, refl, subst, suc, sym, true, untagged, zero, ℕ}
 use Rattle.agreement.proofs.Agreement.{heap-pop, heapSaid, tree-pop, treeSaid}
 use Rattle.agreement.proofs.Ranks.{ranks-plainly, whole-empty}
 use Rattle.agreement.specs.Plain.{numbered, numberFor, numberRank, plainly, Unfull}
 use Rattle.cluster_model.proofs.Exactly as heap-exactly
 use Rattle.cluster_model.proofs.Promises as heap
-use Rattle.cluster_model.proofs.Stored.{stored-many}
-use Rattle.cluster_model.specs.Calls.{heldIn, opOf as heapOp, rule as heapRule}
-use Rattle.cluster_model.specs.Heap.{room as heapRoom}
-use Rattle.cluster_model.specs.Node.{lowElem}
+use Rattle.cluster_model.proofs.Laws.{stored-many}
+use Rattle.cluster_model.specs.Prelude.{heldIn, lowElem, nodeIn, opOf as heapOp, room as heapRoom, rule as heapRule}
 use Rattle.cluster_model.specs.Promise as heap-says
-use Rattle.cluster_model.specs.Way.{nodeIn}
-use Rattle.promise.specs.Calls.{lastTable, ruled, Ruling, ruling}
-use Rattle.promise.specs.Queue.{answers}
-use Rattle.promise.specs.Served.{always}
-use Rattle.strip.specs.Answers.{numberOf, untagged}
-use Rattle.strip.specs.declared.Answer.the-variants.{Done, Out, Refused}
-use Rattle.strip.specs.declared.Element.{Element}
-use Rattle.strip.specs.declared.Refusal.the-variants.{Empty, Full, NoTag}
-use Rattle.strip.specs.declared.Request.{Request}
-use Rattle.strip.specs.declared.Request.the-variants.{Idle, Pop, Push, Replace}
+use Rattle.promise.specs.Prelude.{Ruling, always, answers, lastTable, ruled, ruling}
 use Rattle.tree_model.proofs.Exactly as tree-exactly
 use Rattle.tree_model.proofs.Promises as tree
-use Rattle.tree_model.specs.Calls.{opOf as treeOp, Outcome, rootOf, rule as treeRule}
-use Rattle.tree_model.specs.Damage.{room as treeRoom}
-use Rattle.tree_model.specs.Node.{low, sumCounts}
+use Rattle.tree_model.specs.Prelude.{Outcome, low, opOf as treeOp, room as treeRoom, rootOf, rule as treeRule, sumCounts}
 use Rattle.tree_model.specs.Promise as tree-says
 
 -- what a request comes to refuses as the list does: any queue that asks its tag and its limits

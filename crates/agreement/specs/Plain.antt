@@ -1,16 +1,6 @@
 -- A plain list of ranks, the lowest first: what "lower rank leaves first" comes to where nothing is refused; and with its refusals, where it has room for so many.
-use Prim.Native.Nat.{suc, zero, ℕ}
-use mathlib.Core.Bool.{cond}
-use mathlib.Core.List.{[], _∷_, List}
-use mathlib.Core.Path.{_≡_}
-use lib.Dec.{eqb, ltb}
-use lib.ListN.{length}
-use Rattle.laws.specs.Lists.{All}
-use Rattle.promise.specs.Queue.{step, Step}
-use Rattle.strip.specs.Answers.{numberOf, rankOf, untagged}
-use Rattle.strip.specs.declared.Answer.{Answer}
-use Rattle.strip.specs.declared.Request.{Request}
-use Rattle.strip.specs.declared.Request.the-variants.{Idle, Pop, Push, Replace}
+use Rattle.laws.specs.Prelude.{All, Answer, Idle, List, Pop, Push, Replace, Request, [], _∷_, _≡_, cond, eqb, length, ltb, numberOf, rankOf, suc, untagged, zero, ℕ}
+use Rattle.promise.specs.Prelude.{Step, step}
 
 unfoldable pub insert : ℕ → List ℕ → List ℕ
 insert r [] = r ∷ []

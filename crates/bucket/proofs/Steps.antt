@@ -1,24 +1,16 @@
 -- From what a call has tested to what its next step asks for.
-use mathlib.Core.Path.{_≡_, sym, subst}
-use mathlib.Core.Bool.{Bool, true, not, _&&_}
-use mathlib.Core.List.{List}
-use Prim.Native.Nat.{ℕ, _≤_, _<_}
-use native.Mathlib.Omega.{arith}
-use lib.Dec.{eqb, lit≤}
-use Rattle.laws.specs.Means.{means-eqb, means-not}
-use Rattle.laws.specs.Tests.{and-left, and-right}
+use Rattle.laws.specs.Prelude.{Bool, List, _&&_, _<_, _≡_, _≤_, and-left, and-right, arith, eqb, means-eqb, means-not, not, subst, sym, true, ℕ}
+use lib.Dec.{lit≤}
 use Rattle.bucket_model.specs.declared.Lay.{Lay}
 use Rattle.bucket_model.specs.declared.Lowest.{Lowest}
 use Rattle.bucket_model.specs.declared.Room.{Room}
-use Rattle.bucket_model.specs.Layout.{queue, leastStoreys, mostStoreys, wordsOf, bitWords, word}
-use Rattle.bucket_model.specs.Calls.{isShaped, isWhole, takenBits, takenWords, roomOf, roomAfter}
-use Rattle.bucket_model.proofs.Facts.{shape-means, whole-means}
-use Rattle.bucket_model.proofs.Queue.{laid-of}
+use Rattle.bucket_model.specs.Prelude.{bitWords, isShaped, isWhole, leastStoreys, mostStoreys, queue, roomAfter, roomOf, takenBits, takenWords, word, wordsOf}
+use Rattle.bucket_model.proofs.Laws.{laid-of, shape-means, whole-means}
 use Rattle.bucket_bits.proofs.Numbers.{words-le}
-use Rattle.bucket_tests.specs.Stores.{Stands, Roomy, FoundRoom, Freeing, roomFreed}
-use Rattle.bucket_tests.proofs.Read.{after-is}
-use Rattle.bucket_steps.specs.Stores.{Joining}
-use Rattle.bucket_steps.proofs.Steps as steps
+use Rattle.bucket_step.specs.Tested.{Stands, Roomy, FoundRoom, Freeing, roomFreed}
+use Rattle.bucket_step.proofs.Read.{after-is}
+use Rattle.bucket_step.specs.Stores.{Joining}
+use Rattle.bucket_step.proofs.Steps as steps
 use Rattle.bucket.specs.Stores.{Placed}
 
 -- a queue of either depth: few words of bits

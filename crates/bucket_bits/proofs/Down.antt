@@ -1,20 +1,9 @@
--- The way down to the lowest rank, a word a turn.
-use mathlib.Core.Path.{_≡_, refl, sym, ap, subst, _∙_}
-use mathlib.Core.Bool.{Bool, true, false, not, _&&_, false≢true, true≢false}
-use mathlib.Core.List.{List}
-use Prim.Native.Nat.{ℕ, zero, suc, _+_, _-_, _*_, _/_, _%_, _^_, _≤_, _<_}
-use native.Mathlib.Decide.{ℕ-discrete}
-use native.Mathlib.Nat.{pow-suc}
-use native.Mathlib.Numerals.{add-one}
-use native.Mathlib.Omega.{arith}
-use borrow.Author.Tests.{eqb-true, ne-eqb, ltb-true, ltb-false}
+-- The way down to the lowest rank, a word a switch.
+use Rattle.laws.specs.Prelude.{Bool, List, _%_, _&&_, _*_, _+_, _-_, _/_, _<_, _^_, _∙_, _≡_, _≤_, add-one, and-left, and-right, and-true, ap, arith, eqb, eqb-true, false, false≢true, ltb, ltb-false, ltb-true, ne-eqb, not, pow-suc, refl, subst, suc, sym, true, true≢false, zero, ℕ, ℕ-discrete}
 use lib.Count.{trailingZeros}
-use lib.Dec.{eqb, ltb}
-use Rattle.laws.specs.Tests.{and-left, and-right, and-true}
 use Rattle.bitmap.specs.Bits.{Found}
-use Rattle.bucket_model.specs.Layout.{word, wordsOf}
-use Rattle.bucket_model.specs.Storeys.{storeysFrom, find, opens}
-use Rattle.bucket_bits.specs.Climbs.{Turnable, Leads}
+use Rattle.bucket_model.specs.Prelude.{find, opens, storeysFrom, word, wordsOf}
+use Rattle.bucket_bits.specs.Climbs.{Switchable, Leads}
 use Rattle.bucket_bits.proofs.Numbers.{words-up, words-le}
 
 -- word i stands below d storeys, and the lowest set bits lead to it
@@ -24,7 +13,7 @@ pub record At (b : List ℕ) (o d i : ℕ) : Type 0 where
   pub finds : j ≡ find b (storeysFrom o d)
   pub opened : opens b (storeysFrom o d) ≡ true
   pub within : j < 64 ^ d
-  pub set : Turnable false b (storeysFrom o d) j
+  pub set : Switchable false b (storeysFrom o d) j
 
 pub record Down (b : List ℕ) (o D : ℕ) (open? : Bool) (d i : ℕ) : Type 0 where
   pub deep : d ≤ D

@@ -1,9 +1,6 @@
 -- The words' numbers: the word above number i is number (i - 1) / 64, whatever the depth.
-use mathlib.Core.Path.{_≡_}
-use Prim.Native.Nat.{ℕ, zero, suc, _+_, _*_, _^_, _≤_, _<_}
-use native.Mathlib.Nat.{pow-suc}
-use native.Mathlib.Omega.{arith}
-use Rattle.bucket_model.specs.Layout.{wordsOf}
+use Rattle.laws.specs.Prelude.{_*_, _+_, _<_, _^_, _≡_, _≤_, arith, pow-suc, suc, zero, ℕ}
+use Rattle.bucket_model.specs.Prelude.{wordsOf}
 
 pub words-up : (d : ℕ) → wordsOf (suc d) ≡ 64 * wordsOf d + 1
 words-up zero = omega arith

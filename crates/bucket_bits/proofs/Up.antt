@@ -1,30 +1,16 @@
--- The way up from a rank, a storey a turn: writing, and reading what will stand after a pop.
-use mathlib.Core.Path.{_≡_, refl, sym, ap, subst, _∙_}
-use mathlib.Core.Bool.{Bool, true, false, cond, not, _&&_, Bool·beq, false≢true}
-use mathlib.Core.List.{List, [], _∷_}
-use Prim.Native.Nat.{ℕ, zero, suc, _+_, _-_, _/_, _%_, _^_, _≤_, _<_}
-use native.Mathlib.Decide.{ℕ-discrete}
-use native.Mathlib.Nat.{pow-suc}
-use native.Mathlib.Omega.{arith}
-use borrow.Author.Tests.{eq-eqb, ne-eqb, eqb-true, lt-ltb, ltb-true, ltb-false}
-use lib.Dec.{eqb, ltb}
-use lib.ListN.{length, set, length-set}
-use Rattle.laws.specs.Tests.{and-left, and-right, and-unit, and-assoc, sub-one}
-use lib.Seq.{set-getD}
+-- The way up from a rank, a storey a switch: writing, and reading what will stand after a pop.
+use Rattle.laws.specs.Prelude.{Bool, Bool·beq, List, [], _%_, _&&_, _+_, _-_, _/_, _<_, _^_, _∙_, _∷_, _≡_, _≤_, and-assoc, and-left, and-right, and-unit, ap, arith, cond, eq-eqb, eqb, eqb-true, false, false≢true, length, length-set, lt-ltb, ltb, ltb-false, ltb-true, ne-eqb, not, pow-suc, refl, set, set-getD, sub-one, subst, suc, sym, true, zero, ℕ, ℕ-discrete}
 use Rattle.bitmap.specs.Bits.{bitAt, bit-lt, some-set}
-use Rattle.bucket_model.specs.Layout.{word, wordsOf}
-use Rattle.bucket_model.specs.Storeys.{Storey, storey, storeysFrom, wordOf, bitOf, turned, bitFor, tellsAbove, edit, agree}
-use Rattle.bucket_model.specs.Causes.{bitNo, Agrees}
-use Rattle.bucket_model.proofs.Writes.{same, other}
-use Rattle.bucket_model.proofs.Tower.{Outside, Shape, Bits, past-all, shape-from, bits-from, deeper, edit-off}
+use Rattle.bucket_model.specs.Prelude.{Agrees, Storey, agree, bitFor, bitNo, bitOf, edit, storey, storeysFrom, switched, tellsAbove, word, wordOf, wordsOf}
+use Rattle.bucket_model.proofs.Laws.{Bits, Outside, Shape, bits-from, deeper, edit-off, other, past-all, same, shape-from}
 use Rattle.bucket_bits.specs.declared.Climb.{Climb}
-use Rattle.bucket_bits.specs.Climbs.{Tall, Turnable, Stays, Turning, Marking, bitsLeft, Agreed, cleared, wordLeft, climbed, Climbable}
+use Rattle.bucket_bits.specs.Climbs.{Tall, Switchable, Stays, Switching, Marking, bitsLeft, Agreed, cleared, wordLeft, climbed, Climbable}
 use Rattle.bucket_bits.proofs.Numbers.{words-up, words-le}
 
 -- bits that agree with what is below them, from an empty bucket on, can be set
-pub agreed-turnable : (b : List ℕ) (ps : List Storey) (j : ℕ) (E : Type 0) → Agrees b ps j E → E → Turnable true b ps j
-agreed-turnable b [] j E a e = tt
-agreed-turnable b (p ∷ ps) j E a e = (a .0 .to e, λ t. agreed-turnable b ps (j / 64) (wordOf b p j ≡ 0) (a .1) (eqb-true (wordOf b p j) 0 t))
+pub agreed-switchable : (b : List ℕ) (ps : List Storey) (j : ℕ) (E : Type 0) → Agrees b ps j E → E → Switchable true b ps j
+agreed-switchable b [] j E a e = tt
+agreed-switchable b (p ∷ ps) j E a e = (a .0 .to e, λ t. agreed-switchable b ps (j / 64) (wordOf b p j ≡ 0) (a .1) (eqb-true (wordOf b p j) 0 t))
 
 -- .. and those of a bucket that is not empty are set
 pub agreed-stays : (b : List ℕ) (ps : List Storey) (j : ℕ) (E : Type 0) → Agrees b ps j E → (E → ⊥) → Stays b ps j
@@ -34,16 +20,16 @@ agreed-stays b (p ∷ ps) j E a n =
     omega (arith, bit-lt (wordOf b p j) (j % 64))
 
 -- so are bits that can be cleared
-pub turnable-stays : (b : List ℕ) (ps : List Storey) (j : ℕ) → Turnable false b ps j → Stays b ps j
-turnable-stays b [] j t = tt
-turnable-stays b (p ∷ ps) j t = t .0
+pub switchable-stays : (b : List ℕ) (ps : List Storey) (j : ℕ) → Switchable false b ps j → Stays b ps j
+switchable-stays b [] j t = tt
+switchable-stays b (p ∷ ps) j t = t .0
 
 -- a word of another storey written
-turnable-off : (on : Bool) (b : List ℕ) (ps : List Storey) (j x v : ℕ) → Shape ps → Bits ps j → Outside x ps → Turnable on b ps j → Turnable on (set b x v) ps j
-turnable-off on b [] j x v s h o t = tt
-turnable-off on b (p ∷ ps) j x v s h o t =
+switchable-off : (on : Bool) (b : List ℕ) (ps : List Storey) (j x v : ℕ) → Shape ps → Bits ps j → Outside x ps → Switchable on b ps j → Switchable on (set b x v) ps j
+switchable-off on b [] j x v s h o t = tt
+switchable-off on b (p ∷ ps) j x v s h o t =
     let e : word (set b x v) (p .base + j / 64) ≡ word b (p .base + j / 64) = other b x v (p .base + j / 64) (o .0 (j / 64) (omega arith)) in
-    rw e (t .0, λ q. turnable-off on b ps (j / 64) x v (s .2) (deeper p ps (s .1) j h) (o .1) (t .1 q))
+    rw e (t .0, λ q. switchable-off on b ps (j / 64) x v (s .2) (deeper p ps (s .1) j h) (o .1) (t .1 q))
 
 -- ---- writing
 
@@ -53,7 +39,7 @@ pub record Rise (on : Bool) (b0 b1 : List ℕ) (o D : ℕ) (b : List ℕ) (more 
   pub deep : d ≤ D
   pub within : j < 64 ^ d
   pub long : length b ≡ length b0
-  pub todo : more ≡ true → Turnable on b (storeysFrom o d) j
+  pub todo : more ≡ true → Switchable on b (storeysFrom o d) j
   pub done : cond more (edit on b (storeysFrom o d) j) b ≡ b1
 
 abbrev pub Rising : Bool → List ℕ → List ℕ → ℕ → ℕ → List ℕ → Bool → ℕ → ℕ → Type 0
@@ -70,11 +56,11 @@ module _ (on : Bool) (b0 b1 : List ℕ) (o D : ℕ) (b : List ℕ) (more : Bool)
   some : 0 < d
   some = ltb-true 0 d (and-right more (ltb 0 d) test)
 
-  -- the bit to be turned
-  pub rising-turns : Rising on b0 b1 o D b more d i → (0 < i) × Turning b on true (o + (i - 1) / 64) ((i - 1) % 64)
+  -- the bit to be switched
+  pub rising-turns : Rising on b0 b1 o D b more d i → (0 < i) × Switching b on true (o + (i - 1) / 64) ((i - 1) % 64)
   rising-turns z = go d (z .0) some (z .1)
     where
-      go : (d j : ℕ) → 0 < d → Rise on b0 b1 o D b more i d j → (0 < i) × Turning b on true (o + (i - 1) / 64) ((i - 1) % 64)
+      go : (d j : ℕ) → 0 < d → Rise on b0 b1 o D b more i d j → (0 < i) × Switching b on true (o + (i - 1) / 64) ((i - 1) % 64)
       go zero j l z = absurd (omega arith)
       go (suc d) j l z =
           let n = number o d i j (z .is) in (
@@ -88,8 +74,8 @@ module _ (on : Bool) (b0 b1 : List ℕ) (o D : ℕ) (b : List ℕ) (more : Bool)
           )
 
   pub rising-step : Rising on b0 b1 o D b more d i → (b′ : List ℕ) (more′ : Bool)
-      → b′ ≡ set b (o + (i - 1) / 64) (turned on (word b (o + (i - 1) / 64)) ((i - 1) % 64))
-      → more′ ≡ tellsAbove on (word b (o + (i - 1) / 64)) (turned on (word b (o + (i - 1) / 64)) ((i - 1) % 64))
+      → b′ ≡ set b (o + (i - 1) / 64) (switched on (word b (o + (i - 1) / 64)) ((i - 1) % 64))
+      → more′ ≡ tellsAbove on (word b (o + (i - 1) / 64)) (switched on (word b (o + (i - 1) / 64)) ((i - 1) % 64))
       → Rising on b0 b1 o D b′ more′ (d - 1) ((i - 1) / 64)
   rising-step z b′ more′ p q = go d (z .0) some (z .1)
     where
@@ -102,7 +88,7 @@ module _ (on : Bool) (b0 b1 : List ℕ) (o D : ℕ) (b : List ℕ) (more : Bool)
           deep = omega (arith, z .deep);
           within = omega (arith, z .within, pow-suc 64 d);
           long = ap length b-is ∙ length-set b _ _ ∙ z .long;
-          todo = λ m. rw b-is (turnable-off on b (storeysFrom o d) (j / 64) (o + wordsOf d + j / 64) _ (shape-from o d) (bits-from o d (j / 64) (omega (arith, z .within, pow-suc 64 d)))
+          todo = λ m. rw b-is (switchable-off on b (storeysFrom o d) (j / 64) (o + wordsOf d + j / 64) _ (shape-from o d) (bits-from o d (j / 64) (omega (arith, z .within, pow-suc 64 d)))
               (past-all o d (o + wordsOf d + j / 64) (omega arith)) (z .todo e .1 (sym more-is ∙ m)));
           done = rw (more-is, b-is) (sym (ap (λ (t : Bool). cond t (edit on b (storeysFrom o (suc d)) j) b) e) ∙ z .done);
         },
@@ -111,10 +97,10 @@ module _ (on : Bool) (b0 b1 : List ℕ) (o D : ℕ) (b : List ℕ) (more : Bool)
           n : (o + (i - 1) / 64 ≡ o + wordsOf d + j / 64) × ((i - 1) % 64 ≡ j % 64) × ((i - 1) / 64 ≡ wordsOf d + j / 64)
           n = number o d i j (z .is)
 
-          b-is : b′ ≡ set b (o + wordsOf d + j / 64) (turned on (word b (o + wordsOf d + j / 64)) (j % 64))
+          b-is : b′ ≡ set b (o + wordsOf d + j / 64) (switched on (word b (o + wordsOf d + j / 64)) (j % 64))
           b-is = rw (n .0, n .1) at p
 
-          more-is : more′ ≡ tellsAbove on (word b (o + wordsOf d + j / 64)) (turned on (word b (o + wordsOf d + j / 64)) (j % 64))
+          more-is : more′ ≡ tellsAbove on (word b (o + wordsOf d + j / 64)) (switched on (word b (o + wordsOf d + j / 64)) (j % 64))
           more-is = rw (n .0, n .1) at q
 
 pub rising-end : (on : Bool) (b0 b1 : List ℕ) (o D : ℕ) (b : List ℕ) (more : Bool) (d i : ℕ) → Rising on b0 b1 o D b more d i → (more && ltb 0 d) ≡ false → b ≡ b1
@@ -137,10 +123,10 @@ module _ (on changes : Bool) (b : List ℕ) (o D tower r : ℕ) (tall : Tall b o
   abbrev lowest : ℕ
   lowest = o + (tower + r - 1) / 64
 
-  pub first-turns : (0 < tower + r) × Turning b on changes (o + (tower + r - 1) / 64) ((tower + r - 1) % 64)
+  pub first-turns : (0 < tower + r) × Switching b on changes (o + (tower + r - 1) / 64) ((tower + r - 1) % 64)
   first-turns = go D (tall .some) (tall .words) r< (tall .long) m
     where
-      go : (D : ℕ) → 1 ≤ D → tower ≡ wordsOf D → r < 64 ^ D → o + wordsOf D ≤ length b → Marking on changes b (storeysFrom o D) r → (0 < tower + r) × Turning b on changes (o + (tower + r - 1) / 64) ((tower + r - 1) % 64)
+      go : (D : ℕ) → 1 ≤ D → tower ≡ wordsOf D → r < 64 ^ D → o + wordsOf D ≤ length b → Marking on changes b (storeysFrom o D) r → (0 < tower + r) × Switching b on changes (o + (tower + r - 1) / 64) ((tower + r - 1) % 64)
       go zero l e h long m = absurd (omega arith)
       go (suc d) l e h long m =
           let n = number o d (tower + r) r (omega arith) in (
@@ -154,8 +140,8 @@ module _ (on changes : Bool) (b : List ℕ) (o D tower r : ℕ) (tall : Tall b o
           )
 
   pub rising-first : (b′ : List ℕ) (more : Bool)
-      → b′ ≡ cond changes (set b (o + (tower + r - 1) / 64) (turned on (word b (o + (tower + r - 1) / 64)) ((tower + r - 1) % 64))) b
-      → more ≡ (changes && tellsAbove on (word b (o + (tower + r - 1) / 64)) (turned on (word b (o + (tower + r - 1) / 64)) ((tower + r - 1) % 64)))
+      → b′ ≡ cond changes (set b (o + (tower + r - 1) / 64) (switched on (word b (o + (tower + r - 1) / 64)) ((tower + r - 1) % 64))) b
+      → more ≡ (changes && tellsAbove on (word b (o + (tower + r - 1) / 64)) (switched on (word b (o + (tower + r - 1) / 64)) ((tower + r - 1) % 64)))
       → Rising on b (cond changes (edit on b (storeysFrom o D) r) b) o D b′ more (D - 1) ((tower + r - 1) / 64)
   rising-first b′ more = go changes (m .turns)
     where
@@ -168,8 +154,8 @@ module _ (on changes : Bool) (b : List ℕ) (o D tower r : ℕ) (tall : Tall b o
               let n = number o d (tower + r) r (omega arith) in
               subst (λ (x : ℕ). ((tower + r - 1) / 64 ≡ wordsOf x + r / 64) × (r / 64 < 64 ^ x)) (sym (sub-one (suc d))) (n .2, omega (arith, pow-suc 64 d))
 
-      go : (changes : Bool) → (changes ≡ true → Turnable on b (storeysFrom o D) r)
-          → b′ ≡ cond changes (set b lowest (turned on (word b lowest) ((tower + r - 1) % 64))) b → more ≡ (changes && tellsAbove on (word b lowest) (turned on (word b lowest) ((tower + r - 1) % 64)))
+      go : (changes : Bool) → (changes ≡ true → Switchable on b (storeysFrom o D) r)
+          → b′ ≡ cond changes (set b lowest (switched on (word b lowest) ((tower + r - 1) % 64))) b → more ≡ (changes && tellsAbove on (word b lowest) (switched on (word b lowest) ((tower + r - 1) % 64)))
           → Rising on b (cond changes (edit on b (storeysFrom o D) r) b) o D b′ more (D - 1) ((tower + r - 1) / 64)
       go true t p q =
           let s : Rising on b (edit on b (storeysFrom o D) r) o D b true D (tower + r) = (r, record { is = omega (arith, tall .words); deep = omega arith; within = r<; long = refl; todo = t; done = refl }) in
@@ -210,7 +196,7 @@ pub record Climbs (b : List ℕ) (o D : ℕ) (clears : Bool) (gone : ℕ) (empty
   pub j< : j < 64 ^ d
   pub long : length v ≡ length b
   pub alike : SameOn v b (storeysFrom o d)
-  pub todo : c .clears ≡ true → Turnable false v (storeysFrom o d) h
+  pub todo : c .clears ≡ true → Switchable false v (storeysFrom o d) h
   pub done : bitsLeft b o D clears gone ≡ cond (c .clears) (edit false v (storeysFrom o d) h) v
   pub agreed : agree (bitsLeft b o D clears gone) (storeysFrom o D) own empty ≡ (c .agrees && agree (bitsLeft b o D clears gone) (storeysFrom o d) j (c .empty))
   pub topmost : d < D → d ≡ 0 → c .top ≡ word (bitsLeft b o D clears gone) o
@@ -218,7 +204,7 @@ pub record Climbs (b : List ℕ) (o D : ℕ) (clears : Bool) (gone : ℕ) (empty
 abbrev pub Climbing : List ℕ → ℕ → ℕ → Bool → ℕ → Bool → ℕ → Climb → ℕ → ℕ → ℕ → Type 0
 Climbing b o D clears gone empty own c d g i = (h : ℕ) × (j : ℕ) × (v : List ℕ) × Climbs b o D clears gone empty own c g i d h j v
 
-pub climbing-start : (b : List ℕ) (o D tower : ℕ) (clears : Bool) (gone : ℕ) (empty : Bool) (own : ℕ) → tower ≡ wordsOf D → gone < 64 ^ D → own < 64 ^ D → (clears ≡ true → Turnable false b (storeysFrom o D) gone)
+pub climbing-start : (b : List ℕ) (o D tower : ℕ) (clears : Bool) (gone : ℕ) (empty : Bool) (own : ℕ) → tower ≡ wordsOf D → gone < 64 ^ D → own < 64 ^ D → (clears ≡ true → Switchable false b (storeysFrom o D) gone)
     → Climbing b o D clears gone empty own (record { clears = clears; empty = empty; agrees = true; top = 0 }) D (tower + gone) (tower + own)
 climbing-start b o D tower clears gone empty own e hg hi t = (
   gone,
@@ -246,7 +232,7 @@ module _ (b v : List ℕ) (o d h j : ℕ) (B : List ℕ) (long : o + wordsOf d +
 
   -- what the pop would have written then
   abbrev written : Bool → List ℕ
-  written clears = cond clears (set v at (turned false (word v at) (h % 64))) v
+  written clears = cond clears (set v at (switched false (word v at) (h % 64))) v
 
   own-is : word v (o + wordsOf d + h / 64) ≡ word b (o + wordsOf d + h / 64)
   own-is = alike .0 (h / 64) (omega (arith, pow-suc 64 d))
@@ -259,7 +245,7 @@ module _ (b v : List ℕ) (o d h j : ℕ) (B : List ℕ) (long : o + wordsOf d +
       a = o + wordsOf d + j / 64
 
       v1 : List ℕ
-      v1 = set v at (turned false (word v at) (h % 64))
+      v1 = set v at (switched false (word v at) (h % 64))
 
       kept : (t : Bool) → word (cond t (edit false v1 (storeysFrom o d) (h / 64)) v1) (o + wordsOf d + j / 64) ≡ word v1 (o + wordsOf d + j / 64)
       kept true = edit-off false v1 (storeysFrom o d) (h / 64) a (bits-from o d (h / 64) (omega (arith, pow-suc 64 d))) (shape-from o d) (past-all o d a (omega arith))
@@ -267,11 +253,11 @@ module _ (b v : List ℕ) (o d h j : ℕ) (B : List ℕ) (long : o + wordsOf d +
 
       step : (clears : Bool) → word (cond clears (edit false v (storeysFrom o (suc d)) h) v) (o + wordsOf d + j / 64) ≡ cond (eqb (wordsOf d + h / 64) (wordsOf d + j / 64)) (cleared (word b (o + wordsOf d + h / 64)) clears (h % 64)) (word b (o + wordsOf d + j / 64))
       step true =
-          kept (eqb (turned false (word v at) (h % 64)) 0)
+          kept (eqb (switched false (word v at) (h % 64)) 0)
           ∙ elim (ℕ-discrete (wordsOf d + h / 64) (wordsOf d + j / 64)) [ yes q ↦ rw (eq-eqb (wordsOf d + h / 64) (wordsOf d + j / 64) q) (here q) | no q ↦ rw (ne-eqb (wordsOf d + h / 64) (wordsOf d + j / 64) q) (other v at _ a (λ p. q (omega arith)) ∙ alike .0 (j / 64) (omega (arith, pow-suc 64 d))) ]
         where
-          here : wordsOf d + h / 64 ≡ wordsOf d + j / 64 → word v1 (o + wordsOf d + j / 64) ≡ turned false (word b (o + wordsOf d + h / 64)) (h % 64)
-          here q = let p : o + wordsOf d + j / 64 ≡ at = omega arith in ap (word v1) p ∙ same v at _ long ∙ ap (λ (x : ℕ). turned false x (h % 64)) own-is
+          here : wordsOf d + h / 64 ≡ wordsOf d + j / 64 → word v1 (o + wordsOf d + j / 64) ≡ switched false (word b (o + wordsOf d + h / 64)) (h % 64)
+          here q = let p : o + wordsOf d + j / 64 ≡ at = omega arith in ap (word v1) p ∙ same v at _ long ∙ ap (λ (x : ℕ). switched false x (h % 64)) own-is
       step false =
           alike .0 (j / 64) (omega (arith, pow-suc 64 d))
           ∙ elim (ℕ-discrete (wordsOf d + h / 64) (wordsOf d + j / 64)) [ yes q ↦ rw (eq-eqb (wordsOf d + h / 64) (wordsOf d + j / 64) q) (ap (word b) (omega arith)) | no q ↦ rw (ne-eqb (wordsOf d + h / 64) (wordsOf d + j / 64) q) refl ]
@@ -281,10 +267,10 @@ module _ (b v : List ℕ) (o d h j : ℕ) (B : List ℕ) (long : o + wordsOf d +
   done-is true e = rw (← own-is) e
   done-is false e = e
 
-  todo-is : (clears : Bool) → (clears ≡ true → Turnable false v (storeysFrom o (suc d)) h)
-      → (clears && eqb (cleared (word b (o + wordsOf d + h / 64)) clears (h % 64)) 0) ≡ true → Turnable false (written clears) (storeysFrom o d) (h / 64)
+  todo-is : (clears : Bool) → (clears ≡ true → Switchable false v (storeysFrom o (suc d)) h)
+      → (clears && eqb (cleared (word b (o + wordsOf d + h / 64)) clears (h % 64)) 0) ≡ true → Switchable false (written clears) (storeysFrom o d) (h / 64)
   todo-is true t q =
-      turnable-off false v (storeysFrom o d) (h / 64) at _ (shape-from o d) (bits-from o d (h / 64) (omega (arith, pow-suc 64 d))) (past-all o d at (omega arith))
+      switchable-off false v (storeysFrom o d) (h / 64) at _ (shape-from o d) (bits-from o d (h / 64) (omega (arith, pow-suc 64 d))) (past-all o d at (omega arith))
       (t refl .1 (rw own-is q))
   todo-is false t q = absurd (false≢true q)
 
@@ -370,15 +356,15 @@ climbing-end b o D clears gone empty own c d g i D> e z = go d (z .0) (z .1) (z 
 
 -- ---- one storey as the code does it
 
-pub turn-on : (b : List ℕ) (on changes : Bool) (at k x : ℕ) → on ≡ true → (changes ≡ false → bitAt (word b at) k ≡ 1) → x ≡ cond changes (word b at + 2 ^ k) (word b at)
-    → (set b at x ≡ cond changes (set b at (turned on (word b at) k)) b) × (eqb (word b at) 0 ≡ (changes && tellsAbove on (word b at) (turned on (word b at) k)))
-turn-on b on true at k x e s p = rw (e, p) (refl, refl)
-turn-on b on false at k x e s p = (ap (set b at) p ∙ set-getD b at 0, ne-eqb (word b at) 0 (some-set (word b at) k (s refl)))
+pub switch-on : (b : List ℕ) (on changes : Bool) (at k x : ℕ) → on ≡ true → (changes ≡ false → bitAt (word b at) k ≡ 1) → x ≡ cond changes (word b at + 2 ^ k) (word b at)
+    → (set b at x ≡ cond changes (set b at (switched on (word b at) k)) b) × (eqb (word b at) 0 ≡ (changes && tellsAbove on (word b at) (switched on (word b at) k)))
+switch-on b on true at k x e s p = rw (e, p) (refl, refl)
+switch-on b on false at k x e s p = (ap (set b at) p ∙ set-getD b at 0, ne-eqb (word b at) 0 (some-set (word b at) k (s refl)))
 
-pub turn-off : (b : List ℕ) (on changes : Bool) (at k x : ℕ) → on ≡ false → (changes ≡ false → bitAt (word b at) k ≡ 1) → x ≡ cond changes (word b at - 2 ^ k) (word b at)
-    → (set b at x ≡ cond changes (set b at (turned on (word b at) k)) b) × (eqb x 0 ≡ (changes && tellsAbove on (word b at) (turned on (word b at) k)))
-turn-off b on true at k x e s p = rw (e, p) (refl, refl)
-turn-off b on false at k x e s p = (ap (set b at) p ∙ set-getD b at 0, ap (λ (y : ℕ). eqb y 0) p ∙ ne-eqb (word b at) 0 (some-set (word b at) k (s refl)))
+pub switch-off : (b : List ℕ) (on changes : Bool) (at k x : ℕ) → on ≡ false → (changes ≡ false → bitAt (word b at) k ≡ 1) → x ≡ cond changes (word b at - 2 ^ k) (word b at)
+    → (set b at x ≡ cond changes (set b at (switched on (word b at) k)) b) × (eqb x 0 ≡ (changes && tellsAbove on (word b at) (switched on (word b at) k)))
+switch-off b on true at k x e s p = rw (e, p) (refl, refl)
+switch-off b on false at k x e s p = (ap (set b at) p ∙ set-getD b at 0, ap (λ (y : ℕ). eqb y 0) p ∙ ne-eqb (word b at) 0 (some-set (word b at) k (s refl)))
 
 pub bit-clear : (on : Bool) (x : ℕ) → on ≡ true → x ≡ bitFor (not on) → x ≡ 0
 bit-clear on x e p = p ∙ ap (λ (t : Bool). bitFor (not t)) e

@@ -1,14 +1,7 @@
 -- What the functions on the bits ask of their callers, and what they promise. These are definitions.
-use mathlib.Core.Path.{_≡_}
-use mathlib.Core.Bool.{Bool, true, false, cond, not, _&&_, Bool·beq}
-use mathlib.Core.List.{List, [], _∷_}
-use Prim.Native.Nat.{ℕ, _+_, _/_, _%_, _^_, _≤_, _<_}
-use lib.Dec.{eqb}
-use lib.ListN.{length}
+use Rattle.laws.specs.Prelude.{Bool, Bool·beq, List, [], _%_, _&&_, _+_, _/_, _<_, _^_, _∷_, _≡_, _≤_, cond, eqb, false, length, not, true, ℕ}
 use Rattle.bitmap.specs.Bits.{bitAt}
-use Rattle.bucket_model.specs.Layout.{word, wordsOf}
-use Rattle.bucket_model.specs.Storeys.{Storey, storeysFrom, wordOf, turned, bitFor, tellsAbove, edit, find, opens, agree}
-use Rattle.bucket_model.specs.Causes.{bitNo}
+use Rattle.bucket_model.specs.Prelude.{Storey, agree, bitFor, bitNo, edit, find, opens, storeysFrom, switched, tellsAbove, word, wordOf, wordsOf}
 use Rattle.bucket_bits.specs.declared.Climb.{Climb}
 
 -- storeys from word o on that are all there; no more of them than a rank has room for
@@ -19,9 +12,9 @@ pub record Tall (b : List ℕ) (o d tower : ℕ) : Type 0 where
   pub few : 64 ^ d ≤ 4294967296
 
 -- bit j can be set, or cleared: it is not so yet, and neither are those above that it changes
-abbrev pub Turnable : Bool → List ℕ → List Storey → ℕ → Type 0
-Turnable on b [] j = Unit {0}
-Turnable on b (p ∷ ps) j = (bitNo b p j ≡ bitFor (not on)) × (tellsAbove on (wordOf b p j) (turned on (wordOf b p j) (j % 64)) ≡ true → Turnable on b ps (j / 64))
+abbrev pub Switchable : Bool → List ℕ → List Storey → ℕ → Type 0
+Switchable on b [] j = Unit {0}
+Switchable on b (p ∷ ps) j = (bitNo b p j ≡ bitFor (not on)) × (tellsAbove on (wordOf b p j) (switched on (wordOf b p j) (j % 64)) ≡ true → Switchable on b ps (j / 64))
 
 -- a bit that does not change: it is set
 abbrev pub Stays : List ℕ → List Storey → ℕ → Type 0
@@ -29,10 +22,10 @@ Stays b [] j = Unit {0}
 Stays b (p ∷ ps) j = bitNo b p j ≡ 1
 
 pub record Marking (on changes : Bool) (b : List ℕ) (ps : List Storey) (j : ℕ) : Type 0 where
-  pub turns : changes ≡ true → Turnable on b ps j
+  pub turns : changes ≡ true → Switchable on b ps j
   pub stays : changes ≡ false → Stays b ps j
 
-pub record Turning (b : List ℕ) (on changes : Bool) (at k : ℕ) : Type 0 where
+pub record Switching (b : List ℕ) (on changes : Bool) (at k : ℕ) : Type 0 where
   pub inside : at < length b
   pub bit< : k < 64
   pub bit : changes ≡ true → bitAt (word b at) k ≡ bitFor (not on)
@@ -43,7 +36,7 @@ pub record Leads (b : List ℕ) (o d : ℕ) (open? : Bool) (rank : ℕ) : Type 0
   pub way : open? ≡ opens b (storeysFrom o d)
   pub to : open? ≡ true → rank ≡ find b (storeysFrom o d)
   pub within : open? ≡ true → rank < 64 ^ d
-  pub set : open? ≡ true → Turnable false b (storeysFrom o d) rank
+  pub set : open? ≡ true → Switchable false b (storeysFrom o d) rank
   pub none : open? ≡ false → rank ≡ 0
 
 -- the bits that a pop leaves: those of its rank cleared, if it clears them
@@ -58,7 +51,7 @@ pub record Agreed (b : List ℕ) (o d : ℕ) (clears : Bool) (gone : ℕ) (empty
 -- ---- one storey on the way up
 
 abbrev pub cleared : ℕ → Bool → ℕ → ℕ
-cleared w clears k = cond clears (turned false w k) w
+cleared w clears k = cond clears (switched false w k) w
 
 -- the word that the rank's bit is in
 abbrev pub wordLeft : List ℕ → ℕ → Bool → ℕ → ℕ → ℕ

@@ -8,9 +8,9 @@ ghost use mathlib.Core.Bool.{true, false, cond, _&&_};
 ghost use Prim.Native.Nat.{_+_, _≤_, _<_, _^_};
 ghost use lib.ListN.{length, set};
 ghost use Rattle.bucket_model.specs.Layout.{word};
-ghost use Rattle.bucket_model.specs.Storeys.{storeysFrom, turned, tellsAbove, edit};
+ghost use Rattle.bucket_model.specs.Storeys.{storeysFrom, switched, tellsAbove, edit};
 ghost use Rattle.bucket_model.specs.Calls.{fill};
-ghost use Rattle.bucket_bits.specs.Climbs.{Tall, Turnable, Turning, Marking, Leads, Agreed, climbed, Climbable};
+ghost use Rattle.bucket_bits.specs.Climbs.{Tall, Switchable, Switching, Marking, Leads, Agreed, climbed, Climbable};
 
 // The lowest rank: whether no word on the way down to it is 0, and the rank (0 where one is).
 pub struct LowestRank {
@@ -59,9 +59,9 @@ pub fn lowest_rank(bits: &[u64], base: usize, storeys: usize, tower: usize) -> L
 
 // Sets or clears one bit, where it changes. Answers whether its word was 0, or is 0 now, so that the storey above hears of it;
 // a bit that does not change is set, so that its word is not 0.
-fn turn(bits: &mut [u64], on: bool, changes: bool, at: usize, k: usize) -> bool
-    requires { ⌜ Turning (now bits) on changes at k ⌝ }
-    ensures { λ r. ⌜ (now (bits .exit) ≡ cond changes (set (now (bits .entry)) at (turned on (word (now (bits .entry)) at) k)) (now (bits .entry))) × (r ≡ (changes && tellsAbove on (word (now (bits .entry)) at) (turned on (word (now (bits .entry)) at) k))) ⌝ }
+fn switch(bits: &mut [u64], on: bool, changes: bool, at: usize, k: usize) -> bool
+    requires { ⌜ Switching (now bits) on changes at k ⌝ }
+    ensures { λ r. ⌜ (now (bits .exit) ≡ cond changes (set (now (bits .entry)) at (switched on (word (now (bits .entry)) at) k)) (now (bits .entry))) × (r ≡ (changes && tellsAbove on (word (now (bits .entry)) at) (switched on (word (now (bits .entry)) at) k))) ⌝ }
 {
     let word = bits[at];
     if on {
@@ -88,12 +88,12 @@ pub fn mark(
     ensures { λ _. ⌜ now (bits .exit) ≡ cond changes (edit on (now (bits .entry)) (storeysFrom base storeys) rank) (now (bits .entry)) ⌝ }
 {
     let low = tower + rank as usize - 1;
-    let mut more = turn(bits, on, changes, base + low / 64, low % 64);
+    let mut more = switch(bits, on, changes, base + low / 64, low % 64);
     let mut d = storeys - 1;
     let mut i = low / 64;
     while more & (0 < d) {
         let bit = i - 1;
-        more = turn(bits, on, true, base + bit / 64, bit % 64);
+        more = switch(bits, on, true, base + bit / 64, bit % 64);
         i = bit / 64;
         d -= 1;
     }
@@ -152,7 +152,7 @@ pub fn agreement(
     empty: bool,
     own: u32,
 ) -> Climb
-    requires { ⌜ Tall (now bits) base storeys tower ⌝ ∗ ⌜ gone < 64 ^ storeys ⌝ ∗ ⌜ own < 64 ^ storeys ⌝ ∗ ⌜ (clears ≡ true → Turnable false (now bits) (storeysFrom base storeys) gone) ⌝ }
+    requires { ⌜ Tall (now bits) base storeys tower ⌝ ∗ ⌜ gone < 64 ^ storeys ⌝ ∗ ⌜ own < 64 ^ storeys ⌝ ∗ ⌜ (clears ≡ true → Switchable false (now bits) (storeysFrom base storeys) gone) ⌝ }
     ensures { λ r. ⌜ Agreed (now (bits .entry)) base storeys clears gone empty own (r .agrees) (r .top) ⌝ }
 {
     let mut c = Climb {

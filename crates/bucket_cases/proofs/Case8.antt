@@ -1,26 +1,12 @@
 -- Case 8 of the paper, computed from the definitions at two storeys, and its twin at three: "Bucket, N = 3: push 7/1, 7/2, 4095/3; push 0/4 refused 5; 4096/4 refused 4; pops 7/1, 7/2, 4095/3, then 6".
-use mathlib.Core.Path.{_≡_, refl, ap, _∙_}
-use mathlib.Core.List.{List, [], _∷_, map}
-use Prim.Native.Nat.{ℕ, _≤_}
-use native.Mathlib.Omega.{arith}
+use Rattle.laws.specs.Prelude.{Answer, Done, List, Request, [], _∙_, _∷_, _≡_, _≤_, ap, arith, length-replicate, map, refl, replicate, untagged, ℕ}
 use lib.Count.{trailingZeros}
 use lib.Dec.{lit≤}
-use lib.ListN.{replicate, length-replicate}
 use Rattle.bitmap.specs.Bits.{bitAt}
-use Rattle.strip.specs.Answers.{untagged}
-use Rattle.strip.specs.declared.Answer.{Answer}
-use Rattle.strip.specs.declared.Answer.the-variants.{Done}
-use Rattle.strip.specs.declared.Request.{Request}
 use Rattle.bucket_cases.specs.Case8.{case8, case8Answers, case8Three, case8ThreeAnswers}
 use Rattle.bucket_model.specs.declared.Lay.{Lay}
-use Rattle.bucket_model.specs.Layout.{Laid, queue, pool, leastStoreys, mostStoreys, bitWords, storeWords}
-use Rattle.bucket_model.specs.Storeys.{marked, lowestRank, lowestOpen, rankAgrees}
-use Rattle.bucket_model.specs.Checks.{shapeOk, wholeOk, nextOf, popOk, pushOk}
-use Rattle.bucket_model.specs.Calls.{fill, blankWord, cleared, lowestOf, tailLeft, takenWords, takenBits, popFound, popped, roomWith, linkAt, joinedWords, joinedBits, pushFound, pushed}
-use Rattle.bucket_model.specs.Causes.{Shaped}
-use Rattle.bucket_model.specs.Plain.{ask, Said, answered, counted, Store, store, asked, called, says, plainWith, plainSays, start, answersFrom, bucketAnswers}
-use Rattle.bucket_model.proofs.Queue.{laid-of}
-use Rattle.bucket_model.proofs.Promises.{answers}
+use Rattle.bucket_model.specs.Prelude.{Laid, Said, Shaped, Store, answered, answersFrom, ask, asked, bitWords, blankWord, bucketAnswers, called, cleared, counted, fill, joinedBits, joinedWords, leastStoreys, linkAt, lowestOf, lowestOpen, lowestRank, marked, mostStoreys, nextOf, plainSays, plainWith, pool, popFound, popOk, popped, pushFound, pushOk, pushed, queue, rankAgrees, roomWith, says, shapeOk, start, store, storeWords, tailLeft, takenBits, takenWords, wholeOk}
+use Rattle.bucket_model.proofs.Laws.{answers, laid-of}
 
 pub case8-holds : bucketAnswers (queue 2 3) case8 ≡ case8Answers
 unfolding bucketAnswers answersFrom asked marked lowestRank lowestOpen rankAgrees shapeOk wholeOk nextOf popOk pushOk fill blankWord cleared lowestOf tailLeft takenWords takenBits popFound popped roomWith linkAt joinedWords joinedBits pushFound pushed untagged bitAt trailingZeros

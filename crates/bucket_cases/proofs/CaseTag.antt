@@ -1,14 +1,9 @@
 -- Elements without a tag, computed from the definitions.
-use mathlib.Core.Path.{_≡_, refl}
+use Rattle.laws.specs.Prelude.{_≡_, refl, untagged}
 use lib.Count.{trailingZeros}
 use Rattle.bitmap.specs.Bits.{bitAt}
-use Rattle.strip.specs.Answers.{untagged}
 use Rattle.bucket_cases.specs.CaseTag.{tagCase, tagCaseAnswers, spoilt, spoiltCase, spoiltCaseAnswers}
-use Rattle.bucket_model.specs.Layout.{queue}
-use Rattle.bucket_model.specs.Storeys.{marked, lowestRank, lowestOpen, rankAgrees}
-use Rattle.bucket_model.specs.Checks.{shapeOk, wholeOk, nextOf, popOk, pushOk}
-use Rattle.bucket_model.specs.Calls.{fill, blankWord, cleared, lowestOf, tailLeft, takenWords, takenBits, popFound, popped, roomWith, linkAt, joinedWords, joinedBits, pushFound, pushed, roomAfter, replaceFound, replaceJoined, replaced}
-use Rattle.bucket_model.specs.Plain.{asked, answersFrom, bucketAnswers}
+use Rattle.bucket_model.specs.Prelude.{answersFrom, asked, blankWord, bucketAnswers, cleared, fill, joinedBits, joinedWords, linkAt, lowestOf, lowestOpen, lowestRank, marked, nextOf, popFound, popOk, popped, pushFound, pushOk, pushed, queue, rankAgrees, replaceFound, replaceJoined, replaced, roomAfter, roomWith, shapeOk, tailLeft, takenBits, takenWords, wholeOk}
 
 pub tag-case : bucketAnswers (queue 2 3) tagCase ≡ tagCaseAnswers
 unfolding bucketAnswers answersFrom asked marked lowestRank lowestOpen rankAgrees shapeOk wholeOk nextOf popOk pushOk fill blankWord cleared lowestOf tailLeft takenWords takenBits popFound popped roomWith linkAt joinedWords joinedBits pushFound pushed roomAfter replaceFound replaceJoined replaced untagged bitAt trailingZeros

@@ -1,19 +1,12 @@
 -- The words that a few calls leave, computed from the definitions.
-use mathlib.Core.Path.{_≡_, refl, _∙_}
-use mathlib.Core.List.{[], map}
+use Rattle.laws.specs.Prelude.{[], _∙_, _≡_, map, refl, untagged}
 use lib.Count.{trailingZeros}
 use lib.Dec.{lit≤}
 use Rattle.bitmap.specs.Bits.{bitAt}
-use Rattle.strip.specs.Answers.{untagged}
 use Rattle.bucket_cases.specs.CaseWords.{leftBy, popCase, popCaseBits, popCaseWords, replaceCase, replaceCaseBits, replaceCaseWords, lengthCase, lengthCaseAnswers}
-use Rattle.bucket_model.specs.Filled.{filled}
-use Rattle.bucket_model.specs.Layout.{queue}
-use Rattle.bucket_model.specs.Storeys.{marked, lowestRank, lowestOpen, rankAgrees}
-use Rattle.bucket_model.specs.Checks.{shapeOk, wholeOk, nextOf, popOk, pushOk}
-use Rattle.bucket_model.specs.Calls.{fill, blankWord, cleared, lowestOf, tailLeft, takenWords, takenBits, popFound, popped, roomWith, linkAt, joinedWords, joinedBits, pushFound, pushed, roomAfter, replaceFound, replaceJoined, replaced}
-use Rattle.bucket_model.specs.Plain.{ask, after, asked, called, plainWith, plainSays, bucketAnswers}
+use Rattle.bucket_model.specs.Prelude.{after, ask, asked, blankWord, bucketAnswers, called, cleared, fill, filled, joinedBits, joinedWords, linkAt, lowestOf, lowestOpen, lowestRank, marked, nextOf, plainSays, plainWith, popFound, popOk, popped, pushFound, pushOk, pushed, queue, rankAgrees, replaceFound, replaceJoined, replaced, roomAfter, roomWith, shapeOk, tailLeft, takenBits, takenWords, wholeOk}
 use Rattle.bucket_cases.proofs.Case8.{answerOf, as-list}
-use Rattle.bucket_model.proofs.Queue.{laid-of}
+use Rattle.bucket_model.proofs.Laws.{laid-of}
 
 pub pop-case-bits : filled 0 (leftBy 4 popCase .bits) ≡ popCaseBits
 unfolding filled after called asked marked lowestRank lowestOpen rankAgrees shapeOk wholeOk nextOf popOk pushOk fill blankWord cleared lowestOf tailLeft takenWords takenBits popFound popped roomWith linkAt joinedWords joinedBits pushFound pushed untagged bitAt trailingZeros

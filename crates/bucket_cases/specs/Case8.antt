@@ -1,11 +1,5 @@
 -- Case 8 of the paper as a list of requests and the answers that it wants. These are definitions.
-use mathlib.Core.List.{List, [], _∷_}
-use Rattle.strip.specs.Answers.{element}
-use Rattle.strip.specs.declared.Refusal.the-variants.{BadRank, Full, Empty}
-use Rattle.strip.specs.declared.Answer.{Answer}
-use Rattle.strip.specs.declared.Answer.the-variants.{Done, Out, Refused}
-use Rattle.strip.specs.declared.Request.{Request}
-use Rattle.strip.specs.declared.Request.the-variants.{Push, Pop}
+use Rattle.laws.specs.Prelude.{Answer, BadRank, Done, Empty, Full, List, Out, Pop, Push, Refused, Request, [], _∷_, element}
 
 -- "Bucket, N = 3: push 7/1, 7/2, 4095/3; push 0/4 refused 5; 4096/4 refused 4; pops 7/1, 7/2, 4095/3, then 6"
 abbrev pub case8 : List Request

@@ -1,13 +1,6 @@
 -- Elements without a tag in the bucket queue, as lists of requests and the answers that they want. These are definitions.
-use mathlib.Core.List.{List, [], _∷_}
-use lib.ListN.{replicate}
-use Rattle.strip.specs.Answers.{element}
-use Rattle.strip.specs.declared.Refusal.the-variants.{Damaged, BadRank, Full, Empty, NoTag}
-use Rattle.strip.specs.declared.Answer.{Answer}
-use Rattle.strip.specs.declared.Answer.the-variants.{Done, Out, Refused}
-use Rattle.strip.specs.declared.Request.{Request}
-use Rattle.strip.specs.declared.Request.the-variants.{Push, Pop, Replace}
-use Rattle.bucket_model.specs.Plain.{Store, store}
+use Rattle.laws.specs.Prelude.{Answer, BadRank, Damaged, Done, Empty, Full, List, NoTag, Out, Pop, Push, Refused, Replace, Request, [], _∷_, element, replicate}
+use Rattle.bucket_model.specs.Prelude.{Store, store}
 
 -- N = 3, cleared: 4 comes before 7, and 7 before 6 and 5; rank 0 is a rank like any other
 abbrev pub tagCase : List Request

@@ -1,14 +1,6 @@
 -- The words that a few calls leave, to read off. These are definitions.
-use mathlib.Core.List.{List, [], _∷_, _++_, map}
-use Prim.Native.Nat.{ℕ, _+_, _*_}
-use lib.ListN.{replicate}
-use Rattle.strip.specs.Answers.{element}
-use Rattle.strip.specs.declared.Answer.{Answer}
-use Rattle.strip.specs.declared.Answer.the-variants.{Done, Out}
-use Rattle.strip.specs.declared.Request.{Request}
-use Rattle.strip.specs.declared.Request.the-variants.{Push, Pop, Replace}
-use Rattle.bucket_model.specs.Layout.{queue}
-use Rattle.bucket_model.specs.Plain.{ask, Store, after, start}
+use Rattle.laws.specs.Prelude.{Answer, Done, List, Out, Pop, Push, Replace, Request, [], _*_, _++_, _+_, _∷_, element, map, replicate, ℕ}
+use Rattle.bucket_model.specs.Prelude.{Store, after, ask, queue, start}
 
 -- what requests leave of slices of nines, each one word longer than it need be, that were cleared for n nodes
 abbrev pub leftBy : ℕ → List Request → Store

@@ -1,23 +1,8 @@
 -- The length decides nothing: runs from clear whose calls are alike but for their lengths are answered alike but for their lengths, and hold the same then but for these.
-use mathlib.Core.Path.{_≡_, refl, sym, ap, _∙_}
-use mathlib.Core.Bool.{Bool, true, false, cond, not}
-use mathlib.Core.List.{List, [], _∷_, map}
-use Prim.Native.Nat.{ℕ}
-use lib.Dec.{ltb}
-use lib.ListN.{length, length-map}
-use Rattle.promise.specs.Table.{decided-same, ends, needs}
-use Rattle.strip.specs.Answers.{untagged}
-use Rattle.strip.specs.declared.Element.{Element}
-use Rattle.strip.specs.declared.Refusal.{Refusal}
-use Rattle.strip.specs.declared.Refusal.the-variants.{BadRank, Full, NoTag}
-use Rattle.strip.specs.declared.Answer.the-variants.{Done, Refused}
-use Rattle.strip.specs.declared.Count.the-variants.{Held}
-use Rattle.strip.specs.declared.Request.the-variants.{Idle, Push, Pop, Replace}
-use Rattle.bucket_model.specs.Layout.{Lay, Laid}
-use Rattle.bucket_model.specs.Causes.{Shaped}
-use Rattle.bucket_model.specs.Plain.{Call, ask, held, Said, answered, counted, Step, step, says, after, start, insert, plainPop, plainReplace, plain, plainWith, plainSays, plainAfter, stored}
-use Rattle.bucket_model.specs.Promise.{shortCall, shortSaid, Blind}
-use Rattle.promise.specs.Lengths.{short}
+use Rattle.laws.specs.Prelude.{BadRank, Bool, Done, Element, Full, Held, Idle, List, NoTag, Pop, Push, Refusal, Refused, Replace, [], _∙_, _∷_, _≡_, ap, cond, false, length, length-map, ltb, map, not, refl, sym, true, untagged, ℕ}
+use Rattle.promise.specs.Prelude.{decided-same, ends, needs, short}
+use Rattle.bucket_model.specs.Prelude.{Blind, Call, Laid, Said, Shaped, Step, after, answered, ask, counted, held, insert, plain, plainAfter, plainPop, plainReplace, plainSays, plainWith, says, shortCall, shortSaid, start, step, stored}
+use Rattle.bucket_model.specs.Layout.{Lay}
 use Rattle.bucket_model.proofs.Promises.{answers, keeps}
 
 abbrev shortStep : Step (List Element) → Step (List Element)

@@ -1,14 +1,6 @@
 -- Chains of nodes in the words of a store, each by the place of its first link. No law knows how many lists there are, nor what a node's load is.
-use mathlib.Core.Path.{_≡_, sym, ap, subst, _∙_}
-use mathlib.Core.List.{List, [], _∷_, _++_}
-use Prim.Native.Nat.{ℕ, _≤_, _<_}
-use native.Mathlib.Decide.{ℕ-discrete}
-use native.Mathlib.Omega.{arith}
-use lib.ListN.{length, set}
-use Rattle.laws.specs.Lists.{All, all-map}
-use Rattle.laws.specs.Snoc.{all-snoc, all-map-both}
-use Rattle.laws.specs.Updates.{Upd}
-use Rattle.bucket_model.specs.Layout.{word, write, loadWords, nodeWords, cell, nextIn, Load, loadIn, loadWrites}
+use Rattle.laws.specs.Prelude.{All, List, Upd, [], _++_, _<_, _∙_, _∷_, _≡_, _≤_, all-map, all-map-both, all-snoc, ap, arith, length, set, subst, sym, ℕ, ℕ-discrete}
+use Rattle.bucket_model.specs.Prelude.{Load, cell, loadIn, loadWords, loadWrites, nextIn, nodeWords, word, write}
 use Rattle.bucket_model.proofs.Writes.{same, other}
 use Rattle.bucket_model.proofs.Load.{InLoad, load-same, load-cells}
 

@@ -1,21 +1,9 @@
 -- A cleared store holds nothing.
-use mathlib.Core.Path.{_≡_, refl, sym, ap, subst, _∙_}
-use mathlib.Core.List.{List, [], _∷_}
-use mathlib.Core.Logic.{⊎-elim}
-use Prim.Native.Nat.{ℕ, zero, suc, _+_, _-_, _/_, _%_, _^_, _≤_, _<_}
-use native.Mathlib.Nat.{pow-suc}
-use native.Mathlib.Omega.{arith}
-use borrow.Author.Tests.{eq-eqb, ne-eqb, lt-ltb, le-ltb}
+use Rattle.laws.specs.Prelude.{All, Done, List, [], _%_, _+_, _-_, _/_, _<_, _^_, _∙_, _∷_, _≡_, _≤_, ap, arith, eq-eqb, is-upd, le-ltb, length, lt-ltb, ne-eqb, pow-suc, refl, subst, suc, sym, upd, zero, ℕ, ⊎-elim}
 use lib.Dec.{lit<}
-use lib.ListN.{length}
-use Rattle.laws.specs.Lists.{All}
-use Rattle.laws.specs.Updates.{upd, is-upd}
-use Rattle.strip.specs.declared.Answer.the-variants.{Done}
 use Rattle.bitmap.specs.Bits.{bitAt}
-use Rattle.bucket_model.specs.Layout.{Lay, Laid, loadWords, nodeWords, cell, bitWords, storeWords, wordsOf, word, headAt, nextAt, noLoad}
-use Rattle.bucket_model.specs.Storeys.{storeysFrom}
-use Rattle.bucket_model.specs.Calls.{fill, blankCell, blankWord, cleared, outcome}
-use Rattle.bucket_model.specs.Causes.{Shaped}
+use Rattle.bucket_model.specs.Prelude.{Laid, Shaped, bitWords, blankCell, blankWord, cell, cleared, fill, headAt, loadWords, nextAt, noLoad, nodeWords, outcome, storeWords, storeysFrom, word, wordsOf}
+use Rattle.bucket_model.specs.Layout.{Lay}
 use Rattle.bucket_model.proofs.Facts.{shape-means}
 use Rattle.bucket_model.proofs.Fill.{fill-at, fill-length}
 use Rattle.bucket_model.proofs.Load.{load-blank}

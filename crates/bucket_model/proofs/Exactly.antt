@@ -1,23 +1,11 @@
 -- Every call is refused exactly when the table says so, and then leaves everything behind; and what else follows of every call from the table that decides it.
-use mathlib.Core.Path.{_≡_, refl}
-use mathlib.Core.Bool.{not}
-use mathlib.Core.List.{List}
-use Prim.Native.Nat.{ℕ}
-use Rattle.laws.specs.Means.{Means, means-ltb, means-eqb, means-not}
+use Rattle.laws.specs.Prelude.{Done, Element, Idle, List, Means, Pop, Push, Replace, Request, _≡_, means-eqb, means-ltb, means-not, not, numberOf, refl, untagged, ℕ}
 use Rattle.promise.proofs.Calls.{grants-zero}
 use Rattle.promise.proofs.Tabled as tabled
 use Rattle.promise.proofs.Tabled.{Goes}
-use Rattle.promise.specs.Refused.{untagged-means}
-use Rattle.promise.specs.Table.{Table, Told, decided, ends}
-use Rattle.strip.specs.Answers.{untagged, numberOf}
-use Rattle.strip.specs.declared.Element.{Element}
-use Rattle.strip.specs.declared.Answer.the-variants.{Done}
-use Rattle.strip.specs.declared.Request.{Request}
-use Rattle.strip.specs.declared.Request.the-variants.{Idle, Push, Pop, Replace}
-use Rattle.bucket_model.specs.Layout.{Lay, bitWords, storeWords, word}
-use Rattle.bucket_model.specs.Calls.{Outcome, outcome, refused, fill, blankWord, cleared, heldCount, popFound, popped, pushFound, pushed, replaceJoined, replaceFound, replaced}
-use Rattle.bucket_model.specs.Causes.{clearTable, heldTable, giveTable, roomAfterTable, bitsAfter, wordsAfter, callTable, done, Exactly, ExactlyCount}
-use Rattle.bucket_model.specs.Plain.{store, asked}
+use Rattle.promise.specs.Prelude.{Table, Told, decided, ends, untagged-means}
+use Rattle.bucket_model.specs.Prelude.{Exactly, ExactlyCount, Outcome, asked, bitWords, bitsAfter, blankWord, callTable, clearTable, cleared, done, fill, giveTable, heldCount, heldTable, outcome, popFound, popped, pushFound, pushed, refused, replaceFound, replaceJoined, replaced, roomAfterTable, store, storeWords, word, wordsAfter}
+use Rattle.bucket_model.specs.Layout.{Lay}
 use Rattle.bucket_model.proofs.Facts.{shape-means, whole-means, pop-means, push-means, room-means}
 
 -- the number that a call says

@@ -1,18 +1,9 @@
 -- Each test of a call and the facts that it stands for.
-use mathlib.Core.Path.{_≡_, refl, ap}
-use mathlib.Core.Bool.{Bool, true, false, not, cond, _&&_}
-use mathlib.Core.List.{List, [], _∷_}
-use Prim.Native.Nat.{ℕ, _+_, _/_, _%_, _<_}
-use native.Mathlib.Omega.{arith}
-use lib.Dec.{eqb}
-use lib.ListN.{length}
-use Rattle.laws.specs.Means.{Means, means-leb, means-ltb, means-eqb, means-not, means-and, means-beq, means-differ, means-by}
+use Rattle.laws.specs.Prelude.{Bool, List, Means, [], _%_, _&&_, _+_, _/_, _<_, _∷_, _≡_, ap, arith, cond, eqb, false, length, means-and, means-beq, means-by, means-differ, means-eqb, means-leb, means-ltb, means-not, not, refl, true, ℕ}
 use Rattle.bitmap.specs.Bits.{bit-lt}
-use Rattle.bucket_model.specs.Layout.{Lay, pool, leastStoreys, mostStoreys, bitWords, word, headAt, tailAt}
-use Rattle.bucket_model.specs.Storeys.{Storey, storeysAt, wordOf, bitOf, find, opens, agree, lowestOpen, lowestRank, rankAgrees}
-use Rattle.bucket_model.specs.Checks.{shapeOk, wholeOk, nextOf, popOk, pushOk}
-use Rattle.bucket_model.specs.Calls.{isShaped, isWhole, Lowest, lowestOf, lowestIn, noLowest, roomOf, roomWith, roomAfter}
-use Rattle.bucket_model.specs.Causes.{Shaped, Whole, Opens, bitNo, Agrees, PopFit, JoinFit, PushFit}
+use Rattle.bucket_model.specs.Prelude.{Agrees, JoinFit, Opens, PopFit, PushFit, Shaped, Storey, Whole, agree, bitNo, bitOf, bitWords, find, headAt, isShaped, isWhole, leastStoreys, lowestIn, lowestOf, lowestOpen, lowestRank, mostStoreys, nextOf, noLowest, opens, pool, popOk, pushOk, rankAgrees, roomAfter, roomOf, roomWith, shapeOk, storeysAt, tailAt, wholeOk, word, wordOf}
+use Rattle.bucket_model.specs.Layout.{Lay}
+use Rattle.bucket_model.specs.Calls.{Lowest}
 
 -- a bit that is clear: "bit is set" answers no
 clear-means : (x : ℕ) → x < 2 → Means (not (eqb x 1)) (x ≡ 0)

@@ -1,13 +1,6 @@
 -- A list filled from the front, one store a turn.
-use mathlib.Core.Path.{_≡_, refl, sym, ap, _∙_}
-use mathlib.Core.List.{List, [], _∷_}
-use Prim.Native.Nat.{ℕ, zero, suc, _+_, _≤_, _<_}
-use native.Mathlib.Nat.{add-zero, not-suc-le-zero, le-of-suc-le-suc}
-use native.Mathlib.Numerals.{add-one}
-use native.Mathlib.Omega.{arith}
-use lib.ListN.{length, set}
-use Rattle.bucket_model.specs.Layout.{word}
-use Rattle.bucket_model.specs.Calls.{fillFrom, fill}
+use Rattle.laws.specs.Prelude.{List, [], _+_, _<_, _∙_, _∷_, _≡_, _≤_, add-one, add-zero, ap, arith, le-of-suc-le-suc, length, not-suc-le-zero, refl, set, suc, sym, zero, ℕ}
+use Rattle.bucket_model.specs.Prelude.{fill, fillFrom, word}
 
 -- one store more
 from-step : (f : ℕ → ℕ) (i k : ℕ) (s : List ℕ) → k < length s → set (fillFrom f i k s) k (f (i + k)) ≡ fillFrom f i (suc k) s

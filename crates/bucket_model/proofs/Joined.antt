@@ -1,15 +1,8 @@
 -- Words that a push leaves.
-use mathlib.Core.Path.{_≡_, refl, _∙_}
-use mathlib.Core.List.{List, [], _∷_}
-use mathlib.Core.Logic.{_⊎_, inl, inr, ⊎-elim}
-use Prim.Native.Nat.{ℕ, _+_, _≤_, _<_}
-use native.Mathlib.Decide.{ℕ-discrete}
-use native.Mathlib.Omega.{arith}
-use borrow.Author.Tests.{eq-eqb, ne-eqb}
-use lib.ListN.{length, set, length-set}
-use Rattle.strip.specs.declared.Element.{Element}
-use Rattle.bucket_model.specs.Layout.{Lay, Laid, nodeWords, cell, storeWords, word, write, headAt, tailAt, nextAt, loadWrites, loadOf}
-use Rattle.bucket_model.specs.Calls.{Room, linkAt, joinedWords}
+use Rattle.laws.specs.Prelude.{Element, List, [], _+_, _<_, _∙_, _∷_, _≡_, _≤_, _⊎_, arith, eq-eqb, inl, inr, length, length-set, ne-eqb, refl, set, ℕ, ℕ-discrete, ⊎-elim}
+use Rattle.bucket_model.specs.Prelude.{Laid, cell, headAt, joinedWords, linkAt, loadOf, loadWrites, nextAt, nodeWords, storeWords, tailAt, word, write}
+use Rattle.bucket_model.specs.Layout.{Lay}
+use Rattle.bucket_model.specs.Calls.{Room}
 use Rattle.bucket_model.proofs.Load.{load-misses}
 use Rattle.bucket_model.proofs.Taken.{Foreign}
 use Rattle.bucket_model.proofs.Writes.{other, write-other, write-length, write-here}

@@ -1,15 +1,10 @@
 -- The kind of an answer, for all inputs: of a call that is not refused a push answers done, a pop and a replace answer an element. No call takes in an element without a tag.
-use mathlib.Core.Path.{_≡_}
+use Rattle.laws.specs.Prelude.{Idle, Pop, Push, Replace, Request, _≡_, numberOf}
 use Rattle.promise.proofs.Calls.{grants-kind}
 use Rattle.promise.proofs.Tabled.{granted, keeps}
-use Rattle.promise.specs.Served.{Kind}
-use Rattle.promise.specs.Tagged.{Barred}
-use Rattle.strip.specs.Answers.{numberOf}
-use Rattle.strip.specs.declared.Request.{Request}
-use Rattle.strip.specs.declared.Request.the-variants.{Idle, Push, Pop, Replace}
+use Rattle.promise.specs.Prelude.{Barred, Kind}
 use Rattle.bucket_model.specs.Layout.{Lay}
-use Rattle.bucket_model.specs.Calls.{Outcome}
-use Rattle.bucket_model.specs.Plain.{Store, asked}
+use Rattle.bucket_model.specs.Prelude.{Outcome, Store, asked}
 use Rattle.bucket_model.proofs.Exactly.{goes}
 
 -- KIND

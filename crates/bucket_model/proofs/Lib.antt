@@ -1,32 +1,33 @@
 -- What follows from the rules.
-pub mod Writes
-pub mod Fill
-pub mod Load
-pub mod Tells
-pub mod Tower
-pub mod Chain
-pub mod Linked
-pub mod Facts
+mod Writes
+mod Fill
+mod Load
+mod Tells
+mod Tower
+mod Chain
+mod Linked
+mod Facts
 pub mod Exactly
 pub mod Kind
-pub mod Returns
-pub mod Order
-pub mod Sorted
-pub mod Queue
-pub mod Pop
-pub mod Push
-pub mod Runs
+mod Returns
+mod Order
+mod Sorted
+mod Queue
+mod Pop
+mod Push
+mod Runs
 pub mod Clear
-pub mod Taken
-pub mod Joined
-pub mod Swapped
+mod Taken
+mod Joined
+mod Swapped
 pub mod Promises
-pub mod Untouched
-pub mod Unread
-pub mod Places
-pub mod Replace
-pub mod Served
-pub mod Spare
-pub mod Blind
-pub mod Shown
-pub mod Spoilt
+mod Untouched
+mod Unread
+mod Places
+mod Replace
+mod Served
+mod Spare
+mod Blind
+mod Shown
+mod Spoilt
+pub mod Laws

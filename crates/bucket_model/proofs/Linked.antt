@@ -1,16 +1,7 @@
 -- The lists and the free chain of a pool. What a pop's and a push's writes do to them, whichever list it is: no law here knows of ports.
-use mathlib.Core.Path.{_≡_, refl, sym, ap, subst, _∙_}
-use mathlib.Core.List.{List, [], _∷_, _++_}
-use mathlib.Core.Logic.{_⊎_, inl, inr, ⊎-elim}
-use Prim.Native.Nat.{ℕ, _+_, _*_, _≤_, _<_}
-use native.Mathlib.Decide.{ℕ-discrete}
-use native.Mathlib.Omega.{arith}
-use borrow.Author.Tests.{eq-eqb, ne-eqb}
-use lib.ListN.{length, set, length-set}
-use Rattle.laws.specs.Lists.{All, all-map}
-use Rattle.laws.specs.Updates.{upd, is-upd}
-use Rattle.bucket_model.specs.Layout.{Lay, word, write, loadWords, nodeWords, cell, nextIn, Load, loadIn, loadWrites, noLoad, headAt}
-use Rattle.bucket_model.specs.Calls.{tailLeft, linkAt}
+use Rattle.laws.specs.Prelude.{All, List, [], _*_, _++_, _+_, _<_, _∙_, _∷_, _≡_, _≤_, _⊎_, all-map, ap, arith, eq-eqb, inl, inr, is-upd, length, length-set, ne-eqb, refl, set, subst, sym, upd, ℕ, ℕ-discrete, ⊎-elim}
+use Rattle.bucket_model.specs.Prelude.{Load, cell, headAt, linkAt, loadIn, loadWords, loadWrites, nextIn, noLoad, nodeWords, tailLeft, word, write}
+use Rattle.bucket_model.specs.Layout.{Lay}
 use Rattle.bucket_model.proofs.Writes.{same, other, write-other, write-length, Misses}
 use Rattle.bucket_model.proofs.Load.{load-same, load-misses, load-there}
 use Rattle.bucket_model.proofs.Chain.{Node, node, Mine, Chain, Heads, Chains, Floats, floats, unhead, chains-off, float, float-load, attach-front, attach-back, endSlot, end-all}

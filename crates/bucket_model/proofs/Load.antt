@@ -1,12 +1,6 @@
 -- A node's load in the words. The only laws that know its words by name.
-use mathlib.Core.Path.{_≡_, refl, ap, _∙_}
-use mathlib.Core.List.{List}
-use Prim.Native.Nat.{ℕ, _≤_, _<_}
-use native.Mathlib.Omega.{arith}
-use lib.ListN.{length, set, length-set}
-use lib.Seq.{set-set, set-comm}
-use Rattle.laws.specs.Lists.{All, all-map}
-use Rattle.bucket_model.specs.Layout.{word, write, cell, loadWords, Load, loadIn, loadWrites, noLoad}
+use Rattle.laws.specs.Prelude.{All, List, _<_, _∙_, _≡_, _≤_, all-map, ap, arith, length, length-set, refl, set, set-comm, set-set, ℕ}
+use Rattle.bucket_model.specs.Prelude.{Load, cell, loadIn, loadWords, loadWrites, noLoad, word, write}
 use Rattle.bucket_model.proofs.Writes.{same, other, Misses}
 
 -- place a is a word of the load of the node that link l names

@@ -1,15 +1,6 @@
 -- The loads of all ranks, one behind the other, as one list in leaving order.
-use mathlib.Core.Path.{_≡_, refl, sym, ap, _∙_}
-use mathlib.Core.List.{List, [], _∷_, _++_}
-use Prim.Native.Nat.{ℕ, zero, suc, _+_, _≤_, _<_}
-use native.Mathlib.Decide.{ℕ-discrete}
-use native.Mathlib.Omega.{arith}
-use borrow.Author.Tests.{lt-ltb, le-ltb}
-use lib.ListN.{length, length-append}
-use Rattle.laws.specs.Updates.{Upd, upd, is-upd}
-use Rattle.strip.specs.declared.Element.{Element}
-use Rattle.bucket_model.specs.Layout.{Load, loaded}
-use Rattle.bucket_model.specs.Plain.{insert, elements, inOrder}
+use Rattle.laws.specs.Prelude.{Element, List, Upd, [], _++_, _+_, _<_, _∙_, _∷_, _≡_, _≤_, ap, arith, is-upd, le-ltb, length, length-append, lt-ltb, refl, suc, sym, upd, zero, ℕ, ℕ-discrete}
+use Rattle.bucket_model.specs.Prelude.{Load, elements, inOrder, insert, loaded}
 
 pub order-else : (m m′ : ℕ → List Load) (i k : ℕ) → ((j : ℕ) → i ≤ j → j < i + k → m′ j ≡ m j) → inOrder m′ i k ≡ inOrder m i k
 unfolding inOrder

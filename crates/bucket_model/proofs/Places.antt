@@ -1,19 +1,8 @@
 -- Where a queue of its own store has its words, in 01's and 02's own numbers, and what clear writes there, word by word: once for either depth.
-use mathlib.Core.Path.{_≡_, refl, sym, ap, _∙_}
-use mathlib.Core.List.{List}
-use mathlib.Core.Logic.{_⊎_, inl, inr}
-use Prim.Native.Nat.{ℕ, _+_, _*_, _^_, _≤_, _<_}
-use native.Mathlib.Decide.{ℕ-discrete}
-use native.Mathlib.Omega.{arith}
-use borrow.Author.Tests.{eq-eqb, ne-eqb}
+use Rattle.laws.specs.Prelude.{Iff, List, _*_, _+_, _<_, _^_, _∙_, _≡_, _≤_, _⊎_, ap, arith, eq-eqb, inl, inr, length, ne-eqb, refl, sym, ℕ, ℕ-discrete}
 use lib.Dec.{lit≤}
-use lib.ListN.{length}
-use Rattle.laws.specs.Means.{Iff}
-use Rattle.bucket_model.specs.Layout.{Lay, Laid, queue, leastStoreys, mostStoreys, loadWords, wordsOf, bitWords, storeWords, word}
-use Rattle.bucket_model.specs.Storeys.{storeysFrom}
-use Rattle.bucket_model.specs.Calls.{Outcome, fill, blankWord, blankCell, cleared}
-use Rattle.bucket_model.specs.Causes.{Shaped}
-use Rattle.bucket_model.specs.Promise.{Depth, twoStoreys, threeStoreys, Shape, Lies, Blank}
+use Rattle.bucket_model.specs.Prelude.{Blank, Depth, Laid, Lies, Outcome, Shape, Shaped, bitWords, blankCell, blankWord, cleared, fill, leastStoreys, loadWords, mostStoreys, queue, storeWords, storeysFrom, threeStoreys, twoStoreys, word, wordsOf}
+use Rattle.bucket_model.specs.Layout.{Lay}
 use Rattle.bucket_model.proofs.Clear.{blank-low, blank-node, blank-free, blank-held, clear-done}
 use Rattle.bucket_model.proofs.Fill.{fill-at}
 use Rattle.bucket_model.proofs.Queue.{laid-of}

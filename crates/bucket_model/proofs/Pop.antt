@@ -1,24 +1,8 @@
 -- What a pop does to a store that holds a list.
-use mathlib.Core.Path.{_≡_, refl, sym, ap, subst, _∙_}
-use mathlib.Core.Bool.{true, false}
-use mathlib.Core.List.{List, [], _∷_}
-use mathlib.Core.Logic.{inl}
-use Prim.Native.Nat.{ℕ, suc, _-_, _≤_, _<_}
-use native.Mathlib.Omega.{arith}
-use borrow.Author.Tests.{eq-eqb, ne-eqb, le-ltb}
-use lib.Dec.{eqb}
-use lib.ListN.{length, set, length-set}
-use Rattle.laws.specs.Lists.{All}
-use Rattle.laws.specs.Means.{Iff}
-use Rattle.laws.specs.Tests.{cond-path}
-use Rattle.laws.specs.Updates.{upd, is-upd, same-upd}
-use Rattle.strip.specs.declared.Element.{Element}
-use Rattle.bucket_model.specs.Layout.{Lay, Laid, word, headAt, tailAt, nextAt, nextIn, loaded}
-use Rattle.bucket_model.specs.Storeys.{marked, lowestRank}
-use Rattle.bucket_model.specs.Checks.{nextOf}
-use Rattle.bucket_model.specs.Calls.{given, Lowest, lowestOf, takes, takenWords, takenBits}
-use Rattle.bucket_model.specs.Causes.{PopFit}
-use Rattle.bucket_model.specs.Plain.{inOrder}
+use Rattle.laws.specs.Prelude.{All, Element, Iff, List, [], _-_, _<_, _∙_, _∷_, _≡_, _≤_, ap, arith, cond-path, eq-eqb, eqb, false, inl, is-upd, le-ltb, length, length-set, ne-eqb, refl, same-upd, set, subst, suc, sym, true, upd, ℕ}
+use Rattle.bucket_model.specs.Prelude.{Laid, PopFit, given, headAt, inOrder, loaded, lowestOf, lowestRank, marked, nextAt, nextIn, nextOf, tailAt, takenBits, takenWords, takes, word}
+use Rattle.bucket_model.specs.Layout.{Lay}
+use Rattle.bucket_model.specs.Calls.{Lowest}
 use Rattle.bucket_model.proofs.Facts.{pop-means, pop-way, low-is}
 use Rattle.bucket_model.proofs.Writes.{same, write-length}
 use Rattle.bucket_model.proofs.Tower as tower

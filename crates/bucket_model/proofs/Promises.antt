@@ -1,23 +1,9 @@
 -- What the bucket queue promises, wherever its words are laid out and however many storeys it has.
-use mathlib.Core.Path.{_≡_, sym, ap, subst, _∙_}
-use mathlib.Core.Bool.{Bool, false}
-use mathlib.Core.List.{List, [], _∷_, _++_}
-use Prim.Native.Nat.{ℕ, _+_, _<_}
-use native.Mathlib.Omega.{arith}
-use lib.Dec.{ltb}
-use lib.ListN.{length}
-use Rattle.laws.specs.Lists.{All}
-use Rattle.laws.specs.Means.{means-off}
-use Rattle.promise.specs.Refused.{Untagged, untagged-means}
-use Rattle.strip.specs.Answers.{untagged}
-use Rattle.strip.specs.declared.Element.{Element}
-use Rattle.strip.specs.declared.Refusal.the-variants.{Empty}
-use Rattle.strip.specs.declared.Answer.the-variants.{Done, Out, Refused}
-use Rattle.strip.specs.declared.Request.the-variants.{Idle, Push, Pop, Replace}
-use Rattle.bucket_model.specs.Layout.{Lay, Laid, queue, word, headAt, tailAt}
-use Rattle.bucket_model.specs.Calls.{Outcome, outcome, Lowest, lowestOf, takenBits, takenWords, roomOf, joinedBits, joinedWords, popped}
-use Rattle.bucket_model.specs.Causes.{Shaped}
-use Rattle.bucket_model.specs.Plain.{Call, ask, held, answered, saidNumber, Store, store, asked, called, says, after, start, Reached, plain, plainWith, plainSays, plainAfter, stored, brought, gone, ofRank, times, Sorted, FirstOut, Reused}
+use Rattle.laws.specs.Prelude.{All, Bool, Done, Element, Empty, Idle, List, Out, Pop, Push, Refused, Replace, [], _++_, _+_, _<_, _∙_, _∷_, _≡_, ap, arith, false, length, ltb, means-off, subst, sym, untagged, ℕ}
+use Rattle.promise.specs.Prelude.{Untagged, untagged-means}
+use Rattle.bucket_model.specs.Prelude.{Call, FirstOut, Laid, Outcome, Reached, Reused, Shaped, Sorted, Store, after, answered, ask, asked, brought, called, gone, headAt, held, joinedBits, joinedWords, lowestOf, ofRank, outcome, plain, plainAfter, plainSays, plainWith, popped, queue, roomOf, saidNumber, says, start, store, stored, tailAt, takenBits, takenWords, times, word}
+use Rattle.bucket_model.specs.Layout.{Lay}
+use Rattle.bucket_model.specs.Calls.{Lowest}
 use Rattle.bucket_model.proofs.Sorted.{Does, plain-either, Through, through}
 use Rattle.bucket_model.proofs.Facts.{pop-means, pop-way, low-is}
 use Rattle.bucket_model.proofs.Taken.{free-after}

@@ -1,24 +1,8 @@
 -- What a push does to a store that holds a list.
-use mathlib.Core.Path.{_≡_, refl, sym, ap, subst, _∙_}
-use mathlib.Core.Bool.{true}
-use mathlib.Core.List.{List, [], _∷_, _++_}
-use mathlib.Core.Logic.{inr}
-use Prim.Native.Nat.{ℕ, suc, _+_, _≤_, _<_}
-use native.Mathlib.Omega.{arith}
-use borrow.Author.Tests.{eq-eqb, ne-eqb}
-use lib.Dec.{eqb}
-use lib.ListN.{length, set, length-set}
-use Rattle.laws.specs.Lists.{All}
-use Rattle.laws.specs.Means.{Iff}
-use Rattle.laws.specs.Tests.{cond-path}
-use Rattle.laws.specs.Updates.{upd, is-upd, same-upd}
-use Rattle.strip.specs.declared.Element.{Element}
-use Rattle.bucket_model.specs.Layout.{Lay, Laid, word, headAt, tailAt, nextAt, Load, loadOf}
-use Rattle.bucket_model.specs.Storeys.{marked}
-use Rattle.bucket_model.specs.Checks.{nextOf}
-use Rattle.bucket_model.specs.Calls.{Room, roomWith, linkAt, joins, joinedWords, joinedBits}
-use Rattle.bucket_model.specs.Causes.{JoinFit}
-use Rattle.bucket_model.specs.Plain.{insert, inOrder}
+use Rattle.laws.specs.Prelude.{All, Element, Iff, List, [], _++_, _+_, _<_, _∙_, _∷_, _≡_, _≤_, ap, arith, cond-path, eq-eqb, eqb, inr, is-upd, length, length-set, ne-eqb, refl, same-upd, set, subst, suc, sym, true, upd, ℕ}
+use Rattle.bucket_model.specs.Prelude.{JoinFit, Laid, Load, headAt, inOrder, insert, joinedBits, joinedWords, joins, linkAt, loadOf, marked, nextAt, nextOf, roomWith, tailAt, word}
+use Rattle.bucket_model.specs.Layout.{Lay}
+use Rattle.bucket_model.specs.Calls.{Room}
 use Rattle.bucket_model.proofs.Facts.{join-means}
 use Rattle.bucket_model.proofs.Writes.{same, write-length}
 use Rattle.bucket_model.proofs.Tower.{Ranks, ranks-ext, ranks-agree, marks, marked-length}

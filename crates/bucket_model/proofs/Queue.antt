@@ -1,20 +1,7 @@
 -- A store that holds a list in leaving order, that it passes the tests of every call, and what it holds once one of its buckets has changed.
-use mathlib.Core.Path.{_≡_, refl, sym, ap, _∙_}
-use mathlib.Core.List.{List, [], _∷_}
-use mathlib.Core.Logic.{inl, inr}
-use Prim.Native.Nat.{ℕ, zero, suc, _+_, _^_, _≤_, _<_}
-use native.Mathlib.Decide.{ℕ-discrete}
-use native.Mathlib.Nat.{pow-suc}
-use native.Mathlib.Omega.{arith}
-use lib.ListN.{length}
-use Rattle.laws.specs.Lists.{All}
-use Rattle.laws.specs.Means.{Iff}
-use Rattle.laws.specs.Updates.{upd, is-upd}
-use Rattle.strip.specs.declared.Element.{Element}
-use Rattle.bucket_model.specs.Layout.{Lay, Laid, queue, word, headAt, nodeWords, Load, noLoad}
-use Rattle.bucket_model.specs.Storeys.{lowestRank}
-use Rattle.bucket_model.specs.Causes.{Shaped, Whole}
-use Rattle.bucket_model.specs.Plain.{inOrder}
+use Rattle.laws.specs.Prelude.{All, Element, Iff, List, [], _+_, _<_, _^_, _∙_, _∷_, _≡_, _≤_, ap, arith, inl, inr, is-upd, length, pow-suc, refl, suc, sym, upd, zero, ℕ, ℕ-discrete}
+use Rattle.bucket_model.specs.Prelude.{Laid, Load, Shaped, Whole, headAt, inOrder, lowestRank, noLoad, nodeWords, queue, word}
+use Rattle.bucket_model.specs.Layout.{Lay}
 use Rattle.bucket_model.proofs.Chain.{Node, Mine, Seg, Chain}
 use Rattle.bucket_model.proofs.Linked.{Area, Linked}
 use Rattle.bucket_model.proofs.Order.{order-else, order-none, order-some}

@@ -1,26 +1,10 @@
 -- Replace is a pop, and then a push on the store that the pop leaves, word for word: for all inputs.
-use mathlib.Core.Path.{_≡_, refl, sym, ap, _∙_}
-use mathlib.Core.Bool.{true}
-use mathlib.Core.List.{List}
-use mathlib.Core.Logic.{inl, inr, ⊎-elim}
-use Prim.Native.Nat.{ℕ, _<_}
-use native.Mathlib.Omega.{arith}
-use Rattle.laws.specs.Ladder.{First, fine}
-use Rattle.laws.specs.Means.{Iff}
+use Rattle.laws.specs.Prelude.{Answer, BadRank, BadShape, Damaged, Done, Element, Empty, First, Iff, List, NoTag, Out, Pop, Push, Replace, _<_, _∙_, _≡_, ap, arith, fine, inl, inr, numberOf, refl, refusalNumber, sym, true, ℕ, ⊎-elim}
 use Rattle.promise.proofs.Tabled.{Passed, granted, passes}
-use Rattle.promise.specs.Refused.{Untagged}
-use Rattle.promise.specs.Table.{ladder}
-use Rattle.strip.specs.Answers.{numberOf, refusalNumber}
-use Rattle.strip.specs.declared.Element.{Element}
-use Rattle.strip.specs.declared.Refusal.the-variants.{BadShape, Damaged, BadRank, Empty, NoTag}
-use Rattle.strip.specs.declared.Answer.{Answer}
-use Rattle.strip.specs.declared.Answer.the-variants.{Done, Out}
-use Rattle.strip.specs.declared.Request.the-variants.{Push, Pop, Replace}
-use Rattle.bucket_model.specs.Layout.{Lay, Laid}
-use Rattle.bucket_model.specs.Calls.{Outcome, outcome, isWhole, lowestOf, given, Room, roomOf, roomAfter, joinedBits, joinedWords}
-use Rattle.bucket_model.specs.Causes.{Shaped, Whole, Some, bitsAfter, wordsAfter, callTable}
-use Rattle.bucket_model.specs.Plain.{Store, store, asked, Reached}
-use Rattle.bucket_model.specs.Promise.{popLeaves}
+use Rattle.promise.specs.Prelude.{Untagged, ladder}
+use Rattle.bucket_model.specs.Prelude.{Laid, Outcome, Reached, Shaped, Some, Store, Whole, asked, bitsAfter, callTable, given, isWhole, joinedBits, joinedWords, lowestOf, outcome, popLeaves, roomAfter, roomOf, store, wordsAfter}
+use Rattle.bucket_model.specs.Layout.{Lay}
+use Rattle.bucket_model.specs.Calls.{Room}
 use Rattle.bucket_model.proofs.Exactly.{exactly-pop, exactly-replace, goes}
 use Rattle.bucket_model.proofs.Facts.{whole-means}
 use Rattle.bucket_model.proofs.Taken.{held-after}

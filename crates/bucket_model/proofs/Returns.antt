@@ -1,18 +1,8 @@
 -- Each answer of each call, from what the call has tested.
-use mathlib.Core.Path.{_≡_, sym, ap}
-use mathlib.Core.Bool.{Bool, true, false, cond, not, _&&_, false≢true}
-use mathlib.Core.List.{List}
-use Prim.Native.Nat.{ℕ, _≤_, _<_}
-use lib.Dec.{ltb, eqb}
-use borrow.Author.Tests.{eq-eqb, ne-eqb, lt-ltb, le-ltb}
-use Rattle.strip.specs.Answers.{untagged}
-use Rattle.strip.specs.declared.Element.{Element}
-use Rattle.strip.specs.declared.Refusal.{Refusal}
-use Rattle.strip.specs.declared.Refusal.the-variants.{BadShape, Damaged, BadRank, Full, Empty, NoTag}
-use Rattle.strip.specs.declared.Answer.the-variants.{Done, Out}
-use Rattle.strip.specs.declared.Count.the-variants.{Held, Unknown}
-use Rattle.bucket_model.specs.Layout.{Lay, bitWords, storeWords, word}
-use Rattle.bucket_model.specs.Calls.{Outcome, outcome, refused, isShaped, isWhole, fill, blankWord, cleared, heldCount, Lowest, Room, lowestOf, takenBits, takenWords, given, popFound, popped, roomOf, joinedBits, joinedWords, pushFound, pushed, roomAfter, replaceFound, replaceJoined, replaced}
+use Rattle.laws.specs.Prelude.{BadRank, BadShape, Bool, Damaged, Done, Element, Empty, Full, Held, List, NoTag, Out, Refusal, Unknown, _&&_, _<_, _≡_, _≤_, ap, cond, eq-eqb, eqb, false, false≢true, le-ltb, lt-ltb, ltb, ne-eqb, not, sym, true, untagged, ℕ}
+use Rattle.bucket_model.specs.Prelude.{Outcome, bitWords, blankWord, cleared, fill, given, heldCount, isShaped, isWhole, joinedBits, joinedWords, lowestOf, outcome, popFound, popped, pushFound, pushed, refused, replaceFound, replaceJoined, replaced, roomAfter, roomOf, storeWords, takenBits, takenWords, word}
+use Rattle.bucket_model.specs.Layout.{Lay}
+use Rattle.bucket_model.specs.Calls.{Lowest, Room}
 
 -- two tests in turn, each with its refusal, that are asked as one
 pub either : (b w : List ℕ) (first second : Bool) (x y z : Refusal) (o : Outcome) → (first && second) ≡ false → x ≡ cond first y z → refused x b w ≡ cond first (cond second o (refused y b w)) (refused z b w)

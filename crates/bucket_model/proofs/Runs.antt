@@ -1,22 +1,8 @@
 -- A store that holds a list does what the plain list does, call by call, and its list is read off its words.
-use mathlib.Core.Path.{_≡_, refl, sym, ap, subst, _∙_}
-use mathlib.Core.Bool.{Bool, true, false}
-use mathlib.Core.List.{List, [], _∷_}
-use Prim.Native.Nat.{ℕ, zero, suc, _≤_, _<_}
-use native.Mathlib.Decide.{ℕ-discrete, decLt}
-use native.Mathlib.Omega.{arith}
-use borrow.Author.Tests.{lt-ltb, le-ltb}
-use lib.Dec.{ltb}
-use lib.ListN.{length}
-use Rattle.laws.specs.Lists.{All}
-use Rattle.strip.specs.Answers.{untagged}
-use Rattle.strip.specs.declared.Element.{Element}
-use Rattle.strip.specs.declared.Refusal.the-variants.{BadRank, Full, Empty, NoTag}
-use Rattle.strip.specs.declared.Answer.the-variants.{Done, Out, Refused}
-use Rattle.strip.specs.declared.Request.the-variants.{Idle, Push, Pop, Replace}
-use Rattle.bucket_model.specs.Layout.{Lay, Laid, word, headAt, nextIn, Load, loadIn}
-use Rattle.bucket_model.specs.Calls.{Outcome, outcome, refused, isShaped, isWhole, lowestOf, Room, roomOf, roomAfter, takenBits, takenWords, joinedBits, joinedWords, pushed, popped, replaced}
-use Rattle.bucket_model.specs.Plain.{Call, ask, held, Said, answered, counted, Step, step, Store, store, asked, called, says, after, insert, tagged, roomy, plain, plainWith, plainPop, plainReplace, plainSays, plainAfter, walk, lane, stored}
+use Rattle.laws.specs.Prelude.{All, BadRank, Bool, Done, Element, Empty, Full, Idle, List, NoTag, Out, Pop, Push, Refused, Replace, [], _<_, _∙_, _∷_, _≡_, _≤_, ap, arith, decLt, false, le-ltb, length, lt-ltb, ltb, refl, subst, suc, sym, true, untagged, zero, ℕ, ℕ-discrete}
+use Rattle.bucket_model.specs.Prelude.{Call, Laid, Load, Outcome, Said, Step, Store, after, answered, ask, asked, called, counted, headAt, held, insert, isShaped, isWhole, joinedBits, joinedWords, lane, loadIn, lowestOf, nextIn, outcome, plain, plainAfter, plainPop, plainReplace, plainSays, plainWith, popped, pushed, refused, replaced, roomAfter, roomOf, roomy, says, step, store, stored, tagged, takenBits, takenWords, walk, word}
+use Rattle.bucket_model.specs.Layout.{Lay}
+use Rattle.bucket_model.specs.Calls.{Room}
 use Rattle.bucket_model.proofs.Returns as told
 use Rattle.bucket_model.proofs.Facts.{shape-means, whole-means, pop-means, push-means, room-means}
 use Rattle.bucket_model.proofs.Chain.{Node, Seg, Mine}

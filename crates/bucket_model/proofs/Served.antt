@@ -1,34 +1,12 @@
 -- What goes in and out and what is least, in 01's numbers: by the number of an answer, its rank, its tag and its length.
-use mathlib.Core.Path.{_≡_, refl, sym, ap, _∙_}
-use mathlib.Core.Bool.{Bool, true, false, cond}
-use mathlib.Core.List.{List, [], _∷_}
-use Prim.Native.Nat.{ℕ, zero, suc, _+_, _≤_}
-use native.Mathlib.Omega.{arith}
-use borrow.Author.Tests.{le-ltb}
-use lib.Dec.{ltb}
-use lib.ListN.{length}
-use Rattle.laws.specs.Lists.{All}
-use Rattle.laws.specs.Means.{means-off}
+use Rattle.laws.specs.Prelude.{All, Answer, Bool, Count, Done, Element, Held, Idle, List, Out, Pop, Push, Refused, Replace, Request, [], _+_, _∙_, _∷_, _≡_, _≤_, ap, arith, cond, countNumber, countOf, false, le-ltb, length, ltb, means-off, numberOf, rankOf, refl, suc, sym, true, untagged, zero, ℕ}
 use Rattle.promise.proofs.Kept.{none-moved}
 use Rattle.promise.specs.Queue as served
-use Rattle.promise.specs.Served.{hit, lower, given, brought, all-sum, Least, IsOut}
+use Rattle.promise.specs.Prelude.{Barred, IsOut, Least, Tagged, all-sum, brought, given, hit, lower, tagged-by, untagged-means}
 use Rattle.promise.specs.Served as said
-use Rattle.promise.specs.Refused.{untagged-means}
-use Rattle.promise.specs.Tagged.{Barred, Tagged, tagged-by}
-use Rattle.strip.specs.Answers.{untagged, numberOf, rankOf, countNumber, countOf}
-use Rattle.strip.specs.declared.Element.{Element}
-use Rattle.strip.specs.declared.Answer.{Answer}
-use Rattle.strip.specs.declared.Answer.the-variants.{Done, Out, Refused}
-use Rattle.strip.specs.declared.Count.{Count}
-use Rattle.strip.specs.declared.Count.the-variants.{Held}
-use Rattle.strip.specs.declared.Request.{Request}
-use Rattle.strip.specs.declared.Request.the-variants.{Idle, Push, Pop, Replace}
-use Rattle.bucket_model.specs.Layout.{Lay, Laid}
-use Rattle.bucket_model.specs.Calls.{heldCount}
-use Rattle.bucket_model.specs.Causes.{Shaped}
+use Rattle.bucket_model.specs.Prelude.{Call, Laid, Reached, Said, Shaped, Step, Store, answered, ask, asked, brings, bucketQueue, called, came, counted, held, heldCount, ifDone, plain, plainWith, says, start, step, store, stored, storedBy, times}
+use Rattle.bucket_model.specs.Layout.{Lay}
 use Rattle.bucket_model.specs.Plain as listed
-use Rattle.bucket_model.specs.Plain.{Call, ask, held, says, ifDone, brings, came, Said, answered, counted, Step, step, Store, store, asked, called, start, Reached, plain, plainWith, stored, times}
-use Rattle.bucket_model.specs.Promise.{bucketQueue, storedBy}
 use Rattle.bucket_model.proofs.Kind.{kind, barred}
 use Rattle.bucket_model.proofs.Sorted.{Does, plain-either, times-append, times-insert}
 use Rattle.bucket_model.proofs.Queue.{alone, Holds}

@@ -1,19 +1,9 @@
 -- "A bit is set exactly if something is held below it": on a store that the queue's own calls lead to, storey by storey.
-use mathlib.Core.Path.{_≡_, refl, sym, ap, subst, _∙_}
-use mathlib.Core.List.{List, [], _∷_}
-use Prim.Native.Nat.{ℕ, suc, _+_, _-_, _*_, _/_, _%_, _^_, _≤_, _<_, zero}
-use native.Mathlib.Decide.{ℕ-discrete}
-use native.Mathlib.Nat.{pow-suc}
-use native.Mathlib.Omega.{arith}
+use Rattle.laws.specs.Prelude.{Element, Iff, List, [], _%_, _*_, _+_, _-_, _/_, _<_, _^_, _∙_, _∷_, _≡_, _≤_, ap, arith, length, pow-suc, refl, subst, suc, sym, zero, ℕ, ℕ-discrete}
 use lib.Count.{trailingZeros}
-use lib.ListN.{length}
-use Rattle.laws.specs.Means.{Iff}
 use Rattle.bitmap.specs.Bits.{bitAt}
-use Rattle.strip.specs.declared.Element.{Element}
-use Rattle.bucket_model.specs.Layout.{Lay, Laid, queue, word, headAt, Load}
-use Rattle.bucket_model.specs.Storeys.{Storey, storeysFrom, storeysAt}
-use Rattle.bucket_model.specs.Plain.{Store, Reached}
-use Rattle.bucket_model.specs.Promise.{Occupied, Shows, Grouped, BitsTell, BitsTellThree}
+use Rattle.bucket_model.specs.Prelude.{BitsTell, BitsTellThree, Grouped, Laid, Load, Occupied, Reached, Shows, Store, Storey, headAt, queue, storeysAt, storeysFrom, word}
+use Rattle.bucket_model.specs.Layout.{Lay}
 use Rattle.bucket_model.proofs.Tells.{Tells, nz, nz-one, up, storey-down, storey-none}
 use Rattle.bucket_model.proofs.Tower.{Tower, Bits, Shape, shape-from}
 use Rattle.bucket_model.proofs.Chain.{Node}

@@ -1,25 +1,9 @@
 -- The plain list, one call after another: in leaving order, first in first out within a rank, nothing lost.
-use mathlib.Core.Path.{_≡_, refl, sym, ap, subst, _∙_}
-use mathlib.Core.Bool.{Bool, true, false, cond, not}
-use mathlib.Core.List.{List, [], _∷_, _++_, append-assoc, append-nil}
-use Prim.Native.Nat.{ℕ, zero, suc, _+_, _≤_, _<_}
-use native.Mathlib.Decide.{ℕ-discrete, decLt}
-use native.Mathlib.Omega.{arith}
-use borrow.Author.Tests.{lt-ltb, le-ltb, ne-eqb}
-use lib.Dec.{ltb, eqb}
-use lib.ListN.{length}
-use Rattle.laws.specs.Lists.{All, all-map}
-use Rattle.promise.specs.Refused.{zero-told}
-use Rattle.promise.specs.Table.{decided-either, ends, needs}
-use Rattle.strip.specs.Answers.{blank, refusalNumber, untagged}
-use Rattle.strip.specs.declared.Element.{Element}
-use Rattle.strip.specs.declared.Refusal.{Refusal}
-use Rattle.strip.specs.declared.Refusal.the-variants.{BadRank, Full, Empty, NoTag}
-use Rattle.strip.specs.declared.Answer.the-variants.{Done, Out, Refused}
-use Rattle.strip.specs.declared.Count.the-variants.{Held}
-use Rattle.strip.specs.declared.Request.the-variants.{Idle, Push, Pop, Replace}
+use Rattle.laws.specs.Prelude.{All, BadRank, Bool, Done, Element, Empty, Full, Held, Idle, List, NoTag, Out, Pop, Push, Refusal, Refused, Replace, [], _++_, _+_, _<_, _∙_, _∷_, _≡_, _≤_, all-map, ap, arith, blank, cond, decLt, eqb, false, le-ltb, length, lt-ltb, ltb, ne-eqb, not, refl, refusalNumber, subst, suc, sym, true, untagged, zero, ℕ, ℕ-discrete}
+use mathlib.Core.List.{append-assoc, append-nil}
+use Rattle.promise.specs.Prelude.{decided-either, ends, needs, zero-told}
 use Rattle.bucket_model.specs.Layout.{Lay}
-use Rattle.bucket_model.specs.Plain.{Call, ask, held, Said, answered, counted, Step, step, insert, plainReplace, plain, plainWith, plainSays, plainAfter, ifDone, came, went, brought, gone, ofRank, times, Sorted}
+use Rattle.bucket_model.specs.Prelude.{Call, Said, Sorted, Step, answered, ask, brought, came, counted, gone, held, ifDone, insert, ofRank, plain, plainAfter, plainReplace, plainSays, plainWith, step, times, went}
 
 -- ---- the elements of a rank
 

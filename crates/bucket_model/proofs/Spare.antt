@@ -1,14 +1,7 @@
 -- The free chain of a store that the queue's own calls lead to: all that is not held, with tag 0 and length 0.
-use mathlib.Core.Path.{_≡_, refl, sym, ap, subst, _∙_}
-use mathlib.Core.List.{List, [], _∷_}
-use Prim.Native.Nat.{ℕ, _+_}
-use native.Mathlib.Omega.{arith}
-use lib.ListN.{length}
-use Rattle.laws.specs.Lists.{All}
-use Rattle.strip.specs.declared.Element.{Element}
-use Rattle.bucket_model.specs.Layout.{Lay, Laid, word, Load, noLoad}
-use Rattle.bucket_model.specs.Plain.{Store, Reached, walk}
-use Rattle.bucket_model.specs.Promise.{Spare}
+use Rattle.laws.specs.Prelude.{All, Element, List, [], _+_, _∙_, _∷_, _≡_, ap, arith, length, refl, subst, sym, ℕ}
+use Rattle.bucket_model.specs.Prelude.{Laid, Load, Reached, Spare, Store, noLoad, walk, word}
+use Rattle.bucket_model.specs.Layout.{Lay}
 use Rattle.bucket_model.proofs.Chain.{Node}
 use Rattle.bucket_model.proofs.Queue.{Seat, alone, HoldsIn, NoLoads, loads, loads-length, freeChain}
 use Rattle.bucket_model.proofs.Runs.{walks}

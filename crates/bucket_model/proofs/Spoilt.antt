@@ -1,14 +1,8 @@
 -- One spoilt word for each damage test of 01: the numbers, computed from the definitions; and whatever is refused leaves every word.
-use mathlib.Core.Path.{_≡_, refl}
+use Rattle.laws.specs.Prelude.{All, _≡_, all-map, refl, untagged}
 use lib.Count.{trailingZeros}
 use Rattle.bitmap.specs.Bits.{bitAt}
-use Rattle.laws.specs.Lists.{All, all-map}
-use Rattle.strip.specs.Answers.{untagged}
-use Rattle.bucket_model.specs.Storeys.{marked, lowestRank, lowestOpen, rankAgrees}
-use Rattle.bucket_model.specs.Checks.{shapeOk, wholeOk, nextOf, popOk, pushOk}
-use Rattle.bucket_model.specs.Calls.{heldCount, lowestOf, tailLeft, takenWords, takenBits, popFound, popped, roomWith, linkAt, joinedWords, joinedBits, pushFound, pushed, roomAfter, replaceFound, replaceJoined, replaced}
-use Rattle.bucket_model.specs.Plain.{asked}
-use Rattle.bucket_model.specs.Spoilt.{at, numbers, Right, Row, small, spoiltTable}
+use Rattle.bucket_model.specs.Prelude.{Right, Row, asked, at, heldCount, joinedBits, joinedWords, linkAt, lowestOf, lowestOpen, lowestRank, marked, nextOf, numbers, popFound, popOk, popped, pushFound, pushOk, pushed, rankAgrees, replaceFound, replaceJoined, replaced, roomAfter, roomWith, shapeOk, small, spoiltTable, tailLeft, takenBits, takenWords, wholeOk}
 use Rattle.bucket_model.proofs.Exactly.{stands}
 
 right : (r : Row) → numbers (small (r .storeys)) (at r) ≡ r .says → Right r

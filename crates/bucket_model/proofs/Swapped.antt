@@ -1,13 +1,8 @@
 -- A pop's words, and a push's that takes the freed node: the free chain and the held count end as they were.
-use mathlib.Core.Path.{_≡_, sym, ap, _∙_}
-use mathlib.Core.List.{List, [], _∷_, _++_}
-use Prim.Native.Nat.{ℕ, _+_, _-_, _≤_, _<_}
-use native.Mathlib.Omega.{arith}
-use lib.ListN.{length, set}
-use lib.Seq.{set-set, set-comm, set-getD}
-use Rattle.strip.specs.declared.Element.{Element}
-use Rattle.bucket_model.specs.Layout.{Lay, Laid, storeWords, word, write, headAt, tailAt, nextAt, loadWrites, loadOf, noLoad}
-use Rattle.bucket_model.specs.Calls.{Lowest, Room, tailLeft, takenWords, linkAt, joinedWords}
+use Rattle.laws.specs.Prelude.{Element, List, [], _++_, _+_, _-_, _<_, _∙_, _∷_, _≡_, _≤_, ap, arith, length, set, set-comm, set-getD, set-set, sym, ℕ}
+use Rattle.bucket_model.specs.Prelude.{Laid, headAt, joinedWords, linkAt, loadOf, loadWrites, nextAt, noLoad, storeWords, tailAt, tailLeft, takenWords, word, write}
+use Rattle.bucket_model.specs.Layout.{Lay}
+use Rattle.bucket_model.specs.Calls.{Lowest, Room}
 use Rattle.bucket_model.proofs.Load.{load-misses, load-over}
 use Rattle.bucket_model.proofs.Writes.{Misses, other, write-other, write-past}
 use Rattle.bucket_model.proofs.Taken.{free-after, held-after}

@@ -1,15 +1,8 @@
 -- The words that a pop leaves, one by one.
-use mathlib.Core.Path.{_≡_, refl, _∙_}
-use mathlib.Core.List.{List, [], _∷_}
-use mathlib.Core.Logic.{_⊎_, inl, inr}
-use Prim.Native.Nat.{ℕ, _+_, _-_, _≤_, _<_}
-use native.Mathlib.Decide.{ℕ-discrete, decLt}
-use native.Mathlib.Omega.{arith}
-use borrow.Author.Tests.{eq-eqb, ne-eqb, lt-ltb, le-ltb}
-use lib.ListN.{length, set, length-set}
-use Rattle.bucket_model.specs.Layout.{Lay, Laid, loadWords, nodeWords, cell, storeWords, word, write, headAt, tailAt, nextAt, loadWrites, noLoad}
-use Rattle.bucket_model.specs.Checks.{nextOf}
-use Rattle.bucket_model.specs.Calls.{Lowest, tailLeft, takenWords}
+use Rattle.laws.specs.Prelude.{List, [], _+_, _-_, _<_, _∙_, _∷_, _≡_, _≤_, _⊎_, arith, decLt, eq-eqb, inl, inr, le-ltb, length, length-set, lt-ltb, ne-eqb, refl, set, ℕ, ℕ-discrete}
+use Rattle.bucket_model.specs.Prelude.{Laid, cell, headAt, loadWords, loadWrites, nextAt, nextOf, noLoad, nodeWords, storeWords, tailAt, tailLeft, takenWords, word, write}
+use Rattle.bucket_model.specs.Layout.{Lay}
+use Rattle.bucket_model.specs.Calls.{Lowest}
 use Rattle.bucket_model.proofs.Load.{load-misses}
 use Rattle.bucket_model.proofs.Writes.{same, other, write-other, write-length, write-here}
 use Rattle.bucket_model.proofs.Pop.{next-in}

@@ -1,14 +1,8 @@
 -- One storey of bits: m words from base on, in which bit j % 64 of word j / 64 is f j. What one bit more or less does to it, and where its lowest set bit is. Every storey is one of these: what f is differs, at the bottom whether something is held, above whether the word below is 0.
-use mathlib.Core.Path.{_≡_, refl, sym, ap, _∙_}
-use mathlib.Core.List.{List}
-use Prim.Native.Nat.{ℕ, zero, suc, _+_, _-_, _*_, _/_, _%_, _^_, _≤_, _<_}
-use native.Mathlib.Decide.{ℕ-discrete}
-use native.Mathlib.Omega.{arith}
-use lib.ListN.{length, set, length-set}
+use Rattle.laws.specs.Prelude.{List, Upd, _%_, _*_, _+_, _-_, _/_, _<_, _^_, _∙_, _≡_, _≤_, ap, arith, length, length-set, refl, set, suc, sym, zero, ℕ, ℕ-discrete}
 use lib.Count.{trailingZeros}
 use Rattle.bitmap.specs.Bits.{bitAt, bit-zero, bit-suc, more-same, more-other, more-fits, less-same, less-other, Lowest, lowest}
-use Rattle.laws.specs.Updates.{Upd}
-use Rattle.bucket_model.specs.Layout.{word}
+use Rattle.bucket_model.specs.Prelude.{word}
 use Rattle.bucket_model.proofs.Writes.{same, other}
 
 -- 0 of 0, and 1 of any other number

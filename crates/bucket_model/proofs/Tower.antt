@@ -1,23 +1,10 @@
 -- Storeys above one another, to any depth: each tells which words of the one below are not 0. Lowest first.
-use mathlib.Core.Path.{_≡_, refl, sym, ap, subst, _∙_}
-use mathlib.Core.List.{List, [], _∷_}
-use mathlib.Core.Bool.{Bool, true, false, cond, not}
-use mathlib.Core.Logic.{_⊎_, inl, inr}
-use Prim.Native.Nat.{ℕ, zero, suc, _+_, _-_, _*_, _/_, _%_, _^_, _≤_, _<_}
-use native.Mathlib.Decide.{ℕ-discrete, decLt}
-use native.Mathlib.Nat.{pow-suc}
-use native.Mathlib.Omega.{arith}
-use borrow.Author.Tests.{eqb-true, eqb-false}
+use Rattle.laws.specs.Prelude.{Bool, Iff, List, Upd, [], _%_, _*_, _+_, _-_, _/_, _<_, _^_, _∙_, _∷_, _≡_, _≤_, _⊎_, ap, arith, cond, cond-path, decLt, eqb-false, eqb-true, false, inl, inr, length, length-set, not, pow-suc, refl, same-upd, set, subst, suc, sym, true, zero, ℕ, ℕ-discrete}
 use lib.Pow.{pow-pos}
 use lib.Count.{trailingZeros}
-use lib.ListN.{length, set, length-set}
-use Rattle.laws.specs.Tests.{cond-path}
-use Rattle.laws.specs.Updates.{Upd, same-upd}
 use Rattle.bitmap.specs.Bits.{bitAt, bit-zero, bit-suc, set-le}
-use Rattle.laws.specs.Means.{Iff}
-use Rattle.bucket_model.specs.Layout.{Lay, Laid, word, wordsOf, bitWords}
-use Rattle.bucket_model.specs.Storeys.{Storey, storey, storeysFrom, storeysAt, wordOf, turned, bitFor, tellsAbove, edit, find, marked, lowestRank}
-use Rattle.bucket_model.specs.Causes.{Opens, Agrees}
+use Rattle.bucket_model.specs.Prelude.{Agrees, Laid, Opens, Storey, bitFor, bitWords, edit, find, lowestRank, marked, storey, storeysAt, storeysFrom, switched, tellsAbove, word, wordOf, wordsOf}
+use Rattle.bucket_model.specs.Layout.{Lay}
 use Rattle.bucket_model.proofs.Writes.{other}
 use Rattle.bucket_model.proofs.Tells.{nz, nz-one, nz-zero, Tells, storey-ext, storey-off, storey-more, storey-less, storey-down, storey-none, Down, up, up-word}
 
@@ -81,10 +68,10 @@ edit-length on b (p ∷ ps) j = cond-path length (tellsAbove on w v) (edit on b1
     w = word b (p .base + j / 64)
 
     v : ℕ
-    v = turned on (word b (p .base + j / 64)) (j % 64)
+    v = switched on (word b (p .base + j / 64)) (j % 64)
 
     b1 : List ℕ
-    b1 = set b (p .base + j / 64) (turned on (word b (p .base + j / 64)) (j % 64))
+    b1 = set b (p .base + j / 64) (switched on (word b (p .base + j / 64)) (j % 64))
 
 -- an edit leaves the words outside alone
 pub edit-off : (on : Bool) (b : List ℕ) (ps : List Storey) (j a : ℕ) → Bits ps j → Shape ps → Outside a ps → word (edit on b ps j) a ≡ word b a
@@ -95,10 +82,10 @@ edit-off on b (p ∷ ps) j a h s o = go (tellsAbove on w v) (edit-off on b1 ps (
     w = word b (p .base + j / 64)
 
     v : ℕ
-    v = turned on (word b (p .base + j / 64)) (j % 64)
+    v = switched on (word b (p .base + j / 64)) (j % 64)
 
     b1 : List ℕ
-    b1 = set b (p .base + j / 64) (turned on (word b (p .base + j / 64)) (j % 64))
+    b1 = set b (p .base + j / 64) (switched on (word b (p .base + j / 64)) (j % 64))
 
     here : word b1 a ≡ word b a
     here = other b (p .base + j / 64) _ a (λ e. o .0 (j / 64) (omega arith) (sym e))
@@ -108,20 +95,20 @@ edit-off on b (p ∷ ps) j a h s o = go (tellsAbove on w v) (edit-off on b1 ps (
     go false e = here
 
 storey-edit : (on : Bool) (b : List ℕ) (base m : ℕ) (f f′ : ℕ → ℕ) (j : ℕ) → j < 64 * m → f j ≡ bitFor (not on) → Upd f f′ j (bitFor on)
-    → Tells b base m f → Tells (set b (base + j / 64) (turned on (word b (base + j / 64)) (j % 64))) base m f′
+    → Tells b base m f → Tells (set b (base + j / 64) (switched on (word b (base + j / 64)) (j % 64))) base m f′
 storey-edit true b base m f f′ j h e u z = storey-more b base m f f′ j h e u z
 storey-edit false b base m f f′ j h e u z = storey-less b base m f f′ j h e u z
 
 up-edit : (on : Bool) (b : List ℕ) (base m : ℕ) (f : ℕ → ℕ) (z : Tells b base m f) (j : ℕ) (h : j < 64 * m)
-    → Upd (up b base) (up (set b (base + j / 64) (turned on (word b (base + j / 64)) (j % 64))) base) (j / 64) (nz (turned on (word b (base + j / 64)) (j % 64)))
-up-edit on b base m f z j h = up-word b base m f z j h (turned on (word b (base + j / 64)) (j % 64))
+    → Upd (up b base) (up (set b (base + j / 64) (switched on (word b (base + j / 64)) (j % 64))) base) (j / 64) (nz (switched on (word b (base + j / 64)) (j % 64)))
+up-edit on b base m f z j h = up-word b base m f z j h (switched on (word b (base + j / 64)) (j % 64))
 
 -- what the storey above sees of a word w with bit k before and after
 record Seen (on : Bool) (w v : ℕ) : Type 0 where
   goes : tellsAbove on w v ≡ true → (nz w ≡ bitFor (not on)) × (nz v ≡ bitFor on)
   stays : tellsAbove on w v ≡ false → nz w ≡ nz v
 
-seen : (on : Bool) (w k : ℕ) → bitAt w k ≡ bitFor (not on) → Seen on w (turned on w k)
+seen : (on : Bool) (w k : ℕ) → bitAt w k ≡ bitFor (not on) → Seen on w (switched on w k)
 seen true w k e =
     record {
       goes = λ g. (ap nz (eqb-true w 0 g), nz-one (w + 2 ^ k) (omega (arith, pow-pos k)));
@@ -144,10 +131,10 @@ edits on b (p ∷ ps) f f′ j h s e u z = go (tellsAbove on w v) refl (λ q. ed
     w = word b (p .base + j / 64)
 
     v : ℕ
-    v = turned on (word b (p .base + j / 64)) (j % 64)
+    v = switched on (word b (p .base + j / 64)) (j % 64)
 
     b1 : List ℕ
-    b1 = set b (p .base + j / 64) (turned on (word b (p .base + j / 64)) (j % 64))
+    b1 = set b (p .base + j / 64) (switched on (word b (p .base + j / 64)) (j % 64))
 
     low1 : Tells b1 (p .base) (p .words) f′
     low1 = storey-edit on b (p .base) (p .words) f f′ j h e u (z .0)

@@ -1,27 +1,8 @@
 -- "Longer slices are taken; the rest is never touched": not read either. Two stores that agree on the words of the shape are answered the same and left the same there, whatever stands behind.
-use mathlib.Core.Path.{_≡_, refl, sym, ap, subst, _∙_}
-use mathlib.Core.Bool.{Bool, true, false, cond, not, _&&_, false≢true}
-use mathlib.Core.List.{List, [], _∷_}
-use Prim.Native.Nat.{ℕ, zero, suc, _+_, _/_, _%_, _^_, _≤_, _<_}
-use native.Mathlib.Decide.{ℕ-discrete, decLt}
-use native.Mathlib.Nat.{pow-suc}
-use native.Mathlib.Omega.{arith}
-use borrow.Author.Tests.{eq-eqb, ne-eqb, lt-ltb, le-ltb, ltb-true}
-use lib.Dec.{ltb, eqb}
-use lib.ListN.{length, set, length-set}
-use Rattle.strip.specs.Answers.{untagged}
-use Rattle.strip.specs.declared.Element.{Element}
-use Rattle.strip.specs.declared.Answer.{Answer}
-use Rattle.strip.specs.declared.Answer.the-variants.{Done, Out}
-use Rattle.strip.specs.declared.Request.{Request}
-use Rattle.strip.specs.declared.Request.the-variants.{Idle, Push, Pop, Replace}
-use Rattle.bucket_model.specs.Layout.{Lay, Laid, nodeWords, bitWords, storeWords, wordsOf, word, write, headAt, tailAt, nextAt, loaded}
-use Rattle.bucket_model.specs.Storeys.{storeysFrom, storeysAt, turned, tellsAbove, edit, find, opens, agree, marked, lowestRank, lowestOpen, rankAgrees}
-use Rattle.bucket_model.specs.Checks.{nextOf}
-use Rattle.bucket_model.specs.Calls.{Outcome, outcome, isShaped, isWhole, blankWord, cleared, heldCount, Lowest, lowestIn, noLowest, lowestOf, given, takes, takenWords, takenBits, popFound, popped, Room, roomOf, roomWith, joins, joinedWords, joinedBits, pushFound, pushed, roomAfter, replaceJoined, replaceFound, replaced}
-use Rattle.bucket_model.specs.Causes.{Shaped}
-use Rattle.bucket_model.specs.Plain.{store, asked}
-use Rattle.bucket_model.specs.Promise.{AgreeOn, Agree, AlikeOn, Alike}
+use Rattle.laws.specs.Prelude.{Answer, Bool, Done, Element, Idle, List, Out, Pop, Push, Replace, Request, [], _%_, _&&_, _+_, _/_, _<_, _^_, _∙_, _∷_, _≡_, _≤_, ap, arith, cond, decLt, eq-eqb, eqb, false, false≢true, le-ltb, length, length-set, lt-ltb, ltb, ltb-true, ne-eqb, not, pow-suc, refl, set, subst, suc, sym, true, untagged, zero, ℕ, ℕ-discrete}
+use Rattle.bucket_model.specs.Prelude.{Agree, AgreeOn, Alike, AlikeOn, Laid, Outcome, Shaped, agree, asked, bitWords, blankWord, cleared, edit, find, given, headAt, heldCount, isShaped, isWhole, joinedBits, joinedWords, joins, loaded, lowestIn, lowestOf, lowestOpen, lowestRank, marked, nextAt, nextOf, noLowest, nodeWords, opens, outcome, popFound, popped, pushFound, pushed, rankAgrees, replaceFound, replaceJoined, replaced, roomAfter, roomOf, roomWith, store, storeWords, storeysAt, storeysFrom, switched, tailAt, takenBits, takenWords, takes, tellsAbove, word, wordsOf, write}
+use Rattle.bucket_model.specs.Layout.{Lay}
+use Rattle.bucket_model.specs.Calls.{Lowest, Room}
 use Rattle.bucket_model.proofs.Facts.{shape-means, opens-means}
 use Rattle.bucket_model.proofs.Fill.{fill-at}
 use Rattle.bucket_model.proofs.Load.{load-same}
@@ -69,9 +50,9 @@ module _ (P : ℕ → Type 0) where
       (λ x. same-edit on o d (set b (o + wordsOf d + j / 64) x) (set c (o + wordsOf d + j / 64) x) (j / 64) (λ i a e. m i a (omega arith)) (has-set b (o + wordsOf d + j / 64) x p) (has-set c (o + wordsOf d + j / 64) x q) (agree-set b c (o + wordsOf d + j / 64) x p q h) (omega (arith, pow-suc 64 d)))
     where
       go : (x y : ℕ) → x ≡ y → ((x : ℕ) → AgreeOn P (edit on (set b (o + wordsOf d + j / 64) x) (storeysFrom o d) (j / 64)) (edit on (set c (o + wordsOf d + j / 64) x) (storeysFrom o d) (j / 64)))
-          → AgreeOn P (cond (tellsAbove on x (turned on x (j % 64))) (edit on (set b (o + wordsOf d + j / 64) (turned on x (j % 64))) (storeysFrom o d) (j / 64)) (set b (o + wordsOf d + j / 64) (turned on x (j % 64))))
-          (cond (tellsAbove on y (turned on y (j % 64))) (edit on (set c (o + wordsOf d + j / 64) (turned on y (j % 64))) (storeysFrom o d) (j / 64)) (set c (o + wordsOf d + j / 64) (turned on y (j % 64))))
-      go x y e ih = rw e (agree-cond (tellsAbove on y (turned on y (j % 64))) _ _ _ _ (ih (turned on y (j % 64))) (agree-set b c (o + wordsOf d + j / 64) (turned on y (j % 64)) p q h))
+          → AgreeOn P (cond (tellsAbove on x (switched on x (j % 64))) (edit on (set b (o + wordsOf d + j / 64) (switched on x (j % 64))) (storeysFrom o d) (j / 64)) (set b (o + wordsOf d + j / 64) (switched on x (j % 64))))
+          (cond (tellsAbove on y (switched on y (j % 64))) (edit on (set c (o + wordsOf d + j / 64) (switched on y (j % 64))) (storeysFrom o d) (j / 64)) (set c (o + wordsOf d + j / 64) (switched on y (j % 64))))
+      go x y e ih = rw e (agree-cond (tellsAbove on y (switched on y (j % 64))) _ _ _ _ (ih (switched on y (j % 64))) (agree-set b c (o + wordsOf d + j / 64) (switched on y (j % 64)) p q h))
 
   same-agree : (o d : ℕ) (b c : List ℕ) (j : ℕ) (empty : Bool) → All o d → AgreeOn P b c → j < 64 ^ d → agree b (storeysFrom o d) j empty ≡ agree c (storeysFrom o d) j empty
   same-agree o zero b c j empty m h l = refl

@@ -1,24 +1,10 @@
 -- The words past the end of each part: no call touches them.
-use mathlib.Core.Path.{_≡_, refl, ap, _∙_}
-use mathlib.Core.Bool.{true, false}
-use mathlib.Core.List.{List, [], _∷_}
-use mathlib.Core.Logic.{_⊎_, inr}
-use Prim.Native.Nat.{ℕ, zero, suc, _+_, _^_, _≤_, _<_}
-use native.Mathlib.Nat.{pow-suc, not-suc-le-zero, le-of-suc-le-suc}
-use native.Mathlib.Omega.{arith}
-use lib.Dec.{eqb}
-use lib.ListN.{length}
-use Rattle.laws.specs.Tests.{cond-path}
+use Rattle.laws.specs.Prelude.{Element, List, Pop, Push, Refusal, Replace, [], _+_, _<_, _^_, _∙_, _∷_, _≡_, _≤_, _⊎_, ap, arith, cond-path, eqb, false, inr, le-of-suc-le-suc, length, not-suc-le-zero, pow-suc, refl, suc, true, zero, ℕ}
 use Rattle.bitmap.specs.Bits as word64
 use Rattle.promise.proofs.Tabled.{either}
-use Rattle.strip.specs.declared.Element.{Element}
-use Rattle.strip.specs.declared.Refusal.{Refusal}
-use Rattle.strip.specs.declared.Request.the-variants.{Push, Pop, Replace}
-use Rattle.bucket_model.specs.Layout.{Lay, Laid, bitWords, storeWords, wordsOf, word}
-use Rattle.bucket_model.specs.Storeys.{storeysFrom, find, marked, lowestRank}
-use Rattle.bucket_model.specs.Calls.{refused, fillFrom, fill, blankWord, cleared, Lowest, Room, lowestOf, takenWords, takenBits, roomOf, roomWith, roomAfter, joinedBits, popped, pushed, replaced}
-use Rattle.bucket_model.specs.Causes.{Opens, bitsAfter, wordsAfter, Untouched}
-use Rattle.bucket_model.specs.Plain.{asked}
+use Rattle.bucket_model.specs.Prelude.{Laid, Opens, Untouched, asked, bitWords, bitsAfter, blankWord, cleared, fill, fillFrom, find, joinedBits, lowestOf, lowestRank, marked, popped, pushed, refused, replaced, roomAfter, roomOf, roomWith, storeWords, storeysFrom, takenBits, takenWords, word, wordsAfter, wordsOf}
+use Rattle.bucket_model.specs.Layout.{Lay}
+use Rattle.bucket_model.specs.Calls.{Lowest, Room}
 use Rattle.bucket_model.proofs.Exactly.{goes, goes-clear}
 use Rattle.bucket_model.proofs.Facts.{pop-means, pop-way, low-is, low-rank}
 use Rattle.bucket_model.proofs.Fill.{fill-length}

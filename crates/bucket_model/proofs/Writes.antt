@@ -1,11 +1,6 @@
 -- Words written: what stands where.
-use mathlib.Core.Path.{_≡_, refl, ap, _∙_}
-use mathlib.Core.List.{List, [], _∷_}
-use Prim.Native.Nat.{ℕ, _<_}
-use lib.ListN.{length, set, length-set}
-use lib.Seq.{getD-set-same, getD-set-other, set-comm}
-use Rattle.laws.specs.Lists.{All}
-use Rattle.bucket_model.specs.Layout.{word, write}
+use Rattle.laws.specs.Prelude.{All, List, [], _<_, _∙_, _∷_, _≡_, ap, getD-set-other, getD-set-same, length, length-set, refl, set, set-comm, ℕ}
+use Rattle.bucket_model.specs.Prelude.{word, write}
 
 pub same : (w : List ℕ) (a v : ℕ) → a < length w → word (set w a v) a ≡ v
 same w a v h = getD-set-same w a v 0 h

@@ -1,17 +1,5 @@
 -- The five calls as functions of every word that they are lent, to their answer and every word that they leave, wherever these words stand. These are definitions, and the contracts cite them.
-use mathlib.Core.Bool.{Bool, true, false, cond, not, _&&_}
-use mathlib.Core.List.{List, [], _∷_, _++_}
-use Prim.Native.Nat.{ℕ, zero, suc, _+_, _-_, _/_, _%_}
-use lib.Dec.{ltb, eqb}
-use lib.ListN.{length}
-use Rattle.strip.specs.Answers.{untagged}
-use Rattle.strip.specs.declared.Element.{Element}
-use Rattle.strip.specs.declared.Refusal.{Refusal}
-use Rattle.strip.specs.declared.Refusal.the-variants.{BadShape, Damaged, BadRank, Full, Empty, NoTag}
-use Rattle.strip.specs.declared.Answer.{Answer}
-use Rattle.strip.specs.declared.Answer.the-variants.{Done, Out, Refused}
-use Rattle.strip.specs.declared.Count.{Count}
-use Rattle.strip.specs.declared.Count.the-variants.{Held, Unknown}
+use Rattle.laws.specs.Prelude.{Answer, BadRank, BadShape, Bool, Count, Damaged, Done, Element, Empty, Full, Held, List, NoTag, Out, Refusal, Refused, Unknown, [], _%_, _&&_, _++_, _+_, _-_, _/_, _∷_, cond, eqb, false, length, ltb, not, suc, true, untagged, zero, ℕ}
 use Rattle.bucket_model.specs.Layout.{Lay, loadWords, nodeWords, bitWords, storeWords, word, write, headAt, tailAt, nextAt, loadIn, loadWrites, loadOf, loaded, noLoad}
 use Rattle.bucket_model.specs.Storeys.{marked, lowestRank, lowestOpen, rankAgrees}
 use Rattle.bucket_model.specs.Checks.{shapeOk, wholeOk, nextOf, popOk, Reads, pushOk}

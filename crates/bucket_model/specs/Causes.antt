@@ -1,25 +1,8 @@
 -- The table "When a queue says no" in facts: what a sound call may count on, and for each call what it asks in turn, with the refusal where it does not hold. These are definitions.
-use mathlib.Core.Bool.{not}
-use mathlib.Core.Path.{_≡_}
-use mathlib.Core.List.{List, [], _∷_}
-use Prim.Native.Nat.{ℕ, _+_, _/_, _%_, _≤_, _<_}
-use lib.Dec.{eqb, ltb}
-use lib.ListN.{length}
+use Rattle.laws.specs.Prelude.{BadRank, BadShape, Count, Damaged, Element, Empty, Full, Idle, Iff, List, NoTag, Pop, Push, Refusal, Replace, Request, Unknown, [], _%_, _+_, _/_, _<_, _∷_, _≡_, _≤_, countNumber, eqb, fine, length, ltb, not, numberOf, untagged, ℕ}
 use Rattle.laws.specs.Ladder as laws
-use Rattle.laws.specs.Ladder.{fine}
-use Rattle.laws.specs.Means.{Iff}
 use Rattle.bitmap.specs.Bits.{bitAt}
-use Rattle.promise.specs.Calls.{grants}
-use Rattle.promise.specs.Refused.{Untagged}
-use Rattle.promise.specs.Table.{Table, ends, needs, ladder}
-use Rattle.strip.specs.Answers.{untagged, numberOf, countNumber}
-use Rattle.strip.specs.declared.Element.{Element}
-use Rattle.strip.specs.declared.Refusal.{Refusal}
-use Rattle.strip.specs.declared.Refusal.the-variants.{BadShape, Damaged, BadRank, Full, Empty, NoTag}
-use Rattle.strip.specs.declared.Request.{Request}
-use Rattle.strip.specs.declared.Request.the-variants.{Idle, Push, Pop, Replace}
-use Rattle.strip.specs.declared.Count.{Count}
-use Rattle.strip.specs.declared.Count.the-variants.{Unknown}
+use Rattle.promise.specs.Prelude.{Table, Untagged, ends, grants, ladder, needs}
 use Rattle.bucket_model.specs.Layout.{Lay, pool, leastStoreys, mostStoreys, bitWords, storeWords, word, headAt, tailAt}
 use Rattle.bucket_model.specs.Storeys.{Storey, storeysAt, wordOf, find, lowestRank}
 use Rattle.bucket_model.specs.Checks.{nextOf}

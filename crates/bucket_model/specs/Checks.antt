@@ -1,8 +1,5 @@
 -- What a call tests, as computed yes or no. Causes.antt says the same in facts. These are definitions.
-use mathlib.Core.Bool.{Bool, cond, not, _&&_, Bool·beq}
-use mathlib.Core.List.{List}
-use Prim.Native.Nat.{ℕ, _+_}
-use lib.Dec.{leb, ltb, eqb}
+use Rattle.laws.specs.Prelude.{Bool, Bool·beq, List, _&&_, _+_, cond, eqb, leb, ltb, not, ℕ}
 use Rattle.bucket_model.specs.Layout.{Lay, pool, leastStoreys, mostStoreys, bitWords, word, nextAt}
 pub use Rattle.bucket_model.specs.declared.Reads.{Reads}
 

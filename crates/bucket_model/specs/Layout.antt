@@ -1,10 +1,5 @@
 -- Where a bucket queue's words stand, as a value; what a node carries; and the queue of a store of its own, two storeys deep or three. These are definitions.
-use mathlib.Core.List.{List, [], _∷_}
-use mathlib.Core.Path.{_≡_}
-use Prim.Native.Nat.{ℕ, zero, suc, _+_, _-_, _*_, _^_, _≤_, _<_}
-use lib.ListN.{getD, set}
-use Rattle.strip.specs.Answers.{element}
-use Rattle.strip.specs.declared.Element.{Element}
+use Rattle.laws.specs.Prelude.{Element, List, [], _*_, _+_, _-_, _<_, _^_, _∷_, _≡_, _≤_, element, getD, set, suc, zero, ℕ}
 pub use Rattle.bucket_model.specs.declared.Lay.{Lay}
 
 -- the word at a place

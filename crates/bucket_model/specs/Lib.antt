@@ -8,3 +8,4 @@ pub mod Plain
 pub mod Promise
 pub mod Filled
 pub mod Spoilt
+pub mod Prelude

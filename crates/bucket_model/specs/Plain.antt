@@ -1,20 +1,5 @@
 -- The plain queue, one list in leaving order, and lists of calls on it and on the words. These are definitions.
-use mathlib.Core.Bool.{Bool, cond, not}
-use mathlib.Core.List.{List, [], _∷_, _++_}
-use mathlib.Core.Path.{_≡_}
-use Prim.Native.Nat.{ℕ, zero, suc, _+_, _≤_}
-use lib.Dec.{ltb, eqb}
-use lib.ListN.{length, replicate}
-use Rattle.laws.specs.Lists.{All}
-use Rattle.strip.specs.Answers.{untagged, numberOf, elementOf, countNumber}
-use Rattle.strip.specs.declared.Element.{Element}
-use Rattle.strip.specs.declared.Refusal.the-variants.{BadRank, Full, Empty, NoTag}
-use Rattle.strip.specs.declared.Answer.{Answer}
-use Rattle.strip.specs.declared.Answer.the-variants.{Done, Out, Refused}
-use Rattle.strip.specs.declared.Count.{Count}
-use Rattle.strip.specs.declared.Count.the-variants.{Held}
-use Rattle.strip.specs.declared.Request.{Request}
-use Rattle.strip.specs.declared.Request.the-variants.{Idle, Push, Pop, Replace}
+use Rattle.laws.specs.Prelude.{All, Answer, BadRank, Bool, Count, Done, Element, Empty, Full, Held, Idle, List, NoTag, Out, Pop, Push, Refused, Replace, Request, [], _++_, _+_, _∷_, _≡_, _≤_, cond, countNumber, elementOf, eqb, length, ltb, not, numberOf, replicate, suc, untagged, zero, ℕ}
 use Rattle.bucket_model.specs.Layout.{Lay, bitWords, storeWords, word, headAt, tailAt, nextIn, Load, loadIn, loaded}
 use Rattle.bucket_model.specs.Calls.{Outcome, outcome, cleared, pushed, popped, replaced, heldCount}
 use Rattle.bucket_model.specs.Causes.{Shaped}

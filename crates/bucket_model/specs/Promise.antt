@@ -1,19 +1,8 @@
 -- What is promised of the bucket queue's words, beside the plain queue. These are definitions.
-use mathlib.Core.Bool.{Bool}
-use mathlib.Core.List.{List, [], _∷_, map}
-use mathlib.Core.Path.{_≡_}
-use Prim.Native.Nat.{ℕ, _+_, _*_, _/_, _%_, _≤_, _<_}
-use lib.ListN.{length}
+use Rattle.laws.specs.Prelude.{All, Answer, Bool, Done, Element, Iff, List, Pop, Request, [], _%_, _*_, _+_, _/_, _<_, _∷_, _≡_, _≤_, length, map, ℕ}
 use Rattle.bitmap.specs.Bits.{bitAt}
-use Rattle.laws.specs.Lists.{All}
-use Rattle.laws.specs.Means.{Iff}
 use Rattle.promise.specs.Queue as served
-use Rattle.promise.specs.Lengths.{short, shortRequest, shortAnswer}
-use Rattle.strip.specs.declared.Answer.{Answer}
-use Rattle.strip.specs.declared.Answer.the-variants.{Done}
-use Rattle.strip.specs.declared.Element.{Element}
-use Rattle.strip.specs.declared.Request.{Request}
-use Rattle.strip.specs.declared.Request.the-variants.{Pop}
+use Rattle.promise.specs.Prelude.{short, shortAnswer, shortRequest}
 use Rattle.bucket_model.specs.Layout.{Lay, queue, bitWords, storeWords, word, headAt, tailAt, nextAt, loadIn}
 use Rattle.bucket_model.specs.Storeys.{Storey, storeysAt}
 use Rattle.bucket_model.specs.Calls.{Outcome}

@@ -1,11 +1,5 @@
 -- One spoilt word for each damage test of 01, in a small store: what the calls say then, in 01's numbers. These are definitions.
-use mathlib.Core.List.{List, [], _∷_, map}
-use mathlib.Core.Path.{_≡_}
-use Prim.Native.Nat.{ℕ}
-use lib.ListN.{replicate, set}
-use Rattle.strip.specs.Answers.{countNumber, element, numberOf}
-use Rattle.strip.specs.declared.Request.{Request}
-use Rattle.strip.specs.declared.Request.the-variants.{Push, Pop, Replace}
+use Rattle.laws.specs.Prelude.{List, Pop, Push, Replace, Request, [], _∷_, _≡_, countNumber, element, map, numberOf, replicate, set, ℕ}
 use Rattle.bucket_model.specs.Layout.{Lay, layOf, wordsOf, write}
 use Rattle.bucket_model.specs.Calls.{heldCount}
 use Rattle.bucket_model.specs.Plain.{Store, store, asked}

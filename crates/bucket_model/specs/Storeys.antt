@@ -1,10 +1,6 @@
 -- The bits, as storeys of words above one another to any depth. These are definitions.
-use mathlib.Core.Bool.{Bool, true, false, cond, not, _&&_, Bool·beq}
-use mathlib.Core.List.{List, [], _∷_}
-use Prim.Native.Nat.{ℕ, zero, suc, _+_, _-_, _*_, _/_, _%_, _^_}
+use Rattle.laws.specs.Prelude.{Bool, Bool·beq, List, [], _%_, _&&_, _*_, _+_, _-_, _/_, _^_, _∷_, cond, eqb, false, not, set, suc, true, zero, ℕ}
 use lib.Count.{trailingZeros}
-use lib.Dec.{eqb}
-use lib.ListN.{set}
 use Rattle.bitmap.specs.Bits.{bitAt}
 use Rattle.bucket_model.specs.Layout.{Lay, word, wordsOf}
 
@@ -34,9 +30,9 @@ abbrev pub bitOf : List ℕ → Storey → ℕ → Bool
 bitOf b p j = eqb (bitAt (wordOf b p j) (j % 64)) 1
 
 -- a word with one bit more, or one less
-abbrev pub turned : Bool → ℕ → ℕ → ℕ
-turned true w k = w + 2 ^ k
-turned false w k = w - 2 ^ k
+abbrev pub switched : Bool → ℕ → ℕ → ℕ
+switched true w k = w + 2 ^ k
+switched false w k = w - 2 ^ k
 
 -- .. and that bit
 abbrev pub bitFor : Bool → ℕ
@@ -55,7 +51,7 @@ abbrev pub edit : Bool → List ℕ → List Storey → ℕ → List ℕ
 edit on b [] j = b
 edit on b (p ∷ ps) j =
     let w = wordOf b p j in
-    let v = turned on w (j % 64) in
+    let v = switched on w (j % 64) in
     let b1 = set b (p .base + j / 64) v in
     cond (tellsAbove on w v) (edit on b1 ps (j / 64)) b1
 

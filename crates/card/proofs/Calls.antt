@@ -1,15 +1,9 @@
 -- What a queue answers, told: the number, the words and `out` are those of the definitions.
-use Prim.Native.Nat.{_<_, _≤_, ℕ}
-use mathlib.Core.List.{List}
-use mathlib.Core.Path.{_∙_, _≡_, ap}
-use lib.ListN.{length}
-use borrow.Author.Tests.{le-leb, lt-leb}
+use Rattle.laws.specs.Prelude.{Answer, List, _<_, _∙_, _≡_, _≤_, ap, le-leb, length, lt-leb, numberOf, ℕ}
 use Rattle.bucket_model.specs.Calls as bucket
 use Rattle.card.specs.Bucket.{bucketAfterOut, bucketAnswered, bucketAfter, bucketDone}
-use Rattle.card_out.specs.Out.{answerOut, answerWords}
+use Rattle.card_words.specs.Out.{answerOut, answerWords}
 use Rattle.card.specs.Tree.{treeAfter, treeAfterOut, treeDone, treeAnswered}
-use Rattle.strip.specs.Answers.{numberOf}
-use Rattle.strip.specs.declared.Answer.{Answer}
 use Rattle.tree_model.specs.Calls as tree
 
 -- ---- the tree

@@ -1,21 +1,13 @@
 -- The rows of the clocked tree, computed from the definitions.
-use mathlib.Core.Path.{refl}
-use Rattle.bucket_model.specs.Filled.{filled}
+use Rattle.laws.specs.Prelude.{All, blank, key, precedes, refl, untagged}
+use Rattle.bucket_model.specs.Prelude.{filled}
 use Rattle.card.specs.Cases.{clockedRows, fives, Right}
 use Rattle.card.specs.Clocked.{clockedClear, clockedCycle, clockedDrain}
-use Rattle.card_out.specs.Asked.{asked, marked, requestOf}
-use Rattle.card_out.specs.Out.{countAnswered}
-use Rattle.clocked_model.specs.Calls.{asks, clockedCleared, cycled, cycleRun, drainFrom, drains, fresh, isRefused, marks, popsOrReplaces, ruleMarked}
-use Rattle.clocked_model.specs.Cycle.{cycleOk, cycleWords, quiet}
-use Rattle.clocked_model.specs.Records.{landed, recordAt, recordsAfter, worksOf}
-use Rattle.laws.specs.Lists.{All}
-use Rattle.lent_steps.specs.Lent.{handed, kindsOk, lentCleared, lentCycled, lentDrains, readable, workOf, worksBack, worksRead}
-use Rattle.strip.specs.Answers.{blank, key, precedes, untagged}
-use Rattle.tree_model.specs.Calls.{called, cleared, heldCount, orderOk, rule, shapeOk}
-use Rattle.tree_model.specs.Damage.{hasRoom, hasSome, isBlank, lifts, nodeOk, pathOk, readOk, room, slotOk, stepOk, workOk}
-use Rattle.tree_model.specs.Levels.{levelMove, stepWork, top, work}
-use Rattle.tree_model.specs.Node.{every, firstEmpty, isEmpty, isNothing, keep, leastCount, low, lowest, opMove, pass, putBy, putMove, seek, slotAt, sumCounts, swapBy, swapMove, takeBy, takeMove, vacant}
-use Rattle.tree_model.specs.Words.{applyWords, levelOf, levelsOf, nodeOf, size, slotOf, stepWords, tabulate, wipe, write}
+use Rattle.card_words.specs.Asked.{asked, marked, requestOf}
+use Rattle.card_words.specs.Out.{countAnswered}
+use Rattle.tree_clock_model.specs.Prelude.{asks, clockedCleared, cycleOk, cycleRun, cycleWords, cycled, drainFrom, drains, fresh, isRefused, landed, marks, popsOrReplaces, quiet, recordAt, recordsAfter, ruleMarked, worksOf}
+use Rattle.tree_records.specs.Lent.{handed, kindsOk, lentCleared, lentCycled, lentDrains, readable, workOf, worksBack, worksRead}
+use Rattle.tree_model.specs.Prelude.{applyWords, called, cleared, every, firstEmpty, hasRoom, hasSome, heldCount, isBlank, isEmpty, isNothing, keep, leastCount, levelMove, levelOf, levelsOf, lifts, low, lowest, nodeOf, nodeOk, opMove, orderOk, pass, pathOk, putBy, putMove, readOk, room, rule, seek, shapeOk, size, slotAt, slotOf, slotOk, stepOk, stepWords, stepWork, sumCounts, swapBy, swapMove, tabulate, takeBy, takeMove, top, vacant, wipe, work, workOk, write}
 
 pub clocked-rows : All Right clockedRows
 unfolding clockedRows fives filled clockedClear clockedCycle clockedDrain asked marked requestOf countAnswered asks clockedCleared cycled cycleRun drainFrom drains fresh isRefused marks popsOrReplaces ruleMarked cycleOk cycleWords quiet landed recordAt recordsAfter worksOf handed kindsOk lentCleared lentCycled lentDrains readable workOf worksBack worksRead called cleared heldCount orderOk rule shapeOk hasRoom hasSome isBlank lifts nodeOk pathOk readOk room slotOk stepOk workOk levelMove stepWork top work every firstEmpty isEmpty isNothing keep leastCount low lowest opMove pass putBy putMove seek slotAt sumCounts swapBy swapMove takeBy takeMove vacant applyWords levelOf levelsOf nodeOf size slotOf stepWords tabulate wipe write blank key precedes untagged

@@ -1,30 +1,20 @@
 -- The rows of the cluster heap, one operation at a time and on the clock, computed from the definitions.
-use mathlib.Core.Path.{refl}
-use Rattle.bucket_model.specs.Filled.{filled}
-use Rattle.card.specs.Cases.{clusterRows, Right, sixes, stagesRows}
-use Rattle.card.specs.ClockedCluster.{stagesCycle, stagesDrain}
+use Rattle.laws.specs.Prelude.{All, asks, blank, isRefused, key, precedes, refl, untagged}
+use Rattle.bucket_model.specs.Prelude.{filled}
+use Rattle.card.specs.Cases.{clusterRows, Right, sixes, clockedClusterRows}
+use Rattle.card.specs.ClockedCluster.{clockedClusterCycle, clockedClusterDrain}
 use Rattle.card.specs.Tree.{treeAnswered}
-use Rattle.card_out.specs.Asked.{requestOf}
-use Rattle.card_out.specs.Out.{countAnswered}
-use Rattle.clocked_model.specs.Calls.{asks}
-use Rattle.cluster_clock_model.specs.Calls.{clockCleared, clockHeld, drainFrom, drains, fresh, isNothing, quiet, turned, turnRun}
+use Rattle.card_words.specs.Asked.{requestOf}
+use Rattle.card_words.specs.Out.{countAnswered}
+use Rattle.cluster_clock_model.specs.Prelude.{begins, clockCleared, clockHeld, cycleRun, cycled, drainFrom, drains, fresh, givesOk, handed, isGap, isNothing, levelStage, levelWords, loaded, quiet, sane, saneAt, settled, stageOk, stagesOk, waitOk, worked}
 use Rattle.cluster_clock_model.specs.Stage as stages
-use Rattle.cluster_clock_model.specs.Stage.{begins, handed, levelStage, levelWords, loaded, settled, worked}
-use Rattle.cluster_clock_model.specs.Test.{givesOk, isGap, sane, saneAt, stageOk, stagesOk, waitOk}
-use Rattle.cluster_lent_steps.specs.Lent.{kindsOk, lentCleared, lentDrains, lentTurned, readable, stageOf, stagesBack, stagesRead}
-use Rattle.cluster_model.specs.Calls.{called, cleared, heldCount, rootHeld, rule, shapeOk, wipe}
-use Rattle.cluster_model.specs.Heap.{room}
-use Rattle.cluster_model.specs.Node.{begin, fewer, fillFrom, finish, free, freeHere, high, highElem, highHere, inside, keep, low, lowElem, lowerSide, lowHere, nothingBelow, pass, placeAt, putBy, seek, swapBy, takeBy, trialBy, trialFrom}
-use Rattle.cluster_model.specs.Way.{childrenOk, extent, lowIn, neatTo, nodeOk, ownOk, readOk, roomy, runWords, some, stepIn, strict, touch, under1, wayOk, works}
-use Rattle.cluster_model.specs.Words.{lengthIn, markOf, neatPlace, nodeOf, placeBy, placeOf, rankIn, rowOf, tagIn, writeNode, writePlace, writeRow}
-use Rattle.laws.specs.Lists.{All}
-use Rattle.promise.specs.Drains.{isRefused}
-use Rattle.strip.specs.Answers.{blank, key, precedes, untagged}
+use Rattle.cluster_records.specs.Lent.{kindsOk, lentCleared, lentDrains, lentCycled, readable, stageOf, stagesBack, stagesRead}
+use Rattle.cluster_model.specs.Prelude.{begin, called, childrenOk, cleared, extent, fewer, fillFrom, finish, free, freeHere, heldCount, high, highElem, highHere, inside, isBlank, keep, low, lowElem, lowHere, lowIn, lowerSide, markOf, neatPlace, neatTo, nodeOf, nodeOk, nothingBelow, ownOk, pass, placeAt, placeBy, placeOf, putBy, readOk, room, roomy, rootHeld, rowOf, rule, runWords, seek, shapeOk, some, stepIn, strict, swapBy, takeBy, touch, trialBy, trialFrom, under1, wayOk, wipe, works, writeNode, writePlace, writeRow}
 
 pub cluster-rows : All Right clusterRows
-unfolding clusterRows filled treeAnswered countAnswered called cleared heldCount rootHeld rule shapeOk wipe begin fewer fillFrom finish free freeHere high highElem highHere inside keep low lowElem lowerSide lowHere nothingBelow pass placeAt putBy seek swapBy takeBy trialBy trialFrom childrenOk extent lowIn neatTo nodeOk ownOk readOk roomy runWords some stepIn strict touch under1 wayOk works lengthIn markOf neatPlace nodeOf placeBy placeOf rankIn rowOf tagIn writeNode writePlace writeRow room blank key precedes untagged
+unfolding clusterRows filled treeAnswered countAnswered called cleared heldCount rootHeld rule shapeOk wipe begin fewer fillFrom finish free freeHere high highElem highHere inside keep low lowElem lowerSide lowHere nothingBelow pass placeAt putBy seek swapBy takeBy trialBy trialFrom childrenOk extent lowIn neatTo nodeOk ownOk readOk roomy runWords some stepIn strict touch under1 wayOk works markOf isBlank neatPlace nodeOf placeBy placeOf rowOf writeNode writePlace writeRow room blank key precedes untagged
 cluster-rows = (refl, (refl, (refl, (refl, (refl, tt)))))
 
-pub stages-rows : All Right stagesRows
-unfolding stagesRows sixes filled stagesCycle stagesDrain requestOf countAnswered asks clockCleared clockHeld drainFrom drains fresh isNothing quiet turned turnRun isRefused stages.pass stages.filled begins handed levelStage levelWords loaded settled worked givesOk isGap sane saneAt stageOk stagesOk waitOk kindsOk lentCleared lentDrains lentTurned readable stageOf stagesBack stagesRead called cleared heldCount rootHeld rule shapeOk wipe begin fewer fillFrom finish free freeHere high highElem highHere inside keep low lowElem lowerSide lowHere nothingBelow pass placeAt putBy seek swapBy takeBy trialBy trialFrom childrenOk extent lowIn neatTo nodeOk ownOk readOk roomy runWords some stepIn strict touch under1 wayOk works lengthIn markOf neatPlace nodeOf placeBy placeOf rankIn rowOf tagIn writeNode writePlace writeRow room blank key precedes untagged
-stages-rows = (refl, (refl, (refl, (refl, (refl, (refl, tt))))))
+pub clocked-cluster-rows : All Right clockedClusterRows
+unfolding clockedClusterRows sixes filled clockedClusterCycle clockedClusterDrain requestOf countAnswered asks clockCleared clockHeld drainFrom drains fresh isNothing quiet cycled cycleRun isRefused stages.pass stages.filled begins handed levelStage levelWords loaded settled worked givesOk isGap sane saneAt stageOk stagesOk waitOk kindsOk lentCleared lentDrains lentCycled readable stageOf stagesBack stagesRead called cleared heldCount rootHeld rule shapeOk wipe begin fewer fillFrom finish free freeHere high highElem highHere inside keep low lowElem lowerSide lowHere nothingBelow pass placeAt putBy seek swapBy takeBy trialBy trialFrom childrenOk extent lowIn neatTo nodeOk ownOk readOk roomy runWords some stepIn strict touch under1 wayOk works markOf isBlank neatPlace nodeOf placeBy placeOf rowOf writeNode writePlace writeRow room blank key precedes untagged
+clocked-cluster-rows = (refl, (refl, (refl, (refl, (refl, (refl, tt))))))

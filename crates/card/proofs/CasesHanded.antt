@@ -1,15 +1,11 @@
 -- The bucket queue's and the ports' calls hand on what C hands over, in plain numbers, all different. Their stores are thousands of words long: the words themselves are computed in `card_cases`.
-use Prim.Native.Nat.{ℕ}
-use mathlib.Core.List.{List}
-use mathlib.Core.Path.{_≡_, refl}
-use Rattle.bucket_model.specs.Calls.{popped, pushed, replaced}
-use Rattle.bucket_model.specs.Layout.{queue}
+use Rattle.laws.specs.Prelude.{Element, List, _≡_, refl, ℕ}
+use Rattle.bucket_model.specs.Prelude.{popped, pushed, queue, replaced}
 use Rattle.card.specs.Bucket.{bucketAnswered, bucketDone, bucketPop, bucketPush, bucketReplace}
 use Rattle.card.specs.Cases.{out4}
 use Rattle.card.specs.Ports.{portsPop, portsPush, portsReplace}
 use Rattle.ports_model.specs.Calls as ports
 use Rattle.ports_model.specs.declared.Shape.{Shape}
-use Rattle.strip.specs.declared.Element.{Element}
 
 abbrev five : Element
 five = record { rank = record { 0 = 5 }; tag = record { 0 = 50 }; length = record { 0 = 500 } }

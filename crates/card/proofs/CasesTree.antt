@@ -1,24 +1,18 @@
 -- The rows of the tree, of its check and mender, and of ranks from weights, computed from the definitions.
-use mathlib.Core.Path.{refl}
-use Rattle.bucket_model.specs.Filled.{filled}
+use Rattle.laws.specs.Prelude.{All, blank, key, precedes, refl, untagged}
+use Rattle.bucket_model.specs.Prelude.{filled}
 use Rattle.card.specs.Cases.{fairRows, mendRows, Right, treeRows}
 use Rattle.card.specs.Fair.{fairAnswered}
 use Rattle.card.specs.Mend.{checkAnswered, mendAnswered}
 use Rattle.card.specs.Tree.{treeAnswered}
-use Rattle.card_out.specs.Out.{countAnswered}
+use Rattle.card_words.specs.Out.{countAnswered}
 use Rattle.fair_model.specs.Calls.{pops, pushes, resets, stripOk}
 use Rattle.fair_model.specs.Ranks.{cells, finish, step}
-use Rattle.laws.specs.Lists.{All}
-use Rattle.mend_model.specs.Check.{broken, brokenAt, checked, rankAbove, underAt, underOf, walk}
-use Rattle.mend_model.specs.Mend as mending
-use Rattle.mend_model.specs.Mend.{keeps, mended, skipped, skips}
-use Rattle.promise.specs.Queue.{leaves}
-use Rattle.strip.specs.Answers.{blank, key, precedes, untagged}
-use Rattle.tree_model.specs.Calls.{called, cleared, heldCount, orderOk, rule, shapeOk}
-use Rattle.tree_model.specs.Damage.{hasRoom, hasSome, isBlank, lifts, nodeOk, pathOk, readOk, room, slotOk, stepOk, workOk}
-use Rattle.tree_model.specs.Levels.{levelMove, stepWork, top, work}
-use Rattle.tree_model.specs.Node.{every, firstEmpty, isEmpty, isNothing, keep, leastCount, low, lowest, opMove, pass, putBy, putMove, seek, slotAt, sumCounts, swapBy, swapMove, takeBy, takeMove, vacant}
-use Rattle.tree_model.specs.Words.{applyWords, levelOf, levelsOf, nodeOf, size, slotOf, stepWords, tabulate, wipe, write}
+use Rattle.tree_mend_model.specs.Check.{broken, brokenAt, checked, rankAbove, underAt, underOf, walk}
+use Rattle.tree_mend_model.specs.Mend as mending
+use Rattle.tree_mend_model.specs.Mend.{keeps, mended, skipped, skips}
+use Rattle.promise.specs.Prelude.{leaves}
+use Rattle.tree_model.specs.Prelude.{applyWords, called, cleared, every, firstEmpty, hasRoom, hasSome, heldCount, isBlank, isEmpty, isNothing, keep, leastCount, levelMove, levelOf, levelsOf, lifts, low, lowest, nodeOf, nodeOk, opMove, orderOk, pass, pathOk, putBy, putMove, readOk, room, rule, seek, shapeOk, size, slotAt, slotOf, slotOk, stepOk, stepWords, stepWork, sumCounts, swapBy, swapMove, tabulate, takeBy, takeMove, top, vacant, wipe, work, workOk, write}
 
 pub tree-rows : All Right treeRows
 unfolding treeRows filled treeAnswered countAnswered called cleared heldCount orderOk rule shapeOk hasRoom hasSome isBlank lifts nodeOk pathOk readOk room slotOk stepOk workOk levelMove stepWork top work every firstEmpty isEmpty isNothing keep leastCount low lowest opMove pass putBy putMove seek slotAt sumCounts swapBy swapMove takeBy takeMove vacant applyWords levelOf levelsOf nodeOf size slotOf stepWords tabulate wipe write blank key precedes untagged

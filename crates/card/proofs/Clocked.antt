@@ -1,42 +1,32 @@
 -- The clocked calls at the boundary: each test and what follows it make the outcome that the definitions say.
-use Prim.Native.Nat.{_<_, _≤_, ℕ}
-use native.Mathlib.Omega.{arith}
-use mathlib.Core.Bool.{_&&_, and-false, Bool, cond, false, not, true}
-use mathlib.Core.List.{List}
-use mathlib.Core.Path.{_∙_, _≡_, ap, refl, sym}
-use lib.Dec.{eqb, leb}
-use lib.ListN.{length, set}
-use borrow.Author.Tests.{eq-eqb, le-leb, lt-leb, ne-eqb, not-false, not-true}
-use Rattle.card.specs.Clocked.{clearLeft, clearOf, clearTold, clockedAfter, ClockedAfter, clockedAfterOut, ClockedAfterOut, clockedClear, clockedCycle, clockedDrain, cycleLeft, cycleOf, cycleTold, drainLeft, drainOf, drainTold, noneLeft, noneTurned, saysNo, told, Told, toldOut, ToldOut}
-use Rattle.card_out.specs.Asked.{asked, marked, markIn, markOut, requestOf}
-use Rattle.card_out.specs.Out.{drainOut, answerOut, answerWords, drainWords, refusedOut, zeros}
-use Rattle.clocked_model.proofs.Drain.{drain-within}
-use Rattle.clocked_model.specs.Calls.{CycleOutcome, drainOutcome, drains, fresh, recordCount}
-use Rattle.lent_steps.proofs.Back.{back-none, clear-lent, cycle-lent, drain-lent, works-few}
-use Rattle.lent_steps.proofs.Nodes.{clear-ready, cycle-ready, drain-ready, none-ready}
-use Rattle.lent_steps.specs.Lent.{lentCleared, lentCycled, LentDrain, lentDrains, LentOutcome, worksBack}
-use Rattle.lent_steps.specs.Steps.{clearFrom, cycleFrom, drainFrom, lends, reach, Ready, readOf, stateOf, turned, turnedCycle, turnedDrain}
-use Rattle.lent_steps.specs.declared.Read.{Read}
-use Rattle.lent_steps.specs.declared.Record.{Record}
-use Rattle.lent_steps.specs.declared.Turned.{Turned}
-use Rattle.strip.specs.Answers.{numberOf}
-use Rattle.strip.specs.declared.Answer.the-variants.{Refused}
-use Rattle.strip.specs.declared.Refusal.the-variants.{BadShape}
-use Rattle.strip.specs.declared.Request.{Request}
+use Rattle.laws.specs.Prelude.{BadShape, Bool, List, Refused, Request, _&&_, _<_, _∙_, _≡_, _≤_, ap, arith, cond, eq-eqb, eqb, false, le-leb, leb, length, lt-leb, ne-eqb, not, not-false, not-true, numberOf, refl, set, sym, true, ℕ}
+use mathlib.Core.Bool.{and-false}
+use Rattle.card.specs.Clocked.{clearLeft, clearOf, clearTold, clockedAfter, ClockedAfter, clockedAfterOut, ClockedAfterOut, clockedClear, clockedCycle, clockedDrain, cycleLeft, cycleOf, cycleTold, drainLeft, drainOf, drainTold, noneLeft, noneEnded, saysNo, told, Told, toldOut, ToldOut}
+use Rattle.card_words.specs.Asked.{asked, marked, markIn, markOut, requestOf}
+use Rattle.card_words.specs.Out.{drainOut, answerOut, answerWords, drainWords, refusedOut, zeros}
+use Rattle.tree_clock_model.proofs.Laws.{drain-within}
+use Rattle.tree_clock_model.specs.Prelude.{CycleOutcome, drainOutcome, drains, fresh, recordCount}
+use Rattle.tree_records.proofs.Back.{back-none, clear-lent, cycle-lent, drain-lent, works-few}
+use Rattle.tree_records.proofs.Nodes.{clear-ready, cycle-ready, drain-ready, none-ready}
+use Rattle.tree_records.specs.Lent.{lentCleared, lentCycled, LentDrain, lentDrains, LentOutcome, worksBack}
+use Rattle.tree_records.specs.Steps.{clearFrom, cycleFrom, drainFrom, lends, reach, Ready, readOf, stateOf, ended, endedCycle, endedDrain}
+use Rattle.tree_records.specs.declared.Read.{Read}
+use Rattle.tree_records.specs.declared.Record.{Record}
+use Rattle.tree_records.specs.declared.Ended.{Ended}
 
 -- ---- what the calls leave
 -- a clear
 module _ (m levels len : ℕ) (ws mark : List ℕ) where
-  pub clear-unmarked : length mark < 1 → (t : Turned) → t ≡ noneTurned (fresh .records) → told t ws mark ≡ clearTold m levels len ws mark
+  pub clear-unmarked : length mark < 1 → (t : Ended) → t ≡ noneEnded (fresh .records) → told t ws mark ≡ clearTold m levels len ws mark
   unfolding clearTold
-  clear-unmarked h t e = rw (lt-leb 1 (length mark) h) (ap (λ (t : Turned). told t ws mark) e)
+  clear-unmarked h t e = rw (lt-leb 1 (length mark) h) (ap (λ (t : Ended). told t ws mark) e)
 
-  module _ (h : 1 ≤ length mark) (t : Turned) (after : List ℕ) (p : (after ≡ clearFrom m levels len (markIn mark) ws .words) × (t ≡ turnedCycle levels (clearFrom m levels len (markIn mark) ws))) (n : ℕ) (is : n ≡ numberOf (t .answer)) where
+  module _ (h : 1 ≤ length mark) (t : Ended) (after : List ℕ) (p : (after ≡ clearFrom m levels len (markIn mark) ws .words) × (t ≡ endedCycle levels (clearFrom m levels len (markIn mark) ws))) (n : ℕ) (is : n ≡ numberOf (t .answer)) where
     o : CycleOutcome
     o = clearFrom m levels len (markIn mark) ws
 
     number-is : n ≡ numberOf (clearFrom m levels len (markIn mark) ws .answer)
-    number-is = is ∙ ap (λ (t : Turned). numberOf (t .answer)) (p .1)
+    number-is = is ∙ ap (λ (t : Ended). numberOf (t .answer)) (p .1)
 
     clear-told : (mark₁ : List ℕ) → mark₁ ≡ cond (eqb n 0) (markOut false mark) mark → told t after mark₁ ≡ clearTold m levels len ws mark
     unfolding clearTold
@@ -51,9 +41,9 @@ module _ (m levels len : ℕ) (ws mark : List ℕ) where
     clear-refused z = clear-told mark (rw (ne-eqb n 0 z))
 
 -- no more cycles than the budget
-pub drain-few : (m levels len : ℕ) (mark : Bool) (ws : List ℕ) (d : Read) (budget : ℕ) (t : Turned) → t ≡ turnedDrain levels (drainFrom m levels len mark ws d budget) → t .cycles ≤ budget
+pub drain-few : (m levels len : ℕ) (mark : Bool) (ws : List ℕ) (d : Read) (budget : ℕ) (t : Ended) → t ≡ endedDrain levels (drainFrom m levels len mark ws d budget) → t .cycles ≤ budget
 unfolding drainFrom
-drain-few m levels len mark ws d budget t p = omega (arith, ap (λ (t : Turned). t .cycles) p, go (lends levels len && d .ok))
+drain-few m levels len mark ws d budget t p = omega (arith, ap (λ (t : Ended). t .cycles) p, go (lends levels len && d .ok))
   where
     go : (b : Bool) → cond b (drains m levels budget (stateOf d mark) ws) (drainOutcome (Refused BadShape) 0 false ws (stateOf d mark)) .cycles ≤ budget
     go true = drain-within m levels budget (stateOf d mark) ws
@@ -61,53 +51,53 @@ drain-few m levels len mark ws d budget t p = omega (arith, ap (λ (t : Turned).
 
 -- a cycle and a drain
 module _ (m levels len : ℕ) (ws mark : List ℕ) (d : Read) (out : List ℕ) where
-  no-short : (n : ℕ) → length out < n → (t : Turned) → t ≡ noneTurned (d .works) → toldOut t ws mark out ≡ noneLeft m levels len ws mark d n out
+  no-short : (n : ℕ) → length out < n → (t : Ended) → t ≡ noneEnded (d .works) → toldOut t ws mark out ≡ noneLeft m levels len ws mark d n out
   unfolding refusedOut
-  no-short n h t e = rw (lt-leb n (length out) h) (ap (λ (t : Turned). toldOut t ws mark out) e)
+  no-short n h t e = rw (lt-leb n (length out) h) (ap (λ (t : Ended). toldOut t ws mark out) e)
 
-  no-zeros : (n : ℕ) → n ≤ length out → (t : Turned) → t ≡ noneTurned (d .works) → (out₁ : List ℕ) → out₁ ≡ zeros n out → toldOut t ws mark out₁ ≡ noneLeft m levels len ws mark d n out
+  no-zeros : (n : ℕ) → n ≤ length out → (t : Ended) → t ≡ noneEnded (d .works) → (out₁ : List ℕ) → out₁ ≡ zeros n out → toldOut t ws mark out₁ ≡ noneLeft m levels len ws mark d n out
   unfolding refusedOut
   no-zeros n h t e out₁ z = rw (le-leb n (length out) h) (λ i. toldOut (e i) ws mark (z i))
 
   module _ (request rank tag bytes : ℕ) where
-    pub cycle-short : length out < answerWords → (t : Turned) → t ≡ noneTurned (d .works) → toldOut t ws mark out ≡ cycleTold m levels len ws mark d request rank tag bytes out
+    pub cycle-short : length out < answerWords → (t : Ended) → t ≡ noneEnded (d .works) → toldOut t ws mark out ≡ cycleTold m levels len ws mark d request rank tag bytes out
     unfolding cycleTold
     cycle-short h t e = rw (lt-leb answerWords (length out) h) (no-short answerWords h t e)
 
-    pub cycle-refused : (b : Bool) → b ≡ asked mark request → not b ≡ true → (out₁ : List ℕ) → out₁ ≡ refusedOut answerWords out → (t : Turned) → t ≡ noneTurned (d .works)
+    pub cycle-refused : (b : Bool) → b ≡ asked mark request → not b ≡ true → (out₁ : List ℕ) → out₁ ≡ refusedOut answerWords out → (t : Ended) → t ≡ noneEnded (d .works)
         → toldOut t ws mark out₁ ≡ cycleTold m levels len ws mark d request rank tag bytes out
     unfolding cycleTold
     cycle-refused b tested e out₁ z t n = rw (sym tested ∙ not-true b e, and-false (leb answerWords (length out))) (λ i. toldOut (n i) ws mark (z i))
 
     module _ (room : answerWords ≤ length out) (b : Bool) (tested : b ≡ asked mark request) where
-      pub cycle-done : not b ≡ false → (q : Request) → q ≡ requestOf request rank tag bytes → (t : Turned) (after : List ℕ)
-          → (after ≡ cycleFrom m levels len (markIn mark) ws d q .words) × (t ≡ turnedCycle levels (cycleFrom m levels len (markIn mark) ws d q))
+      pub cycle-done : not b ≡ false → (q : Request) → q ≡ requestOf request rank tag bytes → (t : Ended) (after : List ℕ)
+          → (after ≡ cycleFrom m levels len (markIn mark) ws d q .words) × (t ≡ endedCycle levels (cycleFrom m levels len (markIn mark) ws d q))
           → (n : ℕ) → n ≡ cond (t .state .mark) 1 0 → (out₁ : List ℕ) → out₁ ≡ answerOut (t .answer) out → toldOut t after (set mark 0 n) out₁ ≡ cycleTold m levels len ws mark d request rank tag bytes out
       unfolding cycleTold
       cycle-done e q f t after p n w out₁ z =
           rw (le-leb answerWords (length out) room, sym tested ∙ not-false b e, ← f)
-          (λ i. toldOut (p .1 i) (p .0 i) ((ap (set mark 0) w ∙ ap (λ (t : Turned). markOut (t .state .mark) mark) (p .1)) i) ((z ∙ ap (λ (t : Turned). answerOut (t .answer) out) (p .1)) i))
+          (λ i. toldOut (p .1 i) (p .0 i) ((ap (set mark 0) w ∙ ap (λ (t : Ended). markOut (t .state .mark) mark) (p .1)) i) ((z ∙ ap (λ (t : Ended). answerOut (t .answer) out) (p .1)) i))
 
   module _ (budget : ℕ) where
-    pub drain-short : length out < drainWords → (t : Turned) → t ≡ noneTurned (d .works) → toldOut t ws mark out ≡ drainTold m levels len ws mark d budget out
+    pub drain-short : length out < drainWords → (t : Ended) → t ≡ noneEnded (d .works) → toldOut t ws mark out ≡ drainTold m levels len ws mark d budget out
     unfolding drainTold
     drain-short h t e = rw (lt-leb drainWords (length out) h) (no-short drainWords h t e)
 
     module _ (room : drainWords ≤ length out) (b : Bool) (tested : b ≡ marked mark) where
-      pub drain-refused : not b ≡ true → (out₁ : List ℕ) → out₁ ≡ drainOut 0 false out → (t : Turned) → t ≡ noneTurned (d .works) → toldOut t ws mark out₁ ≡ drainTold m levels len ws mark d budget out
+      pub drain-refused : not b ≡ true → (out₁ : List ℕ) → out₁ ≡ drainOut 0 false out → (t : Ended) → t ≡ noneEnded (d .works) → toldOut t ws mark out₁ ≡ drainTold m levels len ws mark d budget out
       unfolding drainTold
       drain-refused e out₁ z t n = rw (le-leb drainWords (length out) room, sym tested ∙ not-true b e) (no-zeros drainWords room t n out₁ z)
 
-      module _ (t : Turned) (after : List ℕ) (p : (after ≡ drainFrom m levels len (markIn mark) ws d budget .words) × (t ≡ turnedDrain levels (drainFrom m levels len (markIn mark) ws d budget))) where
+      module _ (t : Ended) (after : List ℕ) (p : (after ≡ drainFrom m levels len (markIn mark) ws d budget .words) × (t ≡ endedDrain levels (drainFrom m levels len (markIn mark) ws d budget))) where
         pub drain-done : not b ≡ false → (n : ℕ) → n ≡ cond (t .state .mark) 1 0 → (out₁ : List ℕ) → out₁ ≡ drainOut (t .cycles) (t .left) out → toldOut t after (set mark 0 n) out₁ ≡ drainTold m levels len ws mark d budget out
         unfolding drainTold
         drain-done e n w out₁ z =
             rw (le-leb drainWords (length out) room, sym tested ∙ not-false b e)
-            (λ i. toldOut (p .1 i) (p .0 i) ((ap (set mark 0) w ∙ ap (λ (t : Turned). markOut (t .state .mark) mark) (p .1)) i) ((z ∙ ap (λ (t : Turned). drainOut (t .cycles) (t .left) out) (p .1)) i))
+            (λ i. toldOut (p .1 i) (p .0 i) ((ap (set mark 0) w ∙ ap (λ (t : Ended). markOut (t .state .mark) mark) (p .1)) i) ((z ∙ ap (λ (t : Ended). drainOut (t .cycles) (t .left) out) (p .1)) i))
 
 -- ---- the calls: what is left of the records is written back
 abbrev pub cycleBack : List Record → ToldOut → ClockedAfterOut
-cycleBack rs u = clockedAfterOut (numberOf (u .turned .answer)) (u .store) (worksBack (u .turned .count) (u .turned .state .records) rs) (u .mark) (u .out)
+cycleBack rs u = clockedAfterOut (numberOf (u .ended .answer)) (u .store) (worksBack (u .ended .count) (u .ended .state .records) rs) (u .mark) (u .out)
 
 module _ (m levels : ℕ) (ws : List ℕ) (rs : List Record) (mark : List ℕ) where
   abbrev read : Read
@@ -132,13 +122,13 @@ module _ (m levels : ℕ) (ws : List ℕ) (rs : List Record) (mark : List ℕ) w
         go true = ap (λ (o : LentOutcome). cycleOf mark o out) (cycle-lent m levels (markIn mark) ws rs q)
         go false = none-back answerWords out
 
-    pub cycle-goes : Ready (cycleTold m levels (length rs) ws mark read request rank tag bytes out .turned) (length rs)
+    pub cycle-goes : Ready (cycleTold m levels (length rs) ws mark read request rank tag bytes out .ended) (length rs)
     unfolding cycleTold
     cycle-goes = go (leb answerWords (length out) && asked mark request)
       where
-        go : (b : Bool) → Ready (cond b (cycleLeft m levels (length rs) ws mark out (cycleFrom m levels (length rs) (markIn mark) ws read q)) (noneLeft m levels (length rs) ws mark read answerWords out) .turned) (length rs)
+        go : (b : Bool) → Ready (cond b (cycleLeft m levels (length rs) ws mark out (cycleFrom m levels (length rs) (markIn mark) ws read q)) (noneLeft m levels (length rs) ws mark read answerWords out) .ended) (length rs)
         go true = cycle-ready m levels (length rs) (markIn mark) ws read full q
-        go false = none-ready m levels (length rs) (markIn mark) ws (noneTurned (read .works)) refl
+        go false = none-ready m levels (length rs) (markIn mark) ws (noneEnded (read .works)) refl
 
   module _ (budget : ℕ) (out : List ℕ) where
     pub drain-ends : cycleBack rs (drainTold m levels (length rs) ws mark read budget out) ≡ clockedDrain m levels ws rs mark budget out
@@ -150,30 +140,30 @@ module _ (m levels : ℕ) (ws : List ℕ) (rs : List Record) (mark : List ℕ) w
         go true = ap (λ (o : LentDrain). drainOf mark o out) (drain-lent m levels (markIn mark) ws rs budget)
         go false = none-back drainWords out
 
-    pub drain-goes : Ready (drainTold m levels (length rs) ws mark read budget out .turned) (length rs)
+    pub drain-goes : Ready (drainTold m levels (length rs) ws mark read budget out .ended) (length rs)
     unfolding drainTold
     drain-goes = go (leb drainWords (length out) && marked mark)
       where
-        go : (b : Bool) → Ready (cond b (drainLeft m levels (length rs) ws mark out (drainFrom m levels (length rs) (markIn mark) ws read budget)) (noneLeft m levels (length rs) ws mark read drainWords out) .turned) (length rs)
+        go : (b : Bool) → Ready (cond b (drainLeft m levels (length rs) ws mark out (drainFrom m levels (length rs) (markIn mark) ws read budget)) (noneLeft m levels (length rs) ws mark read drainWords out) .ended) (length rs)
         go true = drain-ready m levels (length rs) (markIn mark) ws read full budget
-        go false = none-ready m levels (length rs) (markIn mark) ws (noneTurned (read .works)) refl
+        go false = none-ready m levels (length rs) (markIn mark) ws (noneEnded (read .works)) refl
 
   abbrev pub clearBack : Told → ClockedAfter
-  clearBack u = clockedAfter (numberOf (u .turned .answer)) (u .store) (worksBack (u .turned .count) (u .turned .state .records) rs) (u .mark)
+  clearBack u = clockedAfter (numberOf (u .ended .answer)) (u .store) (worksBack (u .ended .count) (u .ended .state .records) rs) (u .mark)
 
   pub clear-ends : clearBack (clearTold m levels (length rs) ws mark) ≡ clockedClear m levels ws rs mark
   unfolding clearTold clockedClear
   clear-ends = go (leb 1 (length mark))
     where
-      go : (b : Bool) → clearBack (cond b (clearLeft m levels (length rs) ws mark (clearFrom m levels (length rs) (markIn mark) ws)) (told (noneTurned (fresh .records)) ws mark))
+      go : (b : Bool) → clearBack (cond b (clearLeft m levels (length rs) ws mark (clearFrom m levels (length rs) (markIn mark) ws)) (told (noneEnded (fresh .records)) ws mark))
           ≡ cond b (clearOf mark (lentCleared m levels (markIn mark) rs ws)) (clockedAfter 1 ws rs mark)
       go true = ap (λ (o : LentOutcome). clearOf mark o) (clear-lent m levels (markIn mark) ws rs)
       go false = ap (λ (rs : List Record). clockedAfter 1 ws rs mark) (back-none (fresh .records) rs)
 
-  pub clear-goes : Ready (clearTold m levels (length rs) ws mark .turned) (length rs)
+  pub clear-goes : Ready (clearTold m levels (length rs) ws mark .ended) (length rs)
   unfolding clearTold
   clear-goes = go (leb 1 (length mark))
     where
-      go : (b : Bool) → Ready (cond b (clearLeft m levels (length rs) ws mark (clearFrom m levels (length rs) (markIn mark) ws)) (told (noneTurned (fresh .records)) ws mark) .turned) (length rs)
+      go : (b : Bool) → Ready (cond b (clearLeft m levels (length rs) ws mark (clearFrom m levels (length rs) (markIn mark) ws)) (told (noneEnded (fresh .records)) ws mark) .ended) (length rs)
       go true = clear-ready m levels (length rs) (markIn mark) ws
-      go false = none-ready m levels (length rs) (markIn mark) ws (noneTurned (fresh .records)) refl
+      go false = none-ready m levels (length rs) (markIn mark) ws (noneEnded (fresh .records)) refl

@@ -1,16 +1,11 @@
 -- What the cluster heap answers, told: the number, the words and `out` are those of the definitions; a refused call writes zeros.
-use Prim.Native.Nat.{_<_, _≤_, ℕ}
-use mathlib.Core.List.{List}
-use mathlib.Core.Path.{_≡_, ap}
-use lib.ListN.{length}
+use Rattle.laws.specs.Prelude.{Answer, List, _<_, _≡_, _≤_, ap, length, numberOf, ℕ}
 use Rattle.card.proofs.Calls.{tree-done, tree-short, tree-told}
 use Rattle.card.proofs.Zeros.{tree-zeros}
 use Rattle.card.specs.Cluster.{clusterPop, clusterReplace, handed}
-use Rattle.card_out.specs.Out.{answerOut, answerWords, refusedOut}
+use Rattle.card_words.specs.Out.{answerOut, answerWords, refusedOut}
 use Rattle.card.specs.Tree.{treeAfter, treeAfterOut, treeAnswered, treeDone}
-use Rattle.cluster_model.specs.Calls.{outcome, Outcome}
-use Rattle.strip.specs.Answers.{numberOf}
-use Rattle.strip.specs.declared.Answer.{Answer}
+use Rattle.cluster_model.specs.Prelude.{Outcome, outcome}
 
 module _ (o : Outcome) where
   pub cluster-done : (a : Answer) (n : ℕ) (ws : List ℕ) → n ≡ numberOf a → outcome a ws ≡ o → treeAfter n ws ≡ treeDone (handed o)

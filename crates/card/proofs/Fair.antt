@@ -1,19 +1,12 @@
 -- What fair ranks answer, told; a refusal's zeros; and that each contract allows one outcome.
-use Prim.Native.Nat.{_<_, _≤_, ℕ}
-use mathlib.Core.Bool.{Bool, cond, false, true}
-use mathlib.Core.List.{List}
-use mathlib.Core.Path.{_∙_, _≡_, ap, refl, sym}
-use lib.Dec.{leb}
-use lib.ListN.{length}
-use borrow.Author.Tests.{le-leb, lt-leb}
-use Rattle.card_out.proofs.Out.{zeros-held}
+use Rattle.laws.specs.Prelude.{Bool, List, _<_, _∙_, _≡_, _≤_, ap, blank, cond, false, le-leb, leb, length, lt-leb, refl, sym, true, ℕ}
+use Rattle.card_words.proofs.Out.{zeros-held}
 use Rattle.card.specs.Fair.{fairAfter, FairAfter, fairAfterOut, FairAfterOut, fairAnswered, fairDone, fairHeld, fairOut, fairPop, fairPush, fairReset}
-use Rattle.card_out.specs.Out.{answerWords, badShape, countAfter, CountAfter, refusedOut, zeros}
+use Rattle.card_words.specs.Out.{answerWords, badShape, countAfter, CountAfter, refusedOut, zeros}
 use Rattle.fair_model.specs.Calls.{answerNumber, desk, pops, Reply, reply}
 use Rattle.fair_model.specs.declared.FairAnswer.{FairAnswer}
 use Rattle.fair_model.specs.declared.FairAnswer.the-variants.{Accepted, Denied, Served}
-use Rattle.strip.specs.Answers.{blank}
-use Rattle.tree_model.specs.Calls.{heldCount}
+use Rattle.tree_model.specs.Prelude.{heldCount}
 
 -- ---- told
 module _ (o : Reply) where

@@ -1,30 +1,18 @@
 -- A list of clocked calls through the boundary is the list of by-value calls on the machine that store, records and mark hold.
-use Prim.Native.Nat.{_-_, _≤_, ℕ}
-use native.Mathlib.Omega.{arith}
-use mathlib.Core.Bool.{Bool, cond, false, true}
-use mathlib.Core.List.{List}
-use mathlib.Core.Path.{_∙_, _≡_, ap, refl, subst, sym}
-use lib.Dec.{eqb, leb}
-use lib.ListN.{getD, length, length-set}
-use lib.Seq.{getD-set-same}
-use borrow.Author.Tests.{le-leb, leb-true}
+use Rattle.laws.specs.Prelude.{Answer, Bool, Idle, List, Pop, Push, Replace, Request, _-_, _∙_, _≡_, _≤_, and-left, and-true, ap, arith, cond, eqb, false, getD, getD-set-same, le-leb, leb, leb-true, length, length-set, numberOf, refl, subst, sym, true, ℕ}
 use Rattle.card.specs.Clocked.{clockedAfter, ClockedAfter, clockedClear, clockedCycle, clockedDrain, cycleOf, drainOf}
-use Rattle.card_out.specs.Asked.{asked, marked, markIn, markOut, requestOf}
-use Rattle.card_out.specs.Out.{drainOut, answerOut, answerWords, countAfter, drainWords}
+use Rattle.card_words.specs.Asked.{asked, marked, markIn, markOut, requestOf}
+use Rattle.card_words.specs.Out.{drainOut, answerOut, answerWords, countAfter, drainWords}
 use Rattle.card.specs.History.{asks, broughtBy, Call, callC, callM, clearC, codeOf, drain, Holds, Kept, kept}
-use Rattle.clocked_model.specs.Promise.{clearedMachine, Machine}
-use Rattle.laws.specs.Tests.{and-left, and-true}
-use Rattle.lent_steps.proofs.History as lent
-use Rattle.lent_steps.specs.History.{memory}
-use Rattle.lent_steps.specs.History as held
-use Rattle.lent_steps.specs.Lent.{lentCleared, lentCycled, LentDrain, lentDrains, LentOutcome}
-use Rattle.lent_steps.specs.declared.Record.{Record}
-use Rattle.promise.specs.Queue.{answers, answers-same, leaves, leaves-in-step}
-use Rattle.strip.specs.Answers.{numberOf}
-use Rattle.strip.specs.declared.Answer.{Answer}
-use Rattle.strip.specs.declared.Request.{Request}
-use Rattle.strip.specs.declared.Request.the-variants.{Idle, Pop, Push, Replace}
-use Rattle.tree_model.specs.Promise.{Shape}
+use Rattle.tree_clock_model.specs.Prelude.{Machine}
+use Rattle.tree_clock_model.specs.Promise.{clearedMachine}
+use Rattle.tree_records.proofs.History as lent
+use Rattle.tree_records.specs.History.{memory}
+use Rattle.tree_records.specs.History as held
+use Rattle.tree_records.specs.Lent.{lentCleared, lentCycled, LentDrain, lentDrains, LentOutcome}
+use Rattle.tree_records.specs.declared.Record.{Record}
+use Rattle.promise.specs.Prelude.{answers, answers-same, leaves, leaves-in-step}
+use Rattle.tree_model.specs.Prelude.{Shape}
 
 -- ---- a request handed over
 request-handed : (r : Request) → requestOf (codeOf r) (broughtBy r .rank .0) (broughtBy r .tag .0) (broughtBy r .length .0) ≡ r

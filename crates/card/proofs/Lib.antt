@@ -1,6 +1,7 @@
 -- What the proofs of the calls share.
 pub mod Calls
 pub mod Clocked
+pub mod Lends
 pub mod ClockedCluster
 pub mod Zeros
 pub mod Cluster

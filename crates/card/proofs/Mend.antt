@@ -1,20 +1,14 @@
 -- What the check and the mender answer, told; a refusal's zeros; and that each contract allows one outcome.
-use Prim.Native.Nat.{_<_, _≤_, ℕ}
-use mathlib.Core.Bool.{Bool, cond, false, true}
-use mathlib.Core.List.{List}
-use mathlib.Core.Path.{_∙_, _≡_, ap, refl, sym}
-use lib.Dec.{leb}
-use lib.ListN.{length, set}
-use borrow.Author.Tests.{le-leb, lt-leb}
+use Rattle.laws.specs.Prelude.{Bool, List, _<_, _∙_, _≡_, _≤_, ap, cond, false, le-leb, leb, length, lt-leb, refl, set, sym, true, ℕ}
 use Rattle.card.specs.Mend.{checkAnswered, checkOut, mendAnswered, mendOut, treeCheck, treeMend}
-use Rattle.card_out.specs.Out.{badShape, countAfter, CountAfter, refusedOut}
+use Rattle.card_words.specs.Out.{badShape, countAfter, CountAfter, refusedOut}
 use Rattle.card.specs.Tree.{treeAfterOut, TreeAfterOut}
-use Rattle.mend_model.specs.Check.{checked, checkNumber}
-use Rattle.mend_model.specs.Mend.{Mended, mended, mendedAs, mendNumber}
-use Rattle.mend_model.specs.declared.Check.{Check}
-use Rattle.mend_model.specs.declared.Check.the-variants.{Broken, Unchecked, Whole}
-use Rattle.mend_model.specs.declared.Mend.{Mend}
-use Rattle.mend_model.specs.declared.Mend.the-variants.{Skipped, Unmended}
+use Rattle.tree_mend_model.specs.Check.{checked, checkNumber}
+use Rattle.tree_mend_model.specs.Mend.{Mended, mended, mendedAs, mendNumber}
+use Rattle.tree_mend_model.specs.declared.Check.{Check}
+use Rattle.tree_mend_model.specs.declared.Check.the-variants.{Broken, Unchecked, Whole}
+use Rattle.tree_mend_model.specs.declared.Mend.{Mend}
+use Rattle.tree_mend_model.specs.declared.Mend.the-variants.{Skipped, Unmended}
 
 -- ---- told
 module _ (c : Check) (out : List ℕ) where

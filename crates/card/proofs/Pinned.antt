@@ -1,12 +1,10 @@
 -- PINNED: what the contract of each exported call allows is one outcome: the number returned and every word and record afterwards.
-use Prim.Native.Nat.{ℕ}
-use mathlib.Core.List.{List}
-use mathlib.Core.Path.{_∙_, _≡_, ap, sym}
+use Rattle.laws.specs.Prelude.{List, _∙_, _≡_, ap, sym, ℕ}
 use Rattle.card.specs.Bucket.{bucketAfter, BucketAfter, bucketAfterOut, BucketAfterOut, bucketClear, bucketHeld, bucketPop, bucketPush, bucketReplace}
 use Rattle.card.specs.Cluster.{clusterClear, clusterHeld, clusterPop, clusterPush, clusterReplace}
 use Rattle.card.specs.Clocked.{clockedAfter, ClockedAfter, clockedAfterOut, ClockedAfterOut, clockedClear, clockedCycle, clockedDrain, clockedHeld}
-use Rattle.card_out.specs.Out.{countAfter, CountAfter}
-use Rattle.lent_steps.specs.declared.Record.{Record}
+use Rattle.card_words.specs.Out.{countAfter, CountAfter}
+use Rattle.tree_records.specs.declared.Record.{Record}
 use Rattle.card.specs.Tree.{treeAfter, TreeAfter, treeAfterOut, TreeAfterOut, treeClear, treeHeld, treePop, treePush, treeReplace}
 
 pub count : (o : CountAfter) (n k : ℕ) (x y : List ℕ) → countAfter n x ≡ o → countAfter k y ≡ o → (n ≡ k) × (x ≡ y)

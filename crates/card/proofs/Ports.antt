@@ -1,24 +1,15 @@
 -- The ports' sizes; a refusal's zeros; and that each contract allows one outcome.
-use Prim.Native.Nat.{ℕ}
-use native.Mathlib.Omega.{arith}
-use mathlib.Core.Bool.{_&&_, Bool, cond, false, not, true}
-use mathlib.Core.List.{List}
-use mathlib.Core.Path.{_∙_, _≡_, ap, refl, sym}
-use lib.Dec.{eqb, leb}
-use borrow.Author.Tests.{le-leb, ne-eqb, not-true, not-false}
+use Rattle.laws.specs.Prelude.{Bool, List, _&&_, _∙_, _≡_, ap, arith, cond, eqb, false, le-leb, leb, ne-eqb, not, not-false, not-true, refl, sym, true, ℕ}
 use Rattle.card.proofs.Pinned.{bucket, bucket-out, count}
 use Rattle.card.proofs.Zeros.{bucket-zeros}
 use Rattle.card.specs.Bucket.{bucketAfter, bucketAfterOut}
-use Rattle.card_out.specs.Out.{answerWords, countAfter, refusedOut}
+use Rattle.card_words.specs.Out.{answerWords, countAfter, refusedOut}
 use Rattle.card.specs.Ports.{portsBits, portsClear, portsHeld, portsPop, portsPush, portsReplace, portsWords, shape}
-use Rattle.bucket_model.specs.Calls.{Outcome}
-use Rattle.bucket_model.specs.Checks.{depthOk}
-use Rattle.bucket_model.specs.Layout.{pool}
-use Rattle.ports_model.specs.Checks.{shapeOk}
-use Rattle.ports_model.specs.Layout.{bitWords, mostPorts, storeWords}
+use Rattle.bucket_model.specs.Prelude.{Outcome, depthOk, pool}
+use Rattle.ports_model.specs.Prelude.{bitWords, mostPorts, shapeOk, storeWords}
 use Rattle.ports_model.specs.declared.Shape.{Shape}
-use Rattle.ports_tests.proofs.Sums.{numbers-mean}
-use Rattle.ports_tests.specs.Sums.{Numbers, numbersOk}
+use Rattle.ports_step.proofs.Sums.{numbers-mean}
+use Rattle.ports_step.specs.Sums.{Numbers, numbersOk}
 
 -- the same call of the same shape
 pub at-shape : (f : Shape → Outcome) (s t : Shape) (o : Outcome) → s ≡ t → o ≡ f s → o ≡ f t

@@ -1,21 +1,15 @@
 -- A refused call answers zeros wherever `out` is long enough, and does not touch one that is too short.
-use Prim.Native.Nat.{ℕ}
-use mathlib.Core.Bool.{_&&_, Bool, cond, false, true}
-use mathlib.Core.List.{List}
-use mathlib.Core.Path.{_∙_, _≡_, ap, refl, sym}
-use lib.Dec.{leb}
-use lib.ListN.{length}
+use Rattle.laws.specs.Prelude.{Bool, List, _&&_, _∙_, _≡_, ap, cond, false, leb, length, numberOf, refl, sym, true, ℕ}
 use Rattle.bucket_model.specs.Calls as bucket
 use Rattle.card.specs.Bucket.{bucketPop, bucketReplace, bucketAfterOut, bucketAnswered}
 use Rattle.card.specs.Clocked.{clockedCycle, clockedDrain, cycleOf, drainOf, saysNo}
-use Rattle.card_out.proofs.Out.{told-zeros}
-use Rattle.card_out.specs.Asked.{asked, marked, markIn, requestOf}
-use Rattle.card_out.specs.Out.{drainOut, answerOut, answerWords, badShape, drainWords, refusedOut, zeros}
+use Rattle.card_words.proofs.Out.{told-zeros}
+use Rattle.card_words.specs.Asked.{asked, marked, markIn, requestOf}
+use Rattle.card_words.specs.Out.{drainOut, answerOut, answerWords, badShape, drainWords, refusedOut, zeros}
 use Rattle.card.specs.Tree.{treePop, treeReplace, treeAfterOut, treeAnswered}
-use Rattle.lent_steps.proofs.Drained.{drain-bad}
-use Rattle.lent_steps.specs.Lent.{lentCycled, LentDrain, lentDrains, LentOutcome}
-use Rattle.lent_steps.specs.declared.Record.{Record}
-use Rattle.strip.specs.Answers.{numberOf}
+use Rattle.tree_records.proofs.Drained.{drain-bad}
+use Rattle.tree_records.specs.Lent.{lentCycled, LentDrain, lentDrains, LentOutcome}
+use Rattle.tree_records.specs.declared.Record.{Record}
 use Rattle.tree_model.specs.Calls as tree
 
 pub tree-zeros : (o : tree.Outcome) (ws out : List ℕ) → (treeAnswered o ws out .number ≡ 0 → ⊥) → treeAnswered o ws out .out ≡ refusedOut answerWords out

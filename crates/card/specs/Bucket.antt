@@ -1,14 +1,8 @@
 -- The calls of the bucket queue as C sees them: total functions of all numbers and words handed in, to the number returned and all words
 -- afterwards.
-use Prim.Native.Nat.{ℕ}
-use mathlib.Core.Bool.{cond}
-use mathlib.Core.List.{List}
-use lib.Dec.{leb}
-use lib.ListN.{length}
-use Rattle.bucket_model.specs.Layout.{queue}
-use Rattle.bucket_model.specs.Calls.{cleared, heldCount, Outcome, popped, pushed, replaced}
-use Rattle.card_out.specs.Out.{answerOut, answerWords, badShape, CountAfter, countAnswered}
-use Rattle.strip.specs.Answers.{element, numberOf}
+use Rattle.laws.specs.Prelude.{List, cond, element, leb, length, numberOf, ℕ}
+use Rattle.bucket_model.specs.Prelude.{Outcome, cleared, heldCount, popped, pushed, queue, replaced}
+use Rattle.card_words.specs.Out.{answerOut, answerWords, badShape, CountAfter, countAnswered}
 
 -- ---- clear and push: the number, and both slices afterwards
 pub record BucketAfter : Type 0 where

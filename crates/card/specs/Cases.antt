@@ -1,22 +1,19 @@
 -- Calls through C in plain numbers: for each family the number returned, the words left and the words of `out`, with rank, tag and length all different (5, 50, 500). These are definitions; the
 -- claim over the table is in proofs/. The stores of the bucket queue and of the ports are thousands of words long: their rows are in `card_cases`.
-use Prim.Native.Nat.{suc, ℕ}
-use mathlib.Core.List.{[], _++_, _∷_, List}
-use mathlib.Core.Path.{_≡_}
-use lib.ListN.{replicate}
-use Rattle.bucket_model.specs.Filled.{filled}
+use Rattle.laws.specs.Prelude.{List, [], _++_, _∷_, _≡_, replicate, suc, ℕ}
+use Rattle.bucket_model.specs.Prelude.{filled}
 use Rattle.card.specs.Bucket.{BucketAfter, BucketAfterOut}
 use Rattle.card.specs.Clocked.{ClockedAfter, ClockedAfterOut, clockedClear, clockedCycle, clockedDrain, clockedHeld}
-use Rattle.card.specs.ClockedCluster.{StagesAfter, StagesAfterOut, stagesClear, stagesCycle, stagesDrain, stagesHeld}
+use Rattle.card.specs.ClockedCluster.{ClockedClusterAfter, ClockedClusterAfterOut, clockedClusterClear, clockedClusterCycle, clockedClusterDrain, clockedClusterHeld}
 use Rattle.card.specs.Cluster.{clusterClear, clusterHeld, clusterPop, clusterPush, clusterReplace}
 use Rattle.card.specs.Fair.{FairAfter, FairAfterOut, fairHeld, fairPop, fairPush, fairReset, fairWords}
 use Rattle.card.specs.Mend.{treeCheck, treeMend}
 use Rattle.card.specs.Ports.{portsBits, portsWords}
 use Rattle.card.specs.Tree.{TreeAfter, TreeAfterOut, treeClear, treeHeld, treePop, treePush, treeReplace}
-use Rattle.card_out.specs.Out.{CountAfter}
-use Rattle.card_sizes.specs.Sizes.{bucketBits, bucketWords, clusterWords, treeWords}
-use Rattle.cluster_lent_steps.specs.declared.ClusterRecord.{ClusterRecord}
-use Rattle.lent_steps.specs.declared.Record.{Record}
+use Rattle.card_words.specs.Out.{CountAfter}
+use Rattle.card_words.specs.Sizes.{bucketBits, bucketWords, clusterWords, treeWords}
+use Rattle.cluster_records.specs.Lent.{ClusterRecord}
+use Rattle.tree_records.specs.declared.Record.{Record}
 
 -- ---- what a call comes to, in numbers: the number returned; each slice by its words that are not 0, with their places; and `out`
 pub record Got : Type 0 where
@@ -67,7 +64,7 @@ fives (r ∷ rs) = r .kind ∷ r .node ∷ r .rank ∷ r .tag ∷ r .length ∷ 
 
 unfoldable pub sixes : List ClusterRecord → List ℕ
 sixes [] = []
-sixes (r ∷ rs) = r .kind ∷ r .node ∷ r .place ∷ r .rank ∷ r .tag ∷ r .length ∷ sixes rs
+sixes (r ∷ rs) = r ++ sixes rs
 
 abbrev pub clockedGot : ClockedAfter → Got
 clockedGot o = got (o .number) (filled 0 (o .store) ∷ filled 0 (fives (o .records)) ∷ filled 0 (o .mark) ∷ []) []
@@ -75,10 +72,10 @@ clockedGot o = got (o .number) (filled 0 (o .store) ∷ filled 0 (fives (o .reco
 abbrev pub clockedOutGot : ClockedAfterOut → Got
 clockedOutGot o = got (o .number) (filled 0 (o .store) ∷ filled 0 (fives (o .records)) ∷ filled 0 (o .mark) ∷ []) (o .out)
 
-abbrev pub stagesGot : StagesAfter → Got
+abbrev pub stagesGot : ClockedClusterAfter → Got
 stagesGot o = got (o .number) (filled 0 (o .store) ∷ filled 0 (sixes (o .records)) ∷ []) []
 
-abbrev pub stagesOutGot : StagesAfterOut → Got
+abbrev pub stagesOutGot : ClockedClusterAfterOut → Got
 stagesOutGot o = got (o .number) (filled 0 (o .store) ∷ filled 0 (sixes (o .records)) ∷ []) (o .out)
 
 -- what `out` holds before a call
@@ -168,10 +165,10 @@ clockedRows =
 
 -- ---- the clocked cluster heap: 3 places, levels 2, 42 words; two records, of which the second is past the shape
 abbrev sixNines : ClusterRecord
-sixNines = record { kind = 9; node = 9; place = 9; rank = 9; tag = 9; length = 9 }
+sixNines = 9 ∷ 9 ∷ 9 ∷ 9 ∷ 9 ∷ 9 ∷ []
 
 abbrev nothing : ClusterRecord
-nothing = record { kind = 0; node = 0; place = 0; rank = 0; tag = 0; length = 0 }
+nothing = 0 ∷ 0 ∷ 0 ∷ 0 ∷ 0 ∷ 0 ∷ []
 
 -- the root full, 3/30/300, 2/20/200 and 4/40/400, and 6/60/600 in the left child
 abbrev fullNode : ℕ → List ℕ
@@ -188,14 +185,14 @@ lowerPart = (10, 4) ∷ (11, 40) ∷ (12, 400) ∷ (13, 1) ∷ (16, 6) ∷ (17, 
 abbrev withSecond : List (ℕ × ℕ)
 withSecond = (2, 3) ∷ (3, 30) ∷ (4, 300) ∷ (5, 1) ∷ (6, 2) ∷ (7, 20) ∷ (8, 200) ∷ (9, 1) ∷ lowerPart
 
-unfoldable pub stagesRows : List Row
-stagesRows =
-    row (stagesGot (stagesClear 3 2 (replicate 43 9) (sixNines ∷ sixNines ∷ []))) (got 0 (((42, 9) ∷ []) ∷ beyondSix ∷ []) [])
-    ∷ row (stagesOutGot (stagesCycle 3 2 (fullNode 0) (nothing ∷ sixNines ∷ []) 1 5 50 500 out4)) (got 0 (((0, 1) ∷ (1, 1) ∷ withSecond) ∷ ((0, 1) ∷ (1, 1) ∷ (3, 5) ∷ (4, 50) ∷ (5, 500) ∷ beyondSix) ∷ []) (0 ∷ 0 ∷ 0 ∷ 6 ∷ []))
-    ∷ row (stagesOutGot (stagesCycle 3 2 (fullNode 0) (nothing ∷ sixNines ∷ []) 2 0 0 0 out4)) (got 0 (((0, 1) ∷ (2, 3) ∷ (3, 30) ∷ (4, 300) ∷ (5, 1) ∷ lowerPart) ∷ ((0, 2) ∷ (2, 1) ∷ beyondSix) ∷ []) (2 ∷ 20 ∷ 200 ∷ 6 ∷ []))
-    ∷ row (stagesOutGot (stagesCycle 3 2 (fullNode 0) (nothing ∷ sixNines ∷ []) 3 5 50 500 out4)) (got 0 (((0, 1) ∷ (2, 3) ∷ (3, 30) ∷ (4, 300) ∷ (5, 1) ∷ (6, 5) ∷ (7, 50) ∷ (8, 500) ∷ (9, 1) ∷ lowerPart) ∷ ((0, 3) ∷ (2, 1) ∷ (3, 5) ∷ (4, 50) ∷ (5, 500) ∷ beyondSix) ∷ []) (2 ∷ 20 ∷ 200 ∷ 6 ∷ []))
-    ∷ row (stagesOutGot (stagesDrain 3 2 (fullNode 1) (record { kind = 1; node = 1; place = 0; rank = 5; tag = 50; length = 500 } ∷ sixNines ∷ []) 7 out4)) (got 0 (((0, 1) ∷ (1, 1) ∷ withSecond ++ ((30, 5) ∷ (31, 50) ∷ (32, 500) ∷ (33, 1) ∷ [])) ∷ beyondSix ∷ []) (1 ∷ 0 ∷ 7 ∷ 6 ∷ []))
-    ∷ row (countGot (stagesHeld 3 2 (fullNode 0) out4)) (got 0 [] (4 ∷ 8 ∷ 7 ∷ 6 ∷ []))
+unfoldable pub clockedClusterRows : List Row
+clockedClusterRows =
+    row (stagesGot (clockedClusterClear 3 2 (replicate 43 9) (sixNines ∷ sixNines ∷ []))) (got 0 (((42, 9) ∷ []) ∷ beyondSix ∷ []) [])
+    ∷ row (stagesOutGot (clockedClusterCycle 3 2 (fullNode 0) (nothing ∷ sixNines ∷ []) 1 5 50 500 out4)) (got 0 (((0, 1) ∷ (1, 1) ∷ withSecond) ∷ ((0, 1) ∷ (1, 1) ∷ (3, 5) ∷ (4, 50) ∷ (5, 500) ∷ beyondSix) ∷ []) (0 ∷ 0 ∷ 0 ∷ 6 ∷ []))
+    ∷ row (stagesOutGot (clockedClusterCycle 3 2 (fullNode 0) (nothing ∷ sixNines ∷ []) 2 0 0 0 out4)) (got 0 (((0, 1) ∷ (2, 3) ∷ (3, 30) ∷ (4, 300) ∷ (5, 1) ∷ lowerPart) ∷ ((0, 2) ∷ (2, 1) ∷ beyondSix) ∷ []) (2 ∷ 20 ∷ 200 ∷ 6 ∷ []))
+    ∷ row (stagesOutGot (clockedClusterCycle 3 2 (fullNode 0) (nothing ∷ sixNines ∷ []) 3 5 50 500 out4)) (got 0 (((0, 1) ∷ (2, 3) ∷ (3, 30) ∷ (4, 300) ∷ (5, 1) ∷ (6, 5) ∷ (7, 50) ∷ (8, 500) ∷ (9, 1) ∷ lowerPart) ∷ ((0, 3) ∷ (2, 1) ∷ (3, 5) ∷ (4, 50) ∷ (5, 500) ∷ beyondSix) ∷ []) (2 ∷ 20 ∷ 200 ∷ 6 ∷ []))
+    ∷ row (stagesOutGot (clockedClusterDrain 3 2 (fullNode 1) ((1 ∷ 1 ∷ 0 ∷ 5 ∷ 50 ∷ 500 ∷ []) ∷ sixNines ∷ []) 7 out4)) (got 0 (((0, 1) ∷ (1, 1) ∷ withSecond ++ ((30, 5) ∷ (31, 50) ∷ (32, 500) ∷ (33, 1) ∷ [])) ∷ beyondSix ∷ []) (1 ∷ 0 ∷ 7 ∷ 6 ∷ []))
+    ∷ row (countGot (clockedClusterHeld 3 2 (fullNode 0) out4)) (got 0 [] (4 ∷ 8 ∷ 7 ∷ 6 ∷ []))
     ∷ []
 
 -- ---- ranks from weights: order 4, levels 1, 16 words; a state of 65 words, and one word more. Flow 5, weight 16: 500 bytes are 8 cells of step 4,096

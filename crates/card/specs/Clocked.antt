@@ -1,22 +1,15 @@
 -- The calls of the clocked tree as C sees them: total functions of all numbers, words and records handed in, to the number returned and all words and
 -- records afterwards.
-use Prim.Native.Nat.{ℕ}
-use mathlib.Core.Bool.{_&&_, cond, false}
-use mathlib.Core.List.{List}
-use lib.Dec.{eqb, leb}
-use lib.ListN.{length}
-use Rattle.card_out.specs.Out.{answerOut, answerWords, badShape, CountAfter, countAnswered, drainOut, drainWords, refusedOut}
-use Rattle.card_out.specs.Asked.{asked, marked, markIn, markOut, requestOf}
-use Rattle.clocked_model.specs.Calls.{CycleOutcome, DrainOutcome, fresh}
-use Rattle.lent_steps.specs.Lent.{lentCleared, lentCycled, LentDrain, lentDrains, LentOutcome}
-use Rattle.lent_steps.specs.Steps.{clearFrom, cycleFrom, drainFrom, turned, turnedCycle, turnedDrain}
-use Rattle.lent_steps.specs.declared.Read.{Read}
-use Rattle.lent_steps.specs.declared.Record.{Record}
-use Rattle.lent_steps.specs.declared.Turned.{Turned}
-use Rattle.strip.specs.Answers.{numberOf}
-use Rattle.strip.specs.declared.Answer.the-variants.{Refused}
-use Rattle.strip.specs.declared.Refusal.the-variants.{BadShape}
-use Rattle.tree_model.specs.Calls.{heldCount}
+use Rattle.laws.specs.Prelude.{BadShape, List, Refused, _&&_, cond, eqb, false, leb, length, numberOf, ℕ}
+use Rattle.card_words.specs.Out.{answerOut, answerWords, badShape, CountAfter, countAnswered, drainOut, drainWords, refusedOut}
+use Rattle.card_words.specs.Asked.{asked, marked, markIn, markOut, requestOf}
+use Rattle.tree_clock_model.specs.Prelude.{CycleOutcome, DrainOutcome, fresh}
+use Rattle.tree_records.specs.Lent.{lentCleared, lentCycled, LentDrain, lentDrains, LentOutcome}
+use Rattle.tree_records.specs.Steps.{clearFrom, cycleFrom, drainFrom, ended, endedCycle, endedDrain}
+use Rattle.tree_records.specs.declared.Read.{Read}
+use Rattle.tree_records.specs.declared.Record.{Record}
+use Rattle.tree_records.specs.declared.Ended.{Ended}
+use Rattle.tree_model.specs.Prelude.{heldCount}
 use Rattle.tree_model.specs.declared.Work.{Work}
 
 -- ---- clear: the number, and all words and records afterwards
@@ -73,45 +66,45 @@ clockedHeld m levels ws out = countAnswered (heldCount m levels ws) out
 
 -- ---- the calls on what was read of a slice of so many records: all words afterwards, and what is left to write of the records
 pub record Told : Type 0 where
-  pub turned : Turned
+  pub ended : Ended
   pub store : List ℕ
   pub mark : List ℕ
 
-abbrev pub told : Turned → List ℕ → List ℕ → Told
-told t ws mark = record { turned = t; store = ws; mark = mark }
+abbrev pub told : Ended → List ℕ → List ℕ → Told
+told t ws mark = record { ended = t; store = ws; mark = mark }
 
 pub record ToldOut : Type 0 where
-  pub turned : Turned
+  pub ended : Ended
   pub store : List ℕ
   pub mark : List ℕ
   pub out : List ℕ
 
-abbrev pub toldOut : Turned → List ℕ → List ℕ → List ℕ → ToldOut
-toldOut t ws mark out = record { turned = t; store = ws; mark = mark; out = out }
+abbrev pub toldOut : Ended → List ℕ → List ℕ → List ℕ → ToldOut
+toldOut t ws mark out = record { ended = t; store = ws; mark = mark; out = out }
 
 -- where the boundary says no, none, whatever was read
-abbrev pub noneTurned : List Work → Turned
-noneTurned vs = turned (Refused BadShape) 0 false (record { records = vs; mark = false }) 0
+abbrev pub noneEnded : List Work → Ended
+noneEnded vs = ended (Refused BadShape) 0 false (record { records = vs; mark = false }) 0
 
 module _ (m levels len : ℕ) (ws mark : List ℕ) where
   abbrev pub clearLeft : CycleOutcome → Told
-  clearLeft o = told (turnedCycle levels o) (o .words) (cond (eqb (numberOf (o .answer)) 0) (markOut false mark) mark)
+  clearLeft o = told (endedCycle levels o) (o .words) (cond (eqb (numberOf (o .answer)) 0) (markOut false mark) mark)
 
   unfoldable pub clearTold : Told
-  clearTold = cond (leb 1 (length mark)) (clearLeft (clearFrom m levels len (markIn mark) ws)) (told (noneTurned (fresh .records)) ws mark)
+  clearTold = cond (leb 1 (length mark)) (clearLeft (clearFrom m levels len (markIn mark) ws)) (told (noneEnded (fresh .records)) ws mark)
 
   abbrev pub cycleLeft : List ℕ → CycleOutcome → ToldOut
-  cycleLeft out o = toldOut (turnedCycle levels o) (o .words) (markOut (o .state .mark) mark) (answerOut (o .answer) out)
+  cycleLeft out o = toldOut (endedCycle levels o) (o .words) (markOut (o .state .mark) mark) (answerOut (o .answer) out)
 
   abbrev pub noneLeft : Read → ℕ → List ℕ → ToldOut
-  noneLeft d n out = toldOut (noneTurned (d .works)) ws mark (refusedOut n out)
+  noneLeft d n out = toldOut (noneEnded (d .works)) ws mark (refusedOut n out)
 
   unfoldable pub cycleTold : Read → ℕ → ℕ → ℕ → ℕ → List ℕ → ToldOut
   cycleTold d request rank tag bytes out =
       cond (leb answerWords (length out) && asked mark request) (cycleLeft out (cycleFrom m levels len (markIn mark) ws d (requestOf request rank tag bytes))) (noneLeft d answerWords out)
 
   abbrev pub drainLeft : List ℕ → DrainOutcome → ToldOut
-  drainLeft out o = toldOut (turnedDrain levels o) (o .words) (markOut (o .state .mark) mark) (drainOut (o .cycles) (o .left) out)
+  drainLeft out o = toldOut (endedDrain levels o) (o .words) (markOut (o .state .mark) mark) (drainOut (o .cycles) (o .left) out)
 
   unfoldable pub drainTold : Read → ℕ → List ℕ → ToldOut
   drainTold d budget out = cond (leb drainWords (length out) && marked mark) (drainLeft out (drainFrom m levels len (markIn mark) ws d budget)) (noneLeft d drainWords out)

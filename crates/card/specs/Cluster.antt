@@ -1,12 +1,9 @@
 -- The calls of the cluster heap as C sees them: total functions of all numbers and words handed in, to the number returned and all words
 -- afterwards.
-use Prim.Native.Nat.{ℕ}
-use mathlib.Core.List.{List}
-use Rattle.card_out.specs.Out.{CountAfter, countAnswered}
+use Rattle.laws.specs.Prelude.{List, Pop, Push, Replace, element, ℕ}
+use Rattle.card_words.specs.Out.{CountAfter, countAnswered}
 use Rattle.card.specs.Tree.{TreeAfter, TreeAfterOut, treeAnswered, treeDone}
-use Rattle.cluster_model.specs.Calls.{called, cleared, heldCount, Outcome}
-use Rattle.strip.specs.Answers.{element}
-use Rattle.strip.specs.declared.Request.the-variants.{Pop, Push, Replace}
+use Rattle.cluster_model.specs.Prelude.{Outcome, called, cleared, heldCount}
 use Rattle.tree_model.specs.Calls as tree
 
 -- one store and one answer, as the tree has them

@@ -1,13 +1,9 @@
 -- The calls of fair ranks as C sees them: total functions of all numbers and words handed in, to the number returned and all words afterwards.
-use Prim.Native.Nat.{ℕ}
-use mathlib.Core.Bool.{cond}
-use mathlib.Core.List.{List}
-use lib.Dec.{leb}
-use lib.ListN.{length, set}
-use Rattle.card_out.specs.Out.{answerWords, badShape, CountAfter, countAnswered}
+use Rattle.laws.specs.Prelude.{List, cond, leb, length, set, ℕ}
+use Rattle.card_words.specs.Out.{answerWords, badShape, CountAfter, countAnswered}
 use Rattle.fair_model.specs.Calls.{answerNumber, desk, pops, pushes, Reply, resets, servedElement, stateWords}
 use Rattle.fair_model.specs.declared.FairAnswer.{FairAnswer}
-use Rattle.tree_model.specs.Calls.{heldCount}
+use Rattle.tree_model.specs.Prelude.{heldCount}
 
 -- ---- reset and push: the number, state and store afterwards
 pub record FairAfter : Type 0 where

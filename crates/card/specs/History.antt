@@ -1,21 +1,13 @@
 -- A list of clocked calls through the boundary, and the same list of by-value cycles and drains.
-use Prim.Native.Nat.{ℕ}
-use mathlib.Core.Bool.{true}
-use mathlib.Core.List.{List}
-use mathlib.Core.Path.{_≡_}
+use Rattle.laws.specs.Prelude.{Element, Idle, List, Pop, Push, Replace, Request, _≡_, blank, numberOf, true, ℕ}
 use Rattle.card.specs.Clocked.{clockedClear, clockedCycle, clockedDrain}
-use Rattle.card_out.specs.Out.{drainOut, answerOut, CountAfter, countAfter}
-use Rattle.card_out.specs.Asked.{marked, markIn}
-use Rattle.clocked_model.specs.Calls.{cycled, drains}
-use Rattle.clocked_model.specs.Promise.{machine, Machine}
-use Rattle.lent_steps.specs.History as lent
-use Rattle.lent_steps.specs.History.{memory}
-use Rattle.lent_steps.specs.declared.Record.{Record}
-use Rattle.promise.specs.Queue.{step, Step}
-use Rattle.strip.specs.Answers.{blank, numberOf}
-use Rattle.strip.specs.declared.Element.{Element}
-use Rattle.strip.specs.declared.Request.{Request}
-use Rattle.strip.specs.declared.Request.the-variants.{Idle, Pop, Push, Replace}
+use Rattle.card_words.specs.Out.{drainOut, answerOut, CountAfter, countAfter}
+use Rattle.card_words.specs.Asked.{marked, markIn}
+use Rattle.tree_clock_model.specs.Prelude.{Machine, cycled, drains, machine}
+use Rattle.tree_records.specs.History as lent
+use Rattle.tree_records.specs.History.{memory}
+use Rattle.tree_records.specs.declared.Record.{Record}
+use Rattle.promise.specs.Prelude.{Step, step}
 
 -- a cycle with a request, or a drain with a budget
 pub data Call : Type 0 where

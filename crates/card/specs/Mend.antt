@@ -1,16 +1,12 @@
 -- The check of a tree's store and its mending as C sees them: total functions of all numbers and words handed in, to the number returned and all words
 -- afterwards.
-use Prim.Native.Nat.{ℕ}
-use mathlib.Core.Bool.{cond}
-use mathlib.Core.List.{List}
-use lib.Dec.{leb}
-use lib.ListN.{length, set}
-use Rattle.card_out.specs.Out.{badShape, CountAfter, countAfter}
+use Rattle.laws.specs.Prelude.{List, cond, leb, length, set, ℕ}
+use Rattle.card_words.specs.Out.{badShape, CountAfter, countAfter}
 use Rattle.card.specs.Tree.{TreeAfterOut, treeAfterOut}
-use Rattle.mend_model.specs.Check.{checked, checkNumber, checkSlot, checkYes}
-use Rattle.mend_model.specs.Mend.{Mended, mended, mendNumber, mendSkipped}
-use Rattle.mend_model.specs.declared.Check.{Check}
-use Rattle.mend_model.specs.declared.Mend.{Mend}
+use Rattle.tree_mend_model.specs.Check.{checked, checkNumber, checkSlot, checkYes}
+use Rattle.tree_mend_model.specs.Mend.{Mended, mended, mendNumber, mendSkipped}
+use Rattle.tree_mend_model.specs.declared.Check.{Check}
+use Rattle.tree_mend_model.specs.declared.Mend.{Mend}
 
 -- `out` of a check: 1 and 0, or 0 and the number of the first broken slot; zeros on a refusal
 abbrev pub checkOut : Check → List ℕ → List ℕ

@@ -1,15 +1,10 @@
 -- The calls of several ports on one pool as C sees them: total functions of all numbers and words handed in, to the number returned and all words
 -- afterwards.
-use Prim.Native.Nat.{ℕ}
-use mathlib.Core.Bool.{cond}
-use mathlib.Core.List.{List}
+use Rattle.laws.specs.Prelude.{List, cond, element, ℕ}
 use Rattle.card.specs.Bucket.{BucketAfter, BucketAfterOut, bucketAnswered, bucketDone}
-use Rattle.card_out.specs.Out.{CountAfter, countAnswered}
-use Rattle.ports_model.specs.Calls.{cleared, heldCount, popped, pushed, replaced}
-use Rattle.ports_model.specs.Checks.{shapeOk}
-use Rattle.ports_model.specs.Layout.{bitWords, storeWords}
+use Rattle.card_words.specs.Out.{CountAfter, countAnswered}
+use Rattle.ports_model.specs.Prelude.{bitWords, cleared, heldCount, popped, pushed, replaced, shapeOk, storeWords}
 use Rattle.ports_model.specs.declared.Shape.{Shape}
-use Rattle.strip.specs.Answers.{element}
 
 abbrev pub shape : ℕ → ℕ → ℕ → Shape
 shape storeys n ports = record { storeys = storeys; nodes = n; ports = ports }

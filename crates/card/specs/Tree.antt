@@ -1,14 +1,8 @@
 -- The calls of the one-at-a-time tree as C sees them: total functions of all numbers and words handed in, to the number returned and all
 -- words afterwards.
-use Prim.Native.Nat.{ℕ}
-use mathlib.Core.Bool.{cond}
-use mathlib.Core.List.{List}
-use lib.Dec.{leb}
-use lib.ListN.{length}
-use Rattle.card_out.specs.Out.{answerOut, answerWords, badShape, CountAfter, countAnswered}
-use Rattle.strip.specs.Answers.{element, numberOf}
-use Rattle.strip.specs.declared.Request.the-variants.{Pop, Push, Replace}
-use Rattle.tree_model.specs.Calls.{called, cleared, heldCount, Outcome}
+use Rattle.laws.specs.Prelude.{List, Pop, Push, Replace, cond, element, leb, length, numberOf, ℕ}
+use Rattle.card_words.specs.Out.{answerOut, answerWords, badShape, CountAfter, countAnswered}
+use Rattle.tree_model.specs.Prelude.{Outcome, called, cleared, heldCount}
 
 -- ---- clear and push: the number, and the store afterwards
 pub record TreeAfter : Type 0 where

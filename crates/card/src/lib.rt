@@ -1,10 +1,10 @@
 // The static library for C and Rust: the queues over numbers and slices. Each function returns 01's number, 0 where nothing is
 // refused, and writes what it answers to `out`, zeros on a refusal. An `out` that is too short is refusal 1, and nothing changes.
 ghost use mathlib.Core.Path.{_≡_};
-ghost use Rattle.card_out.specs.Out.{countAfter};
+ghost use Rattle.card_words.specs.Out.{countAfter};
 ghost use Rattle.card.specs.Tree.{treeAfter, treeAfterOut, treeClear, treePush, treePop, treeReplace, treeHeld};
 ghost use Rattle.card.specs.Cluster.{clusterClear, clusterPush, clusterPop, clusterReplace, clusterHeld};
-ghost use Rattle.card_sizes.specs.Sizes.{clusterWords, treeWords, bucketBits, bucketWords};
+ghost use Rattle.card_words.specs.Sizes.{clusterWords, treeWords, bucketBits, bucketWords};
 ghost use Rattle.card.specs.Bucket.{bucketAfter, bucketAfterOut, bucketClear, bucketPush, bucketPop, bucketReplace, bucketHeld};
 
 mod clock;
@@ -14,24 +14,18 @@ mod stages;
 mod version;
 pub mod weights;
 
-use card_out::OUT;
-use card_out::tell;
-use card_out::tell_count;
-use card_sizes::bucket_bit_words;
-use card_sizes::bucket_words;
-use card_sizes::cluster_words;
-use card_sizes::tree_words;
+use card_words::OUT;
+use card_words::sizes::bucket_bit_words;
+use card_words::sizes::bucket_words;
+use card_words::sizes::cluster_words;
+use card_words::sizes::tree_words;
+use card_words::tell;
+use card_words::tell_count;
 use strip::Element;
 use strip::Length;
 use strip::Rank;
 use strip::Tag;
 use strip::number;
-
-fn wide(n: u32) -> usize
-    ensures { λ r. ⌜ r ≡ n ⌝ }
-{
-    n as usize
-}
 
 // ---- the multi-way tree, one operation at a time
 

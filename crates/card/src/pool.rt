@@ -1,15 +1,15 @@
 // Several ports on one pool. Every number is 32 bits wide, and any may be handed over.
 ghost use mathlib.Core.Path.{_≡_};
 ghost use Rattle.card.specs.Bucket.{bucketAfter, bucketAfterOut};
-ghost use Rattle.card_out.specs.Out.{countAfter};
+ghost use Rattle.card_words.specs.Out.{countAfter};
 ghost use Rattle.card.specs.Ports.{shape, portsClear, portsPush, portsPop, portsReplace, portsHeld, portsBits, portsWords};
-use card_out::OUT;
-use card_out::tell;
-use card_out::tell_count;
+use card_words::OUT;
+use card_words::tell;
+use card_words::tell_count;
 use ports_model::Shape;
-use ports_tests::bit_words;
-use ports_tests::is_numbered;
-use ports_tests::store_words;
+use ports_step::bit_words;
+use ports_step::is_numbered;
+use ports_step::store_words;
 use strip::Element;
 use strip::Length;
 use strip::Rank;

@@ -2,18 +2,18 @@
 ghost use mathlib.Core.Path.{_≡_};
 ghost use Prim.Native.Nat.{_≤_};
 ghost use lib.ListN.{length};
-ghost use Rattle.mend_model.specs.Check.{checkNumber};
-ghost use Rattle.mend_model.specs.Mend.{mendNumber};
-ghost use Rattle.card_out.specs.Out.{countAfter};
+ghost use Rattle.tree_mend_model.specs.Check.{checkNumber};
+ghost use Rattle.tree_mend_model.specs.Mend.{mendNumber};
+ghost use Rattle.card_words.specs.Out.{countAfter};
 ghost use Rattle.card.specs.Tree.{treeAfterOut};
 ghost use Rattle.card.specs.Mend.{checkOut, mendOut, treeCheck, treeMend};
-use mend::numbers::check_number;
-use mend::numbers::check_slot;
-use mend::numbers::check_yes;
-use mend::numbers::mend_number;
-use mend::numbers::mend_skipped;
-use mend_model::Check;
-use mend_model::Mend;
+use tree_mend::numbers::check_number;
+use tree_mend::numbers::check_slot;
+use tree_mend::numbers::check_yes;
+use tree_mend::numbers::mend_number;
+use tree_mend::numbers::mend_skipped;
+use tree_mend_model::Check;
+use tree_mend_model::Mend;
 
 // The words of a check's answer: 1 for yes, and the slot that is named.
 const CHECK_OUT: usize = 2;
@@ -44,7 +44,7 @@ pub extern "C" fn card_tree_check(store: &[u32], order: u32, levels: u32, out: &
     if out.len() < CHECK_OUT {
         return 1;
     }
-    let c = mend::check(store, order as usize, levels as usize);
+    let c = tree_mend::check(store, order as usize, levels as usize);
     tell_check(out, c)
 }
 
@@ -61,6 +61,6 @@ pub extern "C" fn card_tree_mend(
     if out.len() < 1 {
         return 1;
     }
-    let a = mend::mend(from, to, order as usize, levels as usize);
+    let a = tree_mend::mend(from, to, order as usize, levels as usize);
     tell_mend(out, a)
 }

@@ -1,10 +1,10 @@
 // Ranks from weights.
 ghost use mathlib.Core.Path.{_≡_};
 ghost use Rattle.fair_model.specs.Calls.{answerNumber};
-ghost use Rattle.card_out.specs.Out.{Long, answerWords, countAfter};
+ghost use Rattle.card_words.specs.Out.{Long, answerWords, countAfter};
 ghost use Rattle.card.specs.Fair.{fairAfter, fairAfterOut, fairHeld, fairOut, fairPop, fairPush, fairReset, fairWords};
-use card_out::OUT;
-use card_out::tell_count;
+use card_words::OUT;
+use card_words::tell_count;
 use fair::STATE_WORDS;
 use fair::numbers::given;
 use fair::numbers::number;

@@ -1,47 +1,31 @@
 -- A list of calls through C from any memory, cleared first: tree, cluster heap and bucket queue. What is heard is the queue's, and so are its promises and its table of refusals.
-use Prim.Native.Nat.{_≤_, ℕ}
-use mathlib.Core.List.{[], _∷_, List, map}
-use mathlib.Core.Path.{_∙_, _≡_, ap, refl}
+use Rattle.laws.specs.Prelude.{Answer, Exactly, Ladder, List, Refusal, Refused, Request, [], _∙_, _∷_, _≡_, _≤_, ap, blank, element, fine, le-leb, length, map, numberOf, refl, untagged, ℕ}
 use lib.Dec.{lit≤}
-use lib.ListN.{length}
-use borrow.Author.Tests.{le-leb}
 use Rattle.bucket_model.proofs.Exactly as bucketTable
-use Rattle.bucket_model.proofs.Facts.{shape-means}
+use Rattle.bucket_model.proofs.Laws.{answerOf, served-holds, served-least, shape-means}
 use Rattle.bucket_model.proofs.Kind as bucketKind
 use Rattle.bucket_model.proofs.Promises as bucketPromises
-use Rattle.bucket_model.proofs.Served.{answerOf, served-holds, served-least}
 use Rattle.bucket_model.specs.Calls as bucket
-use Rattle.bucket_model.specs.Causes.{callTable, Shaped}
-use Rattle.bucket_model.specs.Layout.{Laid, queue}
+use Rattle.bucket_model.specs.Prelude.{Laid, Reached, Shaped, Store, after, ask, asked, bucketQueue, callTable, called, plainSays, plainWith, queue, says, store, storedBy}
 use Rattle.bucket_model.specs.declared.Lay.{Lay}
-use Rattle.bucket_model.specs.Plain.{after, ask, asked, called, plainSays, plainWith, Reached, says, store, Store}
-use Rattle.bucket_model.specs.Promise.{bucketQueue, storedBy}
 use Rattle.card.specs.Bucket.{bucketAnswered, bucketClear}
 use Rattle.card.specs.Cluster.{clusterClear}
 use Rattle.card.specs.Tree.{treeAnswered, treeClear}
 use Rattle.card_cases.proofs.Through as through
 use Rattle.card_cases.specs.Through.{bucketC, clusterC, refusedC, repliesC, throughC, treeC}
-use Rattle.card_out.specs.Heard.{Ask, Heard, pop, push, replace, wanted}
-use Rattle.card_out.specs.Out.{answerWords, countAfter, CountAfter}
+use Rattle.card_words.specs.Heard.{Ask, Heard, pop, push, replace, wanted}
+use Rattle.card_words.specs.Out.{answerWords, countAfter, CountAfter}
 use Rattle.cluster_model.proofs.Damages as clusterShape
 use Rattle.cluster_model.proofs.Exactly as clusterTable
 use Rattle.cluster_model.proofs.Promises as clusterPromises
 use Rattle.cluster_model.specs.Promise as cluster
-use Rattle.laws.specs.Ladder.{Exactly, fine, Ladder}
 use Rattle.promise.proofs.Handed.{exactly-as}
-use Rattle.promise.specs.Calls.{left, Outcome}
-use Rattle.promise.specs.Queue.{answers, leaves, step, Step}
-use Rattle.promise.specs.Table.{ladder}
-use Rattle.strip.specs.Answers.{blank, element, numberOf, untagged}
-use Rattle.strip.specs.declared.Answer.{Answer}
-use Rattle.strip.specs.declared.Answer.the-variants.{Refused}
-use Rattle.strip.specs.declared.Refusal.{Refusal}
-use Rattle.strip.specs.declared.Request.{Request}
+use Rattle.promise.specs.Prelude.{Outcome, Step, answers, ladder, leaves, left, step}
 use Rattle.tree_model.proofs.Exactly as treeTable
 use Rattle.tree_model.proofs.Promises as treePromises
 use Rattle.tree_model.specs.Calls as tree
 use Rattle.tree_model.specs.Damage as treeRoom
-use Rattle.tree_model.specs.Promise.{refusals, Shape, storedCount, treeQueue}
+use Rattle.tree_model.specs.Prelude.{Shape, refusals, storedCount, treeQueue}
 
 -- an outcome of one slice as a step
 abbrev stepOf : Outcome (List ℕ) → Step Answer (List ℕ)

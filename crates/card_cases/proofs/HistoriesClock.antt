@@ -1,55 +1,40 @@
 -- A list of cycles through C from any memory, cleared first: the clocked tree and the clocked cluster heap. What is heard is what the machine answers that the memory holds, and so in the middle of any work it holds what
 -- went in and has not come out, and gives the lowest rank.
-use Prim.Native.Nat.{_-_, _≤_, suc, zero, ℕ}
-use native.Mathlib.Nat.{not-suc-le-zero}
-use native.Mathlib.Omega.{arith}
-use mathlib.Core.Bool.{true}
-use mathlib.Core.List.{[], _∷_, List}
-use mathlib.Core.Path.{_∙_, _≡_, ap, refl, subst, sym}
-use lib.Dec.{leb}
-use lib.ListN.{getD, length}
-use borrow.Author.Tests.{le-leb}
+use Rattle.laws.specs.Prelude.{Answer, Exactly, Idle, List, Pop, Push, Refusal, Replace, Request, [], _-_, _∙_, _∷_, _≡_, _≤_, ap, arith, blank, getD, le-leb, leb, length, not-suc-le-zero, numberOf, refl, refusalNumber, subst, suc, sym, true, zero, ℕ}
 use Rattle.card.proofs.History as tree
 use Rattle.card.specs.ClockedCluster as stages
-use Rattle.card.specs.ClockedCluster.{stagesClear, stagesCycle, stagesDrain}
+use Rattle.card.specs.ClockedCluster.{clockedClusterClear, clockedClusterCycle, clockedClusterDrain}
 use Rattle.card.specs.History as kept
 use Rattle.card.specs.History.{asks, broughtBy, callC, callM, clearC, codeOf, Kept}
 use Rattle.card_cases.proofs.Through.{beside}
 use Rattle.card_cases.specs.Through.{HeardBeside, stagesC, stagesDrainC}
-use Rattle.card_out.proofs.Heard.{heard-told}
+use Rattle.card_words.proofs.Heard.{heard-told}
 use Rattle.card.specs.Clocked.{clockedCycle}
-use Rattle.card_out.specs.Asked.{asked, marked, markIn, markOut, requestOf}
-use Rattle.card_out.specs.Heard.{heard}
-use Rattle.card_out.specs.Out.{answerOut, answerWords, countAfter, CountAfter, drainOut, drainWords, zeros}
-use Rattle.clocked_model.proofs.Demand.{start-in-step}
-use Rattle.clocked_model.proofs.Exactly as cycles
-use Rattle.clocked_model.proofs.Lost as lost
-use Rattle.clocked_model.specs.Lost.{remaining}
-use Rattle.clocked_model.specs.Promise.{clearedMachine, clockedQueue, Machine}
+use Rattle.card_words.specs.Asked.{asked, marked, markIn, markOut, requestOf}
+use Rattle.card_words.specs.Heard.{heard}
+use Rattle.card_words.specs.Out.{answerOut, answerWords, countAfter, CountAfter, drainOut, drainWords, zeros}
+use Rattle.tree_clock_model.proofs.Laws.{start-in-step}
+use Rattle.tree_clock_model.proofs.Exactly as cycles
+use Rattle.tree_clock_model.proofs.Lost as lost
+use Rattle.tree_clock_model.specs.Prelude.{Machine, clockedQueue, remaining}
+use Rattle.tree_clock_model.specs.Promise.{clearedMachine}
 use Rattle.cluster_clock_model.proofs.Exactly as turns
 use Rattle.cluster_clock_model.proofs.Promises as heap
-use Rattle.cluster_clock_model.specs.Calls.{drains}
+use Rattle.cluster_clock_model.specs.Prelude.{drains}
 use Rattle.cluster_clock_model.specs.Promise as machine
-use Rattle.cluster_lent.proofs.History as lent
-use Rattle.cluster_lent.specs.History.{Holds, memory, Memory}
-use Rattle.cluster_lent_steps.proofs.Exactly as table
-use Rattle.cluster_lent_steps.specs.Lent.{lentDrains, LentOutcome, lentTurned}
-use Rattle.cluster_lent_steps.specs.Refusals.{lentLeft, lentRefusals}
-use Rattle.cluster_lent_steps.specs.declared.ClusterRecord.{ClusterRecord}
+use Rattle.cluster_records.proofs.History as lent
+use Rattle.cluster_records.specs.History.{Holds, memory, Memory}
+use Rattle.cluster_records.proofs.Exactly as table
+use Rattle.cluster_records.specs.Lent.{ClusterRecord, lentDrains, LentOutcome, lentCycled}
+use Rattle.cluster_records.specs.Refusals.{lentLeft, lentRefusals}
 use Rattle.cluster_model.specs.Promise as cluster
-use Rattle.laws.specs.Ladder.{Exactly}
-use Rattle.lent_steps.proofs.Exactly as treeTable
-use Rattle.lent_steps.specs.Lent.{lentCycled, LentOutcome as TreeOutcome}
-use Rattle.lent_steps.specs.Refusals as trees
+use Rattle.tree_records.proofs.Exactly as treeTable
+use Rattle.tree_records.specs.Lent.{lentCycled as treeCycled, LentOutcome as TreeOutcome}
+use Rattle.tree_records.specs.Refusals as trees
 use Rattle.promise.proofs.InFlight as clocks
 use Rattle.promise.proofs.Handed.{exactly-as}
-use Rattle.promise.specs.Queue.{answers, leaves, step, Step}
-use Rattle.strip.specs.Answers.{blank, numberOf, refusalNumber}
-use Rattle.strip.specs.declared.Answer.{Answer}
-use Rattle.strip.specs.declared.Refusal.{Refusal}
-use Rattle.strip.specs.declared.Request.{Request}
-use Rattle.strip.specs.declared.Request.the-variants.{Idle, Pop, Push, Replace}
-use Rattle.tree_model.specs.Promise.{Shape}
+use Rattle.promise.specs.Prelude.{Step, answers, leaves, step}
+use Rattle.tree_model.specs.Prelude.{Shape}
 
 -- ---- a request handed over
 request-handed : (r : Request) → requestOf (codeOf r) (broughtBy r .rank .0) (broughtBy r .tag .0) (broughtBy r .length .0) ≡ r
@@ -86,7 +71,7 @@ module _ (m levels : ℕ) (out : List ℕ) (room : answerWords ≤ length out) w
 
   -- a cycle of a memory whose mark is one
   go-is : (r : Request) (x : Kept) → marked (x .mark) ≡ true
-      → clockedC r x ≡ (let o = lentCycled m levels (markIn (x .mark)) (x .records) (x .store) r in step (countAfter (numberOf (o .answer)) (answerOut (o .answer) out)) (kept.kept (o .words) (o .records) (markOut (o .mark) (x .mark))))
+      → clockedC r x ≡ (let o = treeCycled m levels (markIn (x .mark)) (x .records) (x .store) r in step (countAfter (numberOf (o .answer)) (answerOut (o .answer) out)) (kept.kept (o .words) (o .records) (markOut (o .mark) (x .mark))))
   unfolding callC clockedCycle asked
   go-is r x e = rw (le-leb answerWords (length out) room, code-low r, e, request-handed r)
 
@@ -101,7 +86,7 @@ module _ (m levels : ℕ) (out : List ℕ) (room : answerWords ≤ length out) w
   clocked-exactly r x e =
       subst (λ (o : Step CountAfter Kept). Exactly (λ (o : Step CountAfter Kept). o .said .number) (clockedRefused x) o (trees.lentRefusals m levels (markIn (x .mark)) (x .records) (x .store) r)) (sym (go-is r x e))
       (exactly-as (λ (o : TreeOutcome). numberOf (o .answer)) (trees.lentLeft m levels (markIn (x .mark)) (x .records) (x .store)) (λ (o : TreeOutcome). step (countAfter (numberOf (o .answer)) (answerOut (o .answer) out)) (kept.kept (o .words) (o .records) (markOut (o .mark) (x .mark))))
-      (λ (o : Step CountAfter Kept). o .said .number) (λ o. refl) (lentCycled m levels (markIn (x .mark)) (x .records) (x .store) r) (trees.lentRefusals m levels (markIn (x .mark)) (x .records) (x .store) r)
+      (λ (o : Step CountAfter Kept). o .said .number) (λ o. refl) (treeCycled m levels (markIn (x .mark)) (x .records) (x .store) r) (trees.lentRefusals m levels (markIn (x .mark)) (x .records) (x .store) r)
       (treeTable.exactly-cycle m levels (markIn (x .mark)) (x .records) (x .store) r))
 
 -- HEARD, in the middle of any work
@@ -120,39 +105,39 @@ clocked-heard m (suc k) out room x sh long some rs =
 
 -- ---- the clocked cluster heap
 module _ (K levels : ℕ) (out : List ℕ) (room : answerWords ≤ length out) where
-  cycle-is : (r : Request) (x : Memory) → stagesCycle K levels (x .words) (x .records) (codeOf r) (broughtBy r .rank .0) (broughtBy r .tag .0) (broughtBy r .length .0) out ≡ stages.cycleOf (lentTurned K levels (x .records) (x .words) r) out
-  unfolding stagesCycle
+  cycle-is : (r : Request) (x : Memory) → clockedClusterCycle K levels (x .words) (x .records) (codeOf r) (broughtBy r .rank .0) (broughtBy r .tag .0) (broughtBy r .length .0) out ≡ stages.cycleOf (lentCycled K levels (x .records) (x .words) r) out
+  unfolding clockedClusterCycle
   cycle-is r x = rw (le-leb answerWords (length out) room, code-low r, request-handed r)
 
-  turn-is : (r : Request) (x : Memory) → stagesC K levels out r x ≡ (let o = lentTurned K levels (x .records) (x .words) r in step (countAfter (numberOf (o .answer)) (answerOut (o .answer) out)) (memory (o .records) (o .words)))
-  turn-is r x = ap (λ (b : stages.StagesAfterOut). step (countAfter (b .number) (b .out)) (memory (b .records) (b .store))) (cycle-is r x)
+  turn-is : (r : Request) (x : Memory) → stagesC K levels out r x ≡ (let o = lentCycled K levels (x .records) (x .words) r in step (countAfter (numberOf (o .answer)) (answerOut (o .answer) out)) (memory (o .records) (o .words)))
+  turn-is r x = ap (λ (b : stages.ClockedClusterAfterOut). step (countAfter (b .number) (b .out)) (memory (b .records) (b .store))) (cycle-is r x)
 
-  turn-same : (r : Request) (x : Memory) (y : machine.Machine) → Holds K levels x y → heard r (stagesC K levels out r x .said) ≡ machine.turnQueue K levels r y .said
+  turn-same : (r : Request) (x : Memory) (y : machine.Machine) → Holds K levels x y → heard r (stagesC K levels out r x .said) ≡ machine.cycleQueue K levels r y .said
   turn-same r x y h =
       ap (λ (o : Step CountAfter Memory). heard r (o .said)) (turn-is r x) ∙ ap (λ (a : Answer). heard r (countAfter (numberOf a) (answerOut a out))) (lent.history-cycle K levels r x y h .0)
-      ∙ heard-told r (machine.turnQueue K levels r y .said) out room (turns.kind K levels r (y .records) (y .words))
+      ∙ heard-told r (machine.cycleQueue K levels r y .said) out room (turns.kind K levels r (y .records) (y .words))
 
-  turn-keep : (r : Request) (x : Memory) (y : machine.Machine) → Holds K levels x y → Holds K levels (stagesC K levels out r x .next) (machine.turnQueue K levels r y .next)
-  turn-keep r x y h = subst (λ (o : Step CountAfter Memory). Holds K levels (o .next) (machine.turnQueue K levels r y .next)) (sym (turn-is r x)) (lent.history-cycle K levels r x y h .1)
+  turn-keep : (r : Request) (x : Memory) (y : machine.Machine) → Holds K levels x y → Holds K levels (stagesC K levels out r x .next) (machine.cycleQueue K levels r y .next)
+  turn-keep r x y h = subst (λ (o : Step CountAfter Memory). Holds K levels (o .next) (machine.cycleQueue K levels r y .next)) (sym (turn-is r x)) (lent.history-cycle K levels r x y h .1)
 
   module _ (rs : List ClusterRecord) (ws : List ℕ) (sh : cluster.Shape K levels (length ws)) (long : levels - 1 ≤ length rs) where
     -- what C's clear leaves
     abbrev clear : Memory
-    clear = memory (stagesClear K levels ws rs .records) (stagesClear K levels ws rs .store)
+    clear = memory (clockedClusterClear K levels ws rs .records) (clockedClusterClear K levels ws rs .store)
 
-    pub stages-cleared : stagesClear K levels ws rs .number ≡ 0
+    pub stages-cleared : clockedClusterClear K levels ws rs .number ≡ 0
     stages-cleared = ap numberOf (lent.clear-answer K levels rs ws sh long)
 
     -- HEARD, in the middle of any work
     pub stages-heard : (qs : List Request)
-        → HeardBeside (stagesC K levels out) (machine.turnQueue K levels) (machine.remaining K levels) qs (memory (stagesClear K levels ws rs .records) (stagesClear K levels ws rs .store)) (machine.clearedMachine K levels ws)
+        → HeardBeside (stagesC K levels out) (machine.cycleQueue K levels) (machine.remaining K levels) qs (memory (clockedClusterClear K levels ws rs .records) (clockedClusterClear K levels ws rs .store)) (machine.clearedMachine K levels ws)
     stages-heard qs =
-        beside (stagesC K levels out) (machine.turnQueue K levels) (Holds K levels) turn-same turn-keep (machine.remaining K levels) qs clear (machine.clearedMachine K levels ws) (lent.clear-holds K levels rs ws sh long)
+        beside (stagesC K levels out) (machine.cycleQueue K levels) (Holds K levels) turn-same turn-keep (machine.remaining K levels) qs clear (machine.clearedMachine K levels ws) (lent.clear-holds K levels rs ws sh long)
         (heap.holds K ws qs levels sh) (heap.least K ws qs levels sh)
 
   -- a drain reports the machine's cycles and whether work is left, and the memory holds what it leaves
-  drain-is : (budget : ℕ) (x : Memory) → stagesDrain K levels (x .words) (x .records) budget out ≡ stages.drainOf (lentDrains K levels (x .records) (x .words) budget) out
-  unfolding stagesDrain
+  drain-is : (budget : ℕ) (x : Memory) → clockedClusterDrain K levels (x .words) (x .records) budget out ≡ stages.drainOf (lentDrains K levels (x .records) (x .words) budget) out
+  unfolding clockedClusterDrain
   drain-is budget x = rw (le-leb drainWords (length out) (omega (arith, room)))
 
   pub stages-drained : (budget : ℕ) (x : Memory) (y : machine.Machine) → Holds K levels x y
@@ -173,4 +158,4 @@ module _ (K levels : ℕ) (out : List ℕ) (room : answerWords ≤ length out) w
   stages-exactly r x =
       subst (λ (o : Step CountAfter Memory). Exactly (λ (o : Step CountAfter Memory). o .said .number) (stagesRefused x) o (lentRefusals K levels (x .records) (x .words) r)) (sym (turn-is r x))
       (exactly-as table.said (lentLeft K levels (x .records) (x .words)) (λ (o : LentOutcome). step (countAfter (numberOf (o .answer)) (answerOut (o .answer) out)) (memory (o .records) (o .words))) (λ (o : Step CountAfter Memory). o .said .number) (λ o. refl)
-      (lentTurned K levels (x .records) (x .words) r) (lentRefusals K levels (x .records) (x .words) r) (table.exactly-cycle K levels (x .records) (x .words) r))
+      (lentCycled K levels (x .records) (x .words) r) (lentRefusals K levels (x .records) (x .words) r) (table.exactly-cycle K levels (x .records) (x .words) r))

@@ -1,30 +1,20 @@
 -- A list of calls of fair ranks through C: what is heard is what the model answers, and the words left are the model's, so that whatever is shown of its lists of calls holds of C's.
-use Prim.Native.Nat.{_≤_, ℕ}
-use mathlib.Core.List.{List}
-use mathlib.Core.Path.{_∙_, _≡_, ap, refl, subst, sym}
-use lib.ListN.{length}
-use borrow.Author.Tests.{le-leb}
+use Rattle.laws.specs.Prelude.{BadPort, BadRank, BadShape, Damaged, Element, Empty, Exactly, Full, List, NoHeap, NoTag, Out, Pop, TooSoon, _∙_, _≡_, _≤_, ap, elementOf, le-leb, length, refl, subst, sym, ℕ}
 use Rattle.card.specs.Fair.{fairAnswered, fairOut}
 use Rattle.card_cases.specs.Through.{fairC, fairHears}
-use Rattle.card_out.proofs.Heard.{heard-in-step, heard-same, heard-told}
-use Rattle.card_out.specs.Heard.{heard, heardAll, heardElement}
-use Rattle.card_out.specs.Out.{answerOut, answerWords, countAfter, CountAfter}
+use Rattle.card_words.proofs.Heard.{heard-in-step, heard-same, heard-told}
+use Rattle.card_words.specs.Heard.{heard, heardAll, heardElement}
+use Rattle.card_words.specs.Out.{answerOut, answerWords, countAfter, CountAfter}
 use Rattle.fair_model.proofs.Exactly as table
-use Rattle.fair_model.proofs.Exactly.{fair-kind}
+use Rattle.fair_model.proofs.Laws.{fair-kind}
 use Rattle.fair_model.specs.Calls.{answerNumber, denied, Desk, fairNumber}
 use Rattle.fair_model.specs.Promise.{Call, fairQueue, fairRefusals, IsServed, pop, push, reset}
 use Rattle.fair_model.specs.declared.FairAnswer.{FairAnswer}
 use Rattle.fair_model.specs.declared.FairAnswer.the-variants.{Accepted, Denied, Served}
 use Rattle.fair_model.specs.declared.FairRefusal.{FairRefusal}
 use Rattle.fair_model.specs.declared.FairRefusal.the-variants.{BadStrip, ClockSpent, NotEmpty, Queue}
-use Rattle.laws.specs.Ladder.{Exactly}
 use Rattle.promise.proofs.Handed.{exactly-as}
-use Rattle.promise.specs.Queue.{answers, leaves, step, Step}
-use Rattle.strip.specs.Answers.{elementOf}
-use Rattle.strip.specs.declared.Answer.the-variants.{Out}
-use Rattle.strip.specs.declared.Element.{Element}
-use Rattle.strip.specs.declared.Refusal.the-variants.{BadPort, BadRank, BadShape, Damaged, Empty, Full, NoTag, TooSoon}
-use Rattle.strip.specs.declared.Request.the-variants.{Pop}
+use Rattle.promise.specs.Prelude.{Step, answers, leaves, step}
 
 -- what C hears of an answer: a push and a reset are lent no `out`
 abbrev pub replyF : List ℕ → Call → FairAnswer → CountAfter
@@ -46,6 +36,7 @@ refusal-heard c (Queue Full) out = refl
 refusal-heard c (Queue Empty) out = refl
 refusal-heard c (Queue NoTag) out = refl
 refusal-heard c (Queue BadPort) out = refl
+refusal-heard c (Queue NoHeap) out = refl
 
 element-heard : (e : Element) (out : List ℕ) → answerWords ≤ length out → heardElement (answerOut (Out e) out) ≡ e
 unfolding heard

@@ -1,38 +1,21 @@
 -- A list of calls through C at several ports, from any memory, cleared first: what is heard are the answers of the plain lists under 02's rule of acceptance.
-use Prim.Native.Nat.{_≤_, ℕ}
-use mathlib.Core.List.{[], _∷_, List, map}
-use mathlib.Core.Path.{_∙_, _≡_, ap, refl}
-use lib.ListN.{length}
-use borrow.Author.Tests.{le-leb}
+use Rattle.laws.specs.Prelude.{Answer, Exactly, Ladder, List, Refusal, Refused, Request, [], _∙_, _∷_, _≡_, _≤_, ap, fine, le-leb, length, map, means-and, numberOf, refl, ℕ}
 use Rattle.bucket_model.specs.Calls as bucket
-use Rattle.bucket_model.specs.Plain.{answered, Said, store, Store}
+use Rattle.bucket_model.specs.Prelude.{Said, Store, answered, store}
 use Rattle.card.specs.Bucket.{bucketAnswered}
 use Rattle.card.specs.Ports.{portsClear, shape}
 use Rattle.card_cases.proofs.Through as through
 use Rattle.card_cases.proofs.Through.{reply-heard}
 use Rattle.card_cases.specs.Through.{PortAsk, portAsks, portHears, portsC, refusedC, throughC}
-use Rattle.card_out.proofs.Heard.{heard-same}
-use Rattle.card_out.specs.Heard.{Ask, heardAll, pop, push, replace, wanted}
-use Rattle.card_out.specs.Out.{answerWords, CountAfter}
-use Rattle.laws.specs.Ladder.{Exactly, fine, Ladder}
-use Rattle.laws.specs.Means.{means-and}
+use Rattle.card_words.proofs.Heard.{heard-same}
+use Rattle.card_words.specs.Heard.{Ask, heardAll, pop, push, replace, wanted}
+use Rattle.card_words.specs.Out.{answerWords, CountAfter}
 use Rattle.ports_model.proofs.Exactly as table
-use Rattle.ports_model.proofs.Facts.{limits-mean, shape-means}
-use Rattle.ports_model.proofs.Kind.{kind}
-use Rattle.ports_model.proofs.Promises.{ports-answer}
-use Rattle.ports_model.specs.Calls.{cleared}
-use Rattle.ports_model.specs.Causes.{callTable, Fair, Shaped}
-use Rattle.ports_model.specs.Lists.{none, served}
-use Rattle.ports_model.specs.Runs.{asked, called}
+use Rattle.ports_model.proofs.Laws.{kind, limits-mean, ports-answer, shape-means}
+use Rattle.ports_model.specs.Prelude.{Fair, Shaped, asked, callTable, called, cleared, none, served}
 use Rattle.ports_model.specs.declared.Shape.{Shape}
 use Rattle.promise.proofs.Handed.{exactly-as}
-use Rattle.promise.specs.Queue.{answers, step, Step}
-use Rattle.promise.specs.Table.{ladder}
-use Rattle.strip.specs.Answers.{numberOf}
-use Rattle.strip.specs.declared.Answer.{Answer}
-use Rattle.strip.specs.declared.Answer.the-variants.{Refused}
-use Rattle.strip.specs.declared.Refusal.{Refusal}
-use Rattle.strip.specs.declared.Request.{Request}
+use Rattle.promise.specs.Prelude.{Step, answers, ladder, step}
 
 -- one port as a queue
 abbrev portQueue : Shape → ℕ → Request → Store → Step Answer Store

@@ -1,24 +1,11 @@
 -- The calls of a queue that does one operation at a time, through C: once for every such queue.
-use Prim.Native.Nat.{_≤_, ℕ}
-use mathlib.Core.Bool.{Bool}
-use mathlib.Core.List.{[], _∷_, List, map}
-use mathlib.Core.Path.{_∙_, _≡_, ap, refl, subst, sym}
-use lib.ListN.{length}
+use Rattle.laws.specs.Prelude.{Answer, Bool, Element, Exactly, Ladder, List, Pop, Push, Refusal, Refused, Replace, Request, [], _∙_, _∷_, _≡_, _≤_, ap, blank, length, map, numberOf, refl, subst, sym, ℕ}
 use Rattle.card_cases.specs.Through.{HeardBeside, refusedC, repliesC, replyC, throughC}
-use Rattle.card_out.proofs.Heard.{answers-seen, heard-in-step, heard-promised, heard-push, heard-same, heard-told, leaves-seen}
-use Rattle.card_out.specs.Heard.{Ask, heard, heardAll, Heard, pop, push, replace, wanted}
-use Rattle.card_out.specs.Out.{answerWords, CountAfter}
-use Rattle.laws.specs.Ladder.{Exactly, Ladder}
+use Rattle.card_words.proofs.Heard.{answers-seen, heard-in-step, heard-promised, heard-push, heard-same, heard-told, leaves-seen}
+use Rattle.card_words.specs.Heard.{Ask, heard, heardAll, Heard, pop, push, replace, wanted}
+use Rattle.card_words.specs.Out.{answerWords, CountAfter}
 use Rattle.promise.proofs.Handed.{exactly-as}
-use Rattle.promise.specs.Queue.{answers, leaves, step, Step}
-use Rattle.promise.specs.Served.{Holds, Kind, Least}
-use Rattle.strip.specs.Answers.{blank, numberOf}
-use Rattle.strip.specs.declared.Answer.{Answer}
-use Rattle.strip.specs.declared.Answer.the-variants.{Refused}
-use Rattle.strip.specs.declared.Element.{Element}
-use Rattle.strip.specs.declared.Refusal.{Refusal}
-use Rattle.strip.specs.declared.Request.{Request}
-use Rattle.strip.specs.declared.Request.the-variants.{Pop, Push, Replace}
+use Rattle.promise.specs.Prelude.{Holds, Kind, Least, Step, answers, leaves, step}
 
 -- an answer is heard as it was given
 pub reply-heard : (out : List ℕ) → answerWords ≤ length out → (c : Ask) (a : Answer) → (numberOf a ≡ 0 → Kind (wanted c) a) → heard (wanted c) (replyC out c a) ≡ a

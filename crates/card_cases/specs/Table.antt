@@ -1,9 +1,7 @@
 -- The bucket queue's and the ports' calls through C in plain numbers, and the table of all families. These are definitions; the claim is in proofs/.
-use Prim.Native.Nat.{ℕ}
-use mathlib.Core.List.{[], _++_, _∷_, List}
-use lib.ListN.{replicate}
+use Rattle.laws.specs.Prelude.{List, [], _++_, _∷_, replicate, ℕ}
 use Rattle.card.specs.Bucket.{bucketClear, bucketHeld, bucketPop, bucketPush, bucketReplace}
-use Rattle.card.specs.Cases.{bucketGot, bucketOutGot, clockedRows, clusterRows, countGot, fairRows, got, mendRows, out4, row, Row, sizeRows, stagesRows, treeRows}
+use Rattle.card.specs.Cases.{bucketGot, bucketOutGot, clockedRows, clusterRows, countGot, fairRows, got, mendRows, out4, row, Row, sizeRows, clockedClusterRows, treeRows}
 use Rattle.card.specs.Ports.{portsClear, portsHeld, portsPop, portsPush, portsReplace}
 
 -- ---- the bucket queue: two storeys, two nodes, 65 words of 64 bits and 8,200 words, and one more of each
@@ -57,4 +55,4 @@ portsRows =
 
 -- ---- all families
 abbrev pub table : List (List Row)
-table = treeRows ∷ mendRows ∷ clusterRows ∷ clockedRows ∷ stagesRows ∷ fairRows ∷ bucketRows ∷ portsRows ∷ sizeRows ∷ []
+table = treeRows ∷ mendRows ∷ clusterRows ∷ clockedRows ∷ clockedClusterRows ∷ fairRows ∷ bucketRows ∷ portsRows ∷ sizeRows ∷ []

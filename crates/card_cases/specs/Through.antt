@@ -1,21 +1,17 @@
 -- Lists of calls through C, each on what the one before left: what a call answers is the number returned and `out`. These are definitions.
-use Prim.Native.Nat.{ℕ}
-use mathlib.Core.Bool.{Bool, cond}
-use mathlib.Core.List.{[], _∷_, List}
-use mathlib.Core.Path.{_≡_}
-use lib.Dec.{eqb}
-use Rattle.bucket_model.specs.Plain.{ask, Said, answered, Store, store}
+use Rattle.laws.specs.Prelude.{Answer, Bool, Element, List, Refusal, Request, [], _∷_, _≡_, cond, eqb, numberOf, refusalNumber, ℕ}
+use Rattle.bucket_model.specs.Prelude.{Said, Store, answered, ask, store}
 use Rattle.card.specs.Bucket.{bucketPop, bucketPush, bucketReplace}
-use Rattle.card.specs.ClockedCluster.{stagesCycle, stagesDrain}
+use Rattle.card.specs.ClockedCluster.{clockedClusterCycle, clockedClusterDrain}
 use Rattle.card.specs.Cluster.{clusterPop, clusterPush, clusterReplace}
 use Rattle.card.specs.Fair.{fairPop, fairPush, fairReset}
 use Rattle.card.specs.History.{broughtBy, codeOf}
 use Rattle.card.specs.Ports.{portsPop, portsPush, portsReplace}
 use Rattle.card.specs.Tree.{treePop, treePush, treeReplace}
-use Rattle.card_out.specs.Heard.{Ask, heard, heardAll, heardElement, pop, push, replace, wanted}
-use Rattle.promise.specs.Refused.{refusalOf}
-use Rattle.card_out.specs.Out.{answerOut, countAfter, CountAfter}
-use Rattle.cluster_lent.specs.History.{Memory, memory}
+use Rattle.card_words.specs.Heard.{Ask, heard, heardAll, heardElement, pop, push, replace, wanted}
+use Rattle.promise.specs.Prelude.{Holds, Least, Step, answers, leaves, refusalOf, step}
+use Rattle.card_words.specs.Out.{answerOut, countAfter, CountAfter}
+use Rattle.cluster_records.specs.History.{Memory, memory}
 use Rattle.fair_model.specs.Calls.{Desk, desk}
 use Rattle.fair_model.specs.Promise as fair
 use Rattle.fair_model.specs.declared.FairAnswer.{FairAnswer}
@@ -23,14 +19,7 @@ use Rattle.fair_model.specs.declared.FairAnswer.the-variants.{Accepted, Denied,
 use Rattle.fair_model.specs.declared.FairRefusal.{FairRefusal}
 use Rattle.fair_model.specs.declared.FairRefusal.the-variants.{BadStrip, ClockSpent, NotEmpty, Queue}
 use Rattle.ports_model.specs.Lists as ports
-use Rattle.promise.specs.Queue.{answers, leaves, step, Step}
-use Rattle.promise.specs.Served.{Holds, Least}
-use Rattle.strip.specs.Answers.{numberOf, refusalNumber}
-use Rattle.strip.specs.declared.Answer.{Answer}
-use Rattle.strip.specs.declared.Element.{Element}
-use Rattle.strip.specs.declared.Refusal.{Refusal}
-use Rattle.strip.specs.declared.Request.{Request}
-use Rattle.card_out.specs.Out.{answerWords, zeros}
+use Rattle.card_words.specs.Out.{answerWords, zeros}
 
 -- ---- a queue that does one operation at a time: what C hears of an answer. A push is lent no `out`
 abbrev pub replyC : List ℕ → Ask → Answer → CountAfter
@@ -74,11 +63,11 @@ module _ (m levels : ℕ) (out : List ℕ) where
   -- the clocked cluster heap: a cycle with a request, and a drain
   abbrev pub stagesC : Request → Memory → Step CountAfter Memory
   stagesC r x =
-      let b = stagesCycle m levels (x .words) (x .records) (codeOf r) (broughtBy r .rank .0) (broughtBy r .tag .0) (broughtBy r .length .0) out in
+      let b = clockedClusterCycle m levels (x .words) (x .records) (codeOf r) (broughtBy r .rank .0) (broughtBy r .tag .0) (broughtBy r .length .0) out in
       step (countAfter (b .number) (b .out)) (memory (b .records) (b .store))
 
   abbrev pub stagesDrainC : ℕ → Memory → Step CountAfter Memory
-  stagesDrainC budget x = let b = stagesDrain m levels (x .words) (x .records) budget out in step (countAfter (b .number) (b .out)) (memory (b .records) (b .store))
+  stagesDrainC budget x = let b = clockedClusterDrain m levels (x .words) (x .records) budget out in step (countAfter (b .number) (b .out)) (memory (b .records) (b .store))
 
 module _ (storeys n : ℕ) (out : List ℕ) where
   abbrev pub bucketC : Ask → Store → Step CountAfter Store

@@ -1,28 +1,18 @@
 -- The one claim over the table of worked cases, proved by computing the definitions.
-use mathlib.Core.List.{[], List, map}
-use lib.ListN.{getD}
-use mathlib.Core.Path.{ap, refl}
+use Rattle.laws.specs.Prelude.{All, Answer, List, [], ap, blank, getD, key, map, precedes, refl, untagged}
 use Rattle.bucket_cases.proofs.Case8.{case8-holds, case8-three}
 use Rattle.bucket_cases.proofs.CaseTag.{spoilt-case, tag-case}
 use Rattle.bucket_cases.proofs.CaseWords.{length-case, pop-case-bits, pop-case-words, replace-case-bits, replace-case-words}
 use Rattle.cases.specs.Table.{Right, table, told}
-use Rattle.clocked_model.proofs.Cases as clock
-use Rattle.cluster_clock_model.proofs.Cases.{case-clock, case-flight, case-flight-answers, case-tie, case-tie-answers}
+use Rattle.tree_clock_model.proofs.Cases as clock
+use Rattle.cluster_clock_model.proofs.Laws.{case-clock, case-flight, case-flight-answers, case-tie, case-tie-answers}
 use Rattle.cluster_model.proofs.Edge as cluster
-use Rattle.cluster_model.proofs.Cases.{case-cluster, case-cluster-answers}
+use Rattle.cluster_model.proofs.Laws.{case-cluster, case-cluster-answers}
 use Rattle.fair_model.proofs.Cases as fair
-use Rattle.laws.specs.Lists.{All}
-use Rattle.promise.specs.Queue.{answers, leaves}
-use Rattle.strip.specs.declared.Answer.{Answer}
-use Rattle.strip.specs.Answers.{blank, key, untagged, precedes}
-use Rattle.trace_model.proofs.Example.{worked, worked-format, worked-lengthless, worked-lengths, worked-replaces, worked-untagged}
-use Rattle.tree_model.proofs.Cases.{case-length-answers, case-lengths}
-use Rattle.tree_model.proofs.Edge.{eight-four, eight-past, eight-taken, four-past, four-six, four-taken, none-refused, three-refused, two-eleven, two-past, two-taken}
-use Rattle.tree_model.specs.Calls.{called, cleared, heldCount, orderOk, rule, shapeOk}
-use Rattle.tree_model.specs.Damage.{workOk, hasRoom, hasSome, isBlank, lifts, nodeOk, pathOk, readOk, room, slotOk, stepOk}
-use Rattle.tree_model.specs.Levels.{levelMove, stepWork, top, work}
-use Rattle.tree_model.specs.Node.{every, firstEmpty, isEmpty, isNothing, keep, leastCount, low, lowest, opMove, pass, putBy, putMove, seek, slotAt, sumCounts, swapBy, swapMove, takeBy, takeMove, vacant}
-use Rattle.tree_model.specs.Words.{applyWords, levelOf, levelsOf, nodeOf, size, slotOf, stepWords, tabulate, wipe, write}
+use Rattle.promise.specs.Prelude.{answers, leaves}
+use Rattle.trace_model.proofs.Laws.{worked, worked-format, worked-lengthless, worked-lengths, worked-replaces, worked-untagged}
+use Rattle.tree_model.proofs.Laws.{case-length-answers, case-lengths, eight-four, eight-past, eight-taken, four-past, four-six, four-taken, none-refused, three-refused, two-eleven, two-past, two-taken}
+use Rattle.tree_model.specs.Prelude.{applyWords, called, cleared, every, firstEmpty, hasRoom, hasSome, heldCount, isBlank, isEmpty, isNothing, keep, leastCount, levelMove, levelOf, levelsOf, lifts, low, lowest, nodeOf, nodeOk, opMove, orderOk, pass, pathOk, putBy, putMove, readOk, room, rule, seek, shapeOk, size, slotAt, slotOf, slotOk, stepOk, stepWords, stepWork, sumCounts, swapBy, swapMove, tabulate, takeBy, takeMove, top, vacant, wipe, work, workOk, write}
 
 pub cases : All Right table
 unfolding table blank key precedes untagged vacant isEmpty slotAt seek every firstEmpty leastCount lowest low sumCounts keep pass putBy putMove takeBy takeMove swapBy swapMove opMove isNothing top work levelMove stepWork slotOf write wipe tabulate nodeOf size levelOf levelsOf stepWords applyWords room isBlank slotOk nodeOk hasRoom hasSome readOk lifts stepOk workOk pathOk orderOk shapeOk rule called cleared heldCount leaves answers

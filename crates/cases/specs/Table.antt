@@ -1,32 +1,19 @@
 -- 01's worked cases that are marked (P), those that 02 adds, case 9 and the worked traces, as one table.
-use Prim.Native.Nat.{ℕ}
-use mathlib.Core.List.{[], _++_, _∷_, List, map}
-use mathlib.Core.Path.{_≡_}
-use lib.ListN.{getD, length, replicate}
+use Rattle.laws.specs.Prelude.{Answer, Count, List, Pop, Push, Replace, Request, [], _++_, _∷_, _≡_, countNumber, countOf, element, getD, length, lengthOf, map, numberOf, rankOf, replicate, tagOf, ℕ}
 use Rattle.bucket_cases.specs.Case8.{case8, case8Three}
 use Rattle.bucket_cases.specs.CaseTag.{spoilt, spoiltCase, tagCase}
-use Rattle.bucket_model.specs.Filled.{filled}
+use Rattle.bucket_model.specs.Prelude.{Store, answersFrom, bucketAnswers, filled, queue}
 use Rattle.bucket_cases.specs.CaseWords.{leftBy, lengthCase, popCase, popCaseBits, popCaseWords, replaceCase, replaceCaseBits, replaceCaseWords}
-use Rattle.bucket_model.specs.Layout.{queue}
-use Rattle.bucket_model.specs.Plain.{answersFrom, bucketAnswers, Store}
-use Rattle.clocked_model.specs.Cases.{caseEmpty, caseEmptySays, caseLost, caseLostSays, caseSix, caseSixSays, caseUntagged, caseUntaggedSays}
-use Rattle.clocked_model.specs.Cases as clock
-use Rattle.cluster_clock_model.specs.Cases.{caseClock, caseClockSays, caseFlight, caseFlightAnswers, caseFlightAnswersSay, caseFlightSays, caseTie, caseTieAnswers, caseTieAnswersSay, caseTieSays}
+use Rattle.tree_clock_model.specs.Prelude.{caseEmpty, caseEmptySays, caseLost, caseLostSays, caseSix, caseSixSays, caseUntagged, caseUntaggedSays}
+use Rattle.tree_clock_model.specs.Cases as clock
+use Rattle.cluster_clock_model.specs.Prelude.{caseClock, caseClockSays, caseFlight, caseFlightAnswers, caseFlightAnswersSay, caseFlightSays, caseTie, caseTieAnswers, caseTieAnswersSay, caseTieSays}
 use Rattle.cluster_model.specs.Edge as cluster
-use Rattle.cluster_model.specs.Cases.{caseCluster, caseClusterAnswers, caseClusterAnswersSay, caseClusterSays}
+use Rattle.cluster_model.specs.Prelude.{caseCluster, caseClusterAnswers, caseClusterAnswersSay, caseClusterSays}
 use Rattle.fair_model.specs.Cases.{caseFair, caseFairSays, caseLimits, caseLimitsSays, caseReset, caseResetSays, caseServed, caseServedSays, caseSpent, caseSpentSays, caseWords, caseWordsSays}
-use Rattle.promise.specs.Queue.{answers}
-use Rattle.strip.specs.Answers.{countNumber, countOf, element, lengthOf, numberOf, rankOf, tagOf}
-use Rattle.strip.specs.declared.Answer.{Answer}
-use Rattle.strip.specs.declared.Count.{Count}
-use Rattle.strip.specs.declared.Request.{Request}
-use Rattle.strip.specs.declared.Request.the-variants.{Pop, Push, Replace}
+use Rattle.promise.specs.Prelude.{answers}
 use Rattle.trace_model.specs.Example.{cut, cutLengths, cutLengthsSay, cutSays, deep, deepSays, emptied, emptiedSays, example, exampleSays, idleRanked, idleRankedSays, lengthless, lengthlessSays, lengths, lengthsSay, popTagged, popTaggedSays, untaggedOnes, untaggedSays, wide, wideSays}
 use Rattle.trace_model.specs.Program.{traceText}
-use Rattle.tree_model.specs.Calls.{heldCount}
-use Rattle.tree_model.specs.Cases.{caseLengthAnswers, caseLengthAnswersSay, caseLengths, caseLengthsSays}
-use Rattle.tree_model.specs.Edge.{Edge}
-use Rattle.tree_model.specs.Promise.{after, start, treeQueue}
+use Rattle.tree_model.specs.Prelude.{Edge, after, caseLengthAnswers, caseLengthAnswersSay, caseLengths, caseLengthsSays, heldCount, start, treeQueue}
 use Rattle.tree_model.specs.declared.Work.{Work}
 
 -- what is said, in 01's numbers: the number, and the rank, tag and length; of held the number and how many

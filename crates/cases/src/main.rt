@@ -1,12 +1,12 @@
 // 01's worked cases and those that 02 adds, run: what each call answers, as number, rank, tag and length, and the words it leaves. The calls of a case
 // are written as text, each with a space behind it: + push, - pop, * replace, . idle, = drain, ! clear, and the element as rank/tag/length.
-use clocked_model::State;
 use strip::Answer;
 use strip::Element;
 use strip::Length;
 use strip::Rank;
 use strip::Request;
 use strip::Tag;
+use tree_clock_model::State;
 
 // Writes a number and a space.
 fn say(n: u32) {
@@ -150,7 +150,7 @@ fn request(c: Call) -> Request {
 }
 
 fn drained(store: &mut [u32], state: State) -> State {
-    let d = clocked::drain(store, 2, 2, state, 2);
+    let d = tree_clock::drain(store, 2, 2, state, 2);
     let answer = d.answer;
     say(strip::number(answer));
     say((d.cycles % 4294967296) as u32);
@@ -163,7 +163,7 @@ fn cycle(store: &mut [u32], state: State, c: Call) -> State {
     if c.sign == b'=' {
         return drained(store, state);
     }
-    let done = clocked::cycle(store, 2, 2, state, request(c));
+    let done = tree_clock::cycle(store, 2, 2, state, request(c));
     let answer = done.answer;
     say_answer(answer);
     say_words(store);
@@ -180,8 +180,8 @@ fn cycle_byte(store: &mut [u32], state: State, c: Call, b: u8) -> State {
 // Calls on a cleared machine.
 fn cycles(calls: &[u8]) {
     let mut store = [9u32; 26];
-    let none = clocked::fresh_state();
-    let cleared = clocked::clear(&mut store, 2, 2, none);
+    let none = tree_clock::fresh_state();
+    let cleared = tree_clock::clear(&mut store, 2, 2, none);
     let mut state = cleared.state;
     let mut c = no_call();
     let mut i = 0;

@@ -1,25 +1,7 @@
 -- An element without a tag: the shape and the root are tested all the same, since 1 and 2 come before 7.
-use Prim.Native.Nat.{ℕ}
-use native.Mathlib.Omega.{arith}
-use mathlib.Core.Bool.{Bool, cond, false, true}
-use mathlib.Core.List.{List}
-use mathlib.Core.Path.{_∙_, _≡_, ap, ap₂, refl, sym}
-use lib.ListN.{length}
-use Rattle.strip.specs.Answers.{untagged}
-use Rattle.strip.specs.declared.Answer.{Answer}
-use Rattle.strip.specs.declared.Answer.the-variants.{Refused}
-use Rattle.strip.specs.declared.Count.{Count}
-use Rattle.strip.specs.declared.Count.the-variants.{Held, Unknown}
-use Rattle.strip.specs.declared.Element.{Element}
-use Rattle.strip.specs.declared.Refusal.{Refusal}
-use Rattle.strip.specs.declared.Refusal.the-variants.{BadShape, Damaged, NoTag}
-use Rattle.strip.specs.declared.Request.{Request}
-use Rattle.strip.specs.declared.Request.the-variants.{Push, Replace}
-use Rattle.cluster_model.specs.Calls.{called, heldCount, heldIn, outcome, rootOk, rule, ruleAt, Ruling, ruling, shapeOk}
-use Rattle.cluster_model.specs.Heap.{room}
-use Rattle.cluster_model.specs.Node.{lowElem, none}
-use Rattle.cluster_model.specs.Way.{nodeIn, runWords, wayOk}
-use Rattle.cluster_model.proofs.Exactly.{called-bad, called-fine, called-root}
+use Rattle.laws.specs.Prelude.{Answer, BadShape, Bool, Count, Damaged, Element, Held, List, NoTag, Push, Refusal, Refused, Replace, Request, Unknown, _∙_, _≡_, ap, ap₂, arith, cond, false, length, refl, sym, true, untagged, ℕ}
+use Rattle.cluster_model.specs.Prelude.{Ruling, called, heldCount, heldIn, lowElem, nodeIn, none, outcome, room, rootOk, rule, ruleAt, ruling, runWords, shapeOk, wayOk}
+use Rattle.cluster_model.proofs.Laws.{called-bad, called-fine, called-root}
 use Rattle.cluster.specs.Coded.{Bars}
 use Rattle.cluster.proofs.Commute.{run-none}
 use Rattle.cluster.proofs.Taken.{way-none}

@@ -1,31 +1,13 @@
 -- The calls in the code's shape are the calls of the definitions.
-use Prim.Native.Nat.{ℕ, zero, suc, _+_, _*_, _-_, _≤_, _<_, pred}
-use native.Mathlib.Omega.{arith}
-use mathlib.Core.Path.{_≡_, refl, ap}
-use mathlib.Core.Bool.{Bool, true, false, cond, not, _&&_, _||_}
-use mathlib.Core.List.{List}
-use lib.Dec.{leb, eqb, ltb}
-use lib.ListN.{length}
-use borrow.Author.Tests.{eqb-false, eqb-true, le-ltb, leb-true, lt-leb, lt-ltb}
-use Rattle.laws.specs.Tests.{sub-one}
-use Rattle.promise.specs.Served.{always}
-use Rattle.strip.specs.Answers.{untagged}
-use Rattle.strip.specs.declared.Element.{Element}
-use Rattle.strip.specs.declared.Answer.the-variants.{Done, Out, Refused}
-use Rattle.strip.specs.declared.Refusal.the-variants.{Damaged}
-use Rattle.strip.specs.declared.Request.the-variants.{Pop, Push, Replace}
-use Rattle.cluster_model.specs.Node.{inside, low, lowElem, Node, nothingBelow, put, take, swap}
-use Rattle.cluster_model.specs.Heap.{room}
-use Rattle.cluster_model.specs.Words.{word, width, nodeOf}
-use Rattle.cluster_model.specs.Way.{extent, nodeIn, neatTo, nodeOk, strict, wayOk, runWords}
-use Rattle.cluster_model.specs.Calls.{called, heldCount, outcome, rootHeld, rule, shapeOk}
-use Rattle.cluster_model.proofs.Exactly.{root-limit}
-use Rattle.cluster_model.proofs.Pass.{node-count}
-use Rattle.cluster_nodes.specs.Leaf.{lookNode}
-use Rattle.cluster_nodes.proofs.Bridge.{test-is, look-count}
+use Rattle.laws.specs.Prelude.{Bool, Damaged, Done, Element, List, Out, Pop, Push, Refused, Replace, _&&_, _*_, _+_, _-_, _<_, _||_, _≡_, _≤_, ap, arith, cond, eqb, eqb-false, eqb-true, false, le-ltb, leb, leb-true, length, lt-leb, lt-ltb, ltb, not, pred, refl, sub-one, suc, true, untagged, zero, ℕ}
+use Rattle.promise.specs.Prelude.{always}
+use Rattle.cluster_model.specs.Prelude.{Node, called, extent, heldCount, inside, low, lowElem, neatTo, nodeIn, nodeOf, nodeOk, nothingBelow, outcome, put, room, rootHeld, rule, runWords, shapeOk, strict, swap, take, wayOk, width, word}
+use Rattle.cluster_model.proofs.Laws.{node-count, root-limit}
+use Rattle.cluster_node.specs.Leaf.{lookNode}
+use Rattle.cluster_node.proofs.Bridge.{test-is, look-count}
 use Rattle.cluster.specs.Coded.{heldBy, heldDown, openedTo, popDown, pushDown, replaceDown}
 use Rattle.cluster.proofs.Shapes.{shape-is}
-use Rattle.cluster_nodes.proofs.Fulls.{and-r}
+use Rattle.cluster_node.proofs.Fulls.{and-r}
 use Rattle.cluster.proofs.Commute.{run-none, low-place, low-elem}
 use Rattle.cluster.proofs.Taken.{way-none, take-main}
 use Rattle.cluster.proofs.Swapped.{swap-main}

@@ -1,46 +1,27 @@
 -- A word before a node may be written before or after an operation at that node: so a node may be written on the way back.
-use Prim.Native.Nat.{ℕ, zero, suc, _+_, _*_, _<_, pred}
-use native.Mathlib.Nat.{not-suc-le-zero}
-use native.Mathlib.Omega.{arith}
-use mathlib.Core.Path.{_≡_, refl, sym, ap, ap₂, _∙_, subst}
-use mathlib.Core.Bool.{Bool, true, false}
-use mathlib.Core.List.{List, [], _∷_}
-use lib.Dec.{ltb, eqb}
-use lib.ListN.{set}
-use lib.Seq.{getD-set-other, set-comm}
-use borrow.Author.Tests.{ltb-true, ltb-false}
-use Rattle.strip.specs.declared.Element.{Element}
-use Rattle.strip.specs.Answers.{element}
-use Rattle.promise.specs.Served.{always}
-use Rattle.cluster_model.specs.Node.{Place, has, inside, low, lowElem, Node, Side, lhs, rhs, Op, none, begin, Finished, finish}
-use Rattle.cluster_model.specs.Words.{word, width, placeBy, placeOf, nodeOf, lengthIn, rankIn, tagIn, markOf, writePlace, Neat, NeatRow, NeatPlace, neatPlace}
-use Rattle.cluster_model.specs.Way.{touch, works}
-use Rattle.cluster_model.specs.Words.{writeRow, writeNode}
-use Rattle.cluster_model.specs.Way.{child, nodeIn, lowIn, stepIn, runWords, neatTo}
-use Rattle.cluster_nodes.proofs.Fulls.{and-l, and-r}
-use Rattle.cluster_nodes.specs.Leaf.{elemAt, lookNode, placeIn, sinkWords, raiseWords}
-use Rattle.cluster_nodes.specs.Scan.{lowerThan, scan}
-use Rattle.cluster_model.proofs.Words.{node-local}
-use Rattle.cluster_model.proofs.Pass.{node-count}
-use Rattle.cluster_model.proofs.Places.{low-is, place-here, gap-has}
-use Rattle.cluster_nodes.proofs.Unique.{scan-is-low, has-inj}
-use Rattle.cluster_nodes.proofs.ScanCode.{row-place}
-use Rattle.cluster_model.proofs.Neat.{neat-test}
-use Rattle.cluster_nodes.proofs.Bridge.{look-low}
+use Rattle.laws.specs.Prelude.{Bool, Element, List, [], _*_, _+_, _<_, _∙_, _∷_, _≡_, ap, ap₂, arith, elementIn, elementWords, eqb, false, getD-set-other, inl, ltb, ltb-false, ltb-true, not-suc-le-zero, pred, refl, set, set-comm, subst, suc, sym, true, writeElement, zero, ℕ}
+use Rattle.strip.proofs.Words.{write-both, write-past}
+use Rattle.promise.specs.Prelude.{always}
+use Rattle.cluster_model.specs.Prelude.{Finished, Neat, NeatPlace, NeatRow, Node, Op, Place, Side, begin, child, elemOf, finish, has, inside, lhs, low, lowElem, lowIn, markAt, markOf, neatPlace, neatTo, nodeIn, nodeOf, none, placeBy, placeOf, placeWords, rhs, runWords, stepIn, touch, width, word, works, writeNode, writePlace, writeRow}
+use Rattle.cluster_node.proofs.Fulls.{and-l, and-r}
+use Rattle.cluster_node.specs.Leaf.{elemAt, lookNode, placeIn, sinkWords, raiseWords}
+use Rattle.cluster_node.specs.Scan.{lowerThan, scan}
+use Rattle.cluster_model.proofs.Laws.{gap-has, low-is, neat-test, node-count, node-local, place-here}
+use Rattle.cluster_node.proofs.Unique.{scan-is-low, has-inj}
+use Rattle.cluster_node.proofs.ScanCode.{row-place}
+use Rattle.cluster_node.proofs.Bridge.{look-low}
 
 -- ---- a write commutes with the write of a later node
 place-set : (ws : List ℕ) (i x o : ℕ) (p : Place) → i < o → writePlace (set ws i x) o p ≡ set (writePlace ws o p) i x
 unfolding writePlace
 place-set ws i x o p h =
-    ap (λ (l : List ℕ). set (set (set l (o + 1) (tagIn p)) (o + 2) (lengthIn p)) (o + 3) (markOf p)) (set-comm ws i o x (rankIn p) (λ e. omega arith))
-    ∙ ap (λ (l : List ℕ). set (set l (o + 2) (lengthIn p)) (o + 3) (markOf p)) (set-comm (set ws o (rankIn p)) i (o + 1) x (tagIn p) (λ e. omega arith))
-    ∙ ap (λ (l : List ℕ). set l (o + 3) (markOf p)) (set-comm (set (set ws o (rankIn p)) (o + 1) (tagIn p)) i (o + 2) x (lengthIn p) (λ e. omega arith))
-    ∙ set-comm (set (set (set ws o (rankIn p)) (o + 1) (tagIn p)) (o + 2) (lengthIn p)) i (o + 3) x (markOf p) (λ e. omega arith)
+    ap (λ (l : List ℕ). set l (markAt o) (markOf p)) (sym (write-past ws o i x (elemOf p) (inl h)))
+    ∙ set-comm (writeElement ws o (elemOf p)) i (markAt o) x (markOf p) (λ e. omega arith)
 
 row-set : (ps : List Place) (ws : List ℕ) (i x o : ℕ) → i < o → writeRow ps (set ws i x) o ≡ set (writeRow ps ws o) i x
 unfolding writeRow
 row-set [] ws i x o h = refl
-row-set (p ∷ ps) ws i x o h = ap (λ (l : List ℕ). writeRow ps l (o + 4)) (place-set ws i x o p h) ∙ row-set ps (writePlace ws o p) i x (o + 4) (omega arith)
+row-set (p ∷ ps) ws i x o h = ap (λ (l : List ℕ). writeRow ps l (o + placeWords)) (place-set ws i x o p h) ∙ row-set ps (writePlace ws o p) i x (o + placeWords) (omega arith)
 
 touch-set : (t : Bool) (ws : List ℕ) (i x o : ℕ) (n : Node) → i < o → touch t (set ws i x) o n ≡ set (touch t ws o n) i x
 unfolding touch writeNode
@@ -80,13 +61,12 @@ run-set K (suc k) o m ws i x h =
     ∙ run-set K k (v .op) (child m (v .side)) (touch (works o) ws (m * width K) (v .node)) i x (later i m (width K) (v .side) h)
 
 -- a place of an earlier node written before, or after
-pub run-place : (K k : ℕ) (o : Op) (m : ℕ) (ws : List ℕ) (i : ℕ) (p : Place) → i + 3 < m * width K → runWords K k o m (writePlace ws i p) ≡ writePlace (runWords K k o m ws) i p
+pub run-place : (K k : ℕ) (o : Op) (m : ℕ) (ws : List ℕ) (i : ℕ) (p : Place) → i + elementWords < m * width K → runWords K k o m (writePlace ws i p) ≡ writePlace (runWords K k o m ws) i p
 unfolding writePlace
 run-place K k o m ws i p h =
-    run-set K k o m (set (set (set ws i (rankIn p)) (i + 1) (tagIn p)) (i + 2) (lengthIn p)) (i + 3) (markOf p) h
-    ∙ ap (λ (l : List ℕ). set l (i + 3) (markOf p)) (run-set K k o m (set (set ws i (rankIn p)) (i + 1) (tagIn p)) (i + 2) (lengthIn p) (omega arith))
-    ∙ ap (λ (l : List ℕ). set (set l (i + 2) (lengthIn p)) (i + 3) (markOf p)) (run-set K k o m (set ws i (rankIn p)) (i + 1) (tagIn p) (omega arith))
-    ∙ ap (λ (l : List ℕ). set (set (set l (i + 1) (tagIn p)) (i + 2) (lengthIn p)) (i + 3) (markOf p)) (run-set K k o m ws i (rankIn p) (omega arith))
+    run-set K k o m (writeElement ws i (elemOf p)) (markAt i) (markOf p) h
+    ∙ ap (λ (l : List ℕ). set l (markAt i) (markOf p))
+    (write-both (λ us vs. runWords K k o m us ≡ vs) i (λ us vs j x g g′ e. run-set K k o m us j x (omega arith) ∙ ap (λ (l : List ℕ). set l j x) e) ws (runWords K k o m ws) (elemOf p) refl)
 
 pub run-sink : (K k : ℕ) (o : Op) (m : ℕ) (right : Bool) (ws : List ℕ) (i l r : ℕ) → i + 1 < m * width K → runWords K k o m (sinkWords right ws i l r) ≡ sinkWords right (runWords K k o m ws) i l r
 unfolding sinkWords
@@ -105,23 +85,23 @@ run-none K zero m ws = refl
 run-none K (suc k) m ws = run-none K k (child m lhs) ws
 
 -- ---- the test D2 makes a node neat
-neat-every : (K : ℕ) (ws : List ℕ) (o n : ℕ) → neatTo K ws o n ≡ true → (j : ℕ) → j < n → NeatPlace ws (o + j * 4)
+neat-every : (K : ℕ) (ws : List ℕ) (o n : ℕ) → neatTo K ws o n ≡ true → (j : ℕ) → j < n → NeatPlace ws (o + j * placeWords)
 unfolding neatTo
 neat-every K ws o zero e j h = absurd (not-suc-le-zero h)
-neat-every K ws o (suc n) e j h = go (ltb j n) refl (λ g. neat-every K ws o n (and-l (neatTo K ws o n) (neatPlace ws (o + n * 4)) e) j g)
+neat-every K ws o (suc n) e j h = go (ltb j n) refl (λ g. neat-every K ws o n (and-l (neatTo K ws o n) (neatPlace ws (o + n * placeWords)) e) j g)
   where
-    go : (b : Bool) → ltb j n ≡ b → (j < n → NeatPlace ws (o + j * 4)) → NeatPlace ws (o + j * 4)
+    go : (b : Bool) → ltb j n ≡ b → (j < n → NeatPlace ws (o + j * placeWords)) → NeatPlace ws (o + j * placeWords)
     go true q ih = ih (ltb-true j n q)
     go false q ih =
         let same : n ≡ j = omega (arith, ltb-false j n q) in
-        subst (λ (i : ℕ). NeatPlace ws (o + i * 4)) same (neat-test ws (o + n * 4) (and-r (neatTo K ws o n) (neatPlace ws (o + n * 4)) e))
+        subst (λ (i : ℕ). NeatPlace ws (o + i * placeWords)) same (neat-test ws (o + n * placeWords) (and-r (neatTo K ws o n) (neatPlace ws (o + n * placeWords)) e))
 
-neat-from : (K : ℕ) (ws : List ℕ) (o : ℕ) → ((j : ℕ) → j < K → NeatPlace ws (o + j * 4)) → NeatRow K ws o
+neat-from : (K : ℕ) (ws : List ℕ) (o : ℕ) → ((j : ℕ) → j < K → NeatPlace ws (o + j * placeWords)) → NeatRow K ws o
 neat-from zero ws o h = tt
 neat-from (suc K) ws o h =
-    let at : o + 0 * 4 ≡ o = omega arith in (
+    let at : o + 0 * placeWords ≡ o = omega arith in (
       subst (λ (i : ℕ). NeatPlace ws i) at (h 0 (omega arith)),
-      neat-from K ws (o + 4) (λ j g. let to : o + suc j * 4 ≡ o + 4 + j * 4 = omega arith in subst (λ (i : ℕ). NeatPlace ws i) to (h (suc j) (omega arith))),
+      neat-from K ws (o + placeWords) (λ j g. let to : o + suc j * placeWords ≡ o + placeWords + j * placeWords = omega arith in subst (λ (i : ℕ). NeatPlace ws i) to (h (suc j) (omega arith))),
     )
 
 pub neat-of : (K : ℕ) (ws : List ℕ) (o : ℕ) → neatTo K ws (o + 2) K ≡ true → Neat K ws o
@@ -136,10 +116,10 @@ low-place K ws m h =
 
 pub has-elem : (ws : List ℕ) (p : ℕ) (e : Element) → placeOf ws p ≡ has e → elemAt ws p ≡ e
 unfolding placeOf placeBy elemAt
-has-elem ws p e h = go (eqb (word ws (p + 3)) 0) h
+has-elem ws p e h = go (eqb (word ws (p + elementWords)) 0) h
   where
     x : Element
-    x = element (word ws p) (word ws (p + 1)) (word ws (p + 2))
+    x = elementIn ws p
 
     go : (b : Bool) → placeBy b x ≡ has e → x ≡ e
     go true h = absurd (gap-has e h)

@@ -1,25 +1,15 @@
 -- For the code of the recursions.
-use Prim.Native.Nat.{ℕ, zero, suc, _+_, _*_, _-_, _≤_, _<_}
-use native.Mathlib.Omega.{arith}
-use mathlib.Core.Path.{_≡_, refl, sym, ap, ap₂, _∙_, subst}
-use mathlib.Core.Bool.{Bool, true, false, cond, not, _&&_, _||_, false≢true}
-use mathlib.Core.List.{List}
-use lib.Dec.{ltb, leb}
-use lib.ListN.{length}
-use borrow.Author.Tests.{not-true, not-false, lt-ltb, le-ltb, le-leb, lt-leb, ltb-true, ltb-false, leb-true}
-use Rattle.strip.specs.declared.Element.{Element}
-use Rattle.strip.specs.Answers.{key}
-use Rattle.cluster_nodes.specs.declared.Seen.{Seen}
-use Rattle.cluster_nodes.specs.declared.Lead.{Lead}
-use Rattle.cluster_nodes.specs.declared.Chosen.{Chosen}
-use Rattle.cluster_model.specs.Node.{gap, has, keep, pass}
-use Rattle.cluster_model.specs.Words.{word, width, writePlace}
-use Rattle.cluster_nodes.specs.Seeing.{lookTo}
-use Rattle.cluster_nodes.specs.Full.{fullTo, lowLead, highLead, isHigh, ranks}
-use Rattle.cluster_nodes.specs.Leaf.{elemAt, underOf, bareAt, okBy, raiseWords, sinkWords, lookNode, placeIn, choiceBy, choiceOf, countsOk, begun, ChoiceFrom, Here, Lies, Under, Scanned}
+use Rattle.laws.specs.Prelude.{Bool, Element, List, _&&_, _*_, _+_, _-_, _<_, _||_, _∙_, _≡_, _≤_, ap, ap₂, arith, cond, false, false≢true, key, le-leb, le-ltb, leb, leb-true, length, lt-leb, lt-ltb, ltb, ltb-false, ltb-true, not, not-false, not-true, refl, subst, suc, sym, true, zero, ℕ}
+use Rattle.cluster_node.specs.declared.Seen.{Seen}
+use Rattle.cluster_node.specs.declared.Lead.{Lead}
+use Rattle.cluster_node.specs.declared.Chosen.{Chosen}
+use Rattle.cluster_model.specs.Prelude.{gap, has, keep, pass, placeWords, width, word, writePlace}
+use Rattle.cluster_node.specs.Seeing.{lookTo}
+use Rattle.cluster_node.specs.Full.{fullTo, lowLead, highLead, isHigh, ranks}
+use Rattle.cluster_node.specs.Leaf.{elemAt, underOf, bareAt, okBy, raiseWords, sinkWords, lookNode, placeIn, choiceBy, choiceOf, countsOk, begun, ChoiceFrom, Here, Lies, Under, Scanned}
 use Rattle.cluster.specs.Down.{Went, went, fewerRight, takeBack, takeNode, takeDown, swapBack, swapNode, swapDown, putBack, putNode, putDown, putIn, putEnd, Reach, TakeReady, PutReady, TakeMeets, SwapMeets, PutMeets}
-use Rattle.cluster_nodes.proofs.Children.{choice-place, left-begins, right-begins}
-use Rattle.cluster_nodes.proofs.Fulls.{and-l, full-look, full-high, ok-full, counts-in, neat-room, best-lt}
+use Rattle.cluster_node.proofs.Children.{choice-place, left-begins, right-begins}
+use Rattle.cluster_node.proofs.Fulls.{and-l, full-look, full-high, ok-full, counts-in, neat-room, best-lt}
 
 -- ---- where the nodes lie
 pub lies-here : (K left m len : ℕ) → Reach K left m len → Here K m len
@@ -73,8 +63,8 @@ module _ (K left o j : ℕ) (ws : List ℕ) (r : TakeReady K left o j ws) where
 -- ---- the choice of a child: at four places a full pair is tried first
 pub scanned : (K : ℕ) (ws : List ℕ) (o : ℕ) (p q : Lead) → Under K o (length ws) → K ≡ 4 → p ≡ lowLead ws (o + o + 20) 4 → q ≡ lowLead ws (o + o + 38) 4 → Scanned ws o p q
 scanned K ws o p q u k ep eq =
-    let a : o + o + 20 ≡ o + o + 18 + 2 = omega arith in
-    let b : o + o + 38 ≡ o + o + 18 + 18 + 2 = omega arith in
+    let a : o + o + 20 ≡ o + o + width 4 + 2 = omega arith in
+    let b : o + o + 38 ≡ o + o + width 4 + width 4 + 2 = omega arith in
     record { words = omega (arith, u .words, k); left = ep ∙ ap (λ (i : ℕ). lowLead ws i 4) a; right = eq ∙ ap (λ (i : ℕ). lowLead ws i 4) b }
 
 module _ (K below : ℕ) (ws : List ℕ) (o : ℕ) (c r : Chosen) where
@@ -95,9 +85,9 @@ module _ (K below : ℕ) (ws : List ℕ) (o : ℕ) (c r : Chosen) where
 
 -- ---- take
 module _ (K left m limit j : ℕ) (ws : List ℕ) (o : ℕ) (at : o ≡ m * width K) where
-  pub take-zero : (q : List ℕ) → left ≡ 0 → q ≡ writePlace ws (o + 2 + j * 4) gap → went true q ≡ takeDown K left m limit j ws
+  pub take-zero : (q : List ℕ) → left ≡ 0 → q ≡ writePlace ws (o + 2 + j * placeWords) gap → went true q ≡ takeDown K left m limit j ws
   unfolding takeDown
-  take-zero q z e = rw z (ap (went true) (e ∙ ap (λ (o : ℕ). writePlace ws (o + 2 + j * 4) gap) at))
+  take-zero q z e = rw z (ap (went true) (e ∙ ap (λ (o : ℕ). writePlace ws (o + 2 + j * placeWords) gap) at))
 
   unroll : (left ≡ 0 → ⊥) → takeDown K left m limit j ws ≡ takeNode K (takeDown K (left - 1)) m limit j ws
   unfolding takeDown
@@ -111,9 +101,9 @@ module _ (K left m limit j : ℕ) (ws : List ℕ) (o : ℕ) (at : o ≡ m * widt
     tested : bare ≡ bareAt ws (m * width K)
     tested = read ∙ ap (bareAt ws) at
 
-    pub take-bare : (q : List ℕ) → bare ≡ true → q ≡ writePlace ws (o + 2 + j * 4) gap → went true q ≡ takeDown K left m limit j ws
+    pub take-bare : (q : List ℕ) → bare ≡ true → q ≡ writePlace ws (o + 2 + j * placeWords) gap → went true q ≡ takeDown K left m limit j ws
     unfolding takeNode
-    take-bare q t e = rw (unroll n, ← tested, t) (ap (went true) (e ∙ ap (λ (o : ℕ). writePlace ws (o + 2 + j * 4) gap) at))
+    take-bare q t e = rw (unroll n, ← tested, t) (ap (went true) (e ∙ ap (λ (o : ℕ). writePlace ws (o + 2 + j * placeWords) gap) at))
 
     module _ (some : bare ≡ false) (below : ℕ) (under : below ≡ underOf K limit) (c : Chosen) (chosen : ChoiceFrom K below ws o c) where
       abbrev C : Chosen
@@ -142,21 +132,21 @@ module _ (K left m limit j : ℕ) (ws : List ℕ) (o : ℕ) (at : o ≡ m * widt
         take-stop t = rw (unroll n, here, ← fine, not-false (c .ok) ok, ← gone, not-true g t) refl
 
         pub take-done : not g ≡ false → (l r : ℕ) → l ≡ word ws o → r ≡ word ws (o + 1) → (q₁ q₂ : List ℕ) → q₁ ≡ sinkWords (c .right) q o l r
-            → q₂ ≡ writePlace q₁ (o + 2 + j * 4) (has (c .up)) → went true q₂ ≡ takeDown K left m limit j ws
+            → q₂ ≡ writePlace q₁ (o + 2 + j * placeWords) (has (c .up)) → went true q₂ ≡ takeDown K left m limit j ws
         unfolding takeBack
         take-done t l r el er q₁ q₂ e₁ e₂ =
             rw (unroll n, here, ← fine, not-false (c .ok) ok, ← gone, not-false g t)
             (ap (went true)
-            (e₂ ∙ ap (λ (q : List ℕ). writePlace q (o + 2 + j * 4) (has (c .up))) (e₁ ∙ ap₂ (λ (l r : ℕ). sinkWords (c .right) q o l r) el er)
-            ∙ ap (λ (o : ℕ). writePlace (sinkWords (c .right) q o (word ws o) (word ws (o + 1))) (o + 2 + j * 4) (has (c .up))) at
+            (e₂ ∙ ap (λ (q : List ℕ). writePlace q (o + 2 + j * placeWords) (has (c .up))) (e₁ ∙ ap₂ (λ (l r : ℕ). sinkWords (c .right) q o l r) el er)
+            ∙ ap (λ (o : ℕ). writePlace (sinkWords (c .right) q o (word ws o) (word ws (o + 1))) (o + 2 + j * placeWords) (has (c .up))) at
             ∙ ap (λ (u : Chosen). writePlace (sinkWords (u .right) q (m * width K) (word ws (m * width K)) (word ws (m * width K + 1))) (placeIn K m j) (has (u .up))) is))
 
 -- ---- swap
 module _ (K left m limit j : ℕ) (x : Element) (ws : List ℕ) (o : ℕ) (at : o ≡ m * width K) where
-  swap-put : (q : List ℕ) → q ≡ writePlace ws (o + 2 + j * 4) (has x) → went true q ≡ went true (writePlace ws (placeIn K m j) (has x))
-  swap-put q e = ap (went true) (e ∙ ap (λ (o : ℕ). writePlace ws (o + 2 + j * 4) (has x)) at)
+  swap-put : (q : List ℕ) → q ≡ writePlace ws (o + 2 + j * placeWords) (has x) → went true q ≡ went true (writePlace ws (placeIn K m j) (has x))
+  swap-put q e = ap (went true) (e ∙ ap (λ (o : ℕ). writePlace ws (o + 2 + j * placeWords) (has x)) at)
 
-  pub swap-zero : (q : List ℕ) → left ≡ 0 → q ≡ writePlace ws (o + 2 + j * 4) (has x) → went true q ≡ swapDown K left m limit j x ws
+  pub swap-zero : (q : List ℕ) → left ≡ 0 → q ≡ writePlace ws (o + 2 + j * placeWords) (has x) → went true q ≡ swapDown K left m limit j x ws
   unfolding swapDown
   swap-zero q z e = rw z (swap-put q e)
 
@@ -172,7 +162,7 @@ module _ (K left m limit j : ℕ) (x : Element) (ws : List ℕ) (o : ℕ) (at : 
     swap-tested : bare ≡ bareAt ws (m * width K)
     swap-tested = read ∙ ap (bareAt ws) at
 
-    pub swap-bare : (q : List ℕ) → bare ≡ true → q ≡ writePlace ws (o + 2 + j * 4) (has x) → went true q ≡ swapDown K left m limit j x ws
+    pub swap-bare : (q : List ℕ) → bare ≡ true → q ≡ writePlace ws (o + 2 + j * placeWords) (has x) → went true q ≡ swapDown K left m limit j x ws
     unfolding swapNode
     swap-bare q t e = rw (swap-unroll n, ← swap-tested, t) (swap-put q e)
 
@@ -200,7 +190,7 @@ module _ (K left m limit j : ℕ) (x : Element) (ws : List ℕ) (o : ℕ) (at : 
         lows : low ≡ ltb (key (D .up)) (key x)
         lows = compared ∙ ap (λ (u : Chosen). ltb (key (u .up)) (key x)) swap-is
 
-        pub swap-stays : (q : List ℕ) → not low ≡ true → q ≡ writePlace ws (o + 2 + j * 4) (has x) → went true q ≡ swapDown K left m limit j x ws
+        pub swap-stays : (q : List ℕ) → not low ≡ true → q ≡ writePlace ws (o + 2 + j * placeWords) (has x) → went true q ≡ swapDown K left m limit j x ws
         swap-stays q t e = rw (swap-unroll n, swap-here, ← swap-fine, not-false (c .ok) ok, ← lows, not-true low t) (swap-put q e)
 
         module _ (lifts : not low ≡ false) (g : Bool) (q : List ℕ) (goes : SwapMeets K (left - 1) (c .child) below (c .place) x ws g q) where
@@ -211,11 +201,11 @@ module _ (K left m limit j : ℕ) (x : Element) (ws : List ℕ) (o : ℕ) (at : 
           unfolding swapBack
           swap-stop t = rw (swap-unroll n, swap-here, ← swap-fine, not-false (c .ok) ok, ← lows, not-false low lifts, ← swap-gone, not-true g t) refl
 
-          pub swap-done : not g ≡ false → (q₂ : List ℕ) → q₂ ≡ writePlace q (o + 2 + j * 4) (has (c .up)) → went true q₂ ≡ swapDown K left m limit j x ws
+          pub swap-done : not g ≡ false → (q₂ : List ℕ) → q₂ ≡ writePlace q (o + 2 + j * placeWords) (has (c .up)) → went true q₂ ≡ swapDown K left m limit j x ws
           unfolding swapBack
           swap-done t q₂ e =
               rw (swap-unroll n, swap-here, ← swap-fine, not-false (c .ok) ok, ← lows, not-false low lifts, ← swap-gone, not-false g t)
-              (ap (went true) (e ∙ ap (λ (o : ℕ). writePlace q (o + 2 + j * 4) (has (c .up))) at ∙ ap (λ (u : Chosen). writePlace q (placeIn K m j) (has (u .up))) swap-is))
+              (ap (went true) (e ∙ ap (λ (o : ℕ). writePlace q (o + 2 + j * placeWords) (has (c .up))) at ∙ ap (λ (u : Chosen). writePlace q (placeIn K m j) (has (u .up))) swap-is))
 
 -- ---- a node that is not full has room, if it is in order
 module _ (K limit : ℕ) (x : Element) (ws : List ℕ) (o : ℕ) where
@@ -238,9 +228,9 @@ module _ (K limit : ℕ) (x : Element) (ws : List ℕ) (o : ℕ) where
       frees : v .free ≡ seen .free
       frees = ap (λ (u : Seen). u .free) looked
 
-      pub end-room : v .free < K → (q : List ℕ) → q ≡ writePlace ws (o + 2 + v .free * 4) (has x) → went true q ≡ putEnd K limit o x ws
+      pub end-room : v .free < K → (q : List ℕ) → q ≡ writePlace ws (o + 2 + v .free * placeWords) (has x) → went true q ≡ putEnd K limit o x ws
       unfolding putEnd
-      end-room h q w = rw (← known, not-false fine ok, lt-ltb (seen .free) K (omega (arith, frees, h))) (ap (went true) (w ∙ ap (λ (i : ℕ). writePlace ws (o + 2 + i * 4) (has x)) frees))
+      end-room h q w = rw (← known, not-false fine ok, lt-ltb (seen .free) K (omega (arith, frees, h))) (ap (went true) (w ∙ ap (λ (i : ℕ). writePlace ws (o + 2 + i * placeWords) (has x)) frees))
 
       pub end-none : K ≤ v .free → went false ws ≡ putEnd K limit o x ws
       unfolding putEnd
@@ -284,12 +274,12 @@ module _ (K left m limit : ℕ) (x : Element) (ws : List ℕ) (o : ℕ) (at : o 
       room e = neat-room ws (m * width K + 2) K (ok-neat K limit x ws (m * width K) e) nf
 
       down : (left : ℕ) → lookTo ws (m * width K + 2) K .free < K
-          → went true (writePlace ws (m * width K + 2 + lookTo ws (m * width K + 2) K .free * 4) (has x)) ≡ putDown K left m limit (lookTo ws (m * width K + 2) K) x ws
+          → went true (writePlace ws (m * width K + 2 + lookTo ws (m * width K + 2) K .free * placeWords) (has x)) ≡ putDown K left m limit (lookTo ws (m * width K + 2) K) x ws
       down zero h = rw (lt-ltb (lookTo ws (m * width K + 2) K .free) K h) refl
       down (suc k) h = rw (lt-ltb (lookTo ws (m * width K + 2) K .free) K h) refl
 
       go : (b : Bool) → okBy K limit ws (m * width K) (lookTo ws (m * width K + 2) K) ≡ b
-          → cond b (cond (ltb (lookTo ws (m * width K + 2) K .free) K) (went true (writePlace ws (m * width K + 2 + lookTo ws (m * width K + 2) K .free * 4) (has x))) (went false ws)) (went false ws)
+          → cond b (cond (ltb (lookTo ws (m * width K + 2) K .free) K) (went true (writePlace ws (m * width K + 2 + lookTo ws (m * width K + 2) K .free * placeWords) (has x))) (went false ws)) (went false ws)
           ≡ cond b (putDown K left m limit (lookTo ws (m * width K + 2) K) x ws) (went false ws)
       go true e = rw (lt-ltb (lookTo ws (m * width K + 2) K .free) K (room e)) (down left (room e))
       go false e = refl
@@ -357,7 +347,7 @@ module _ (K left m limit : ℕ) (x : Element) (ws : List ℕ) (o : ℕ) (at : o 
           put-full t = down-full t ∙ sym in-down
 
           module _ (some : fewer < limit) (d : ℕ) (side : d ≡ cond (ltb (word ws (o + 1)) (word ws o)) (o + o + width K + width K) (o + o + width K)) (below : ℕ) (under : below ≡ underOf K limit)
-              (small : (i : ℕ) → word ws i < 4294967296) (e : Element) (met : e ≡ elemAt ws (o + 2 + f .place * 4)) (stays goes : Element) (kept : stays ≡ keep x e) (passed : goes ≡ pass x e)
+              (small : (i : ℕ) → word ws i < 4294967296) (e : Element) (met : e ≡ elemAt ws (o + 2 + f .place * placeWords)) (stays goes : Element) (kept : stays ≡ keep x e) (passed : goes ≡ pass x e)
               (g : Bool) (q : List ℕ) (went-on : PutMeets K (left - 1) d below goes ws g q) where
             abbrev R : Bool
             R = ltb (word ws (m * width K + 1)) (word ws (m * width K))
@@ -380,7 +370,7 @@ module _ (K left m limit : ℕ) (x : Element) (ws : List ℕ) (o : ℕ) (at : o 
             E = elemAt ws (placeIn K m (v .high))
 
             met-at : e ≡ E
-            met-at = met ∙ ap₂ (λ (o j : ℕ). elemAt ws (o + 2 + j * 4)) at high-at
+            met-at = met ∙ ap₂ (λ (o j : ℕ). elemAt ws (o + 2 + j * placeWords)) at high-at
 
             put-gone : went g q ≡ putIn K (left - 1) M below (pass x E) ws
             put-gone = went-on M node-at ∙ ap (λ (y : Element). putIn K (left - 1) M below y ws) (passed ∙ ap (pass x) met-at)
@@ -402,13 +392,13 @@ module _ (K left m limit : ℕ) (x : Element) (ws : List ℕ) (o : ℕ) (at : o 
             put-stop t = rw (in-down, put-unroll n, put-here, ← put-gone, not-true g t) refl
 
             pub put-done : not g ≡ false → (q₁ q₂ : List ℕ) → q₁ ≡ raiseWords (ltb (word ws (o + 1)) (word ws o)) q o (word ws o) (word ws (o + 1))
-                → q₂ ≡ writePlace q₁ (o + 2 + f .place * 4) (has stays) → went true q₂ ≡ putIn K left m limit x ws
+                → q₂ ≡ writePlace q₁ (o + 2 + f .place * placeWords) (has stays) → went true q₂ ≡ putIn K left m limit x ws
             unfolding putBack
             put-done t q₁ q₂ e₁ e₂ =
                 rw (in-down, put-unroll n, put-here, ← put-gone, not-false g t)
                 (ap (went true)
-                (e₂ ∙ ap₂ (λ (q : List ℕ) (y : Element). writePlace q (o + 2 + f .place * 4) (has y)) e₁ (kept ∙ ap (keep x) met-at)
-                ∙ ap₂ (λ (o j : ℕ). writePlace (raiseWords (ltb (word ws (o + 1)) (word ws o)) q o (word ws o) (word ws (o + 1))) (o + 2 + j * 4) (has (keep x E))) at high-at))
+                (e₂ ∙ ap₂ (λ (q : List ℕ) (y : Element). writePlace q (o + 2 + f .place * placeWords) (has y)) e₁ (kept ∙ ap (keep x) met-at)
+                ∙ ap₂ (λ (o j : ℕ). writePlace (raiseWords (ltb (word ws (o + 1)) (word ws o)) q o (word ws o) (word ws (o + 1))) (o + 2 + j * placeWords) (has (keep x E))) at high-at))
 
 -- ---- what a put asks
 module _ (K left o limit : ℕ) (ws : List ℕ) (r : PutReady K left o limit ws) where

@@ -1,26 +1,12 @@
 -- What a call's tests have found makes its outcome.
-use Prim.Native.Nat.{ℕ, zero, suc, _+_, _*_, _-_, _≤_, _<_}
-use native.Mathlib.Omega.{arith}
-use mathlib.Core.Path.{_≡_, refl, sym, ap, ap₂, _∙_, subst}
-use mathlib.Core.Bool.{Bool, true, false, not, _&&_, _||_, false≢true}
-use mathlib.Core.List.{List, _++_}
-use lib.Dec.{leb}
-use lib.ListN.{length, drop, replicate}
-use borrow.Author.Tests.{not-true, not-false, eq-eqb, ne-eqb, leb-true}
-use Rattle.strip.specs.declared.Element.{Element}
-use Rattle.strip.specs.declared.Answer.the-variants.{Done, Out, Refused}
-use Rattle.strip.specs.declared.Count.the-variants.{Held, Unknown}
-use Rattle.strip.specs.declared.Refusal.the-variants.{BadShape, Damaged, Empty}
-use Rattle.cluster_nodes.specs.declared.Seen.{Seen}
-use Rattle.cluster_model.specs.Heap.{room}
-use Rattle.cluster_model.specs.Words.{word, width}
-use Rattle.cluster_model.specs.Way.{extent}
-use Rattle.cluster_model.specs.Calls.{shapeOk, outcome, Outcome, cleared, wipe}
+use Rattle.laws.specs.Prelude.{BadShape, Bool, Damaged, Done, Element, Empty, Held, List, Out, Refused, Unknown, _&&_, _*_, _++_, _+_, _-_, _<_, _||_, _∙_, _≡_, _≤_, ap, ap₂, arith, drop, eq-eqb, false, false≢true, leb, leb-true, length, ne-eqb, not, not-false, not-true, refl, replicate, subst, suc, sym, true, zero, ℕ}
+use Rattle.cluster_node.specs.declared.Seen.{Seen}
+use Rattle.cluster_model.specs.Prelude.{Outcome, cleared, extent, outcome, room, shapeOk, width, wipe, word}
 use Rattle.cluster.specs.Coded.{heldBy, openedTo, heldDown, popDown, replaceDown}
-use Rattle.cluster_nodes.specs.Seeing.{lowOnly}
-use Rattle.cluster_nodes.specs.Leaf.{elemAt, bareAt, okBy, lookNode, placeIn, Here}
+use Rattle.cluster_node.specs.Seeing.{lowOnly}
+use Rattle.cluster_node.specs.Leaf.{elemAt, bareAt, okBy, lookNode, placeIn, Here}
 use Rattle.cluster.specs.Down.{went, takeDown, swapDown, PutReady, TakeReady, TakeMeets, SwapMeets}
-use Rattle.cluster_nodes.proofs.Looks.{within, low-lt}
+use Rattle.cluster_node.proofs.Looks.{within, low-lt}
 use Rattle.cluster.proofs.Downs.{lies-here}
 use Rattle.cluster.proofs.Shapes.{Nodes, shape-true, shape-here, nodes-here, root-lies, extent-nodes}
 

@@ -1,28 +1,12 @@
 -- A push tries the put before it looks at the root: where the put is refused nothing is written, and a root that holds all there is room for refuses it.
-use Prim.Native.Nat.{ℕ, zero, suc, _+_, _*_, _-_, _≤_, _<_}
-use native.Mathlib.Nat.{not-suc-le-zero}
-use native.Mathlib.Omega.{arith}
-use mathlib.Core.Path.{_≡_, refl, sym, ap, _∙_, subst}
-use mathlib.Core.Bool.{Bool, true, false, cond, not, _&&_, false≢true}
-use mathlib.Core.List.{List}
-use lib.Dec.{eqb, leb, ltb}
-use lib.ListN.{length}
-use borrow.Author.Tests.{eq-eqb, ne-eqb, eqb-true, le-ltb, le-leb}
-use Rattle.strip.specs.declared.Element.{Element}
-use Rattle.strip.specs.declared.Answer.the-variants.{Done, Refused}
-use Rattle.strip.specs.declared.Count.{Count}
-use Rattle.strip.specs.declared.Count.the-variants.{Held, Unknown}
-use Rattle.strip.specs.declared.Refusal.{Refusal}
-use Rattle.strip.specs.declared.Refusal.the-variants.{Damaged, Full}
-use Rattle.cluster_nodes.specs.declared.Seen.{Seen}
-use Rattle.cluster_model.specs.Heap.{room}
-use Rattle.cluster_model.specs.Words.{word, width}
-use Rattle.cluster_model.specs.Calls.{shapeOk, outcome, Outcome, heldCount}
-use Rattle.cluster_nodes.specs.Seeing.{isMarked, seeOne, lookTo}
-use Rattle.cluster_nodes.specs.Leaf.{underOf, okBy, lookNode}
+use Rattle.laws.specs.Prelude.{Bool, Count, Damaged, Done, Element, Full, Held, List, Refusal, Refused, Unknown, _&&_, _*_, _+_, _-_, _<_, _∙_, _≡_, _≤_, ap, arith, cond, eq-eqb, eqb, eqb-true, false, false≢true, le-leb, le-ltb, leb, length, ltb, ne-eqb, not, not-suc-le-zero, refl, subst, suc, sym, true, zero, ℕ}
+use Rattle.cluster_node.specs.declared.Seen.{Seen}
+use Rattle.cluster_model.specs.Prelude.{Outcome, heldCount, outcome, placeWords, room, shapeOk, width, word}
+use Rattle.cluster_node.specs.Seeing.{isMarked, seeOne, lookTo}
+use Rattle.cluster_node.specs.Leaf.{underOf, okBy, lookNode}
 use Rattle.cluster.specs.Down.{Went, went, fewerRight, putBack, putNode, putDown, putIn, PutMeets}
 use Rattle.cluster.specs.Coded.{heldBy, wentTo, openedTo, heldDown, pushDown}
-use Rattle.cluster_nodes.proofs.Looks.{within}
+use Rattle.cluster_node.proofs.Looks.{within}
 use Rattle.cluster.proofs.Shapes.{shape-true, shape-here}
 use Rattle.cluster.proofs.Opened.{ok-counts}
 use Rattle.cluster.proofs.Called.{held-eq}
@@ -60,7 +44,7 @@ module _ (K : ℕ) (ws : List ℕ) where
 count-free : (ws : List ℕ) (o n : ℕ) → lookTo ws o n .count ≡ n → lookTo ws o n .free ≡ n
 unfolding lookTo seeOne
 count-free ws o zero e = refl
-count-free ws o (suc n) e = go (isMarked ws (o + n * 4)) (within ws o n .count) (count-free ws o n) e
+count-free ws o (suc n) e = go (isMarked ws (o + n * placeWords)) (within ws o n .count) (count-free ws o n) e
   where
     go : (a : Bool) → lookTo ws o n .count ≤ n → (lookTo ws o n .count ≡ n → lookTo ws o n .free ≡ n) → cond a (lookTo ws o n .count + 1) (lookTo ws o n .count) ≡ suc n
         → cond (a && eqb (lookTo ws o n .free) n) (n + 1) (lookTo ws o n .free) ≡ suc n

@@ -1,29 +1,13 @@
 -- The put in the code's shape is the put of the definitions, tests included.
-use Prim.Native.Nat.{ℕ, zero, suc, _+_, _*_, _≤_, _<_}
-use native.Mathlib.Nat.{le-of-suc-le-suc, not-suc-le-zero}
-use native.Mathlib.Numerals.{add-one}
-use native.Mathlib.Omega.{arith}
-use mathlib.Core.Path.{_≡_, refl, sym, ap, _∙_}
-use mathlib.Core.Bool.{Bool, true, false, cond, not, _&&_, _||_}
-use mathlib.Core.List.{List, [], _∷_}
-use lib.Dec.{ltb, leb}
-use lib.ListN.{length, set}
-use lib.Seq.{getD-set-other}
-use borrow.Author.Tests.{le-leb, le-ltb, lt-leb, lt-ltb, ltb-false, ltb-true}
-use Rattle.strip.specs.declared.Element.{Element}
-use Rattle.promise.specs.Served.{always}
-use Rattle.cluster_model.specs.Node.{begin, fewer, finish, finished, free, freeHere, gap, has, high, highElem, inside, keep, lhs, Node, none, pass, Place, put, putBy, raise, rhs, seek, Side, sideIf, store}
-use Rattle.cluster_model.specs.Heap.{room}
-use Rattle.cluster_model.specs.Words.{Neat, nodeOf, width, word, writeNode, writePlace}
-use Rattle.cluster_model.specs.Way.{child, nodeIn, nodeOk, ownOk, roomy, runWords, stepIn, touch, wayOk, works}
-use Rattle.cluster_model.proofs.Neat.{few-words, set-word}
-use Rattle.cluster_model.proofs.Pass.{node-count}
-use Rattle.cluster_model.proofs.Places.{high-is, inside-length, no-free, place-here}
-use Rattle.cluster_nodes.proofs.Bridge.{look-free, look-high, test-is}
-use Rattle.cluster_nodes.proofs.ScanCode.{row-place}
-use Rattle.cluster_nodes.proofs.Unique.{scan-is-high}
-use Rattle.cluster_nodes.specs.Leaf.{elemAt, lookNode, placeIn, raiseWords}
-use Rattle.cluster_nodes.specs.Scan.{highAs, scan}
+use Rattle.laws.specs.Prelude.{Bool, Element, List, [], _&&_, _*_, _+_, _<_, _||_, _∙_, _∷_, _≡_, _≤_, add-one, ap, arith, cond, elementWords, false, getD-set-other, le-leb, le-ltb, le-of-suc-le-suc, leb, length, lt-leb, lt-ltb, ltb, ltb-false, ltb-true, not, not-suc-le-zero, refl, set, suc, sym, true, zero, ℕ}
+use Rattle.promise.specs.Prelude.{always}
+use Rattle.cluster_model.specs.Prelude.{Neat, Node, Place, Side, begin, child, fewer, finish, finished, free, freeHere, gap, has, high, highElem, inside, keep, lhs, nodeIn, nodeOf, nodeOk, none, ownOk, pass, placeWords, put, putBy, raise, rhs, room, roomy, runWords, seek, sideIf, stepIn, store, touch, wayOk, width, word, works, writeNode, writePlace}
+use Rattle.cluster_model.proofs.Laws.{few-words, high-is, inside-length, no-free, node-count, place-here, set-word}
+use Rattle.cluster_node.proofs.Bridge.{look-free, look-high, test-is}
+use Rattle.cluster_node.proofs.ScanCode.{row-place}
+use Rattle.cluster_node.proofs.Unique.{scan-is-high}
+use Rattle.cluster_node.specs.Leaf.{elemAt, lookNode, placeIn, raiseWords}
+use Rattle.cluster_node.specs.Scan.{highAs, scan}
 use Rattle.cluster.specs.Down.{fewerRight, putBack, putDown, putNode, went}
 use Rattle.cluster.proofs.Commute.{has-elem, run-none, run-place, run-raise}
 use Rattle.cluster.proofs.Taken.{neat-in, one-place, under-room, way-none}
@@ -163,7 +147,7 @@ module _ (K k m : ℕ) (x : Element) (ws : List ℕ) (fine : nodeOk K (room K k)
         ∙ run-place K k (put (pass x e)) d (raiseWords right ws o (word ws o) (word ws (o + 1))) (placeIn K m j) (has (keep x e)) (place-before (sideIf right) j l)
         ∙ ap (λ (u : List ℕ). writePlace u (placeIn K m j) (has (keep x e))) (run-raise K k (put (pass x e)) d right ws o (word ws o) (word ws (o + 1)) (count-before (sideIf right))))
       where
-        place-before : (s : Side) (i : ℕ) → i < K → m * width K + 2 + i * 4 + 3 < child m s * width K
+        place-before : (s : Side) (i : ℕ) → i < K → m * width K + 2 + i * placeWords + elementWords < child m s * width K
         place-before lhs i h = omega arith
         place-before rhs i h = omega arith
 

@@ -1,12 +1,9 @@
 -- The root is node 0: its first word is word 0.
-use Prim.Native.Nat.{ℕ, _+_, _*_}
-use native.Mathlib.Omega.{arith}
-use mathlib.Core.Path.{_≡_, ap}
-use mathlib.Core.List.{List}
-use Rattle.cluster_model.specs.Words.{width, word}
-use Rattle.cluster_nodes.specs.declared.Seen.{Seen}
-use Rattle.cluster_nodes.specs.Leaf.{elemAt, lookNode, okBy, placeIn}
-use Rattle.cluster_nodes.specs.Seeing.{lookTo}
+use Rattle.laws.specs.Prelude.{List, _*_, _+_, _≡_, ap, arith, ℕ}
+use Rattle.cluster_model.specs.Prelude.{placeWords, width, word}
+use Rattle.cluster_node.specs.declared.Seen.{Seen}
+use Rattle.cluster_node.specs.Leaf.{elemAt, lookNode, okBy, placeIn}
+use Rattle.cluster_node.specs.Seeing.{lookTo}
 use Rattle.cluster.specs.Coded.{heldBy}
 
 pub root-seen : (K : ℕ) (ws : List ℕ) → lookTo ws 2 K ≡ lookNode K ws 0
@@ -23,5 +20,5 @@ root-counts K ws v l r p q =
     let right : word ws 1 ≡ word ws (0 * width K + 1) = let at : 1 ≡ 0 * width K + 1 = omega arith in ap (word ws) at in
     omega (arith, p, q, left, right)
 
-pub root-has : (K : ℕ) (ws : List ℕ) (j : ℕ) → elemAt ws (2 + j * 4) ≡ elemAt ws (placeIn K 0 j)
-root-has K ws j = let at : 2 + j * 4 ≡ 0 * width K + 2 + j * 4 = omega arith in ap (elemAt ws) at
+pub root-has : (K : ℕ) (ws : List ℕ) (j : ℕ) → elemAt ws (2 + j * placeWords) ≡ elemAt ws (placeIn K 0 j)
+root-has K ws j = let at : 2 + j * placeWords ≡ 0 * width K + 2 + j * placeWords = omega arith in ap (elemAt ws) at

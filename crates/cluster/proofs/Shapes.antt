@@ -1,19 +1,8 @@
 -- For the code of the shape.
-use Prim.Native.Nat.{ℕ, zero, suc, _+_, _*_, _-_, _≤_, _<_, _^_, _%_}
-use native.Mathlib.Nat.{not-suc-le-zero, mul-le-mul-right}
-use native.Mathlib.Omega.{arith}
-use mathlib.Core.Path.{_≡_, refl, sym, ap, _∙_, subst}
-use mathlib.Core.Bool.{Bool, true, false, cond, not, _&&_, false≢true}
-use mathlib.Core.List.{List}
-use lib.Dec.{leb, ltb}
-use lib.ListN.{length}
-use borrow.Author.Tests.{not-false, le-leb, le-ltb, lt-leb, lt-ltb, ltb-true, leb-true, leb-false}
-use Rattle.cluster_model.specs.Heap.{room}
-use Rattle.cluster_model.specs.Words.{width}
-use Rattle.cluster_model.specs.Way.{extent}
-use Rattle.cluster_model.specs.Calls.{shapeOk}
+use Rattle.laws.specs.Prelude.{Bool, List, _%_, _&&_, _*_, _+_, _-_, _<_, _^_, _∙_, _≡_, _≤_, ap, arith, cond, false, false≢true, le-leb, le-ltb, leb, leb-false, leb-true, length, lt-leb, lt-ltb, ltb, ltb-true, mul-le-mul-right, not, not-false, not-suc-le-zero, refl, subst, suc, sym, true, zero, ℕ}
+use Rattle.cluster_model.specs.Prelude.{extent, room, shapeOk, width}
 use Rattle.cluster.specs.Coded.{fewNodes, nodesOf}
-use Rattle.cluster_nodes.specs.Leaf.{Here}
+use Rattle.cluster_node.specs.Leaf.{Here}
 use Rattle.cluster.specs.Down.{Reach}
 
 nodes-suc : (k : ℕ) → nodesOf (suc k) ≡ nodesOf k + nodesOf k + 1

@@ -1,26 +1,13 @@
 -- The swap in the code's shape is the swap of the definitions, tests included.
-use Prim.Native.Nat.{ℕ, zero, suc, _+_, _*_, _<_}
-use native.Mathlib.Omega.{arith}
-use mathlib.Core.Path.{_≡_, refl, sym, ap, _∙_}
-use mathlib.Core.Bool.{Bool, true, false, cond, _&&_}
-use mathlib.Core.List.{List}
-use lib.Dec.{ltb, eqb}
-use lib.Seq.{set-set}
-use Rattle.strip.specs.declared.Element.{Element}
-use Rattle.strip.specs.Answers.{key}
-use Rattle.cluster_nodes.specs.declared.Chosen.{Chosen}
-use Rattle.promise.specs.Served.{always}
-use Rattle.cluster_model.specs.Node.{Place, has, inside, low, Node, Side, lhs, rhs, sideIf, pick, lowerSide, store, nothingBelow, Op, none, swap, begin, swapBy, finished, trialBy, trialFrom, finish}
-use Rattle.cluster_model.specs.Heap.{room}
-use Rattle.cluster_model.specs.Words.{word, width, nodeOf, writePlace}
-use Rattle.cluster_model.specs.Way.{touch, works}
-use Rattle.cluster_model.specs.Words.{writeNode}
-use Rattle.cluster_model.specs.Way.{child, nodeIn, lowIn, stepIn, runWords, nodeOk, readOk, childrenOk, ownOk, wayOk}
-use Rattle.cluster_nodes.specs.Leaf.{bareAt, placeIn, choiceOf}
+use Rattle.laws.specs.Prelude.{Bool, Element, List, _&&_, _*_, _+_, _<_, _∙_, _≡_, ap, arith, cond, elementWords, eqb, false, key, ltb, refl, set-set, suc, sym, true, zero, ℕ}
+use Rattle.cluster_node.specs.declared.Chosen.{Chosen}
+use Rattle.promise.specs.Prelude.{always}
+use Rattle.cluster_model.specs.Prelude.{Node, Op, Place, Side, begin, child, childrenOk, finish, finished, has, inside, lhs, low, lowIn, lowerSide, nodeIn, nodeOf, nodeOk, none, nothingBelow, ownOk, pick, placeWords, readOk, rhs, room, runWords, sideIf, stepIn, store, swap, swapBy, touch, trialBy, trialFrom, wayOk, width, word, works, writeNode, writePlace}
+use Rattle.cluster_node.specs.Leaf.{bareAt, placeIn, choiceOf}
 use Rattle.cluster.specs.Down.{went, swapBack, swapNode, swapDown}
-use Rattle.cluster_nodes.proofs.Bridge.{both-zero}
+use Rattle.cluster_node.proofs.Bridge.{both-zero}
 use Rattle.cluster.proofs.Taken.{way-none, under-room, one-place, choice-ok, neat-here, low-here, chose, last-bare}
-use Rattle.cluster_nodes.proofs.Fulls.{and-l, and-r}
+use Rattle.cluster_node.proofs.Fulls.{and-l, and-r}
 use Rattle.cluster.proofs.Commute.{run-place, run-none}
 
 store-twice : (i : ℕ) (p q : Place) (n : Node) → store i p (store i q n) ≡ store i p n
@@ -87,7 +74,7 @@ module _ (K k m : ℕ) (x : Element) (ws : List ℕ) (fine : nodeOk K (room K k)
         (ap (runWords K k (swap x) d) (one-place K ws m i (has (pick (sideIf right) a b)) (low-here K k m ws fine held) (neat-here K k m ws fine held))
         ∙ run-place K k (swap x) d ws (placeIn K m i) (has (pick (sideIf right) a b)) (place-before (sideIf right) i (low-here K k m ws fine held)))
       where
-        place-before : (s : Side) (i : ℕ) → i < K → m * width K + 2 + i * 4 + 3 < child m s * width K
+        place-before : (s : Side) (i : ℕ) → i < K → m * width K + 2 + i * placeWords + elementWords < child m s * width K
         place-before lhs i h = omega arith
         place-before rhs i h = omega arith
 

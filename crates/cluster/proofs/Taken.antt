@@ -1,34 +1,15 @@
 -- The take in the code's shape is the take of the definitions, tests included.
-use Prim.Native.Nat.{ℕ, zero, suc, _+_, _*_, _≤_, _<_, pred}
-use native.Mathlib.Nat.{not-suc-le-zero}
-use native.Mathlib.Omega.{arith}
-use mathlib.Core.Path.{_≡_, refl, sym, ap, ap₂, _∙_}
-use mathlib.Core.Bool.{Bool, true, false, cond, not, _&&_, _||_}
-use mathlib.Core.List.{List}
-use lib.Dec.{ltb, leb, eqb}
-use lib.ListN.{length, set}
-use lib.Seq.{set-set, getD-set-other}
-use borrow.Author.Tests.{eq-eqb, ne-eqb, ltb-true, lt-ltb, le-ltb, leb-true}
-use Rattle.strip.specs.declared.Element.{Element}
-use Rattle.strip.specs.Answers.{key}
-use Rattle.cluster_nodes.specs.declared.Found.{Found}
-use Rattle.cluster_nodes.specs.declared.Chosen.{Chosen}
-use Rattle.promise.specs.Served.{always}
-use Rattle.cluster_model.specs.Node.{Place, gap, has, inside, low, lowElem, Node, Side, lhs, rhs, sideIf, pick, lowerSide, store, sink, nothingBelow, Op, none, take, begin, takeBy, finished, fillFrom, finish}
-use Rattle.cluster_model.specs.Heap.{room}
-use Rattle.cluster_model.specs.Way.{strict, some, under1}
-use Rattle.cluster_model.specs.Words.{word, width, nodeOf, writePlace, Neat}
-use Rattle.cluster_model.specs.Way.{touch, works}
-use Rattle.cluster_model.specs.Words.{writeNode}
-use Rattle.cluster_model.specs.Way.{child, nodeIn, lowIn, stepIn, runWords, neatTo, nodeOk, readOk, childrenOk, ownOk, wayOk}
-use Rattle.cluster_nodes.specs.Seeing.{lookTo}
-use Rattle.cluster_nodes.specs.Leaf.{underOf, bareAt, lookNode, placeIn, peekHere, peekAt, peekOf, rightLower, choiceBy, choiceOf, sinkWords, elemAt}
+use Rattle.laws.specs.Prelude.{Bool, Element, List, _&&_, _*_, _+_, _<_, _||_, _∙_, _≡_, _≤_, ap, ap₂, arith, cond, elementWords, eq-eqb, eqb, false, getD-set-other, key, le-ltb, leb, leb-true, length, lt-ltb, ltb, ltb-true, ne-eqb, not, not-suc-le-zero, pred, refl, set, set-set, suc, sym, true, zero, ℕ}
+use Rattle.cluster_node.specs.declared.Found.{Found}
+use Rattle.cluster_node.specs.declared.Chosen.{Chosen}
+use Rattle.promise.specs.Prelude.{always}
+use Rattle.cluster_model.specs.Prelude.{Neat, Node, Op, Place, Side, begin, child, childrenOk, fillFrom, finish, finished, gap, has, inside, lhs, low, lowElem, lowIn, lowerSide, neatTo, nodeIn, nodeOf, nodeOk, none, nothingBelow, ownOk, pick, placeWords, readOk, rhs, room, runWords, sideIf, sink, some, stepIn, store, strict, take, takeBy, touch, under1, wayOk, width, word, works, writeNode, writePlace}
+use Rattle.cluster_node.specs.Seeing.{lookTo}
+use Rattle.cluster_node.specs.Leaf.{underOf, bareAt, lookNode, placeIn, peekHere, peekAt, peekOf, rightLower, choiceBy, choiceOf, sinkWords, elemAt}
 use Rattle.cluster.specs.Down.{went, takeBack, takeNode, takeDown}
-use Rattle.cluster_model.proofs.Places.{low-is, place-here}
-use Rattle.cluster_model.proofs.Pass.{node-count}
-use Rattle.cluster_model.proofs.Neat.{few-words, set-word}
-use Rattle.cluster_nodes.proofs.Bridge.{test-is, look-count, both-zero}
-use Rattle.cluster_nodes.proofs.Fulls.{and-l, and-r}
+use Rattle.cluster_model.proofs.Laws.{few-words, low-is, node-count, place-here, set-word}
+use Rattle.cluster_node.proofs.Bridge.{test-is, look-count, both-zero}
+use Rattle.cluster_node.proofs.Fulls.{and-l, and-r}
 use Rattle.cluster.proofs.Commute.{run-place, run-sink, run-none, neat-of, low-place, low-elem}
 
 pub way-none : (K k m : ℕ) (ws : List ℕ) → wayOk K k none m ws ≡ true
@@ -175,7 +156,7 @@ module _ (K k m : ℕ) (ws : List ℕ) (more : bareAt ws (m * width K) ≡ false
       ∙ run-place K k take d (sinkWords right ws o l r) (placeIn K m i) up (place-before (sideIf right) i h)
       ∙ ap (λ (q : List ℕ). writePlace q (placeIn K m i) up) (run-sink K k take d right ws o l r (count-before (sideIf right))))
     where
-      place-before : (s : Side) (i : ℕ) → i < K → m * width K + 2 + i * 4 + 3 < child m s * width K
+      place-before : (s : Side) (i : ℕ) → i < K → m * width K + 2 + i * placeWords + elementWords < child m s * width K
       place-before lhs i h = omega arith
       place-before rhs i h = omega arith
 

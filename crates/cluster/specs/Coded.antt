@@ -1,23 +1,8 @@
 -- The calls in the code's own shape.
-use Prim.Native.Nat.{ℕ, zero, suc, _+_, _*_, _-_}
-use mathlib.Core.Path.{_≡_}
-use mathlib.Core.Bool.{Bool, true, cond}
-use mathlib.Core.List.{List}
-use lib.Dec.{eqb, ltb}
-use lib.ListN.{length}
-use Rattle.strip.specs.Answers.{untagged}
-use Rattle.strip.specs.declared.Element.{Element}
-use Rattle.strip.specs.declared.Request.the-variants.{Push, Replace}
-use Rattle.strip.specs.declared.Refusal.the-variants.{BadShape, Damaged, Full, Empty}
-use Rattle.strip.specs.declared.Answer.{Answer}
-use Rattle.strip.specs.declared.Answer.the-variants.{Done, Out, Refused}
-use Rattle.strip.specs.declared.Count.{Count}
-use Rattle.strip.specs.declared.Count.the-variants.{Held, Unknown}
-use Rattle.cluster_nodes.specs.declared.Seen.{Seen}
-use Rattle.cluster_model.specs.Heap.{room}
-use Rattle.cluster_model.specs.Words.{word, width}
-use Rattle.cluster_model.specs.Calls.{called, shapeOk, Outcome, outcome}
-use Rattle.cluster_nodes.specs.Leaf.{elemAt, okBy, lookNode, placeIn}
+use Rattle.laws.specs.Prelude.{Answer, BadShape, Bool, Count, Damaged, Done, Element, Empty, Full, Held, List, Out, Push, Refused, Replace, Unknown, _*_, _+_, _-_, _≡_, cond, eqb, length, ltb, suc, true, untagged, zero, ℕ}
+use Rattle.cluster_node.specs.declared.Seen.{Seen}
+use Rattle.cluster_model.specs.Prelude.{Outcome, called, outcome, room, shapeOk, width, word}
+use Rattle.cluster_node.specs.Leaf.{elemAt, okBy, lookNode, placeIn}
 use Rattle.cluster.specs.Down.{Went, putDown, takeDown, swapDown}
 
 -- 2^k − 1

@@ -1,18 +1,10 @@
 -- The recursions in the code's own shape: a node is tested before its child, and written once the child is done.
-use Prim.Native.Nat.{ℕ, zero, suc, _+_, _*_, _≤_, _<_}
-use mathlib.Core.Path.{_≡_}
-use mathlib.Core.Bool.{Bool, true, false, cond, _&&_}
-use mathlib.Core.List.{List}
-use lib.Dec.{ltb, leb}
-use lib.ListN.{length}
-use Rattle.strip.specs.declared.Element.{Element}
-use Rattle.strip.specs.Answers.{key}
-use Rattle.cluster_model.specs.Node.{gap, has, keep, pass}
-use Rattle.cluster_model.specs.Words.{word, width, writePlace}
-use Rattle.cluster_nodes.specs.declared.Seen.{Seen}
-use Rattle.cluster_nodes.specs.declared.Chosen.{Chosen}
-use Rattle.cluster_nodes.specs.Seeing.{lookTo}
-use Rattle.cluster_nodes.specs.Leaf.{elemAt, underOf, bareAt, okBy, raiseWords, sinkWords, lookNode, placeIn, choiceOf, Here}
+use Rattle.laws.specs.Prelude.{Bool, Element, List, _&&_, _*_, _+_, _<_, _≡_, _≤_, cond, false, key, leb, length, ltb, suc, true, zero, ℕ}
+use Rattle.cluster_model.specs.Prelude.{gap, has, keep, pass, placeWords, width, word, writePlace}
+use Rattle.cluster_node.specs.declared.Seen.{Seen}
+use Rattle.cluster_node.specs.declared.Chosen.{Chosen}
+use Rattle.cluster_node.specs.Seeing.{lookTo}
+use Rattle.cluster_node.specs.Leaf.{elemAt, underOf, bareAt, okBy, raiseWords, sinkWords, lookNode, placeIn, choiceOf, Here}
 
 -- went through, or not; and the words
 pub record Went : Type 0 where
@@ -111,4 +103,4 @@ PutMeets K k o limit x ws ok ws′ = (m : ℕ) → o ≡ m * width K → went ok
 unfoldable pub putEnd : ℕ → ℕ → ℕ → Element → List ℕ → Went
 putEnd K limit o x ws =
     let v = lookTo ws (o + 2) K in
-    cond (okBy K limit ws o v) (cond (ltb (v .free) K) (went true (writePlace ws (o + 2 + v .free * 4) (has x))) (went false ws)) (went false ws)
+    cond (okBy K limit ws o v) (cond (ltb (v .free) K) (went true (writePlace ws (o + 2 + v .free * placeWords) (has x))) (went false ws)) (went false ws)

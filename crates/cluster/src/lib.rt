@@ -6,41 +6,44 @@ ghost use Prim.Native.Nat.{_+_, _*_, _<_, _≤_};
 ghost use lib.ListN.{length, drop, replicate};
 ghost use Rattle.cluster_model.specs.Words.{width};
 ghost use Rattle.cluster_model.specs.Heap.{room};
-ghost use Rattle.cluster_model.specs.Calls.{shapeOk, outcome, called, cleared, heldCount};
-ghost use Rattle.cluster_nodes.specs.Seeing.{lowOnly};
-ghost use Rattle.cluster_nodes.specs.Leaf.{elemAt, okBy, lookNode, placeIn, Here, Lies};
+ghost use Rattle.cluster_model.specs.Calls.{placeLimit, shapeOk, outcome, called, cleared, heldCount};
+ghost use Rattle.cluster_node.specs.Seeing.{lowOnly};
+ghost use Rattle.cluster_node.specs.Leaf.{elemAt, okBy, lookNode, placeIn, Here, Lies};
 ghost use Rattle.cluster.specs.Down.{went, putEnd, TakeReady, PutReady, TakeMeets, SwapMeets, PutMeets};
 ghost use Rattle.cluster.specs.Coded.{nodesOf, fewNodes, heldBy, pushDown, replaceDown, Bars};
-use cluster_nodes::FOUR_LEFT;
-use cluster_nodes::FOUR_RIGHT;
-use cluster_nodes::Seen;
-use cluster_nodes::bare_at;
-use cluster_nodes::choice;
-use cluster_nodes::choice_full;
-use cluster_nodes::choose;
-use cluster_nodes::choose_word;
-use cluster_nodes::clear_place;
-use cluster_nodes::elem_at;
-use cluster_nodes::high_lead;
-use cluster_nodes::keep_of;
-use cluster_nodes::look;
-use cluster_nodes::look_each;
-use cluster_nodes::low_four;
-use cluster_nodes::lower;
-use cluster_nodes::no_choice;
-use cluster_nodes::node_ok;
-use cluster_nodes::pass_of;
-use cluster_nodes::raise;
-use cluster_nodes::room_under;
-use cluster_nodes::set_place;
-use cluster_nodes::sink;
-use cluster_nodes::wide;
+use cluster_node::COUNTS;
+use cluster_node::FOUR_LEFT;
+use cluster_node::FOUR_RIGHT;
+use cluster_node::PLACE_WORDS;
+use cluster_node::RIGHT;
+use cluster_node::Seen;
+use cluster_node::bare_at;
+use cluster_node::choice;
+use cluster_node::choice_full;
+use cluster_node::choose;
+use cluster_node::choose_word;
+use cluster_node::clear_place;
+use cluster_node::elem_at;
+use cluster_node::high_lead;
+use cluster_node::look;
+use cluster_node::look_each;
+use cluster_node::low_four;
+use cluster_node::no_choice;
+use cluster_node::node_ok;
+use cluster_node::raise;
+use cluster_node::room_under;
+use cluster_node::set_place;
+use cluster_node::sink;
+use cluster_node::wide;
 use strip::Answer;
 use strip::Count;
 use strip::Element;
 use strip::Refusal;
 use strip::Request;
+use strip::goes_down;
 use strip::is_untagged;
+use strip::lower;
+use strip::stays;
 
 // ---- the three operations
 
@@ -50,7 +53,7 @@ fn take(s: &mut [u32], k: usize, left: usize, at: usize, limit: usize, place: us
     requires { ⌜ TakeReady k left at place (now s) ⌝ }
     ensures { λ r. ⌜ TakeMeets k left at limit place (now (s .entry)) r (now (s .exit)) ⌝ }
 {
-    let i = at + 2 + place * 4;
+    let i = at + COUNTS + place * PLACE_WORDS;
     if left == 0 {
         clear_place(s, i);
         return true;
@@ -75,7 +78,7 @@ fn take(s: &mut [u32], k: usize, left: usize, at: usize, limit: usize, place: us
         return false;
     }
     let l = s[at];
-    let r = s[at + 1];
+    let r = s[at + RIGHT];
     let done = take(s, k, left - 1, c.child, below, c.place);
     if !done {
         return false;
@@ -99,7 +102,7 @@ fn swap(
     requires { ⌜ TakeReady k left at place (now s) ⌝ }
     ensures { λ r. ⌜ SwapMeets k left at limit place x (now (s .entry)) r (now (s .exit)) ⌝ }
 {
-    let i = at + 2 + place * 4;
+    let i = at + COUNTS + place * PLACE_WORDS;
     if left == 0 {
         set_place(s, i, x);
         return true;
@@ -139,12 +142,12 @@ fn put_end(s: &mut [u32], k: usize, limit: usize, at: usize, x: Element) -> bool
     requires { ⌜ Lies k at (length (now s)) ⌝ }
     ensures { λ r. ⌜ went r (now (s .exit)) ≡ putEnd k limit at x (now (s .entry)) ⌝ }
 {
-    let v = look_each(s, at + 2, k);
+    let v = look_each(s, at + COUNTS, k);
     if !node_ok(s, k, limit, at, v) {
         return false;
     }
     if v.free < k {
-        set_place(s, at + 2 + v.free * 4, x);
+        set_place(s, at + COUNTS + v.free * PLACE_WORDS, x);
         return true;
     }
     false
@@ -159,12 +162,12 @@ fn put(s: &mut [u32], k: usize, left: usize, at: usize, limit: usize, x: Element
     if left == 0 {
         return put_end(s, k, limit, at, x);
     }
-    let f = high_lead(s, at + 2, k);
+    let f = high_lead(s, at + COUNTS, k);
     if !f.full {
         return put_end(s, k, limit, at, x);
     }
     let l = s[at];
-    let r = s[at + 1];
+    let r = s[at + RIGHT];
     let right = r < l;
     // x goes on to the side that holds fewer; that side tells whether there is room, and the other whether both counts are within it
     let fewer = choose_word(right, r, l);
@@ -175,24 +178,27 @@ fn put(s: &mut [u32], k: usize, left: usize, at: usize, limit: usize, x: Element
     if limit <= wide(fewer) {
         return false;
     }
-    let width = 2 + k * 4;
+    let width = COUNTS + k * PLACE_WORDS;
     let lc = at + at + width;
     let d = choose(right, lc + width, lc);
-    let i = at + 2 + f.place * 4;
+    let i = at + COUNTS + f.place * PLACE_WORDS;
     let e = elem_at(s, i);
-    let stays = keep_of(x, e);
-    let goes = pass_of(x, e);
+    let kept = stays(x, e);
+    let goes = goes_down(x, e);
     let below = room_under(k, limit);
     let done = put(s, k, left - 1, d, below, goes);
     if !done {
         return false;
     }
     raise(s, at, right, l, r);
-    set_place(s, i, stays);
+    set_place(s, i, kept);
     true
 }
 
 // ---- the calls
+
+// The largest capacity of a heap.
+pub const PLACE_LIMIT: usize = 5460;
 
 // 2^levels − 1, of more than 12 levels 2^13 − 1, which is above the limit. Every call asks for it, so it is a shift and no loop.
 pub fn nodes(levels: usize) -> usize
@@ -218,15 +224,15 @@ pub fn shape_ok(k: usize, levels: usize, len: usize) -> bool
         return false;
     }
     let n = nodes(levels);
-    if 5460 < n {
+    if PLACE_LIMIT < n {
         return false;
     }
-    (k * n <= 5460) & (n * (2 + k * 4) <= len)
+    (k * n <= PLACE_LIMIT) & (n * (COUNTS + k * PLACE_WORDS) <= len)
 }
 
 // How many elements so many levels hold.
 fn capacity(k: usize, levels: usize) -> usize
-    requires { ⌜ (k ≤ 16) × (nodesOf levels ≤ 5460) ⌝ }
+    requires { ⌜ (k ≤ 16) × (nodesOf levels ≤ placeLimit) ⌝ }
     ensures { λ r. ⌜ r ≡ room k levels ⌝ }
 {
     let n = nodes(levels);
@@ -238,7 +244,7 @@ fn root_look(s: &[u32], k: usize) -> Seen
     requires { ⌜ Here k 0 (length (now s)) ⌝ }
     ensures { λ r. ⌜ r ≡ lowOnly (lookNode k (now (s .entry)) 0) ⌝ }
 {
-    look(s, 2, k)
+    look(s, COUNTS, k)
 }
 
 fn root_ok(s: &[u32], k: usize, limit: usize, v: Seen) -> bool
@@ -259,7 +265,7 @@ fn root_held(s: &[u32], k: usize, v: Seen) -> usize
     ensures { λ r. ⌜ r ≡ heldBy k (now (s .entry)) v ⌝ }
 {
     let l = counted(s[0]);
-    let r = counted(s[1]);
+    let r = counted(s[RIGHT]);
     v.count + (l + r)
 }
 
@@ -267,7 +273,7 @@ fn root_elem(s: &[u32], k: usize, place: usize) -> Element
     requires { ⌜ (Here k 0 (length (now s))) × (place < k) ⌝ }
     ensures { λ r. ⌜ r ≡ elemAt (now (s .entry)) (placeIn k 0 place) ⌝ }
 {
-    elem_at(s, 2 + place * 4)
+    elem_at(s, COUNTS + place * PLACE_WORDS)
 }
 
 // How many are held, by the root alone.
@@ -400,6 +406,6 @@ pub fn clear(store: &mut [u32], places: usize, levels: usize) -> Answer
         return Answer::Refused(Refusal::BadShape);
     }
     let n = nodes(levels);
-    zero_words(store, n * (2 + places * 4));
+    zero_words(store, n * (COUNTS + places * PLACE_WORDS));
     Answer::Done
 }

@@ -1,25 +1,13 @@
 -- The calls: the shape that is tested is the definition's, and behind it stand the steps.
-use Prim.Native.Nat.{_-_, pred, suc, zero, ℕ}
-use native.Mathlib.Omega.{arith}
-use mathlib.Core.Bool.{Bool, false, not, true}
-use mathlib.Core.List.{List}
-use mathlib.Core.Path.{_∙_, _≡_, ap, ap₂, refl, sym}
-use lib.ListN.{length}
-use borrow.Author.Tests.{not-false, not-true}
-use Rattle.strip.specs.declared.Answer.{Answer}
-use Rattle.strip.specs.declared.Answer.the-variants.{Refused}
-use Rattle.strip.specs.declared.Count.the-variants.{Held, Unknown}
-use Rattle.strip.specs.declared.Refusal.the-variants.{BadShape, Damaged}
-use Rattle.strip.specs.declared.Request.{Request}
+use Rattle.laws.specs.Prelude.{Answer, BadShape, Bool, Damaged, Held, List, Refused, Request, Unknown, _-_, _∙_, _≡_, ap, ap₂, arith, false, length, not, not-false, not-true, pred, refl, suc, sym, true, zero, ℕ}
 use Rattle.cluster.proofs.Shapes.{shape-here, shape-true}
-use Rattle.cluster_clock_model.proofs.Exactly.{turned-bad}
-use Rattle.cluster_clock_model.specs.Calls.{clockCleared, clockHeld, DrainOutcome, drainOutcome, drains, fresh, turned, TurnOutcome, turnOutcome}
+use Rattle.cluster_clock_model.proofs.Laws.{cycled-bad}
+use Rattle.cluster_clock_model.specs.Prelude.{CycleOutcome, DrainOutcome, clockCleared, clockHeld, cycleOutcome, cycled, drainOutcome, drains, fresh}
 use Rattle.cluster_clock_model.specs.declared.Stage.{Stage}
-use Rattle.cluster_model.specs.Calls.{cleared, Outcome, outcome, shapeOk}
-use Rattle.cluster_model.specs.Heap.{room}
-use Rattle.cluster_turns.proofs.Turns.{shape-root}
-use Rattle.cluster_turns.specs.Turn.{Opened, RootIn}
-use Rattle.cluster_turns.specs.declared.Root.{Root}
+use Rattle.cluster_model.specs.Prelude.{Outcome, cleared, outcome, room, shapeOk}
+use Rattle.cluster_clock_level.proofs.Turns.{shape-root}
+use Rattle.cluster_clock_level.specs.Turn.{Opened, RootIn}
+use Rattle.cluster_clock_level.specs.declared.shaped.Root.{Root}
 
 module _ (K levels : ℕ) (ws : List ℕ) (t : Bool) (shaped : t ≡ shapeOk K levels (length ws)) where
   -- a bad shape
@@ -28,12 +16,12 @@ module _ (K levels : ℕ) (ws : List ℕ) (t : Bool) (shaped : t ≡ shapeOk K l
     off = sym shaped ∙ not-true t no
 
     module _ (a : Answer) (rs rs′ : List Stage) (p : (a ≡ Refused BadShape) × (rs′ ≡ rs)) where
-      pub bad-cycle : (r : Request) → turnOutcome a ws rs′ ≡ turned K levels r rs ws
-      bad-cycle r = (λ i. turnOutcome (p .0 i) ws (p .1 i)) ∙ sym (turned-bad K levels r rs ws off)
+      pub bad-cycle : (r : Request) → cycleOutcome a ws rs′ ≡ cycled K levels r rs ws
+      bad-cycle r = (λ i. cycleOutcome (p .0 i) ws (p .1 i)) ∙ sym (cycled-bad K levels r rs ws off)
 
-      pub bad-clear : turnOutcome a ws rs′ ≡ clockCleared K levels rs ws
+      pub bad-clear : cycleOutcome a ws rs′ ≡ clockCleared K levels rs ws
       unfolding clockCleared
-      bad-clear = (λ i. turnOutcome (p .0 i) ws (p .1 i)) ∙ rw off refl
+      bad-clear = (λ i. cycleOutcome (p .0 i) ws (p .1 i)) ∙ rw off refl
 
     pub bad-held : Unknown BadShape ≡ clockHeld K levels ws
     unfolding clockHeld
@@ -54,16 +42,16 @@ module _ (K levels : ℕ) (ws : List ℕ) (t : Bool) (shaped : t ≡ shapeOk K l
     pub good-shape : shapeOk K (suc (levels - 1)) (length ws) ≡ true
     good-shape = ap (λ (l : ℕ). shapeOk K l (length ws)) back ∙ on
 
-    pub good-cycle : (r : Request) (rs : List Stage) (o : TurnOutcome) → o ≡ turned K (suc (levels - 1)) r rs ws → o ≡ turned K levels r rs ws
-    good-cycle r rs o p = p ∙ ap (λ (l : ℕ). turned K l r rs ws) back
+    pub good-cycle : (r : Request) (rs : List Stage) (o : CycleOutcome) → o ≡ cycled K (suc (levels - 1)) r rs ws → o ≡ cycled K levels r rs ws
+    good-cycle r rs o p = p ∙ ap (λ (l : ℕ). cycled K l r rs ws) back
 
     pub good-drain : (budget : ℕ) (rs : List Stage) (o : DrainOutcome) → o ≡ drains K (suc (levels - 1)) budget rs ws → o ≡ drains K levels budget rs ws
     good-drain budget rs o p = p ∙ ap (λ (l : ℕ). drains K l budget rs ws) back
 
-    pub good-clear : (rs rs′ : List Stage) (a : Answer) (ws′ : List ℕ) → outcome a ws′ ≡ cleared K levels ws → rs′ ≡ fresh → turnOutcome a ws′ rs′ ≡ clockCleared K levels rs ws
+    pub good-clear : (rs rs′ : List Stage) (a : Answer) (ws′ : List ℕ) → outcome a ws′ ≡ cleared K levels ws → rs′ ≡ fresh → cycleOutcome a ws′ rs′ ≡ clockCleared K levels rs ws
     unfolding clockCleared cleared
     good-clear rs rs′ a ws′ p e =
-        ap₂ (λ (o : Outcome) (u : List Stage). turnOutcome (o .answer) (o .words) u) p e ∙ rw on refl
+        ap₂ (λ (o : Outcome) (u : List Stage). cycleOutcome (o .answer) (o .words) u) p e ∙ rw on refl
 
     module _ (top : ℕ) (room-is : top ≡ room K (levels - 1)) where
       pub good-root : RootIn K top ws

@@ -3,20 +3,20 @@
 ghost use mathlib.Core.Path.{_≡_};
 ghost use Prim.Native.Nat.{_≤_};
 ghost use Rattle.cluster.specs.Coded.{nodesOf};
-ghost use Rattle.cluster_clock_model.specs.Calls.{clockCleared, clockHeld, drainOutcome, drains, turned, turnOutcome};
+ghost use Rattle.cluster_clock_model.specs.Calls.{clockCleared, clockHeld, drainOutcome, drains, cycled, cycleOutcome};
 ghost use Rattle.cluster_model.specs.Heap.{room};
 use cluster::nodes;
 use cluster::shape_ok;
+use cluster_clock_level::shaped::cycle_shaped;
+use cluster_clock_level::shaped::drain_shaped;
+pub use cluster_clock_level::shaped::fresh_records;
+use cluster_clock_level::shaped::left_as;
+use cluster_clock_level::shaped::open_root;
+use cluster_clock_level::shaped::report;
 use cluster_clock_model::ClusterCycled;
 use cluster_clock_model::ClusterDrained;
 use cluster_clock_model::STAGES;
 use cluster_clock_model::Stage;
-use cluster_turns::cycle_shaped;
-use cluster_turns::drain_shaped;
-pub use cluster_turns::fresh_records;
-use cluster_turns::left_as;
-use cluster_turns::open_root;
-use cluster_turns::report;
 use strip::Answer;
 use strip::Count;
 use strip::Element;
@@ -42,7 +42,7 @@ pub fn cycle(
     records: [Stage; STAGES],
     request: Request,
 ) -> ClusterCycled
-    ensures { λ r. ⌜ turnOutcome (r .answer) (now (store .exit)) (r .records) ≡ turned places levels request records (now (store .entry)) ⌝ }
+    ensures { λ r. ⌜ cycleOutcome (r .answer) (now (store .exit)) (r .records) ≡ cycled places levels request records (now (store .entry)) ⌝ }
 {
     if !shape_ok(places, levels, store.len()) {
         return left_as(Refusal::BadShape, records);
@@ -59,7 +59,7 @@ pub fn push(
     records: [Stage; STAGES],
     x: Element,
 ) -> ClusterCycled
-    ensures { λ r. ⌜ turnOutcome (r .answer) (now (store .exit)) (r .records) ≡ turned places levels (Request.Push x) records (now (store .entry)) ⌝ }
+    ensures { λ r. ⌜ cycleOutcome (r .answer) (now (store .exit)) (r .records) ≡ cycled places levels (Request.Push x) records (now (store .entry)) ⌝ }
 {
     cycle(store, places, levels, records, Request::Push(x))
 }
@@ -70,7 +70,7 @@ pub fn pop(
     levels: usize,
     records: [Stage; STAGES],
 ) -> ClusterCycled
-    ensures { λ r. ⌜ turnOutcome (r .answer) (now (store .exit)) (r .records) ≡ turned places levels Request.Pop records (now (store .entry)) ⌝ }
+    ensures { λ r. ⌜ cycleOutcome (r .answer) (now (store .exit)) (r .records) ≡ cycled places levels Request.Pop records (now (store .entry)) ⌝ }
 {
     cycle(store, places, levels, records, Request::Pop)
 }
@@ -82,7 +82,7 @@ pub fn replace(
     records: [Stage; STAGES],
     x: Element,
 ) -> ClusterCycled
-    ensures { λ r. ⌜ turnOutcome (r .answer) (now (store .exit)) (r .records) ≡ turned places levels (Request.Replace x) records (now (store .entry)) ⌝ }
+    ensures { λ r. ⌜ cycleOutcome (r .answer) (now (store .exit)) (r .records) ≡ cycled places levels (Request.Replace x) records (now (store .entry)) ⌝ }
 {
     cycle(store, places, levels, records, Request::Replace(x))
 }
@@ -96,7 +96,7 @@ pub fn clear(
     levels: usize,
     records: [Stage; STAGES],
 ) -> ClusterCycled
-    ensures { λ r. ⌜ turnOutcome (r .answer) (now (store .exit)) (r .records) ≡ clockCleared places levels records (now (store .entry)) ⌝ }
+    ensures { λ r. ⌜ cycleOutcome (r .answer) (now (store .exit)) (r .records) ≡ clockCleared places levels records (now (store .entry)) ⌝ }
 {
     if !shape_ok(places, levels, store.len()) {
         return left_as(Refusal::BadShape, records);

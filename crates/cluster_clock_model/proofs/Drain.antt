@@ -1,39 +1,13 @@
 -- A drain is so many idle cycles. Each leaves one more record of nothing, from the top, so that levels less one are enough.
-use Prim.Native.Nat.{_+_, _<_, _≤_, pred, suc, zero, ℕ}
-use native.Mathlib.Nat.{not-suc-le-zero}
-use native.Mathlib.Omega.{arith}
-use mathlib.Core.Bool.{false, not, true}
-use mathlib.Core.List.{List}
-use mathlib.Core.Logic.{inl}
-use mathlib.Core.Path.{_∙_, _≡_, ap, refl, subst, sym}
-use lib.ListN.{length, length-set, set}
-use lib.Seq.{getD-set-same}
+use Rattle.laws.specs.Prelude.{Answer, BadShape, Done, Exactly, Idle, List, Refusal, Refused, _+_, _<_, _∙_, _≡_, _≤_, and-true, ap, arith, false, getD-set-same, inl, left-behind, length, length-set, not, not-suc-le-zero, numberOf, pred, refl, refusalNumber, set, subst, suc, sym, true, zero, ℕ}
 use Rattle.cluster_clock_model.proofs.Exactly.{ticks}
 use Rattle.cluster_clock_model.proofs.Seen.{pass-others, pass-records, set-later}
-use Rattle.cluster_clock_model.specs.declared.Due.{Due}
-use Rattle.cluster_clock_model.specs.declared.Due.the-variants.{Nothing}
-use Rattle.cluster_clock_model.specs.declared.Stage.{Stage}
-use Rattle.cluster_clock_model.specs.Calls.{drainFrom, drainOutcome, DrainOutcome, drains, isNothing, pending, quiet, turned, turnRun}
-use Rattle.cluster_clock_model.specs.Promise.{clock, drainLeft, drainRefusals, idles, Jams, Machine, machine, turnQueue}
-use Rattle.cluster_clock_model.specs.Stage.{begins, below, filled, handed, levelStage, levelWords, loaded, noStage, pass, stageAt, work, Work}
-use Rattle.cluster_model.specs.Calls.{shapeOk}
-use Rattle.cluster_model.specs.Node.{begin, low, none, Op}
-use Rattle.cluster_model.specs.Promise.{Shape}
-use Rattle.cluster_model.specs.Way.{nodeIn}
-use Rattle.laws.specs.Ladder.{Exactly, left-behind}
-use Rattle.laws.specs.Tests.{and-true}
+use Rattle.cluster_clock_model.specs.Prelude.{DrainOutcome, Due, Jams, Machine, Nothing, Stage, Work, begins, below, clock, cycleQueue, cycleRun, cycled, drainFrom, drainLeft, drainOutcome, drainRefusals, drains, filled, handed, idles, isNothing, levelStage, levelWords, loaded, machine, noStage, pass, pending, quiet, stageAt, work}
+use Rattle.cluster_model.specs.Prelude.{Op, Shape, begin, low, nodeIn, none, shapeOk}
 use Rattle.promise.proofs.Clock.{idle-ran}
 use Rattle.promise.proofs.Drains as drain
 use Rattle.promise.proofs.Handed.{exactly-as}
-use Rattle.promise.specs.Clock.{drainedBy}
-use Rattle.promise.specs.Drains.{capped, Close, drained, Drained}
-use Rattle.promise.specs.Queue.{Step}
-use Rattle.strip.specs.Answers.{numberOf, refusalNumber}
-use Rattle.strip.specs.declared.Answer.{Answer}
-use Rattle.strip.specs.declared.Answer.the-variants.{Done, Refused}
-use Rattle.strip.specs.declared.Refusal.{Refusal}
-use Rattle.strip.specs.declared.Refusal.the-variants.{BadShape}
-use Rattle.strip.specs.declared.Request.the-variants.{Idle}
+use Rattle.promise.specs.Prelude.{Close, Drained, Step, capped, drained, drainedBy}
 
 -- ---- this machine's drain is its clock's (`promise/proofs/Drains.antt`): what follows is said of it under the law's words
 module _ (K levels : ℕ) where
@@ -42,7 +16,7 @@ module _ (K levels : ℕ) where
 
   -- how a drain with the budget b of the machine x ends
   abbrev pub Ended : ℕ → Machine → DrainOutcome → Type 0
-  Ended b x d = Close (turnQueue K levels) (clock K levels .pending) (clock K levels .Torn Idle) b (d .cycles) x (drained (d .answer) (d .cycles) (d .left) (machine (d .records) (d .words)))
+  Ended b x d = Close (cycleQueue K levels) (clock K levels .pending) (clock K levels .Torn Idle) b (d .cycles) x (drained (d .answer) (d .cycles) (d .left) (machine (d .records) (d .words)))
 
   module _ (b : ℕ) (rs : List Stage) (ws : List ℕ) where
     abbrev x : Machine
@@ -51,10 +25,10 @@ module _ (K levels : ℕ) where
     abbrev d : DrainOutcome
     d = drains K levels b rs ws
 
-    pub drains-as : d ≡ shown (drainedBy (clock K levels) (turnQueue K levels) b x)
+    pub drains-as : d ≡ shown (drainedBy (clock K levels) (cycleQueue K levels) b x)
     unfolding drains drainFrom
     drains-as =
-        drain.drains-shown (turnQueue K levels) (clock K levels .pending) shown (λ b n x. drainFrom K levels b n (x .records) (x .words)) (λ n x. refl) (λ b n x. refl) (clock K levels .shapeOk x) b x
+        drain.drains-shown (cycleQueue K levels) (clock K levels .pending) shown (λ b n x. drainFrom K levels b n (x .records) (x .words)) (λ n x. refl) (λ b n x. refl) (clock K levels .shapeOk x) b x
 
     pub drain-bad : shapeOk K levels (length ws) ≡ false → drains K levels b rs ws ≡ drainOutcome (Refused BadShape) 0 false ws rs
     unfolding drains
@@ -72,7 +46,7 @@ module _ (K levels : ℕ) where
     drain-within = rw drains-as (drain.drain-within (ticks K levels) b x)
 
     -- DRAIN-RAN: each of the cycles reported ran unrefused
-    pub drain-ran : (j : ℕ) → j < drains K levels b rs ws .cycles → numberOf (turned K levels Idle (idles K levels j x .records) (idles K levels j x .words) .answer) ≡ 0
+    pub drain-ran : (j : ℕ) → j < drains K levels b rs ws .cycles → numberOf (cycled K levels Idle (idles K levels j x .records) (idles K levels j x .words) .answer) ≡ 0
     drain-ran = rw drains-as (drain.drain-ran (ticks K levels) b x)
 
     -- KIND: a drain that is not refused is done
@@ -166,9 +140,9 @@ lead-quiet zero (suc k) i rs h l = absurd (not-suc-le-zero h)
 lead-quiet (suc j) (suc k) i rs h l = and-true _ _ (ap isNothing (l .0)) (lead-quiet j k (suc i) rs (omega arith) (l .1))
 
 module _ (K levels : ℕ) where
-  lead-next : (j : ℕ) (x : Machine) → numberOf (turned K levels Idle (x .records) (x .words) .answer) ≡ 0 → pred levels ≤ length (x .records) → Lead j (pred levels) 0 (x .records)
-      → (pred levels ≤ length (turned K levels Idle (x .records) (x .words) .records)) × Lead (suc j) (pred levels) 0 (turned K levels Idle (x .records) (x .words) .records)
-  unfolding turnRun
+  lead-next : (j : ℕ) (x : Machine) → numberOf (cycled K levels Idle (x .records) (x .words) .answer) ≡ 0 → pred levels ≤ length (x .records) → Lead j (pred levels) 0 (x .records)
+      → (pred levels ≤ length (cycled K levels Idle (x .records) (x .words) .records)) × Lead (suc j) (pred levels) 0 (cycled K levels Idle (x .records) (x .words) .records)
+  unfolding cycleRun
   lead-next j x z len l =
       subst (λ (s : Step Answer Machine). (pred levels ≤ length (s .next .records)) × Lead (suc j) (pred levels) 0 (s .next .records)) (sym (idle-ran (ticks K levels) x z)) (
         subst (λ (n : ℕ). pred levels ≤ n) (sym (pass-records K (pred levels) 0 (work none 0) 0 (x .records) (x .words))) len,
@@ -179,13 +153,13 @@ module _ (K levels : ℕ) where
   abbrev led : ℕ → Machine → Type 0
   led j x = (pred levels ≤ length (x .records)) × Lead j (pred levels) 0 (x .records)
 
-  more-led : (j : ℕ) (x : Machine) → numberOf (turnQueue K levels Idle x .said) ≡ 0 → led j x → led (suc j) (turnQueue K levels Idle x .next)
+  more-led : (j : ℕ) (x : Machine) → numberOf (cycleQueue K levels Idle x .said) ≡ 0 → led j x → led (suc j) (cycleQueue K levels Idle x .next)
   more-led j x z l = lead-next j x z (l .0) (l .1)
 
   all-led : (x : Machine) → led (pred levels) x → pending K levels (x .records) ≡ false
   all-led x l = ap not (lead-quiet (pred levels) (pred levels) 0 (x .records) (omega arith) (l .1))
 
-  pub idles-quiet : (x : Machine) → pred levels ≤ length (x .records) → ((t : ℕ) → t < pred levels → numberOf (turned K levels Idle (idles K levels t x .records) (idles K levels t x .words) .answer) ≡ 0)
+  pub idles-quiet : (x : Machine) → pred levels ≤ length (x .records) → ((t : ℕ) → t < pred levels → numberOf (cycled K levels Idle (idles K levels t x .records) (idles K levels t x .words) .answer) ≡ 0)
       → pending K levels (idles K levels (pred levels) x .records) ≡ false
   idles-quiet x len = drain.idles-quiet (ticks K levels) (pred levels) led more-led all-led x (len, tt)
 

@@ -1,33 +1,10 @@
 -- The last level leaves nothing: in a cycle that meets no damage the work there has nothing below it, and a put finds a free place.
-use Prim.Native.Nat.{_*_, _+_, _<_, suc, ℕ}
+use Rattle.laws.specs.Prelude.{Bool, Element, List, Request, _&&_, _*_, _+_, _<_, _||_, _∙_, _≡_, and-left, and-right, ap, arith, asks, eq-eqb, eqb, eqb-false, false, key, le-ltb, leb, leb-true, length, ltb, ltb-false, ltb-true, ne-eqb, not, not-true, refl, subst, suc, sym, true, true≢false, ℕ}
 use native.Mathlib.Nat.{pos-of-ne-zero}
-use native.Mathlib.Omega.{arith}
-use mathlib.Core.Bool.{_&&_, _||_, Bool, false, not, true, true≢false}
-use mathlib.Core.List.{List}
-use mathlib.Core.Path.{_∙_, _≡_, ap, refl, subst, sym}
-use lib.Dec.{eqb, leb, ltb}
-use lib.ListN.{length}
-use borrow.Author.Tests.{eq-eqb, eqb-false, le-ltb, leb-true, ltb-false, ltb-true, ne-eqb, not-true}
-use Rattle.clocked_model.specs.Calls.{asks}
-use Rattle.cluster_clock_model.specs.declared.Due.{Due}
-use Rattle.cluster_clock_model.specs.declared.Due.the-variants.{Fill, Nothing, Put, Swap}
-use Rattle.cluster_clock_model.specs.Calls.{askedOk}
-use Rattle.cluster_clock_model.specs.Stage.{below, childOf, handed, lowAt, settled}
-use Rattle.cluster_clock_model.specs.Test.{givesOk, isGap, sane, saneAt, stageOk, waitOk}
-use Rattle.cluster_model.proofs.Pass.{node-count}
-use Rattle.cluster_model.proofs.Places.{no-free}
-use Rattle.cluster_model.proofs.Rules.{comes, lower-is}
-use Rattle.cluster_model.specs.Calls.{heldIn, rootHeld, ruleAt, Ruling}
-use Rattle.cluster_model.specs.Heap.{room}
-use Rattle.cluster_model.specs.Node.{begin, count, fill, fillFrom, finish, free, inside, lhs, lowElem, lowerSide, Node, none, nothing, nothingBelow, Op, pick, placeAt, put, putBy, rhs, Side, swap, swapBy, take, takeBy, trial, trialBy, trialFrom}
-use Rattle.cluster_model.specs.Rules.{Comes, empty, full, idles, lacks, Lower, no-tag, puts, swaps, takes}
-use Rattle.cluster_model.specs.Way.{child, neatTo, nodeIn, roomy, spotOf}
-use Rattle.cluster_model.specs.Words.{width}
-use Rattle.laws.specs.Tests.{and-left, and-right}
-use Rattle.promise.specs.Served.{always}
-use Rattle.strip.specs.Answers.{key}
-use Rattle.strip.specs.declared.Element.{Element}
-use Rattle.strip.specs.declared.Request.{Request}
+use Rattle.cluster_clock_model.specs.Prelude.{Due, Fill, Nothing, Put, Swap, askedOk, below, childOf, givesOk, handed, isGap, lowAt, sane, saneAt, settled, stageOk, waitOk}
+use Rattle.cluster_model.proofs.Laws.{comes, lower-is, no-free, node-count}
+use Rattle.cluster_model.specs.Prelude.{Comes, Lower, Node, Op, Ruling, Side, begin, child, count, empty, fill, fillFrom, finish, free, full, heldIn, idles, inside, lacks, lhs, lowElem, lowerSide, neatTo, no-tag, nodeIn, none, nothing, nothingBelow, pick, placeAt, put, putBy, puts, rhs, room, roomy, rootHeld, ruleAt, spotOf, swap, swapBy, swaps, take, takeBy, takes, trial, trialBy, trialFrom, width}
+use Rattle.promise.specs.Prelude.{always}
 
 -- nothing below a node, and where something is put a free place: nothing is left to be done
 begin-ends : (o : Op) (i : ℕ) (n : Node) → n .left + n .right ≡ 0 → ((y : Element) → o ≡ put y → inside always (n .places) < length (n .places)) → begin o i n .note ≡ nothing

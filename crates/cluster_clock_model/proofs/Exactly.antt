@@ -1,57 +1,15 @@
 -- Every refusal of a cycle is given exactly for its cause, and leaves behind what the table says.
-use Prim.Native.Nat.{_*_, _+_, _≤_, pred, suc, zero, ℕ}
-use native.Mathlib.Nat.{not-suc-le-zero}
-use native.Mathlib.Omega.{arith}
-use mathlib.Core.Bool.{_&&_, _||_, Bool, false, not, true, true≢false}
-use mathlib.Core.List.{List}
-use mathlib.Core.Path.{_∙_, _≡_, ap, refl, sym}
-use lib.Dec.{eqb, leb, ltb}
-use lib.ListN.{length}
-use borrow.Author.Tests.{eqb-false, eqb-true, leb-true}
-use Rattle.clocked_model.proofs.Exactly.{asks-fails}
-use Rattle.clocked_model.specs.Calls.{asks}
+use Rattle.laws.specs.Prelude.{Answer, BadShape, Bool, Damaged, Done, Exactly, Fails, Held, Idle, List, Pop, Push, Refusal, Refused, Replace, Request, Unknown, _&&_, _*_, _+_, _||_, _∙_, _≡_, _≤_, and-left, and-right, and-true, ap, arith, asks, countNumber, eqb, eqb-false, eqb-true, fails-and, fails-leb, fails-or, fails-true, false, leb, leb-true, left-behind, length, ltb, means-off, not, not-suc-le-zero, numberOf, pred, refl, refusalNumber, rung, runsIdle, stop, suc, sym, true, true≢false, zero, ℕ}
+use Rattle.promise.specs.Prelude.{Barred, IsPush, Kind, Outcome, Step, always, asks-fails, bars, cycleLeft as clock-left, cycling, decided-either, decided-same, ends, lastTable, left, needs, step}
 use Rattle.cluster_clock_model.proofs.Seen.{pass-length}
-use Rattle.cluster_clock_model.specs.declared.Due.{Due}
-use Rattle.cluster_clock_model.specs.declared.Due.the-variants.{Fill, Nothing, Put, Swap}
-use Rattle.cluster_clock_model.specs.declared.Stage.{Stage}
-use Rattle.cluster_clock_model.specs.Calls.{askedOk, clockCleared, clockHeld, fresh, turned, turnOutcome, TurnOutcome, turnRun}
-use Rattle.cluster_clock_model.specs.Promise.{ChildTorn, clock, heldRefusals, Machine, machine, NodeTorn, StagesTorn, StageTorn, TurnDamage, turnLeft, turnQueue, turnRefusals, WaitTorn}
-use Rattle.cluster_clock_model.specs.Stage.{below, stageAt}
-use Rattle.cluster_clock_model.specs.Test.{givesOk, isGap, sane, saneAt, stageOk, stagesOk, waitOk}
-use Rattle.cluster_model.specs.Calls.{heldIn, rootHeld, rule, ruleAt, Ruling, ruling, shapeOk}
-use Rattle.cluster_model.specs.Heap.{room}
-use Rattle.cluster_model.specs.Node.{gap, has, inside, lhs, Node, none, nothingBelow, Place, placeAt, rhs}
-use Rattle.cluster_model.specs.Promise.{Shape, start}
-use Rattle.cluster_model.specs.Way.{child, neatTo, nodeIn, some}
-use Rattle.cluster_model.specs.Words.{width}
-use Rattle.cluster_model.proofs.Damages.{below-fails, fails-by, fails-ltb, is-shape, room-fails, shape-is, shape-means, some-fails, to-fails}
-use Rattle.cluster_model.proofs.Exactly.{cleared-fine}
-use Rattle.cluster_model.proofs.Pass.{node-count}
-use Rattle.cluster_model.proofs.Places.{gap-has, inside-length}
-use Rattle.laws.specs.Fails.{Fails, fails-and, fails-leb, fails-or, fails-true}
-use Rattle.laws.specs.Ladder.{Exactly, left-behind, rung, stop}
-use Rattle.laws.specs.Means.{means-off}
-use Rattle.laws.specs.Tests.{and-left, and-right, and-true}
-use Rattle.promise.specs.Queue.{step, Step}
+use Rattle.cluster_clock_model.specs.Prelude.{ChildTorn, CycleDamage, CycleOutcome, Due, Fill, Machine, NodeTorn, Nothing, Put, Stage, StageTorn, StagesTorn, Swap, WaitTorn, askedOk, below, clock, clockCleared, clockHeld, cycleLeft, cycleOutcome, cycleQueue, cycleRefusals, cycleRun, cycled, fresh, givesOk, heldRefusals, isGap, machine, sane, saneAt, stageAt, stageOk, stagesOk, waitOk}
+use Rattle.cluster_model.specs.Prelude.{Node, Place, Ruling, Shape, child, gap, has, heldIn, inside, lhs, neatTo, nodeIn, none, nothingBelow, placeAt, rhs, room, rootHeld, rule, ruleAt, ruling, shapeOk, some, start, width}
+use Rattle.cluster_model.proofs.Laws.{below-fails, cleared-fine, fails-by, fails-ltb, gap-has, inside-length, is-shape, node-count, room-fails, shape-is, shape-means, some-fails, to-fails}
 use Rattle.promise.proofs.Calls.{grants-kind, grants-zero, last-all, last-ladder, last-tags, last-told}
 use Rattle.promise.proofs.Clock as clocks
 use Rattle.promise.proofs.Clock.{Ticks}
 use Rattle.promise.proofs.Handed.{exactly-as}
 use Rattle.promise.specs.Calls as calls
-use Rattle.promise.specs.Calls.{lastTable, left, Outcome}
-use Rattle.promise.specs.Clock.{cycleLeft, cycling, runsIdle}
-use Rattle.promise.specs.Refused.{IsPush}
-use Rattle.promise.specs.Served.{always, Kind}
-use Rattle.promise.specs.Table.{bars, decided-either, decided-same, ends, needs}
-use Rattle.promise.specs.Tagged.{Barred}
-use Rattle.strip.specs.Answers.{countNumber, numberOf, refusalNumber}
-use Rattle.strip.specs.declared.Answer.{Answer}
-use Rattle.strip.specs.declared.Answer.the-variants.{Done, Refused}
-use Rattle.strip.specs.declared.Count.the-variants.{Held, Unknown}
-use Rattle.strip.specs.declared.Refusal.{Refusal}
-use Rattle.strip.specs.declared.Refusal.the-variants.{BadShape, Damaged}
-use Rattle.strip.specs.declared.Request.{Request}
-use Rattle.strip.specs.declared.Request.the-variants.{Idle, Pop, Push, Replace}
 
 -- ---- each test fails exactly where it finds damage
 gap-fails : (p : Place) → Fails (isGap p) (p ≡ gap → ⊥)
@@ -129,39 +87,39 @@ module _ (K levels : ℕ) (r : Request) (rs : List Stage) (ws : List ℕ) where
   abbrev pub sound : Bool
   sound = askedOk K levels r ws && stagesOk K (pred levels) 0 0 rs ws
 
-  pub turned-bad : shapeOk K levels (length ws) ≡ false → turned K levels r rs ws ≡ turnOutcome (Refused BadShape) ws rs
-  unfolding turned
-  turned-bad e = rw e
+  pub cycled-bad : shapeOk K levels (length ws) ≡ false → cycled K levels r rs ws ≡ cycleOutcome (Refused BadShape) ws rs
+  unfolding cycled
+  cycled-bad e = rw e
 
-  pub turned-damaged : shapeOk K levels (length ws) ≡ true → sound ≡ false → turned K levels r rs ws ≡ turnOutcome (Refused Damaged) ws rs
-  unfolding turned
-  turned-damaged e f = rw (e, f)
+  pub cycled-damaged : shapeOk K levels (length ws) ≡ true → sound ≡ false → cycled K levels r rs ws ≡ cycleOutcome (Refused Damaged) ws rs
+  unfolding cycled
+  cycled-damaged e f = rw (e, f)
 
-  pub turned-fine : shapeOk K levels (length ws) ≡ true → sound ≡ true → turned K levels r rs ws ≡ turnRun K levels g rs ws
-  unfolding turned
-  turned-fine e f = rw (e, f)
+  pub cycled-fine : shapeOk K levels (length ws) ≡ true → sound ≡ true → cycled K levels r rs ws ≡ cycleRun K levels g rs ws
+  unfolding cycled
+  cycled-fine e f = rw (e, f)
 
   -- what is so of a cycle refused for the shape or for damage, and of one that ran, is so of the cycle
-  pub turned-either : (P : TurnOutcome → Type 0) → P (turnOutcome (Refused BadShape) ws rs) → P (turnOutcome (Refused Damaged) ws rs)
-      → (shapeOk K levels (length ws) ≡ true → sound ≡ true → P (turnRun K levels g rs ws)) → P (turned K levels r rs ws)
-  unfolding turned
-  turned-either P bad damaged good =
-      decided-either (λ n. turnOutcome (Refused n) ws rs) P
-      (needs BadShape (shapeOk K levels (length ws)) (Shape K levels (length ws)) (bars Damaged sound (TurnDamage K levels r rs ws) ends))
-      (turnRun K levels g rs ws) (bad, (damaged, tt)) (λ c. good (c .0) (c .1 .0))
+  pub cycled-either : (P : CycleOutcome → Type 0) → P (cycleOutcome (Refused BadShape) ws rs) → P (cycleOutcome (Refused Damaged) ws rs)
+      → (shapeOk K levels (length ws) ≡ true → sound ≡ true → P (cycleRun K levels g rs ws)) → P (cycled K levels r rs ws)
+  unfolding cycled
+  cycled-either P bad damaged good =
+      decided-either (λ n. cycleOutcome (Refused n) ws rs) P
+      (needs BadShape (shapeOk K levels (length ws)) (Shape K levels (length ws)) (bars Damaged sound (CycleDamage K levels r rs ws) ends))
+      (cycleRun K levels g rs ws) (bad, (damaged, tt)) (λ c. good (c .0) (c .1 .0))
 
-  pub damage-fails : Fails sound (TurnDamage K levels r rs ws)
+  pub damage-fails : Fails sound (CycleDamage K levels r rs ws)
   damage-fails =
       fails-and (askedOk K levels r ws) (stagesOk K (pred levels) 0 0 rs ws)
       (fails-or (not (asks r)) (saneAt K (room K (pred levels)) ws 0) (asks-fails r) (torn-fails K (room K (pred levels)) ws 0)) (stages-fails K (pred levels) 0 0 rs ws)
 
-  pub sound-no-damage : sound ≡ true → TurnDamage K levels r rs ws → ⊥
+  pub sound-no-damage : sound ≡ true → CycleDamage K levels r rs ws → ⊥
   sound-no-damage e d = true≢false (sym e ∙ damage-fails .shown d)
 
 -- every cycle keeps the slice's length
-pub turned-length : (K levels : ℕ) (r : Request) (rs : List Stage) (ws : List ℕ) → length (turned K levels r rs ws .words) ≡ length ws
-unfolding turnRun
-turned-length K levels r rs ws = turned-either K levels r rs ws (λ c. length (c .words) ≡ length ws) refl refl (λ e f. pass-length K (pred levels) 0 _ 0 rs ws)
+pub cycled-length : (K levels : ℕ) (r : Request) (rs : List Stage) (ws : List ℕ) → length (cycled K levels r rs ws .words) ≡ length ws
+unfolding cycleRun
+cycled-length K levels r rs ws = cycled-either K levels r rs ws (λ c. length (c .words) ≡ length ws) refl refl (λ e f. pass-length K (pred levels) 0 _ 0 rs ws)
 
 -- ---- an idle cycle reads no root
 idle-asked : (K levels : ℕ) (ws : List ℕ) → askedOk K levels Idle ws ≡ true
@@ -192,19 +150,19 @@ root-limit K (suc k) ws h e =
 
 -- ---- this machine is a clock
 module _ (K levels : ℕ) where
-  abbrev asStep : TurnOutcome → Step Answer Machine
+  abbrev asStep : CycleOutcome → Step Answer Machine
   asStep c = step (c .answer) (machine (c .records) (c .words))
 
-  abbrev shown : Outcome Machine → TurnOutcome
-  shown o = turnOutcome (o .answer) (o .words .words) (o .words .records)
+  abbrev shown : Outcome Machine → CycleOutcome
+  shown o = cycleOutcome (o .answer) (o .words .words) (o .words .records)
 
   -- its cycle is the clock's
-  same : (r : Request) (x : Machine) → turnQueue K levels r x ≡ cycling (clock K levels) r x
-  unfolding turned turnRun rule
+  same : (r : Request) (x : Machine) → cycleQueue K levels r x ≡ cycling (clock K levels) r x
+  unfolding cycled cycleRun rule
   same r x =
-      decided-same asStep (λ (o : Outcome Machine). step (o .answer) (o .words)) (λ n. turnOutcome (Refused n) (x .words) (x .records)) (left x)
+      decided-same asStep (λ (o : Outcome Machine). step (o .answer) (o .words)) (λ n. cycleOutcome (Refused n) (x .words) (x .records)) (left x)
       (needs BadShape (shapeOk K levels (length (x .words))) (Unit {0}) (bars Damaged (sound K levels r (x .records) (x .words)) (Unit {0}) ends)) _ _ (λ n. refl)
-      (decided-same (λ (g : Ruling). asStep (turnRun K levels g (x .records) (x .words))) (λ (g : calls.Ruling Request). step (g .answer) (clock K levels .moves (g .op) x))
+      (decided-same (λ (g : Ruling). asStep (cycleRun K levels g (x .records) (x .words))) (λ (g : calls.Ruling Request). step (g .answer) (clock K levels .moves (g .op) x))
       (λ n. ruling (Refused n) none) (λ n. calls.ruling (Refused n) Idle) (lastTable r (heldIn K levels (x .words)) (room K levels)) _ _ (λ n. refl) refl)
 
   push-root : (r : Request) (ws : List ℕ) → IsPush r → askedOk K levels r ws ≡ true → saneAt K (room K (pred levels)) ws 0 ≡ true
@@ -214,7 +172,7 @@ module _ (K levels : ℕ) where
   push-root Pop ws p e = absurd p
   push-root (Replace x) ws p e = absurd p
 
-  pub ticks : Ticks (clock K levels) (turnQueue K levels)
+  pub ticks : Ticks (clock K levels) (cycleQueue K levels)
   ticks =
       record {
         same = same;
@@ -230,31 +188,31 @@ module _ (K levels : ℕ) where
         stays = λ r x. ap (shapeOk K levels) (pass-length K (pred levels) 0 _ 0 (x .records) (x .words));
       }
 
-abbrev pub said : TurnOutcome → ℕ
+abbrev pub said : CycleOutcome → ℕ
 said c = numberOf (c .answer)
 
 -- EXACTLY: a cycle gives each refusal for its cause and for that cause only, and leaves behind what the table says
 module _ (K levels : ℕ) (r : Request) (rs : List Stage) (ws : List ℕ) where
-  pub exactly-cycle : Exactly said (turnLeft K levels rs ws) (turned K levels r rs ws) (turnRefusals K levels r rs ws)
+  pub exactly-cycle : Exactly said (cycleLeft K levels rs ws) (cycled K levels r rs ws) (cycleRefusals K levels r rs ws)
   exactly-cycle =
-      last-ladder (λ l. Exactly said (turnLeft K levels rs ws) (turned K levels r rs ws) (rung BadShape (Shape K levels (length ws)) (stop Damaged (TurnDamage K levels r rs ws) l))) r (heldIn K levels ws) (room K levels)
-      (exactly-as (λ (o : Outcome Machine). numberOf (o .answer)) (cycleLeft (clock K levels) (turnQueue K levels) (machine rs ws)) (shown K levels) said (λ o. refl) _ _
+      last-ladder (λ l. Exactly said (cycleLeft K levels rs ws) (cycled K levels r rs ws) (rung BadShape (Shape K levels (length ws)) (stop Damaged (CycleDamage K levels r rs ws) l))) r (heldIn K levels ws) (room K levels)
+      (exactly-as (λ (o : Outcome Machine). numberOf (o .answer)) (clock-left (clock K levels) (cycleQueue K levels) (machine rs ws)) (shown K levels) said (λ o. refl) _ _
       (clocks.exactly-cycle (ticks K levels) r (machine rs ws)))
 
   -- LEFT BEHIND: 1 and 2 everything, records too; 5, 6 and 7 "cycle runs as idle"
-  pub stands : (n : Refusal) → said (turned K levels r rs ws) ≡ refusalNumber n → turned K levels r rs ws ≡ turnLeft K levels rs ws n
-  stands = left-behind said (turnLeft K levels rs ws) exactly-cycle
+  pub stands : (n : Refusal) → said (cycled K levels r rs ws) ≡ refusalNumber n → cycled K levels r rs ws ≡ cycleLeft K levels rs ws n
+  stands = left-behind said (cycleLeft K levels rs ws) exactly-cycle
 
   -- KIND: of a cycle that is not refused a push and an idle request answer done, a pop and a replace an element
-  pub kind : numberOf (turned K levels r rs ws .answer) ≡ 0 → Kind r (turned K levels r rs ws .answer)
+  pub kind : numberOf (cycled K levels r rs ws .answer) ≡ 0 → Kind r (cycled K levels r rs ws .answer)
   kind = clocks.kind (ticks K levels) (λ r x. grants-kind r _) r (machine rs ws)
 
   -- BARRED: an element without a tag is never let in, whatever stands in the machine
-  pub barred : Barred r (turned K levels r rs ws .answer)
+  pub barred : Barred r (cycled K levels r rs ws .answer)
   barred = clocks.barred (ticks K levels) r (machine rs ws) (last-tags r _ _)
 
   -- NEVER TOO SOON: no cycle is refused 3
-  pub never-soon : numberOf (turned K levels r rs ws .answer) ≡ 3 → ⊥
+  pub never-soon : numberOf (cycled K levels r rs ws .answer) ≡ 3 → ⊥
   never-soon =
       clocks.numbered (ticks K levels) (λ n. n ≡ 3 → ⊥) r (machine rs ws) (λ e. omega arith) (λ e. omega arith) (λ e. omega arith)
       (last-all (λ n. refusalNumber n ≡ 3 → ⊥) (λ e. omega arith) (λ e. omega arith) (λ e. omega arith) r _ _)
@@ -270,12 +228,12 @@ module _ (K levels : ℕ) (ws : List ℕ) where
   exactly-held = clocks.exactly-held (ticks K levels) (machine fresh ws)
 
   -- CLEAR: zeros, and nothing pending, whatever records are handed over; refused it leaves everything, the records too
-  pub clear-taken : (rs : List Stage) → Shape K levels (length ws) → clockCleared K levels rs ws ≡ turnOutcome Done (start K levels ws) fresh
+  pub clear-taken : (rs : List Stage) → Shape K levels (length ws) → clockCleared K levels rs ws ≡ cycleOutcome Done (start K levels ws) fresh
   unfolding clockCleared
   clear-taken rs sh =
       let e = is-shape K levels (length ws) sh in
-      rw e (ap (λ (o : Outcome (List ℕ)). turnOutcome Done (o .words) fresh) (sym (cleared-fine K levels ws e)))
+      rw e (ap (λ (o : Outcome (List ℕ)). cycleOutcome Done (o .words) fresh) (sym (cleared-fine K levels ws e)))
 
-  pub clear-stands : (rs : List Stage) → (Shape K levels (length ws) → ⊥) → clockCleared K levels rs ws ≡ turnOutcome (Refused BadShape) ws rs
+  pub clear-stands : (rs : List Stage) → (Shape K levels (length ws) → ⊥) → clockCleared K levels rs ws ≡ cycleOutcome (Refused BadShape) ws rs
   unfolding clockCleared
   clear-stands rs bad = rw (means-off (shape-means K levels (length ws)) bad)

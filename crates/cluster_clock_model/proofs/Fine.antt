@@ -1,32 +1,11 @@
 -- On a sound tree whose words are neat every test of a cycle is passed.
-use Prim.Native.Nat.{_*_, _+_, _^_, _<_, _≤_, suc, zero, ℕ}
-use native.Mathlib.Nat.{pow-suc}
-use native.Mathlib.Omega.{arith}
-use mathlib.Core.Bool.{Bool, false, not, true}
-use mathlib.Core.List.{List}
-use mathlib.Core.Path.{_∙_, _≡_, ap, refl, subst, sym}
-use lib.Dec.{eqb, ltb}
-use lib.ListN.{length, length-set}
-use borrow.Author.Tests.{eq-eqb, eqb-false, le-leb, lt-ltb, ltb-false, ne-eqb}
+use Rattle.laws.specs.Prelude.{Bool, Element, List, _*_, _+_, _<_, _^_, _∙_, _≡_, _≤_, and-true, ap, arith, eq-eqb, eqb, eqb-false, false, le-leb, length, length-set, lt-ltb, ltb, ltb-false, ne-eqb, not, pow-suc, refl, subst, suc, sym, true, zero, ℕ}
 use Rattle.cluster_clock_model.proofs.Flight.{Inv, noteBelow, Tree, within}
 use Rattle.cluster_clock_model.proofs.Seen.{InRange, noteIf, noteSeen, putSeen, Ranged, treeIn}
-use Rattle.cluster_clock_model.specs.declared.Due.{Due}
-use Rattle.cluster_clock_model.specs.declared.Due.the-variants.{Fill, Nothing, Put, Swap}
-use Rattle.cluster_clock_model.specs.declared.Stage.{Stage}
-use Rattle.cluster_clock_model.specs.Stage.{below, childOf, stageAt}
-use Rattle.cluster_clock_model.specs.Test.{givesOk, isGap, sane, saneAt, stageOk, stagesOk, waitOk}
-use Rattle.cluster_model.specs.Heap.{carried, Fit, room}
-use Rattle.cluster_model.specs.Node.{Bag, fill, gap, has, inside, lhs, low, lowElem, Node, Note, nothing, nothingBelow, onto, Place, rhs, Side, trial}
-use Rattle.cluster_model.specs.Promise.{nodes}
-use Rattle.cluster_model.specs.Way.{child, nodeIn, roomy, some, spotOf}
-use Rattle.cluster_model.specs.Words.{Neat}
-use Rattle.cluster_model.proofs.Places.{inside-put, place-here, place-hit}
-use Rattle.cluster_model.proofs.Slice.{node-total}
-use Rattle.cluster_model.proofs.Step.{low-fit}
-use Rattle.cluster_model.proofs.Ways.{neat-to, or-not}
-use Rattle.laws.specs.Tests.{and-true}
-use Rattle.promise.specs.Served.{always}
-use Rattle.strip.specs.declared.Element.{Element}
+use Rattle.cluster_clock_model.specs.Prelude.{Due, Fill, Nothing, Put, Stage, Swap, below, childOf, givesOk, isGap, sane, saneAt, stageAt, stageOk, stagesOk, waitOk}
+use Rattle.cluster_model.specs.Prelude.{Bag, Fit, Neat, Node, Note, Place, Side, carried, child, fill, gap, has, inside, lhs, low, lowElem, nodeIn, nodes, nothing, nothingBelow, onto, rhs, room, roomy, some, spotOf, trial}
+use Rattle.cluster_model.proofs.Laws.{inside-put, low-fit, neat-to, node-total, or-not, place-here, place-hit}
+use Rattle.promise.specs.Prelude.{always}
 
 -- ---- a node that fits, whatever its note
 -- the counts and the places are all that it holds

@@ -1,20 +1,10 @@
 -- The heap in the middle of its work: a tree of nodes, each with a note of what is left to be done between it and its children. A cycle on it: the notes are
 -- settled, and new work begun. The main lemma: a cycle whose operation can be done keeps the tree sound, and changes what it holds by what comes in and what
 -- is given.
-use Prim.Native.Nat.{_+_, _<_, _≤_, suc, zero, ℕ}
-use native.Mathlib.Nat.{not-suc-le-zero}
-use native.Mathlib.Omega.{arith}
-use mathlib.Core.Bool.{Bool}
-use mathlib.Core.List.{List}
-use mathlib.Core.Path.{_≡_, refl, subst, sym}
-use Rattle.cluster_model.specs.Heap.{Became, Can, carried, Fit, room}
-use Rattle.cluster_model.specs.Node.{Bag, begin, Begun, fill, finish, Finished, inside, lhs, low, lowElem, Node, none, Note, nothing, onto, Op, Place, put, rhs, swap, take, toLeft, toRight, trial, under}
-use Rattle.cluster_model.proofs.Heap.{ask}
-use Rattle.cluster_model.proofs.Places.{hit-le, inside-le, low-least, place-hit, under-mono}
-use Rattle.cluster_model.proofs.Step.{begins, children-can, finishes, Finishes, IsBag, keeps, Least, low-fit}
-use Rattle.promise.specs.Served.{always, hit}
-use Rattle.strip.specs.Answers.{blank}
-use Rattle.strip.specs.declared.Element.{Element}
+use Rattle.laws.specs.Prelude.{Bool, Element, List, _+_, _<_, _≡_, _≤_, arith, blank, not-suc-le-zero, refl, subst, suc, sym, zero, ℕ}
+use Rattle.cluster_model.specs.Prelude.{Bag, Became, Begun, Can, Finished, Fit, Node, Note, Op, Place, begin, carried, fill, finish, inside, lhs, low, lowElem, none, nothing, onto, put, rhs, room, swap, take, toLeft, toRight, trial, under}
+use Rattle.cluster_model.proofs.Laws.{Finishes, IsBag, Least, ask, begins, children-can, finishes, hit-le, inside-le, keeps, low-fit, low-least, place-hit, under-mono}
+use Rattle.promise.specs.Prelude.{always, hit}
 
 -- a node with its note, and the two trees below it
 abbrev pub Tree : ℕ → Type 0

@@ -1,47 +1,16 @@
 -- What every cycle keeps: the shape, records that name what is there, neat words, and a sound tree. A cycle on such a machine is what its ruling says: it meets no
 -- damage, holds what was brought in less what was given out, and gives the least.
-use Prim.Native.Nat.{_*_, _+_, _^_, _<_, _≤_, suc, zero, ℕ}
-use native.Mathlib.Nat.{mul-le-mul-right, not-suc-le-zero}
-use native.Mathlib.Omega.{arith}
-use mathlib.Core.Bool.{Bool, false, not, true}
-use mathlib.Core.List.{List}
-use mathlib.Core.Logic.{inl}
-use mathlib.Core.Path.{_∙_, _≡_, ap, refl, subst, sym}
-use lib.Dec.{eqb}
-use lib.ListN.{length, length-set, set}
-use lib.Seq.{getD-set-same}
-use borrow.Author.Tests.{eqb-false, eqb-true, ltb-true}
-use Rattle.clocked_model.specs.Calls.{asks}
-use Rattle.cluster_clock_model.proofs.Exactly.{ticks, turned-fine}
+use Rattle.laws.specs.Prelude.{Bool, Element, List, Request, _*_, _+_, _<_, _^_, _∙_, _≡_, _≤_, and-true, ap, arith, asks, eqb, eqb-false, eqb-true, false, getD-set-same, inl, key, length, length-set, ltb-true, mul-le-mul-right, not, not-suc-le-zero, or-right, refl, set, subst, suc, sym, true, zero, ℕ}
+use Rattle.cluster_clock_model.proofs.Exactly.{ticks, cycled-fine}
 use Rattle.cluster_clock_model.proofs.Fine.{fit-count, node-fine, reach-all, some-fine, stages-fine}
 use Rattle.cluster_clock_model.proofs.Flight.{cycle, cycles, Inv, lowOf, noteBelow, Tree, tree-least, within}
 use Rattle.cluster_clock_model.proofs.Seen.{begins-length, commutes, handed-in, InRange, level-length, node-apart, noteSeen, pass-length, pass-others, pass-records, Ranged, ranged-set, settled-length, Spans, treeIn, filled-length}
-use Rattle.cluster_clock_model.specs.declared.Stage.{Stage}
-use Rattle.cluster_clock_model.specs.Calls.{askedOk, turned, TurnOutcome, turnRun}
-use Rattle.cluster_clock_model.specs.Promise.{clock, Machine, turnQueue}
-use Rattle.cluster_clock_model.specs.Stage.{begins, below, childOf, filled, handed, levelStage, levelWords, loaded, noStage, noteOf, pass, settled, stageAt, waits, work, Work, worked}
-use Rattle.cluster_clock_model.specs.Test.{saneAt, stagesOk}
-use Rattle.cluster_model.specs.Calls.{heldIn, opOf, rootHeld, ruleAt}
-use Rattle.cluster_model.specs.Heap.{Can, room}
-use Rattle.cluster_model.specs.Node.{fill, inside, lhs, lowElem, Node, Note, nothing, onto, rhs, trial}
-use Rattle.cluster_model.specs.Promise.{nodes, Shape}
-use Rattle.cluster_model.specs.Way.{extent, nodeIn, some, spotOf, touch, works}
-use Rattle.cluster_model.specs.Words.{Neat, width}
-use Rattle.cluster_model.proofs.Damages.{is-shape}
-use Rattle.cluster_model.proofs.Neat.{neat-row}
-use Rattle.cluster_model.proofs.NeatLevels.{touch-written}
-use Rattle.cluster_model.proofs.Pass.{touch-only}
-use Rattle.cluster_model.proofs.Serve.{can-do, moves}
-use Rattle.cluster_model.proofs.Slice.{node-total, slice}
-use Rattle.laws.specs.Tests.{and-true, or-right}
+use Rattle.cluster_clock_model.specs.Prelude.{CycleOutcome, Machine, Stage, Work, askedOk, begins, below, childOf, clock, cycleQueue, cycleRun, cycled, filled, handed, levelStage, levelWords, loaded, noStage, noteOf, pass, saneAt, settled, stageAt, stagesOk, waits, work, worked}
+use Rattle.cluster_model.specs.Prelude.{Can, Neat, Node, Note, Shape, extent, fill, heldIn, inside, lhs, lowElem, nodeIn, nodes, nothing, onto, opOf, rhs, room, rootHeld, ruleAt, some, spotOf, touch, trial, width, works}
+use Rattle.cluster_model.proofs.Laws.{can-do, is-shape, moves, neat-row, node-total, slice, touch-only, touch-written}
 use Rattle.promise.proofs.Calls.{fits-least, last-fits}
 use Rattle.promise.proofs.InFlight.{IsClock}
-use Rattle.promise.specs.Calls.{grants, lastTable}
-use Rattle.promise.specs.Served.{always, brought, given, Least, lower}
-use Rattle.promise.specs.Table.{Clear}
-use Rattle.strip.specs.Answers.{key}
-use Rattle.strip.specs.declared.Element.{Element}
-use Rattle.strip.specs.declared.Request.{Request}
+use Rattle.promise.specs.Prelude.{Clear, Least, always, brought, given, grants, lastTable, lower}
 
 -- ---- neat words stay neat
 module _ (K : ℕ) where
@@ -201,7 +170,7 @@ module _ (K k : ℕ) (x : Machine) (kept : Kept K k x) where
     move-least = fits-least inFlight r (heldIn K (suc k) ws) (room K (suc k)) top (last-fits r (heldIn K (suc k) ws) (room K (suc k)) c) root-least
 
 -- it is a clock
-pub is-clock : (K k : ℕ) → IsClock (clock K (suc k)) (turnQueue K (suc k)) (Kept K k)
+pub is-clock : (K k : ℕ) → IsClock (clock K (suc k)) (cycleQueue K (suc k)) (Kept K k)
 is-clock K k =
     record {
       ticks = ticks K (suc k);
@@ -211,6 +180,6 @@ is-clock K k =
     }
 
 -- a cycle answers what its ruling says
-pub kept-answer : (K k : ℕ) (x : Machine) → Kept K k x → (r : Request) → turned K (suc k) r (x .records) (x .words) .answer ≡ ruleAt K (suc k) r (x .words) .answer
-unfolding turnRun
-kept-answer K k x kept r = ap (λ (o : TurnOutcome). o .answer) (turned-fine K (suc k) r (x .records) (x .words) (is-shape K (suc k) (length (x .words)) (kept .shape)) (and-true _ _ (kept-asked K k x kept r) (kept-stages K k x kept)))
+pub kept-answer : (K k : ℕ) (x : Machine) → Kept K k x → (r : Request) → cycled K (suc k) r (x .records) (x .words) .answer ≡ ruleAt K (suc k) r (x .words) .answer
+unfolding cycleRun
+kept-answer K k x kept r = ap (λ (o : CycleOutcome). o .answer) (cycled-fine K (suc k) r (x .records) (x .words) (is-shape K (suc k) (length (x .words)) (kept .shape)) (and-true _ _ (kept-asked K k x kept r) (kept-stages K k x kept)))

@@ -1,17 +1,9 @@
 -- A level's step on two slices that agree on some words: where these have the nodes that the step writes, and what a waiting node comes to is the same in both, what the
 -- step leaves agrees there too, and the work begun is the same.
-use Prim.Native.Nat.{_+_, _<_, _≤_, ℕ}
-use mathlib.Core.Bool.{true}
-use mathlib.Core.List.{List}
-use mathlib.Core.Path.{_≡_, ap₂, refl, subst}
-use Rattle.cluster_clock_model.specs.declared.Due.{Due}
-use Rattle.cluster_clock_model.specs.declared.Due.the-variants.{Fill, Nothing, Put, Swap}
-use Rattle.cluster_clock_model.specs.Stage.{begins, filled, noteOf, settled, stage, waits, Work, worked}
-use Rattle.cluster_model.proofs.Unread.{Alike, like-touch}
-use Rattle.cluster_model.proofs.Words.{node-local}
-use Rattle.cluster_model.specs.Node.{begin, Begun, fill, Finished, low, Node, trial}
-use Rattle.cluster_model.specs.Way.{nodeIn, spotOf, touch, works}
-use Rattle.cluster_model.specs.Words.{width}
+use Rattle.laws.specs.Prelude.{List, _+_, _<_, _≡_, _≤_, ap₂, refl, subst, true, ℕ}
+use Rattle.cluster_clock_model.specs.Prelude.{Due, Fill, Nothing, Put, Swap, Work, begins, filled, noteOf, settled, stage, waits, worked}
+use Rattle.cluster_model.proofs.Laws.{Alike, like-touch, node-local}
+use Rattle.cluster_model.specs.Prelude.{Begun, Finished, Node, begin, fill, low, nodeIn, spotOf, touch, trial, width, works}
 
 module _ (K : ℕ) (P : ℕ → Type 0) where
   -- P has the words of node m

@@ -1,16 +1,17 @@
-pub mod Cases
-pub mod Flight
-pub mod Seen
-pub mod Fine
+mod Cases
+mod Flight
+mod Seen
+mod Fine
 pub mod Kept
 pub mod Rest
 pub mod Exactly
 pub mod Drain
-pub mod Lost
+mod Lost
 pub mod Promises
-pub mod Level
-pub mod Ends
-pub mod Passes
-pub mod OneStep
-pub mod Runs
-pub mod Unread
+mod Level
+mod Ends
+mod Passes
+mod OneStep
+mod Runs
+mod Unread
+pub mod Laws

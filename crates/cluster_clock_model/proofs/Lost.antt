@@ -1,27 +1,11 @@
 -- What the tree holds is what stands in the places and what pending puts carry: each record is seen by one node.
-use Prim.Native.Nat.{_*_, _+_, _<_, suc, zero, ℕ}
-use native.Mathlib.Nat.{not-suc-le-zero}
-use native.Mathlib.Omega.{arith}
-use mathlib.Core.Bool.{Bool, cond, false, true}
-use mathlib.Core.List.{List}
-use mathlib.Core.Path.{_∙_, _≡_, ap, refl, sym}
-use lib.Dec.{eqb}
-use borrow.Author.Tests.{eq-eqb, eqb-false, eqb-true, ne-eqb}
+use Rattle.laws.specs.Prelude.{Bool, Element, List, _*_, _+_, _<_, _∙_, _≡_, ap, arith, cond, eq-eqb, eqb, eqb-false, eqb-true, false, grid, ne-eqb, not-suc-le-zero, refl, suc, sumTo, sym, to-add, to-append, to-ext, to-zero, true, zero, ℕ}
 use Rattle.cluster_clock_model.proofs.Fine.{reach, reach-all}
 use Rattle.cluster_clock_model.proofs.Flight.{noteBelow, within}
 use Rattle.cluster_clock_model.proofs.Seen.{InRange, noteIf, noteSeen, putSeen, Ranged, treeIn}
-use Rattle.cluster_clock_model.specs.declared.Due.{Due}
-use Rattle.cluster_clock_model.specs.declared.Due.the-variants.{Fill, Nothing, Put, Swap}
-use Rattle.cluster_clock_model.specs.declared.Stage.{Stage}
-use Rattle.cluster_clock_model.specs.Promise.{carriedBy, carries, machine, remaining}
-use Rattle.cluster_clock_model.specs.Stage.{below, stageAt}
-use Rattle.cluster_model.specs.Heap.{carried}
-use Rattle.cluster_model.specs.Node.{fill, inside, trial}
-use Rattle.cluster_model.specs.Promise.{nodes, storedCount}
-use Rattle.cluster_model.specs.Way.{nodeIn}
-use Rattle.laws.specs.Sums.{grid, sumTo, to-add, to-append, to-ext, to-zero}
-use Rattle.promise.specs.Served.{hit}
-use Rattle.strip.specs.declared.Element.{Element}
+use Rattle.cluster_clock_model.specs.Prelude.{Due, Fill, Nothing, Put, Stage, Swap, below, carriedBy, carries, machine, remaining, stageAt}
+use Rattle.cluster_model.specs.Prelude.{carried, fill, inside, nodeIn, nodes, storedCount, trial}
+use Rattle.promise.specs.Prelude.{hit}
 
 -- ---- a sum with one entry
 unfoldable one-at : ℕ → ℕ → ℕ → ℕ

@@ -1,35 +1,12 @@
 -- Each level does its own step, on the words and the records as they stood at the cycle's start, and writes no other; and it reads no more than its own level, the
 -- nodes that wait in it and above it, and their children.
-use Prim.Native.Nat.{_*_, _+_, _<_, _≤_, pred, suc, zero, ℕ}
-use native.Mathlib.Nat.{not-suc-le-zero}
-use native.Mathlib.Omega.{arith}
-use mathlib.Core.Bool.{Bool, cond, false, false≢true, true}
-use mathlib.Core.List.{List}
-use mathlib.Core.Logic.{_⊎_, inl, inr}
-use mathlib.Core.Path.{_∙_, _≡_, ap, ap₂, refl, subst, sym}
-use lib.Dec.{ltb}
-use lib.ListN.{length}
-use borrow.Author.Tests.{lt-ltb, ltb-false, ltb-true}
-use Rattle.cluster_clock_model.proofs.Exactly.{damage-fails, sound, turned-fine}
+use Rattle.laws.specs.Prelude.{Bool, List, Request, _*_, _+_, _<_, _∙_, _≡_, _≤_, _⊎_, and-left, and-right, ap, ap₂, arith, cond, false, false≢true, inl, inr, length, lt-ltb, ltb, ltb-false, ltb-true, not-suc-le-zero, pred, refl, subst, suc, sym, true, zero, ℕ}
+use Rattle.cluster_clock_model.proofs.Exactly.{damage-fails, sound, cycled-fine}
 use Rattle.cluster_clock_model.proofs.Level.{same-at}
 use Rattle.cluster_clock_model.proofs.Seen.{InRange, level-only, pass-only, pass-others, Ranged, Spans}
-use Rattle.cluster_clock_model.specs.declared.Due.{Due}
-use Rattle.cluster_clock_model.specs.declared.Due.the-variants.{Fill, Nothing, Put, Swap}
-use Rattle.cluster_clock_model.specs.declared.Stage.{Stage}
-use Rattle.cluster_clock_model.specs.Calls.{askedOk, turned, TurnOutcome, turnRun}
-use Rattle.cluster_clock_model.specs.Promise.{Busy, firstNode, InLevel, InNode, OneStep, Reads, stageBelow, TurnDamage, WaitsAt, workOf}
-use Rattle.cluster_clock_model.specs.Stage.{below, childOf, handed, levelStage, levelWords, noStage, noteOf, pass, settled, stageAt, waits, work, Work}
-use Rattle.cluster_model.specs.Calls.{rootHeld, rule, ruleAt}
-use Rattle.cluster_model.specs.Heap.{room}
-use Rattle.cluster_model.specs.Node.{fill, finish, Finished, lhs, lowElem, Node, Note, rhs, Side, trial}
-use Rattle.cluster_model.specs.Promise.{Shape}
-use Rattle.cluster_model.specs.Way.{child, nodeIn, spotOf, works}
-use Rattle.cluster_model.specs.Words.{width, word}
-use Rattle.cluster_model.proofs.Damages.{is-shape}
-use Rattle.cluster_model.proofs.Unread.{Alike}
-use Rattle.cluster_model.proofs.Words.{node-local}
-use Rattle.laws.specs.Tests.{and-left, and-right}
-use Rattle.strip.specs.declared.Request.{Request}
+use Rattle.cluster_clock_model.specs.Prelude.{Busy, CycleDamage, CycleOutcome, Due, Fill, InLevel, InNode, Nothing, OneStep, Put, Reads, Stage, Swap, WaitsAt, Work, askedOk, below, childOf, cycleRun, cycled, firstNode, handed, levelStage, levelWords, noStage, noteOf, pass, settled, stageAt, stageBelow, waits, work, workOf}
+use Rattle.cluster_model.specs.Prelude.{Finished, Node, Note, Shape, Side, child, fill, finish, lhs, lowElem, nodeIn, rhs, room, rootHeld, rule, ruleAt, spotOf, trial, width, word, works}
+use Rattle.cluster_model.proofs.Laws.{Alike, is-shape, node-local}
 use Rattle.cluster_clock_model.proofs.Passes.{down, down-first, down-fits, has-own, last-work, Level, level-loads, level-stands, level-still, level-words, next-first, onward, onward-is, pass-loads, pass-words, stage-here, stage-in, stage-none, stage-zero, stageIn, stages-ranged, wait-busy, waits-at, work-busy, work-in, works-are}
 
 waiting-in : (d : Due) (n a : ℕ) → waits d ≡ true → InRange d n a → n < a + 1
@@ -39,7 +16,7 @@ waiting-in (Fill j) n a t h = h
 waiting-in (Swap j x) n a t h = h
 
 -- ONE STEP: a cycle with no damage, of any machine with a good shape and a record for each level from 2
-module _ (K k : ℕ) (r : Request) (rs : List Stage) (ws : List ℕ) (sh : Shape K (suc k) (length ws)) (len : k ≤ length rs) (fine : TurnDamage K (suc k) r rs ws → ⊥) where
+module _ (K k : ℕ) (r : Request) (rs : List Stage) (ws : List ℕ) (sh : Shape K (suc k) (length ws)) (len : k ≤ length rs) (fine : CycleDamage K (suc k) r rs ws → ⊥) where
   abbrev o : Work
   o = work (ruleAt K (suc k) r ws .op) 0
 
@@ -53,16 +30,16 @@ module _ (K k : ℕ) (r : Request) (rs : List Stage) (ws : List ℕ) (sh : Shape
   ranged : Ranged k 0 0 rs
   ranged = stages-ranged K k 0 0 rs ws (and-right (askedOk K (suc k) r ws) _ sound-is)
 
-  runs : turned K (suc k) r rs ws ≡ turnRun K (suc k) (ruleAt K (suc k) r ws) rs ws
-  runs = turned-fine K (suc k) r rs ws (is-shape K (suc k) (length ws) sh) sound-is
+  runs : cycled K (suc k) r rs ws ≡ cycleRun K (suc k) (ruleAt K (suc k) r ws) rs ws
+  runs = cycled-fine K (suc k) r rs ws (is-shape K (suc k) (length ws) sh) sound-is
 
-  words-are : turned K (suc k) r rs ws .words ≡ pass K k 0 o 0 rs ws .words
-  unfolding turnRun
-  words-are = ap (λ (c : TurnOutcome). c .words) runs
+  words-are : cycled K (suc k) r rs ws .words ≡ pass K k 0 o 0 rs ws .words
+  unfolding cycleRun
+  words-are = ap (λ (c : CycleOutcome). c .words) runs
 
-  records-are : turned K (suc k) r rs ws .records ≡ pass K k 0 o 0 rs ws .records
-  unfolding turnRun
-  records-are = ap (λ (c : TurnOutcome). c .records) runs
+  records-are : cycled K (suc k) r rs ws .records ≡ pass K k 0 o 0 rs ws .records
+  unfolding cycleRun
+  records-are = ap (λ (c : CycleOutcome). c .records) runs
 
   wide : Spans K k 0 ≤ length ws
   wide = omega (arith, sh .slice)
@@ -84,7 +61,7 @@ module _ (K k : ℕ) (r : Request) (rs : List Stage) (ws : List ℕ) (sh : Shape
   abbrev stepped : ℕ → List ℕ
   stepped i = levelWords K (firstNode i) (workOf K (suc k) r rs ws i) (stageBelow K (suc k) rs i) ws
 
-  words-at : (i p : ℕ) → i < suc k → Level K (firstNode i) p → word (turned K (suc k) r rs ws .words) p ≡ word (stepped i) p
+  words-at : (i p : ℕ) → i < suc k → Level K (firstNode i) p → word (cycled K (suc k) r rs ws .words) p ≡ word (stepped i) p
   words-at i p h l =
       let at : down i 0 ≡ firstNode i = down-first i in
       ap (λ (v : List ℕ). word v p) words-are
@@ -92,7 +69,7 @@ module _ (K k : ℕ) (r : Request) (rs : List Stage) (ws : List ℕ) (sh : Shape
       (λ l. pass-words K k 0 o 0 rs ws i p (omega arith) l (omega arith) ranged wide
       ∙ ap₂ (λ (w : Work) (q : Stage). word (levelWords K (down i 0) w q ws) p) (works-are K (suc k) r rs ws i) (stage-is i)) l
 
-  loads : (i : ℕ) → suc i < suc k → stageAt (turned K (suc k) r rs ws .records) i ≡ levelStage K (firstNode i) (workOf K (suc k) r rs ws i) (stageAt rs i) ws
+  loads : (i : ℕ) → suc i < suc k → stageAt (cycled K (suc k) r rs ws .records) i ≡ levelStage K (firstNode i) (workOf K (suc k) r rs ws i) (stageAt rs i) ws
   loads i h =
       let at : onward i 0 ≡ i = onward-is i 0 ∙ omega arith in
       ap (λ (v : List Stage). stageAt v i) records-are
@@ -113,7 +90,7 @@ module _ (K k : ℕ) (r : Request) (rs : List Stage) (ws : List ℕ) (sh : Shape
   one-step-at : OneStep K (suc k) r rs ws
   one-step-at =
       record {
-        each = λ i n h l. node-local K (stepped i) (turned K (suc k) r rs ws .words) (spotOf K (firstNode i + n)) (λ p x y. words-at i p h (has-own K (firstNode i) n l p x y));
+        each = λ i n h l. node-local K (stepped i) (cycled K (suc k) r rs ws .words) (spotOf K (firstNode i + n)) (λ p x y. words-at i p h (has-own K (firstNode i) n l p x y));
         words = λ i p h l. words-at i p h (bounds i p l);
         own = λ i h p g. level-only K (firstNode i) (workOf K (suc k) r rs ws i) (stageBelow K (suc k) rs i) ws (own-in i (omega arith)) (below-in i) p (outside i p g);
         stands = λ i n p h l quiet g.
@@ -141,13 +118,13 @@ module _ (K k : ℕ) (r : Request) (rs : List Stage) (ws : List ℕ) (sh : Shape
           off true f = absurd (f refl)
           off false f = refl
 
-pub one-step : (K levels : ℕ) (r : Request) (rs : List Stage) (ws : List ℕ) → Shape K levels (length ws) → pred levels ≤ length rs → (TurnDamage K levels r rs ws → ⊥) → OneStep K levels r rs ws
+pub one-step : (K levels : ℕ) (r : Request) (rs : List Stage) (ws : List ℕ) → Shape K levels (length ws) → pred levels ≤ length rs → (CycleDamage K levels r rs ws → ⊥) → OneStep K levels r rs ws
 one-step K zero r rs ws sh len fine = absurd (not-suc-le-zero (sh .some))
 one-step K (suc k) r rs ws sh len fine = one-step-at K k r rs ws sh len fine
 
 -- READS: two cycles with no damage leave the same of level i, words and record, where what it reads is the same
 module _ (K k : ℕ) (r t : Request) (rs qs : List Stage) (ws vs : List ℕ) (sh : Shape K (suc k) (length ws)) (zh : Shape K (suc k) (length vs)) (len : k ≤ length rs) (lenq : k ≤ length qs)
-    (fine : TurnDamage K (suc k) r rs ws → ⊥) (fineq : TurnDamage K (suc k) t qs vs → ⊥) (i : ℕ) (h : i ≤ k) (same : Reads K (suc k) i r t rs qs ws vs) where
+    (fine : CycleDamage K (suc k) r rs ws → ⊥) (fineq : CycleDamage K (suc k) t qs vs → ⊥) (i : ℕ) (h : i ≤ k) (same : Reads K (suc k) i r t rs qs ws vs) where
   abbrev b : ℕ
   b = firstNode i
 
@@ -230,14 +207,14 @@ module _ (K k : ℕ) (r t : Request) (rs qs : List Stage) (ws vs : List ℕ) (sh
       handed-same g e (q .due) (q .node) (subst (λ (q : Stage). InRange (q .due) (q .node) (firstNode g)) (below-is g (omega arith)) (below-in K k r rs ws sh len fine g)) (same .waiting g e)
       ∙ ap (λ (q : Stage). handed K (q .due) (q .node) (firstNode g) vs) (same .above g e)
 
-  reads-words : (p : ℕ) → InLevel K (suc k) i p → word (turned K (suc k) r rs ws .words) p ≡ word (turned K (suc k) t qs vs .words) p
+  reads-words : (p : ℕ) → InLevel K (suc k) i p → word (cycled K (suc k) r rs ws .words) p ≡ word (cycled K (suc k) t qs vs .words) p
   reads-words p l =
       let at : Level K b p = bounds K k r rs ws sh len fine i p l in
       words-at K k r rs ws sh len fine i p (omega arith) at
       ∙ level-words K b (workOf K (suc k) r rs ws i) (stageBelow K (suc k) rs i) ws vs alike (own-in K k r rs ws sh len fine i h) waiting-same .same p at
       ∙ ap₂ (λ (w : Work) (q : Stage). word (levelWords K b w q vs) p) (work-same i refl) (same .below) ∙ sym (words-at K k t qs vs zh lenq fineq i p (omega arith) at)
 
-  reads-record : suc i ≤ k → stageAt (turned K (suc k) r rs ws .records) i ≡ stageAt (turned K (suc k) t qs vs .records) i
+  reads-record : suc i ≤ k → stageAt (cycled K (suc k) r rs ws .records) i ≡ stageAt (cycled K (suc k) t qs vs .records) i
   reads-record l =
       loads K k r rs ws sh len fine i (omega arith) ∙ ap (λ (q : Stage). levelStage K b (workOf K (suc k) r rs ws i) q ws) (sym (below-is i l))
       ∙ level-loads K b (workOf K (suc k) r rs ws i) (stageBelow K (suc k) rs i) ws vs alike (own-in K k r rs ws sh len fine i h) waiting-same
@@ -245,9 +222,9 @@ module _ (K k : ℕ) (r t : Request) (rs qs : List Stage) (ws vs : List ℕ) (sh
       ∙ sym (loads K k t qs vs zh lenq fineq i (omega arith))
 
 pub reads : (K levels : ℕ) (r t : Request) (rs qs : List Stage) (ws vs : List ℕ) → Shape K levels (length ws) → Shape K levels (length vs) → pred levels ≤ length rs → pred levels ≤ length qs
-    → (TurnDamage K levels r rs ws → ⊥) → (TurnDamage K levels t qs vs → ⊥) → (i : ℕ) → i < levels → Reads K levels i r t rs qs ws vs
-    → ((p : ℕ) → InLevel K levels i p → word (turned K levels r rs ws .words) p ≡ word (turned K levels t qs vs .words) p)
-    × (suc i < levels → stageAt (turned K levels r rs ws .records) i ≡ stageAt (turned K levels t qs vs .records) i)
+    → (CycleDamage K levels r rs ws → ⊥) → (CycleDamage K levels t qs vs → ⊥) → (i : ℕ) → i < levels → Reads K levels i r t rs qs ws vs
+    → ((p : ℕ) → InLevel K levels i p → word (cycled K levels r rs ws .words) p ≡ word (cycled K levels t qs vs .words) p)
+    × (suc i < levels → stageAt (cycled K levels r rs ws .records) i ≡ stageAt (cycled K levels t qs vs .records) i)
 reads K zero r t rs qs ws vs sh zh len lenq fine fineq i h same = absurd (not-suc-le-zero (sh .some))
 reads K (suc k) r t rs qs ws vs sh zh len lenq fine fineq i h same = (
   reads-words K k r t rs qs ws vs sh zh len lenq fine fineq i (omega arith) same,

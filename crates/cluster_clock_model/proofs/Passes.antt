@@ -1,35 +1,12 @@
 -- The pass over the levels, level by level: what it leaves at a level is what that level's step alone would leave there, on the words and records as they stood; what a
 -- level's step writes and what it leaves alone; and that the last level leaves nothing.
-use Prim.Native.Nat.{_*_, _+_, _<_, _≤_, suc, zero, ℕ}
-use native.Mathlib.Nat.{mul-le-mul-right, not-suc-le-zero}
-use native.Mathlib.Omega.{arith}
-use mathlib.Core.Bool.{Bool, false, false≢true, true}
-use mathlib.Core.List.{List}
-use mathlib.Core.Logic.{_⊎_, inl, inr}
-use mathlib.Core.Path.{_∙_, _≡_, ap, ap₂, refl, subst, sym}
-use lib.Dec.{ltb}
-use lib.ListN.{length, length-set, set}
-use lib.Seq.{getD-set-same}
-use borrow.Author.Tests.{ltb-true}
+use Rattle.laws.specs.Prelude.{Bool, List, Request, _*_, _+_, _<_, _∙_, _≡_, _≤_, _⊎_, and-left, and-right, ap, ap₂, arith, false, false≢true, getD-set-same, inl, inr, length, length-set, ltb, ltb-true, mul-le-mul-right, not-suc-le-zero, refl, set, subst, suc, sym, true, zero, ℕ}
 use Rattle.cluster_clock_model.proofs.Ends.{root-ends, work-ends}
 use Rattle.cluster_clock_model.proofs.Level.{Has, like-filled, like-worked, same-begins}
 use Rattle.cluster_clock_model.proofs.Seen.{begins-length, filled-length, filled-node, handed-in, InRange, level-in, level-length, level-only, node-apart, noteSeen, opAt, pass-only, pass-others, Ranged, ranged-set, set-later, settled-length, Spans, spans-next, spans-own, worked-node}
-use Rattle.cluster_clock_model.specs.declared.Due.{Due}
-use Rattle.cluster_clock_model.specs.declared.Due.the-variants.{Fill, Nothing, Put, Swap}
-use Rattle.cluster_clock_model.specs.declared.Stage.{Stage}
-use Rattle.cluster_clock_model.specs.Calls.{askedOk, isNothing}
-use Rattle.cluster_clock_model.specs.Promise.{Busy, firstNode, GivenAt, stageBelow, WaitsAt, workOf}
-use Rattle.cluster_clock_model.specs.Stage.{begins, below, childOf, filled, handed, levelStage, levelWords, loaded, lowAt, noStage, noteOf, pass, settled, stageAt, waits, work, Work, worked}
-use Rattle.cluster_clock_model.specs.Test.{stageOk, stagesOk}
-use Rattle.cluster_model.specs.Calls.{ruleAt}
-use Rattle.cluster_model.specs.Node.{begin, Begun, fill, finish, Finished, lhs, low, lowElem, Node, Note, nothing, onto, rhs, Side, trial}
-use Rattle.cluster_model.specs.Way.{child, nodeIn, spotOf, touch, works}
-use Rattle.cluster_model.specs.Words.{width, word}
-use Rattle.cluster_model.proofs.Pass.{touch-only}
-use Rattle.cluster_model.proofs.Unread.{Alike}
-use Rattle.cluster_model.proofs.Words.{node-local}
-use Rattle.laws.specs.Tests.{and-left, and-right}
-use Rattle.strip.specs.declared.Request.{Request}
+use Rattle.cluster_clock_model.specs.Prelude.{Busy, Due, Fill, GivenAt, Nothing, Put, Stage, Swap, WaitsAt, Work, askedOk, begins, below, childOf, filled, firstNode, handed, isNothing, levelStage, levelWords, loaded, lowAt, noStage, noteOf, pass, settled, stageAt, stageBelow, stageOk, stagesOk, waits, work, workOf, worked}
+use Rattle.cluster_model.specs.Prelude.{Begun, Finished, Node, Note, Side, begin, child, fill, finish, lhs, low, lowElem, nodeIn, nothing, onto, rhs, ruleAt, spotOf, touch, trial, width, word, works}
+use Rattle.cluster_model.proofs.Laws.{Alike, node-local, touch-only}
 
 -- ---- levels from a level on: the t-th below it, its record, its work
 abbrev pub down : ℕ → ℕ → ℕ

@@ -1,16 +1,7 @@
 -- The promises: from a cleared machine, over any list of cycles, nothing is damaged and nothing too soon; in the middle of any work the places and the pending puts
 -- hold exactly what went in and has not come out, and what comes out has the lowest rank; and a drain leaves a sound heap.
-use Prim.Native.Nat.{_+_, _≤_, pred, suc, zero, ℕ}
-use native.Mathlib.Nat.{not-suc-le-zero}
-use native.Mathlib.Omega.{arith}
-use mathlib.Core.Bool.{Bool, false, not, true, true≢false}
-use mathlib.Core.List.{List, map}
-use mathlib.Core.Logic.{_⊎_, inl}
-use mathlib.Core.Path.{_∙_, _≡_, ap, refl, subst, sym}
-use lib.ListN.{length}
-use borrow.Author.Tests.{lt-ltb}
-use Rattle.clocked_model.specs.Lost.{asked, Call}
-use Rattle.promise.specs.Clock.{calls, cycle, drain, drainedBy}
+use Rattle.laws.specs.Prelude.{Bool, Element, Idle, List, Out, Replace, Request, _+_, _∙_, _≡_, _≤_, _⊎_, ap, arith, countNumber, countOf, false, inl, length, lt-ltb, map, means-off, not, not-suc-le-zero, numberOf, pred, refl, subst, suc, sym, true, true≢false, zero, ℕ}
+use Rattle.promise.specs.Prelude.{Drained, Holds, Least, PopThenPush, SoleCall as Call, Tagged, Untagged, allBrought, allGiven, always, asked, brought, calls, cycle, drain, drainedBy, given, least-same, leaves-keep, outcome, step, tagged-by, triple, untagged-means}
 use Rattle.cluster_clock_model.proofs.Drain.{drain-state, drains-as, idles-quiet}
 use Rattle.cluster_clock_model.proofs.Exactly.{barred, held-fine, root-limit}
 pub use Rattle.cluster_clock_model.proofs.Exactly.{never-soon}
@@ -19,31 +10,13 @@ use Rattle.cluster_clock_model.proofs.Kept.{is-clock, Kept, kept-answer
 use Rattle.cluster_clock_model.proofs.Lost.{flight-sum}
 use Rattle.cluster_clock_model.proofs.Rest.{calm-sound, rest-stored, rest-tree, start-flying, start-none}
 use Rattle.cluster_clock_model.proofs.Seen.{treeIn}
-use Rattle.cluster_clock_model.specs.Calls.{clockHeld, DrainOutcome, drains, quiet, turned}
-use Rattle.cluster_clock_model.specs.Promise.{AtRest, callAnswers, clearedMachine, clock, idles, Machine, machine, machineQueue, ran, ranCalls, remaining, turnAnswers, TurnDamage, turnQueue}
-use Rattle.cluster_model.specs.Calls.{heldIn, rule, ruleAt}
-use Rattle.cluster_model.specs.Heap.{room, Sound}
-use Rattle.cluster_model.specs.Node.{low, lowElem, Place}
-use Rattle.cluster_model.specs.Promise.{Shape, storedCount}
-use Rattle.cluster_model.specs.Way.{heapIn, nodeIn}
-use Rattle.cluster_model.proofs.Rules.{comes, lowest-is}
-use Rattle.cluster_model.specs.Rules.{IsLowest}
-use Rattle.promise.specs.Queue.{leaves-keep, step}
-use Rattle.laws.specs.Means.{means-off}
+use Rattle.cluster_clock_model.specs.Prelude.{AtRest, CycleDamage, DrainOutcome, Machine, callAnswers, clearedMachine, clock, clockHeld, cycleAnswers, cycleQueue, cycled, drains, idles, machine, machineQueue, quiet, ran, ranCalls, remaining}
+use Rattle.cluster_model.specs.Prelude.{IsLowest, Place, Shape, Sound, heapIn, heldIn, low, lowElem, nodeIn, room, rule, ruleAt, storedCount}
+use Rattle.cluster_model.proofs.Laws.{comes, lowest-is}
 use Rattle.promise.proofs.Calls.{comes-out, grants-kind, last-each}
 use Rattle.promise.proofs.Kept.{last-alike}
-use Rattle.promise.specs.Calls.{outcome, PopThenPush}
-use Rattle.promise.specs.Refused.{Untagged, untagged-means}
 use Rattle.promise.proofs.InFlight as clocks
 use Rattle.promise.proofs.InFlight.{Bag, Lowest, Swaps}
-use Rattle.promise.specs.Drains.{Drained}
-use Rattle.promise.specs.Served.{allBrought, allGiven, always, brought, given, Holds, Least, least-same, triple}
-use Rattle.promise.specs.Tagged.{Tagged, tagged-by}
-use Rattle.strip.specs.Answers.{countNumber, countOf, numberOf}
-use Rattle.strip.specs.declared.Answer.the-variants.{Out}
-use Rattle.strip.specs.declared.Element.{Element}
-use Rattle.strip.specs.declared.Request.{Request}
-use Rattle.strip.specs.declared.Request.the-variants.{Idle, Replace}
 
 -- ---- what remains is what the clock holds
 module _ (K k : ℕ) where
@@ -62,22 +35,22 @@ module _ (K k : ℕ) where
   lowest =
       record { least = λ r x kept c. least-same (λ f. within f (suc k) (treeIn K (suc k) 0 0 (x .records) (x .words) 0)) (remaining K (suc k) x) (kept-remains x kept) r _ (move-least K k x kept r c) }
 
-  pub next-kept : (r : Request) (x : Machine) → Kept K k x → Kept K k (turnQueue K (suc k) r x .next)
+  pub next-kept : (r : Request) (x : Machine) → Kept K k x → Kept K k (cycleQueue K (suc k) r x .next)
   next-kept = clocks.next-kept (is-clock K k)
 
   pub idles-kept : (n : ℕ) (x : Machine) → Kept K k x → Kept K k (idles K (suc k) n x)
   idles-kept = clocks.idles-kept (is-clock K k)
 
   pub cycle-sum : (r : Request) (x : Machine) → Kept K k x → (f : Element → Bool)
-      → remaining K (suc k) (turnQueue K (suc k) r x .next) f + given r (turnQueue K (suc k) r x .said) f ≡ remaining K (suc k) x f + brought r (turnQueue K (suc k) r x .said) f
+      → remaining K (suc k) (cycleQueue K (suc k) r x .next) f + given r (cycleQueue K (suc k) r x .said) f ≡ remaining K (suc k) x f + brought r (cycleQueue K (suc k) r x .said) f
   cycle-sum = clocks.cycle-sum (is-clock K k) bag
 
   -- what a cycle gives out is the least of it
-  pub kept-gives : (x : Machine) → Kept K k x → (r : Request) → Least (remaining K (suc k) x) r (turned K (suc k) r (x .records) (x .words) .answer)
+  pub kept-gives : (x : Machine) → Kept K k x → (r : Request) → Least (remaining K (suc k) x) r (cycled K (suc k) r (x .records) (x .words) .answer)
   kept-gives x kept r = clocks.cycle-least (is-clock K k) lowest r x kept
 
   -- .. and the lowest of the root as it stood at the cycle's start
-  pub kept-lowest : (x : Machine) → Kept K k x → (r : Request) (e : Element) → turned K (suc k) r (x .records) (x .words) .answer ≡ Out e
+  pub kept-lowest : (x : Machine) → Kept K k x → (r : Request) (e : Element) → cycled K (suc k) r (x .records) (x .words) .answer ≡ Out e
       → IsLowest (nodeIn K (x .words) 0 .places) (low (nodeIn K (x .words) 0 .places)) e
   kept-lowest x kept r e q =
       let ps : List Place = nodeIn K (x .words) 0 .places in
@@ -100,14 +73,14 @@ module _ (K k : ℕ) where
       calm-sound K (suc k) (heapIn K (suc k) (x .words) 0) (subst (Inv K (suc k)) (rest-tree K (x .records) (x .words) k (quiet-of x e)) (kept .sound))
 
   -- no idle cycle is refused, and levels less one leave nothing pending
-  idle-unrefused : (x : Machine) → Kept K k x → numberOf (turned K (suc k) Idle (x .records) (x .words) .answer) ≡ 0
+  idle-unrefused : (x : Machine) → Kept K k x → numberOf (cycled K (suc k) Idle (x .records) (x .words) .answer) ≡ 0
   unfolding rule
   idle-unrefused x kept = ap numberOf (kept-answer K k x kept Idle)
 
   pub idles-rest : (x : Machine) → Kept K k x → AtRest K (suc k) (idles K (suc k) k x)
   idles-rest x kept = idles-quiet K (suc k) x (kept .count) (λ t l. idle-unrefused (idles K (suc k) t x) (idles-kept t x kept))
 
-  pub kept-undamaged : (x : Machine) → Kept K k x → (r : Request) → TurnDamage K (suc k) r (x .records) (x .words) → ⊥
+  pub kept-undamaged : (x : Machine) → Kept K k x → (r : Request) → CycleDamage K (suc k) r (x .records) (x .words) → ⊥
   kept-undamaged x kept r = clocks.kept-undamaged (is-clock K k) r x kept
 
   -- a replace is a pop and then a push
@@ -127,11 +100,11 @@ module _ (K k : ℕ) where
       }
 
   pub kept-replaces : (x : Machine) → Kept K k x → (e : Element) → (Untagged (Replace e) → ⊥)
-      → PopThenPush (λ r x. outcome (turnQueue K (suc k) r x .said) (turnQueue K (suc k) r x .next)) (remaining K (suc k)) e x
+      → PopThenPush (λ r x. outcome (cycleQueue K (suc k) r x .said) (cycleQueue K (suc k) r x .next)) (remaining K (suc k)) e x
   kept-replaces x kept e tag = clocks.pop-then-push (is-clock K k) bag swapping e tag x kept
 
   -- cycles and drains are the clock's
-  alike : (c : Call) (x : Machine) → machineQueue K (suc k) c x ≡ calls (clock K (suc k)) (turnQueue K (suc k)) c x
+  alike : (c : Call) (x : Machine) → machineQueue K (suc k) c x ≡ calls (clock K (suc k)) (cycleQueue K (suc k)) c x
   alike (cycle r) x = refl
   alike (drain b) x = ap (λ (d : DrainOutcome). step (d .answer) (machine (d .records) (d .words))) (drains-as K (suc k) b (x .records) (x .words))
 
@@ -155,16 +128,16 @@ module _ (K : ℕ) (ws : List ℕ) (cs : List Call) where
 -- THE PROMISES. Any K and number of levels that pass the shape, any words to start with, any list of cycles from the cleared machine
 module _ (K : ℕ) (ws : List ℕ) (rs : List Request) where
   pub ran-kept : (k : ℕ) → Shape K (suc k) (length ws) → Kept K k (ran K (suc k) rs ws)
-  ran-kept k sh = leaves-keep (turnQueue K (suc k)) (Kept K k) (next-kept K k) rs (clearedMachine K (suc k) ws) (start-flying K k ws sh)
+  ran-kept k sh = leaves-keep (cycleQueue K (suc k)) (Kept K k) (next-kept K k) rs (clearedMachine K (suc k) ws) (start-flying K k ws sh)
 
   -- HOLDS, at every moment
-  pub holds : (levels : ℕ) → Shape K levels (length ws) → Holds (remaining K levels (ran K levels rs ws)) rs (turnAnswers K levels rs ws)
+  pub holds : (levels : ℕ) → Shape K levels (length ws) → Holds (remaining K levels (ran K levels rs ws)) rs (cycleAnswers K levels rs ws)
   holds zero sh = absurd (not-suc-le-zero (sh .some))
   holds (suc k) sh =
       clocks.all-held (is-clock K k) (bag K k) (clearedMachine K (suc k) ws) (start-flying K k ws sh) (start-remains K k ws sh) rs
 
   -- UNDAMAGED: no cycle is refused for damage, and none for the shape
-  pub undamaged : (levels : ℕ) → Shape K levels (length ws) → (r : Request) → TurnDamage K levels r (ran K levels rs ws .records) (ran K levels rs ws .words) → ⊥
+  pub undamaged : (levels : ℕ) → Shape K levels (length ws) → (r : Request) → CycleDamage K levels r (ran K levels rs ws .records) (ran K levels rs ws .words) → ⊥
   undamaged zero sh r = absurd (not-suc-le-zero (sh .some))
   undamaged (suc k) sh r = kept-undamaged K k (ran K (suc k) rs ws) (ran-kept k sh) r
 
@@ -174,32 +147,32 @@ module _ (K : ℕ) (ws : List ℕ) (rs : List Request) where
 
   -- .. so that only 0, 5, 6 and 7 are answered
   pub numbers : (levels : ℕ) → Shape K levels (length ws) → (r : Request)
-      → let n = numberOf (turned K levels r (ran K levels rs ws .records) (ran K levels rs ws .words) .answer) in (n ≡ 0) ⊎ (n ≡ 5) ⊎ (n ≡ 6) ⊎ (n ≡ 7)
+      → let n = numberOf (cycled K levels r (ran K levels rs ws .records) (ran K levels rs ws .words) .answer) in (n ≡ 0) ⊎ (n ≡ 5) ⊎ (n ≡ 6) ⊎ (n ≡ 7)
   numbers zero sh r = absurd (not-suc-le-zero (sh .some))
   numbers (suc k) sh r =
       clocks.kept-numbers (is-clock K k) r (ran K (suc k) rs ws) (ran-kept k sh) (λ n. (n ≡ 0) ⊎ (n ≡ 5) ⊎ (n ≡ 6) ⊎ (n ≡ 7)) (inl refl) (last-each r _ _)
 
   -- LEAST: what a cycle gives out, of a pop or a replace, has the lowest rank of all that is held, in the middle of any work
-  pub least : (levels : ℕ) → Shape K levels (length ws) → (r : Request) → Least (remaining K levels (ran K levels rs ws)) r (turned K levels r (ran K levels rs ws .records) (ran K levels rs ws .words) .answer)
+  pub least : (levels : ℕ) → Shape K levels (length ws) → (r : Request) → Least (remaining K levels (ran K levels rs ws)) r (cycled K levels r (ran K levels rs ws .records) (ran K levels rs ws .words) .answer)
   least zero sh r = absurd (not-suc-le-zero (sh .some))
   least (suc k) sh r = kept-gives K k (ran K (suc k) rs ws) (ran-kept k sh) r
 
   -- LOWER TAG: what a cycle gives is the lowest of the root as it stood at the cycle's start: of that node's equal ranks the lower tag, of equal rank and tag the
   -- first place (02 [12])
-  pub lower-tag : (levels : ℕ) → Shape K levels (length ws) → (r : Request) (e : Element) → turned K levels r (ran K levels rs ws .records) (ran K levels rs ws .words) .answer ≡ Out e
+  pub lower-tag : (levels : ℕ) → Shape K levels (length ws) → (r : Request) (e : Element) → cycled K levels r (ran K levels rs ws .records) (ran K levels rs ws .words) .answer ≡ Out e
       → IsLowest (nodeIn K (ran K levels rs ws .words) 0 .places) (low (nodeIn K (ran K levels rs ws .words) 0 .places)) e
   lower-tag zero sh r e q = absurd (not-suc-le-zero (sh .some))
   lower-tag (suc k) sh r e q = kept-lowest K k (ran K (suc k) rs ws) (ran-kept k sh) r e q
 
   -- POP-THEN-PUSH: "a replace is a pop and then a push" (02 [4]), by cycles, in the middle of any work
   pub pop-then-push : (levels : ℕ) → Shape K levels (length ws) → (e : Element) → (Untagged (Replace e) → ⊥)
-      → PopThenPush (λ r x. outcome (turnQueue K levels r x .said) (turnQueue K levels r x .next)) (remaining K levels) e (ran K levels rs ws)
+      → PopThenPush (λ r x. outcome (cycleQueue K levels r x .said) (cycleQueue K levels r x .next)) (remaining K levels) e (ran K levels rs ws)
   pop-then-push zero sh e tag = absurd (not-suc-le-zero (sh .some))
   pop-then-push (suc k) sh e tag = kept-replaces K k (ran K (suc k) rs ws) (ran-kept k sh) e tag
 
   -- TAGGED: no element of tag 0 is held, and none has come out
-  pub tagged : (levels : ℕ) → Shape K levels (length ws) → Tagged (remaining K levels (ran K levels rs ws)) rs (turnAnswers K levels rs ws)
-  tagged levels sh = tagged-by (turnQueue K levels) (λ r x. barred K levels r (x .records) (x .words)) (remaining K levels (ran K levels rs ws)) rs _ (holds levels sh)
+  pub tagged : (levels : ℕ) → Shape K levels (length ws) → Tagged (remaining K levels (ran K levels rs ws)) rs (cycleAnswers K levels rs ws)
+  tagged levels sh = tagged-by (cycleQueue K levels) (λ r x. barred K levels r (x .records) (x .words)) (remaining K levels (ran K levels rs ws)) rs _ (holds levels sh)
 
   -- HELD: from the root alone, exact in the middle of any work: how many went in and have not come out
   pub held-now : (levels : ℕ) → Shape K levels (length ws)
@@ -220,7 +193,7 @@ module _ (K : ℕ) (ws : List ℕ) (rs : List Request) where
   rested-sound zero sh n e = absurd (not-suc-le-zero (sh .some))
   rested-sound (suc k) sh n e = rest-sound K k (idles K (suc k) n (ran K (suc k) rs ws)) (idles-kept K k n _ (ran-kept k sh)) e
 
-  pub rested-holds : (levels : ℕ) → Shape K levels (length ws) → (n : ℕ) → AtRest K levels (idles K levels n (ran K levels rs ws)) → Holds (storedCount K levels (idles K levels n (ran K levels rs ws) .words)) rs (turnAnswers K levels rs ws)
+  pub rested-holds : (levels : ℕ) → Shape K levels (length ws) → (n : ℕ) → AtRest K levels (idles K levels n (ran K levels rs ws)) → Holds (storedCount K levels (idles K levels n (ran K levels rs ws) .words)) rs (cycleAnswers K levels rs ws)
   rested-holds zero sh n e f = absurd (not-suc-le-zero (sh .some))
   rested-holds (suc k) sh n e f =
       let x : Machine = ran K (suc k) rs ws in
@@ -231,7 +204,7 @@ module _ (K : ℕ) (ws : List ℕ) (rs : List Request) where
 module _ (K : ℕ) (ws : List ℕ) (rs : List Request) (budget : ℕ) where
   -- the clock's own drain
   abbrev by-clock : ℕ → Drained Machine
-  by-clock levels = drainedBy (clock K levels) (turnQueue K levels) budget (ran K levels rs ws)
+  by-clock levels = drainedBy (clock K levels) (cycleQueue K levels) budget (ran K levels rs ws)
 
   -- .. is done, within levels - 1 cycles, and leaves no work
   comes-to : (levels : ℕ) → Shape K levels (length ws) → pred levels ≤ budget
@@ -267,5 +240,5 @@ module _ (K : ℕ) (ws : List ℕ) (rs : List Request) (levels : ℕ) (sh : Shap
   pub drained-sound : Sound K levels (heapIn K levels (d .words) 0)
   drained-sound = rw (drain-state K levels budget (x .records) (x .words) .0) (rested-sound K ws rs levels sh (d .cycles) at-rest)
 
-  pub drained-holds : Holds (storedCount K levels (d .words)) rs (turnAnswers K levels rs ws)
+  pub drained-holds : Holds (storedCount K levels (d .words)) rs (cycleAnswers K levels rs ws)
   drained-holds f = rw (drain-state K levels budget (x .records) (x .words) .0) (rested-holds K ws rs levels sh (d .cycles) at-rest f)

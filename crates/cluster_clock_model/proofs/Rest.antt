@@ -1,32 +1,11 @@
 -- A machine at rest: with nothing pending the tree is the heap of the words, and it is sound in the sense of one operation at a time. The cleared machine is one.
-use Prim.Native.Nat.{_*_, _+_, _≤_, suc, zero, ℕ}
-use native.Mathlib.Nat.{mul-le-mul-right, not-suc-le-zero}
-use native.Mathlib.Omega.{arith}
-use mathlib.Core.Bool.{Bool, false, true, true≢false}
-use mathlib.Core.List.{List}
-use mathlib.Core.Path.{_∙_, _≡_, ap, refl, subst, sym}
-use lib.Dec.{leb}
-use lib.ListN.{getD, length, length-replicate, replicate}
-use borrow.Author.Tests.{leb-false, leb-true}
+use Rattle.laws.specs.Prelude.{Bool, Element, List, _*_, _+_, _∙_, _≡_, _≤_, and-left, and-right, and-true, ap, arith, false, getD, leb, leb-false, leb-true, length, length-replicate, mul-le-mul-right, not-suc-le-zero, refl, replicate, subst, suc, sym, true, true≢false, zero, ℕ}
 use Rattle.cluster_clock_model.proofs.Flight.{Inv, noteBelow, Tree, within}
 use Rattle.cluster_clock_model.proofs.Kept.{AllNeat, Kept, nodes-fit}
 use Rattle.cluster_clock_model.proofs.Seen.{InRange, noteSeen, Ranged, treeIn}
-use Rattle.cluster_clock_model.specs.declared.Due.{Due}
-use Rattle.cluster_clock_model.specs.declared.Due.the-variants.{Fill, Nothing, Put, Swap}
-use Rattle.cluster_clock_model.specs.declared.Stage.{Stage}
-use Rattle.cluster_clock_model.specs.Calls.{fresh, isNothing, quiet, stageCount}
-use Rattle.cluster_clock_model.specs.Promise.{clearedMachine}
-use Rattle.cluster_clock_model.specs.Stage.{below, childOf, noStage, stageAt}
-use Rattle.cluster_model.specs.Heap.{Fit, Heap, many, room, Sound}
-use Rattle.cluster_model.specs.Node.{inside, lhs, Node, nothing, rhs}
-use Rattle.cluster_model.specs.Promise.{nodes, Shape, start, storedCount}
-use Rattle.cluster_model.specs.Way.{child, extent, heapIn, nodeIn, spotOf}
-use Rattle.cluster_model.specs.Words.{width}
-use Rattle.cluster_model.proofs.NeatLevels.{zero-row}
-use Rattle.cluster_model.proofs.Promises.{clear-zeroes, start-empty, start-kept}
-use Rattle.cluster_model.proofs.Stored.{stored-many}
-use Rattle.laws.specs.Tests.{and-left, and-right, and-true}
-use Rattle.strip.specs.declared.Element.{Element}
+use Rattle.cluster_clock_model.specs.Prelude.{Due, Fill, Nothing, Put, Stage, Swap, below, childOf, clearedMachine, fresh, isNothing, noStage, quiet, stageAt, stageCount}
+use Rattle.cluster_model.specs.Prelude.{Fit, Heap, Node, Shape, Sound, child, extent, heapIn, inside, lhs, many, nodeIn, nodes, nothing, rhs, room, spotOf, start, storedCount, width}
+use Rattle.cluster_model.proofs.Laws.{clear-zeroes, start-empty, start-kept, stored-many, zero-row}
 
 -- a heap with no note anywhere
 unfoldable pub calm : (k : ℕ) → Heap k → Tree k

@@ -1,16 +1,6 @@
 -- Over runs from a cleared machine: in every cycle each level does its one step; an operation's last write falls within as many cycles as there are levels; and a gap made
 -- in one cycle is filled in the next.
-use Prim.Native.Nat.{_*_, _+_, _<_, _≤_, suc, zero, ℕ}
-use native.Mathlib.Nat.{le-of-suc-le-suc, not-suc-le-zero, zero-add}
-use native.Mathlib.Decide.{ℕ-discrete}
-use native.Mathlib.Omega.{arith}
-use mathlib.Core.Bool.{Bool, cond, false, false≢true, true}
-use mathlib.Core.List.{[], _∷_, List}
-use mathlib.Core.Logic.{_⊎_, inl, inr}
-use mathlib.Core.Path.{_∙_, _≡_, ap, refl, subst, sym}
-use lib.Dec.{eqb, ltb}
-use lib.ListN.{length, length-set, set}
-use borrow.Author.Tests.{eqb-true, le-ltb, lt-ltb}
+use Rattle.laws.specs.Prelude.{Bool, Element, List, Request, [], _*_, _+_, _<_, _∙_, _∷_, _≡_, _≤_, _⊎_, ap, arith, cond, eqb, eqb-true, false, false≢true, inl, inr, le-ltb, le-of-suc-le-suc, length, length-set, lt-ltb, ltb, not-suc-le-zero, refl, set, subst, suc, sym, true, zero, zero-add, ℕ, ℕ-discrete}
 use Rattle.cluster_clock_model.proofs.Fine.{fit-packed, Sounds, sounds-next}
 use Rattle.cluster_clock_model.proofs.Kept.{Kept, root-sound}
 use Rattle.cluster_clock_model.proofs.OneStep.{one-step}
@@ -18,22 +8,11 @@ use Rattle.cluster_clock_model.proofs.Passes.{down, down-first, down-fi
 use Rattle.cluster_clock_model.proofs.Promises.{kept-undamaged, next-kept, ran-kept}
 use Rattle.cluster_clock_model.proofs.Flight.{noteBelow, within}
 use Rattle.cluster_clock_model.proofs.Seen.{noteSeen, opAt, treeIn}
-use Rattle.cluster_model.proofs.Levels.{opIf}
-use Rattle.cluster_clock_model.specs.declared.Stage.{Stage}
-use Rattle.cluster_clock_model.specs.Promise.{Filled, firstNode, flight, leaveBelow, Machine, OneStep, ran, stageBelow, turnQueue, workOf}
-use Rattle.cluster_clock_model.specs.Stage.{below, childOf, handed, levelStage, lowAt, noStage, settled, stageAt, Work}
-use Rattle.cluster_model.proofs.Pass.{node-count}
-use Rattle.cluster_model.proofs.Places.{gap-has, inside-length, inside-put, low-is, place-here, place-other, place-same}
-use Rattle.cluster_model.specs.Heap.{Fit, room}
-use Rattle.cluster_model.specs.Node.{Bag, begin, fewer, fill, fillFrom, finish, free, gap, has, high, highElem, inside, keep, lhs, low, lowElem, lowerSide, Node, none, Note, nothing, nothingBelow, onto, Op, pick, Place, placeAt, put, putBy, raise, rhs, Side, store, swap, swapBy, take, takeBy, trial}
-use Rattle.cluster_model.specs.Promise.{Shape}
-use Rattle.cluster_model.specs.Way.{child, nodeIn, spotOf, works}
-use Rattle.cluster_model.specs.Words.{width}
+use Rattle.cluster_model.proofs.Laws.{gap-has, inside-length, inside-put, low-is, node-count, opIf, place-here, place-other, place-same}
+use Rattle.cluster_clock_model.specs.Prelude.{Filled, Machine, OneStep, Stage, Work, below, childOf, cycleQueue, firstNode, flight, handed, leaveBelow, levelStage, lowAt, noStage, ran, settled, stageAt, stageBelow, workOf}
+use Rattle.cluster_model.specs.Prelude.{Bag, Fit, Node, Note, Op, Place, Shape, Side, begin, child, fewer, fill, fillFrom, finish, free, gap, has, high, highElem, inside, keep, lhs, low, lowElem, lowerSide, nodeIn, none, nothing, nothingBelow, onto, pick, placeAt, put, putBy, raise, rhs, room, spotOf, store, swap, swapBy, take, takeBy, trial, width, works}
 use Rattle.promise.specs.Flight as flights
-use Rattle.promise.specs.Queue.{leaves}
-use Rattle.promise.specs.Served.{always}
-use Rattle.strip.specs.declared.Element.{Element}
-use Rattle.strip.specs.declared.Request.{Request}
+use Rattle.promise.specs.Prelude.{always, leaves}
 
 module _ (K k : ℕ) where
   kept-step : (r : Request) (x : Machine) → Kept K k x → OneStep K (suc k) r (x .records) (x .words)
@@ -48,18 +27,18 @@ module _ (K k : ℕ) where
 
   -- ---- LAST WRITE: what level i leaves is the work of level i + 1 in the next cycle
   handed-down : (r t : Request) (x : Machine) (i : ℕ) → Kept K k x → suc i ≤ k
-      → let y = turnQueue K (suc k) r x .next in workOf K (suc k) t (y .records) (y .words) (suc i) ≡ leaveBelow K (suc k) i (workOf K (suc k) r (x .records) (x .words) i) x y
+      → let y = cycleQueue K (suc k) r x .next in workOf K (suc k) t (y .records) (y .words) (suc i) ≡ leaveBelow K (suc k) i (workOf K (suc k) r (x .records) (x .words) i) x y
   unfolding workOf
   handed-down r t x i kept h =
-      let y : Machine = turnQueue K (suc k) r x .next in
+      let y : Machine = cycleQueue K (suc k) r x .next in
       ap (λ (q : Stage). handed K (q .due) (q .node) (firstNode i) (y .words))
       (kept-step r x kept .loads i (omega arith) ∙ ap (λ (q : Stage). levelStage K (firstNode i) (workOf K (suc k) r (x .records) (x .words) i) q (x .words)) (sym (below-is (x .records) i h)))
 
   -- the last level leaves nothing
-  last-none : (r : Request) (x : Machine) → Kept K k x → leaveBelow K (suc k) k (workOf K (suc k) r (x .records) (x .words) k) x (turnQueue K (suc k) r x .next) .op ≡ none
+  last-none : (r : Request) (x : Machine) → Kept K k x → leaveBelow K (suc k) k (workOf K (suc k) r (x .records) (x .words) k) x (cycleQueue K (suc k) r x .next) .op ≡ none
   unfolding handed
   last-none r x kept =
-      ap (λ (q : Stage). handed K (q .due) (q .node) (firstNode k) (turnQueue K (suc k) r x .next .words) .op)
+      ap (λ (q : Stage). handed K (q .due) (q .node) (firstNode k) (cycleQueue K (suc k) r x .next .words) .op)
       (ap (λ (q : Stage). levelStage K (firstNode k) (workOf K (suc k) r (x .records) (x .words) k) q (x .words)) (below-last (x .records)) ∙ kept-step r x kept .last)
 
 -- ONE STEP, in every cycle of any list of cycles from the cleared machine
@@ -69,21 +48,21 @@ one-step-run K (suc k) ws rs sh r = kept-step K k r (ran K (suc k) rs ws) (ran-k
 
 -- an operation asked after any list of cycles is done at level n + 1 in the n-th cycle after its own, whatever is asked in between and then ..
 pub in-flight : (K levels : ℕ) (ws : List ℕ) (before : List Request) → Shape K levels (length ws) → (r : Request) (after : List Request) (t : Request) → suc (length after) < levels
-    → let x = ran K levels before ws in let z = leaves (turnQueue K levels) (r ∷ after) x in
+    → let x = ran K levels before ws in let z = leaves (cycleQueue K levels) (r ∷ after) x in
     workOf K levels t (z .records) (z .words) (suc (length after)) ≡ flight K levels 0 (workOf K levels r (x .records) (x .words) 0) (r ∷ after) x
 in-flight K zero ws before sh r after t h = absurd (not-suc-le-zero (sh .some))
 in-flight K (suc k) ws before sh r after t h =
     let x : Machine = ran K (suc k) before ws in
-    let z : Machine = leaves (turnQueue K (suc k)) (r ∷ after) x in
+    let z : Machine = leaves (cycleQueue K (suc k)) (r ∷ after) x in
     ap (λ (j : ℕ). workOf K (suc k) t (z .records) (z .words) (suc j)) (sym (zero-add (length after)))
-    ∙ flights.flies (turnQueue K (suc k)) (leaveBelow K (suc k)) (Kept K k) (next-kept K k) (λ r x. workOf K (suc k) r (x .records) (x .words)) k (handed-down K k) after r t x 0 (ran-kept K ws before k sh) (omega arith)
+    ∙ flights.flies (cycleQueue K (suc k)) (leaveBelow K (suc k)) (Kept K k) (next-kept K k) (λ r x. workOf K (suc k) r (x .records) (x .words)) k (handed-down K k) after r t x 0 (ran-kept K ws before k sh) (omega arith)
 
 -- .. and after as many cycles as there are levels nothing of it is left to do: its last write falls within them, its own cycle included
 pub last-write : (K levels : ℕ) (ws : List ℕ) (before : List Request) → Shape K levels (length ws) → (r : Request) (after : List Request) → length (r ∷ after) ≡ levels
     → let x = ran K levels before ws in flight K levels 0 (workOf K levels r (x .records) (x .words) 0) (r ∷ after) x .op ≡ none
 last-write K zero ws before sh r after h = absurd (not-suc-le-zero (sh .some))
 last-write K (suc k) ws before sh r after h =
-    flights.ends (turnQueue K (suc k)) (leaveBelow K (suc k)) (Kept K k) (next-kept K k) (λ r x. workOf K (suc k) r (x .records) (x .words)) k (handed-down K k) (λ w. w .op ≡ none) (last-none K k) after r
+    flights.ends (cycleQueue K (suc k)) (leaveBelow K (suc k)) (Kept K k) (next-kept K k) (λ r x. workOf K (suc k) r (x .records) (x .words)) k (handed-down K k) (λ w. w .op ≡ none) (last-none K k) after r
     (ran K (suc k) before ws) 0 (ran-kept K ws before k sh) (omega arith)
 
 -- ---- GAPS
@@ -236,7 +215,7 @@ module _ (K k : ℕ) (x : Machine) (kept : Kept K k x) (r : Request) (i n j : �
     up = pick side (lowAt K ws (child at lhs)) (lowAt K ws (child at rhs))
 
     -- the node after the cycle
-    after-is : nodeIn K (turnQueue K (suc k) r x .next .words) at ≡ begin (opAt w n) (low (v .places)) (settled K (fill j) at ws .node) .node
+    after-is : nodeIn K (cycleQueue K (suc k) r x .next .words) at ≡ begin (opAt w n) (low (v .places)) (settled K (fill j) at ws .node) .node
     after-is =
         kept-step K k r x kept .each i n (omega arith) hn
         ∙ level-node K (firstNode i) w (stageBelow K (suc k) rs i) ws n (node-fits K (firstNode i) n (length ws) hn (subst (λ (a : ℕ). spotOf K a + (a + 1) * width K ≤ length ws) (down-first i) (omega (arith, down-fits K k i 0 hi, kept .shape .slice))))
@@ -250,7 +229,7 @@ module _ (K k : ℕ) (x : Machine) (kept : Kept K k x) (r : Request) (i n j : �
     unfolding settled finish
     now = stays j up (opAt w n) (low (v .places)) (fillFrom side j v (lowAt K ws (child at lhs)) (lowAt K ws (child at rhs)) .node) (fill-place j v _ _ side room-for) apart
 
-    fills : Filled K at j NoPut ws (turnQueue K (suc k) r x .next .words)
+    fills : Filled K at j NoPut ws (cycleQueue K (suc k) r x .next .words)
     fills =
         record {
           element = now .element;
@@ -266,7 +245,7 @@ module _ (K k : ℕ) (x : Machine) (kept : Kept K k x) (r : Request) (i n j : �
 pub gap-filled : (K levels : ℕ) (ws : List ℕ) (rs : List Request) → Shape K levels (length ws) → (r : Request) (i n j : ℕ) → i < levels → n < firstNode i + 1 → j < K
     → let x = ran K levels rs ws in let m = firstNode i + n in let w = workOf K levels r (x .records) (x .words) i in
     0 < nodeIn K (x .words) m .left + nodeIn K (x .words) m .right → placeAt (nodeIn K (x .words) m .places) j ≡ gap
-    → Filled K m j ((y : Element) → w .node ≡ n → w .op ≡ put y → ⊥) (x .words) (turnQueue K levels r x .next .words)
+    → Filled K m j ((y : Element) → w .node ≡ n → w .op ≡ put y → ⊥) (x .words) (cycleQueue K levels r x .next .words)
 gap-filled K zero ws rs sh r i n j hi hn hj some empty = absurd (not-suc-le-zero (sh .some))
 gap-filled K (suc k) ws rs sh r i n j hi hn hj some empty =
     let x : Machine = ran K (suc k) rs ws in

@@ -1,28 +1,10 @@
 -- The words and the records as a tree: node n of a level with what the record below it says of that node. A cycle of the pass is a cycle of the tree that
 -- hangs at any node.
-use Prim.Native.Nat.{_*_, _+_, _<_, _≤_, suc, zero, ℕ}
-use native.Mathlib.Nat.{mul-le-mul-right}
-use native.Mathlib.Omega.{arith}
-use mathlib.Core.Bool.{Bool, false, true}
-use mathlib.Core.List.{List}
-use mathlib.Core.Logic.{_⊎_, inl, inr, ⊎-elim}
-use mathlib.Core.Path.{_∙_, _≡_, ap, ap₂, refl, subst, sym}
-use lib.Dec.{eqb, ltb}
-use lib.ListN.{length, length-set, set}
-use lib.Seq.{getD-set-other, getD-set-same}
-use borrow.Author.Tests.{eqb-false, eqb-true, ltb-false, ltb-true, ne-eqb}
+use Rattle.laws.specs.Prelude.{Bool, Element, List, _*_, _+_, _<_, _∙_, _≡_, _≤_, _⊎_, ap, ap₂, arith, eqb, eqb-false, eqb-true, false, getD-set-other, getD-set-same, inl, inr, length, length-set, ltb, ltb-false, ltb-true, mul-le-mul-right, ne-eqb, refl, set, subst, suc, sym, true, zero, ℕ, ⊎-elim}
 use Rattle.cluster_clock_model.proofs.Flight.{cycle, lowOf, noteBelow, Tree}
-use Rattle.cluster_clock_model.specs.declared.Due.{Due}
-use Rattle.cluster_clock_model.specs.declared.Due.the-variants.{Fill, Nothing, Put, Swap}
-use Rattle.cluster_clock_model.specs.declared.Stage.{Stage}
-use Rattle.cluster_clock_model.specs.Stage.{begins, below, childOf, filled, handed, levelStage, levelWords, loaded, lowAt, noStage, noteOf, pass, settled, stage, stageAt, waits, work, Work, worked}
-use Rattle.cluster_model.specs.Node.{begin, Begun, fill, finish, Finished, lhs, low, Node, none, Note, nothing, onto, Op, pick, put, rhs, Side, swap, take, toLeft, toRight, trial}
-use Rattle.cluster_model.specs.Way.{child, extent, nodeIn, spotOf, touch, works}
-use Rattle.cluster_model.specs.Words.{Only, width, word}
-use Rattle.cluster_model.proofs.Levels.{child-op, op-none, opIf, twice, twice-suc}
-use Rattle.cluster_model.proofs.Pass.{begin-length, finish-length, node-count, touch-length, touch-only, touch-read}
-use Rattle.cluster_model.proofs.Words.{node-local}
-use Rattle.strip.specs.declared.Element.{Element}
+use Rattle.cluster_clock_model.specs.Prelude.{Due, Fill, Nothing, Put, Stage, Swap, Work, begins, below, childOf, filled, handed, levelStage, levelWords, loaded, lowAt, noStage, noteOf, pass, settled, stage, stageAt, waits, work, worked}
+use Rattle.cluster_model.specs.Prelude.{Begun, Finished, Node, Note, Only, Op, Side, begin, child, extent, fill, finish, lhs, low, nodeIn, none, nothing, onto, pick, put, rhs, spotOf, swap, take, toLeft, toRight, touch, trial, width, word, works}
+use Rattle.cluster_model.proofs.Laws.{begin-length, child-op, finish-length, node-count, node-local, op-none, opIf, touch-length, touch-only, touch-read, twice, twice-suc}
 
 -- ---- a record, seen from node n of the level above it
 abbrev pub noteIf : Bool → Note → Note

@@ -1,43 +1,14 @@
 -- What a cycle and a drain never read: two machines that are alike are answered the same, and are alike again.
-use Prim.Native.Nat.{_+_, _<_, _≤_, pred, suc, zero, ℕ}
-use native.Mathlib.Nat.{not-suc-le-zero}
-use native.Mathlib.Omega.{arith}
-use mathlib.Core.Bool.{_&&_, _||_, Bool, cond, false, false≢true, not, true}
-use mathlib.Core.List.{List}
-use mathlib.Core.Logic.{inl}
-use mathlib.Core.Path.{_∙_, _≡_, ap, ap₂, refl, subst, sym}
-use lib.Dec.{eqb, ltb}
-use lib.ListN.{length, length-set, set}
-use lib.Seq.{getD-set-same}
-use borrow.Author.Tests.{ltb-false, ltb-true}
-use Rattle.clocked_model.specs.Calls.{asks, isRefused}
-use Rattle.cluster_clock_model.proofs.Exactly.{sound, turned-damaged, turned-either, turned-fine, turned-length}
+use Rattle.laws.specs.Prelude.{Answer, Bool, Done, Element, Idle, List, Request, _&&_, _+_, _<_, _||_, _∙_, _≡_, _≤_, and-right, ap, ap₂, arith, asks, cond, eqb, false, false≢true, getD-set-same, inl, isRefused, length, length-set, ltb, ltb-false, ltb-true, not, not-suc-le-zero, pred, refl, set, subst, suc, sym, true, zero, ℕ}
+use Rattle.cluster_clock_model.proofs.Exactly.{sound, cycled-damaged, cycled-either, cycled-fine, cycled-length}
 use Rattle.cluster_clock_model.proofs.Level.{Has, like-filled, like-worked, same-begins}
 use Rattle.cluster_clock_model.proofs.Passes.{stages-ranged}
 use Rattle.cluster_clock_model.proofs.Seen.{handed-in, InRange, level-in, pass-others, pass-records, Ranged, ranged-set, set-later, Spans, spans-next, spans-own}
-use Rattle.cluster_clock_model.specs.declared.Due.{Due}
-use Rattle.cluster_clock_model.specs.declared.Due.the-variants.{Fill, Nothing, Put, Swap}
-use Rattle.cluster_clock_model.specs.declared.Stage.{Stage}
-use Rattle.cluster_clock_model.specs.Calls.{askedOk, clockHeld, drainFrom, DrainOutcome, drainOutcome, drains, isNothing, pending, quiet, turned, TurnOutcome, turnRun}
-use Rattle.cluster_clock_model.specs.Promise.{Alike, Machine, machine, SameStage, turnQueue}
-use Rattle.cluster_clock_model.specs.Stage.{begins, below, childOf, filled, handed, levelStage, levelWords, loaded, lowAt, noStage, noteOf, pass, Passed, settled, stage, stageAt, waits, work, Work, worked}
-use Rattle.cluster_clock_model.specs.Test.{givesOk, isGap, sane, saneAt, stageOk, stagesOk, waitOk}
-use Rattle.cluster_model.specs.Calls.{rootHeld, rule, ruleAt, Ruling, shapeOk}
-use Rattle.cluster_model.specs.Heap.{room}
-use Rattle.cluster_model.specs.Node.{Begun, fill, finish, Finished, lhs, lowElem, Node, Note, nothingBelow, placeAt, rhs, trial}
-use Rattle.cluster_model.specs.Promise.{Shape}
-use Rattle.cluster_model.specs.Way.{child, extent, nodeIn, roomy, some, spotOf, touch}
-use Rattle.cluster_model.specs.Words.{width}
-use Rattle.cluster_model.proofs.Damages.{is-shape}
+use Rattle.cluster_clock_model.specs.Prelude.{Alike, CycleOutcome, DrainOutcome, Due, Fill, Machine, Nothing, Passed, Put, SameStage, Stage, Swap, Work, askedOk, begins, below, childOf, clockHeld, cycleQueue, cycleRun, cycled, drainFrom, drainOutcome, drains, filled, givesOk, handed, isGap, isNothing, levelStage, levelWords, loaded, lowAt, machine, noStage, noteOf, pass, pending, quiet, sane, saneAt, settled, stage, stageAt, stageOk, stagesOk, waitOk, waits, work, worked}
+use Rattle.cluster_model.specs.Prelude.{Begun, Finished, Node, Note, Ruling, Shape, child, extent, fill, finish, lhs, lowElem, nodeIn, nothingBelow, placeAt, rhs, room, roomy, rootHeld, rule, ruleAt, shapeOk, some, spotOf, touch, trial, width}
+use Rattle.cluster_model.proofs.Laws.{Under, is-shape, root-fits, same-neat, same-node}
 use Rattle.cluster_model.proofs.Unread as heap
-use Rattle.cluster_model.proofs.Unread.{root-fits, same-neat, same-node, Under}
-use Rattle.laws.specs.Tests.{and-right}
-use Rattle.promise.specs.Queue.{Step}
-use Rattle.strip.specs.declared.Answer.{Answer}
-use Rattle.strip.specs.declared.Answer.the-variants.{Done}
-use Rattle.strip.specs.declared.Element.{Element}
-use Rattle.strip.specs.declared.Request.{Request}
-use Rattle.strip.specs.declared.Request.the-variants.{Idle}
+use Rattle.promise.specs.Prelude.{Step}
 
 -- what a machine is asked to be: a good shape, and a record for each level from 2
 pub record Fits (K levels : ℕ) (x : Machine) : Type 0 where
@@ -283,21 +254,21 @@ module _ (K k : ℕ) (x y : Machine) (fx : Fits K (suc k) x) (fy : Fits K (suc k
     same-sound =
         ap₂ (λ (a b : Bool). a && b) (ap (λ (b : Bool). not (asks r) || b) root-test) (same-stages K N (x .words) (y .words) both k 0 0 (x .records) (y .records) stages (omega arith))
 
-    abbrev SameTurn : TurnOutcome → TurnOutcome → Type 0
-    SameTurn c d = (c .answer ≡ d .answer) × Alike K (suc k) (machine (c .records) (c .words)) (machine (d .records) (d .words))
+    abbrev SameCycle : CycleOutcome → CycleOutcome → Type 0
+    SameCycle c d = (c .answer ≡ d .answer) × Alike K (suc k) (machine (c .records) (c .words)) (machine (d .records) (d .words))
 
-    run-alike : sound K (suc k) r (x .records) (x .words) ≡ true → SameTurn (turnRun K (suc k) (ruleAt K (suc k) r (x .words)) (x .records) (x .words)) (turnRun K (suc k) (ruleAt K (suc k) r (y .words)) (y .records) (y .words))
-    unfolding turnRun
+    run-alike : sound K (suc k) r (x .records) (x .words) ≡ true → SameCycle (cycleRun K (suc k) (ruleAt K (suc k) r (x .words)) (x .records) (x .words)) (cycleRun K (suc k) (ruleAt K (suc k) r (y .words)) (y .records) (y .words))
+    unfolding cycleRun
     run-alike e =
         let g : Ruling = ruleAt K (suc k) r (x .words) in
         let l = like-pass K N k 0 (work (g .op) 0) 0 (x .records) (y .records) (x .words) (y .words) both stages (omega arith) (stages-ranged K k 0 0 (x .records) (x .words) (and-right (askedOk K (suc k) r (x .words)) _ e)) (omega arith) (omega (arith, fx .records)) (omega (arith, fy .records)) in
-        subst (λ (h : Ruling). SameTurn (turnRun K (suc k) g (x .records) (x .words)) (turnRun K (suc k) h (y .records) (y .words))) same-rule
+        subst (λ (h : Ruling). SameCycle (cycleRun K (suc k) g (x .records) (x .words)) (cycleRun K (suc k) h (y .records) (y .words))) same-rule
         (refl, record { words = l .words .same; stages = λ i h. whole (l .stages i (omega arith) (omega arith)) })
       where
         whole : {p q : Stage} → p ≡ q → SameStage p q
         whole {p} {q} e = (ap (λ (s : Stage). s .due) e, λ z. ap (λ (s : Stage). s .node) e)
 
-    pub turn-alike : SameTurn (turned K (suc k) r (x .records) (x .words)) (turned K (suc k) r (y .records) (y .words))
+    pub turn-alike : SameCycle (cycled K (suc k) r (x .records) (x .words)) (cycled K (suc k) r (y .records) (y .words))
     turn-alike = go (sound K (suc k) r (x .records) (x .words)) refl
       where
         s : shapeOk K (suc k) (length (x .words)) ≡ true
@@ -306,13 +277,13 @@ module _ (K k : ℕ) (x y : Machine) (fx : Fits K (suc k) x) (fy : Fits K (suc k
         z : shapeOk K (suc k) (length (y .words)) ≡ true
         z = is-shape K (suc k) (length (y .words)) (fy .shape)
 
-        pair : (a b : TurnOutcome) → turned K (suc k) r (x .records) (x .words) ≡ a → turned K (suc k) r (y .records) (y .words) ≡ b → SameTurn a b
-            → SameTurn (turned K (suc k) r (x .records) (x .words)) (turned K (suc k) r (y .records) (y .words))
+        pair : (a b : CycleOutcome) → cycled K (suc k) r (x .records) (x .words) ≡ a → cycled K (suc k) r (y .records) (y .words) ≡ b → SameCycle a b
+            → SameCycle (cycled K (suc k) r (x .records) (x .words)) (cycled K (suc k) r (y .records) (y .words))
         pair a b p q i = rw (p, q) i
 
-        go : (b : Bool) → sound K (suc k) r (x .records) (x .words) ≡ b → SameTurn (turned K (suc k) r (x .records) (x .words)) (turned K (suc k) r (y .records) (y .words))
-        go true e = pair _ _ (turned-fine K (suc k) r (x .records) (x .words) s e) (turned-fine K (suc k) r (y .records) (y .words) z (sym same-sound ∙ e)) (run-alike e)
-        go false e = pair _ _ (turned-damaged K (suc k) r (x .records) (x .words) s e) (turned-damaged K (suc k) r (y .records) (y .words) z (sym same-sound ∙ e)) (refl, like)
+        go : (b : Bool) → sound K (suc k) r (x .records) (x .words) ≡ b → SameCycle (cycled K (suc k) r (x .records) (x .words)) (cycled K (suc k) r (y .records) (y .words))
+        go true e = pair _ _ (cycled-fine K (suc k) r (x .records) (x .words) s e) (cycled-fine K (suc k) r (y .records) (y .words) z (sym same-sound ∙ e)) (run-alike e)
+        go false e = pair _ _ (cycled-damaged K (suc k) r (x .records) (x .words) s e) (cycled-damaged K (suc k) r (y .records) (y .words) z (sym same-sound ∙ e)) (refl, like)
 
   pub held-alike : clockHeld K (suc k) (x .words) ≡ clockHeld K (suc k) (y .words)
   unfolding clockHeld
@@ -320,7 +291,7 @@ module _ (K k : ℕ) (x y : Machine) (fx : Fits K (suc k) x) (fy : Fits K (suc k
 
 -- UNREAD: words behind the shape's, records past the last level, and the node of a record of nothing are not read
 pub unread : (K levels : ℕ) (x y : Machine) → Fits K levels x → Fits K levels y → Alike K levels x y → (r : Request)
-    → (turnQueue K levels r x .said ≡ turnQueue K levels r y .said) × Alike K levels (turnQueue K levels r x .next) (turnQueue K levels r y .next)
+    → (cycleQueue K levels r x .said ≡ cycleQueue K levels r y .said) × Alike K levels (cycleQueue K levels r x .next) (cycleQueue K levels r y .next)
 unread K zero x y fx fy a r = absurd (not-suc-le-zero (fx .shape .some))
 unread K (suc k) x y fx fy a r = turn-alike K k x y fx fy a r
 
@@ -328,12 +299,12 @@ pub unread-held : (K levels : ℕ) (x y : Machine) → Fits K levels x → Fits 
 unread-held K zero x y fx fy a = absurd (not-suc-le-zero (fx .shape .some))
 unread-held K (suc k) x y fx fy a = held-alike K k x y fx fy a
 
-fits-on : (K levels : ℕ) (r : Request) (x : Machine) → Fits K levels x → Fits K levels (turnQueue K levels r x .next)
-unfolding turnRun
+fits-on : (K levels : ℕ) (r : Request) (x : Machine) → Fits K levels x → Fits K levels (cycleQueue K levels r x .next)
+unfolding cycleRun
 fits-on K levels r x f =
     record {
-      shape = subst (λ (n : ℕ). Shape K levels n) (sym (turned-length K levels r (x .records) (x .words))) (f .shape);
-      records = turned-either K levels r (x .records) (x .words) (λ c. pred levels ≤ length (c .records)) (f .records) (f .records)
+      shape = subst (λ (n : ℕ). Shape K levels n) (sym (cycled-length K levels r (x .records) (x .words))) (f .shape);
+      records = cycled-either K levels r (x .records) (x .words) (λ c. pred levels ≤ length (c .records)) (f .records) (f .records)
           (λ e s. subst (λ (n : ℕ). pred levels ≤ n) (sym (pass-records K (pred levels) 0 (work (ruleAt K levels r (x .words) .op) 0) 0 (x .records) (x .words))) (f .records));
     }
 
@@ -358,7 +329,7 @@ module _ (K levels : ℕ) where
       (go (pending K levels (x .records)) (isRefused (next x .said)) (from-alike b (suc n) (next x .next) (next y .next) (fits-on K levels Idle x fx) (fits-on K levels Idle y fy) (u .1)))
     where
       next : Machine → Step Answer Machine
-      next = turnQueue K levels Idle
+      next = cycleQueue K levels Idle
 
       u : (next x .said ≡ next y .said) × Alike K levels (next x .next) (next y .next)
       u = unread K levels x y fx fy a Idle

@@ -1,33 +1,20 @@
 -- The calls of the clocked cluster heap, each a total function of K, levels, records and words to what it answers and leaves.
-use Prim.Native.Nat.{pred, suc, zero, ℕ}
-use mathlib.Core.Bool.{_&&_, _||_, Bool, cond, false, not, true}
-use mathlib.Core.List.{List}
-use lib.ListN.{length, replicate}
-use Rattle.clocked_model.specs.Calls.{asks, isRefused}
+use Rattle.laws.specs.Prelude.{Answer, BadShape, Bool, Count, Damaged, Done, Held, Idle, List, Refused, Request, Unknown, _&&_, _||_, asks, cond, false, isRefused, length, not, pred, replicate, suc, true, zero, ℕ}
 use Rattle.cluster_clock_model.specs.declared.Due.{Due}
 use Rattle.cluster_clock_model.specs.declared.Due.the-variants.{Fill, Nothing, Put, Swap}
 use Rattle.cluster_clock_model.specs.declared.Stage.{Stage}
 use Rattle.cluster_clock_model.specs.Stage.{noStage, pass, stageAt, work}
 use Rattle.cluster_clock_model.specs.Test.{saneAt, stagesOk}
-use Rattle.cluster_model.specs.Calls.{heldIn, ruleAt, Ruling, shapeOk, wipe}
-use Rattle.cluster_model.specs.Heap.{room}
-use Rattle.cluster_model.specs.Way.{extent}
-use Rattle.strip.specs.declared.Answer.{Answer}
-use Rattle.strip.specs.declared.Answer.the-variants.{Done, Refused}
-use Rattle.strip.specs.declared.Count.{Count}
-use Rattle.strip.specs.declared.Count.the-variants.{Held, Unknown}
-use Rattle.strip.specs.declared.Refusal.the-variants.{BadShape, Damaged}
-use Rattle.strip.specs.declared.Request.{Request}
-use Rattle.strip.specs.declared.Request.the-variants.{Idle}
+use Rattle.cluster_model.specs.Prelude.{Ruling, extent, heldIn, room, ruleAt, shapeOk, wipe}
 
 -- ---- what the calls answer and leave
-pub record TurnOutcome : Type 0 where
+pub record CycleOutcome : Type 0 where
   pub answer : Answer
   pub words : List ℕ
   pub records : List Stage
 
-abbrev pub turnOutcome : Answer → List ℕ → List Stage → TurnOutcome
-turnOutcome a ws rs = record { answer = a; words = ws; records = rs }
+abbrev pub cycleOutcome : Answer → List ℕ → List Stage → CycleOutcome
+cycleOutcome a ws rs = record { answer = a; words = ws; records = rs }
 
 pub record DrainOutcome : Type 0 where
   pub answer : Answer
@@ -66,17 +53,17 @@ module _ (K levels : ℕ) where
   askedOk r ws = not (asks r) || saneAt K (room K (pred levels)) ws 0
 
   -- the words and the records that a cycle leaves: what the request comes to is done at the root
-  unfoldable pub turnRun : Ruling → List Stage → List ℕ → TurnOutcome
-  turnRun g rs ws =
+  unfoldable pub cycleRun : Ruling → List Stage → List ℕ → CycleOutcome
+  cycleRun g rs ws =
       let p = pass K (pred levels) 0 (work (g .op) 0) 0 rs ws in
-      turnOutcome (g .answer) (p .words) (p .records)
+      cycleOutcome (g .answer) (p .words) (p .records)
 
   -- 1, 2, 7, then 5 or 6. After 5, 6 and 7 the cycle runs as idle: such a ruling has no work. Nothing is ever too soon
-  unfoldable pub turned : Request → List Stage → List ℕ → TurnOutcome
-  turned r rs ws =
+  unfoldable pub cycled : Request → List Stage → List ℕ → CycleOutcome
+  cycled r rs ws =
       cond (shapeOk K levels (length ws))
-      (cond (askedOk r ws && stagesOk K (pred levels) 0 0 rs ws) (turnRun (ruleAt K levels r ws) rs ws) (turnOutcome (Refused Damaged) ws rs))
-      (turnOutcome (Refused BadShape) ws rs)
+      (cond (askedOk r ws && stagesOk K (pred levels) 0 0 rs ws) (cycleRun (ruleAt K levels r ws) rs ws) (cycleOutcome (Refused Damaged) ws rs))
+      (cycleOutcome (Refused BadShape) ws rs)
 
   -- ---- drain
   -- is work pending? Records past the last level are not counted
@@ -88,7 +75,7 @@ module _ (K levels : ℕ) where
   unfoldable pub drainFrom : ℕ → ℕ → List Stage → List ℕ → DrainOutcome
   drainFrom zero n rs ws = drainOutcome Done n (pending rs) ws rs
   drainFrom (suc b) n rs ws =
-      let o = turned Idle rs ws in
+      let o = cycled Idle rs ws in
       cond (pending rs)
       (cond (isRefused (o .answer)) (drainOutcome (o .answer) n true (o .words) (o .records)) (drainFrom b (suc n) (o .records) (o .words)))
       (drainOutcome Done n false ws rs)
@@ -99,8 +86,8 @@ module _ (K levels : ℕ) where
 
   -- ---- clear and held
   -- "Clear writes zeros", and nothing is pending; refused it leaves everything, the records that it is handed too
-  unfoldable pub clockCleared : List Stage → List ℕ → TurnOutcome
-  clockCleared rs ws = cond (shapeOk K levels (length ws)) (turnOutcome Done (wipe (extent K levels 1) ws) fresh) (turnOutcome (Refused BadShape) ws rs)
+  unfoldable pub clockCleared : List Stage → List ℕ → CycleOutcome
+  clockCleared rs ws = cond (shapeOk K levels (length ws)) (cycleOutcome Done (wipe (extent K levels 1) ws) fresh) (cycleOutcome (Refused BadShape) ws rs)
 
   -- held reads the root alone, in the middle of any work too
   unfoldable pub clockHeld : List ℕ → Count

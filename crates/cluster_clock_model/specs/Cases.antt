@@ -1,16 +1,8 @@
 -- Worked machines in the middle of their work, with K = 2: the records, each as six numbers (kind, node, place, rank, tag, length), and the words. At levels 2,
 -- 5/50, 3/30, 8/80, 1/10 pushed, then a pop, a push, a replace; at levels 3 with two operations in flight.
-use Prim.Native.Nat.{ℕ}
-use mathlib.Core.List.{[], _++_, _∷_, List}
-use lib.ListN.{replicate}
-use Rattle.cluster_clock_model.specs.Promise.{ran, turnAnswers}
+use Rattle.laws.specs.Prelude.{Answer, Done, Empty, Idle, List, NoTag, Out, Pop, Push, Refused, Replace, Request, [], _++_, _∷_, element, replicate, ℕ}
+use Rattle.cluster_clock_model.specs.Promise.{ran, cycleAnswers}
 use Rattle.cluster_clock_model.specs.Stage.{stageAt, stageNumbers}
-use Rattle.strip.specs.Answers.{element}
-use Rattle.strip.specs.declared.Answer.{Answer}
-use Rattle.strip.specs.declared.Answer.the-variants.{Done, Out, Refused}
-use Rattle.strip.specs.declared.Refusal.the-variants.{Empty, NoTag}
-use Rattle.strip.specs.declared.Request.{Request}
-use Rattle.strip.specs.declared.Request.the-variants.{Idle, Pop, Push, Replace}
 
 abbrev pub fourPushes : List Request
 fourPushes = Push (element 5 50 500) ∷ Push (element 3 30 300) ∷ Push (element 8 80 800) ∷ Push (element 1 10 100) ∷ []
@@ -81,7 +73,7 @@ caseFlightSays =
 
 -- .. and what cycles are answered, one a cycle: the lowest each time, also where it came in the cycle before; an empty heap refuses 6, tag 0 is refused 7
 unfoldable pub caseFlightAnswers : List Answer
-caseFlightAnswers = turnAnswers 2 3 (eightPushes ++ (Pop ∷ Replace (element 9 90 900) ∷ Push (element 2 25 250) ∷ Pop ∷ Pop ∷ Pop ∷ Replace (element 1 1 10) ∷ Pop ∷ Pop ∷ Pop ∷ Pop ∷ Pop ∷ Pop ∷ Push (element 1 0 0) ∷ [])) (replicate 70 0)
+caseFlightAnswers = cycleAnswers 2 3 (eightPushes ++ (Pop ∷ Replace (element 9 90 900) ∷ Push (element 2 25 250) ∷ Pop ∷ Pop ∷ Pop ∷ Replace (element 1 1 10) ∷ Pop ∷ Pop ∷ Pop ∷ Pop ∷ Pop ∷ Pop ∷ Push (element 1 0 0) ∷ [])) (replicate 70 0)
 
 abbrev pub caseFlightAnswersSay : List Answer
 caseFlightAnswersSay = Done ∷ Done ∷ Done ∷ Done ∷ Done ∷ Done ∷ Done ∷ Done ∷ Out (element 1 10 100) ∷ Out (element 2 20 200) ∷ Done ∷ Out (element 2 25 250) ∷ Out (element 3 30 300) ∷ Out (element 4 40 400) ∷ Out (element 5 50 500) ∷ Out (element 1 1 10) ∷ Out (element 6 60 600) ∷ Out (element 7 70 700) ∷ Out (element 8 80 800) ∷ Out (element 9 90 900) ∷ Refused Empty ∷ Refused NoTag ∷ []
@@ -98,7 +90,7 @@ abbrev pub caseTieSays : List (List ℕ)
 caseTieSays = (0 ∷ 0 ∷ 0 ∷ 0 ∷ 0 ∷ 0 ∷ 0 ∷ 0 ∷ 3 ∷ 20 ∷ 200 ∷ 1 ∷ 0 ∷ 0 ∷ 0 ∷ 0 ∷ 0 ∷ 0 ∷ 0 ∷ 0 ∷ 0 ∷ 0 ∷ 0 ∷ 0 ∷ 0 ∷ 0 ∷ 0 ∷ 0 ∷ 0 ∷ 0 ∷ 0 ∷ 0 ∷ 0 ∷ 0 ∷ 0 ∷ 0 ∷ []) ∷ []
 
 unfoldable pub caseTieAnswers : List Answer
-caseTieAnswers = turnAnswers 2 2 (tieCycles ++ (Pop ∷ Pop ∷ [])) (replicate 30 0)
+caseTieAnswers = cycleAnswers 2 2 (tieCycles ++ (Pop ∷ Pop ∷ [])) (replicate 30 0)
 
 abbrev pub caseTieAnswersSay : List Answer
 caseTieAnswersSay = Done ∷ Done ∷ Done ∷ Out (element 1 10 100) ∷ Out (element 3 30 300) ∷ Out (element 3 20 200) ∷ Refused Empty ∷ []

@@ -1,42 +1,15 @@
 -- What is promised of the clocked cluster heap is said in these words: the machine over a list of cycles, the causes of refusal, each level's one step, and what
 -- is held in the middle of any work.
-use Prim.Native.Nat.{_*_, _+_, _<_, _≤_, pred, suc, zero, ℕ}
-use mathlib.Core.Bool.{_&&_, Bool, cond, false, not}
-use mathlib.Core.List.{List}
-use mathlib.Core.Logic.{_⊎_}
-use mathlib.Core.Path.{_≡_}
-use lib.Dec.{ltb}
-use lib.ListN.{length, replicate}
-use Rattle.clocked_model.specs.Lost.{Call}
-use Rattle.promise.specs.Calls.{grants, lastTable}
-use Rattle.promise.specs.Clock.{Clock, cycle, drain, runsIdle}
-use Rattle.clocked_model.specs.Promise.{Asks, isBadShape}
+use Rattle.laws.specs.Prelude.{Answer, BadShape, Bool, Damaged, Element, Idle, Ladder, List, NoTag, Refusal, Refused, Request, _&&_, _*_, _+_, _<_, _≡_, _≤_, _⊎_, cond, false, fine, length, ltb, not, pred, replicate, rung, runsIdle, stop, suc, sumTo, zero, ℕ}
+use Rattle.promise.specs.Prelude.{Asks, Clock, SoleCall as Call, Step, Stuck as StuckAt, Untagged, answers, cycle, drain, grants, hit, isBadShape, lastTable, leaves, limits, step}
 use Rattle.cluster_clock_model.specs.declared.Due.{Due}
 use Rattle.cluster_clock_model.specs.declared.Due.the-variants.{Fill, Nothing, Put, Swap}
 use Rattle.cluster_clock_model.specs.declared.Stage.{Stage}
-use Rattle.cluster_clock_model.specs.Calls.{askedOk, drainOutcome, DrainOutcome, drains, fresh, pending, turned, turnOutcome, TurnOutcome}
+use Rattle.cluster_clock_model.specs.Calls.{askedOk, drainOutcome, DrainOutcome, drains, fresh, pending, cycled, cycleOutcome, CycleOutcome}
 use Rattle.cluster_clock_model.specs.Stage.{below, handed, levelStage, levelWords, lowAt, noStage, pass, stageAt, work, Work}
 use Rattle.cluster_clock_model.specs.Test.{saneAt, stagesOk}
-use Rattle.cluster_model.specs.Calls.{heldIn, opOf, ruleAt, shapeOk, wipe}
-use Rattle.cluster_model.specs.Heap.{room}
-use Rattle.cluster_model.specs.Node.{gap, has, lhs, lowElem, none, placeAt, rhs, Side}
-use Rattle.cluster_model.specs.Promise.{Agree, AnyTo, marked, PlaceDamaged, Shape, start, storedCount, Stuck}
-use Rattle.cluster_model.specs.Way.{child, extent, nodeIn}
-use Rattle.cluster_model.specs.Words.{word}
-use Rattle.laws.specs.Ladder.{fine, Ladder, rung, stop}
-use Rattle.laws.specs.Sums.{sumTo}
+use Rattle.cluster_model.specs.Prelude.{Agree, AnyTo, PlaceDamaged, Shape, Side, Stuck, child, extent, gap, has, heldIn, lhs, lowElem, marked, nodeIn, none, opOf, placeAt, rhs, room, ruleAt, shapeOk, start, storedCount, wipe, word}
 use Rattle.promise.specs.Flight as flights
-use Rattle.promise.specs.Queue.{answers, leaves, step, Step}
-use Rattle.promise.specs.Refused.{limits, Untagged}
-use Rattle.promise.specs.Served.{hit}
-use Rattle.strip.specs.declared.Answer.{Answer}
-use Rattle.strip.specs.declared.Answer.the-variants.{Refused}
-use Rattle.strip.specs.declared.Element.{Element}
-use Rattle.strip.specs.declared.Refusal.{Refusal}
-use Rattle.strip.specs.declared.Refusal.the-variants.{BadShape, Damaged, NoTag}
-use Rattle.strip.specs.declared.Request.{Request}
-use Rattle.strip.specs.declared.Request.the-variants.{Idle}
-use Rattle.promise.specs.Drains.{Stuck as StuckAt}
 
 -- ---- the clocked heap as a queue: a list of cycles, each handed the words and the records that the one before left
 pub record Machine : Type 0 where
@@ -47,24 +20,24 @@ abbrev pub machine : List Stage → List ℕ → Machine
 machine rs ws = record { records = rs; words = ws }
 
 module _ (K levels : ℕ) where
-  abbrev pub turnQueue : Request → Machine → Step Answer Machine
-  turnQueue r x =
-      let o = turned K levels r (x .records) (x .words) in
+  abbrev pub cycleQueue : Request → Machine → Step Answer Machine
+  cycleQueue r x =
+      let o = cycled K levels r (x .records) (x .words) in
       step (o .answer) (machine (o .records) (o .words))
 
   -- so many idle cycles
   abbrev pub idles : ℕ → Machine → Machine
-  idles n x = leaves turnQueue (replicate n Idle) x
+  idles n x = leaves cycleQueue (replicate n Idle) x
 
   -- any list of cycles from the cleared machine: what is left, and what it is answered
   abbrev pub clearedMachine : List ℕ → Machine
   clearedMachine ws = machine fresh (start K levels ws)
 
   abbrev pub ran : List Request → List ℕ → Machine
-  ran rs ws = leaves turnQueue rs (clearedMachine ws)
+  ran rs ws = leaves cycleQueue rs (clearedMachine ws)
 
-  abbrev pub turnAnswers : List Request → List ℕ → List Answer
-  turnAnswers rs ws = answers turnQueue rs (clearedMachine ws)
+  abbrev pub cycleAnswers : List Request → List ℕ → List Answer
+  cycleAnswers rs ws = answers cycleQueue rs (clearedMachine ws)
 
   -- nothing is pending
   abbrev pub AtRest : Machine → Type 0
@@ -103,8 +76,8 @@ module _ (K : ℕ) where
   StagesTorn (suc k) a i rs ws = StageTorn k (stageAt rs i .due) (stageAt rs i .node) a ws ⊎ StagesTorn k (below a) (suc i) rs ws
 
   -- cause 2 of a cycle: the root of an operation asked for, or what a record names and reads
-  abbrev pub TurnDamage : ℕ → Request → List Stage → List ℕ → Type 0
-  TurnDamage levels r rs ws = (Asks r × NodeTorn (room K (pred levels)) ws 0) ⊎ StagesTorn (pred levels) 0 0 rs ws
+  abbrev pub CycleDamage : ℕ → Request → List Stage → List ℕ → Type 0
+  CycleDamage levels r rs ws = (Asks r × NodeTorn (room K (pred levels)) ws 0) ⊎ StagesTorn (pred levels) 0 0 rs ws
 
 -- ---- what this heap brings to a clock
 abbrev pub clock : ℕ → ℕ → Clock Request Machine
@@ -115,7 +88,7 @@ clock K levels =
       shapeOk = λ x. shapeOk K levels (length (x .words));
       Shape = λ x. Shape K levels (length (x .words));
       soundOk = λ r x. askedOk K levels r (x .words) && stagesOk K (pred levels) 0 0 (x .records) (x .words);
-      Torn = λ r x. TurnDamage K levels r (x .records) (x .words);
+      Torn = λ r x. CycleDamage K levels r (x .records) (x .words);
       late = λ r x. lastTable r (heldIn K levels (x .words)) (room K levels);
       gives = λ r x. grants r (lowElem (nodeIn K (x .words) 0 .places));
       moves = λ r x. let p = pass K (pred levels) 0 (work (opOf r) 0) 0 (x .records) (x .words) in machine (p .records) (p .words);
@@ -127,18 +100,18 @@ clock K levels =
     }
 
 -- the table, in order: 1, 2, 7, then 5 or 6. There is no 3
-abbrev pub turnRefusals : ℕ → ℕ → Request → List Stage → List ℕ → Ladder Refusal
-turnRefusals K levels r rs ws =
+abbrev pub cycleRefusals : ℕ → ℕ → Request → List Stage → List ℕ → Ladder Refusal
+cycleRefusals K levels r rs ws =
     rung BadShape (Shape K levels (length ws))
-    (stop Damaged (TurnDamage K levels r rs ws)
+    (stop Damaged (CycleDamage K levels r rs ws)
     (stop NoTag (Untagged r)
     (limits r (heldIn K levels ws) (room K levels) fine)))
 
 -- column "Left behind": after 1 and 2 everything, records too; after the others the "cycle runs as idle"
-abbrev pub turnLeft : ℕ → ℕ → List Stage → List ℕ → Refusal → TurnOutcome
-turnLeft K levels rs ws n =
+abbrev pub cycleLeft : ℕ → ℕ → List Stage → List ℕ → Refusal → CycleOutcome
+cycleLeft K levels rs ws n =
     let x = cond {A = Machine} (runsIdle n) (idles K levels 1 (machine rs ws)) (machine rs ws) in
-    turnOutcome (Refused n) (x .words) (x .records)
+    cycleOutcome (Refused n) (x .words) (x .records)
 
 -- .. of held, which reads the root alone
 abbrev pub heldRefusals : ℕ → ℕ → List ℕ → Ladder Refusal
@@ -146,7 +119,7 @@ heldRefusals K levels ws = rung BadShape (Shape K levels (length ws)) (stop Dama
 
 -- a refused drain: within the budget and with work pending all along, so many idle cycles run and the next meets damage
 abbrev pub Jams : ℕ → ℕ → ℕ → ℕ → Machine → Type 0
-Jams K levels budget cycles x = StuckAt (turnQueue K levels) (λ x. pending K levels (x .records)) (λ x. TurnDamage K levels Idle (x .records) (x .words)) budget cycles x
+Jams K levels budget cycles x = StuckAt (cycleQueue K levels) (λ x. pending K levels (x .records)) (λ x. CycleDamage K levels Idle (x .records) (x .words)) budget cycles x
 
 abbrev pub drainRefusals : ℕ → ℕ → ℕ → List Stage → List ℕ → Ladder Refusal
 drainRefusals K levels budget rs ws = rung BadShape (Shape K levels (length ws)) (stop Damaged ((n : ℕ) × Jams K levels budget n (machine rs ws)) fine)
@@ -211,27 +184,27 @@ module _ (K levels : ℕ) where
     -- "registered reads, writes to the own level only": node n of level i is what the level's own step makes of it, on the words as they stood at the cycle's
     -- start ..
     pub each : (i n : ℕ) → i < levels → n < firstNode i + 1
-        → nodeIn K (turned K levels r rs ws .words) (firstNode i + n)
+        → nodeIn K (cycled K levels r rs ws .words) (firstNode i + n)
         ≡ nodeIn K (levelWords K (firstNode i) (workOf r rs ws i) (stageBelow rs i) ws) (firstNode i + n)
     -- .. word by word
-    pub words : (i p : ℕ) → i < levels → InLevel i p → word (turned K levels r rs ws .words) p ≡ word (levelWords K (firstNode i) (workOf r rs ws i) (stageBelow rs i) ws) p
+    pub words : (i p : ℕ) → i < levels → InLevel i p → word (cycled K levels r rs ws .words) p ≡ word (levelWords K (firstNode i) (workOf r rs ws i) (stageBelow rs i) ws) p
     -- .. a step that changes no word of another level
     pub own : (i : ℕ) → i < levels → (p : ℕ) → (p < firstNode i * (2 + K * 4)) ⊎ (firstNode (suc i) * (2 + K * 4) ≤ p)
         → word (levelWords K (firstNode i) (workOf r rs ws i) (stageBelow rs i) ws) p ≡ word ws p
     -- a node with nothing to do stands ..
-    pub stands : (i n p : ℕ) → i < levels → n < firstNode i + 1 → (Busy r rs ws i n → ⊥) → InNode (firstNode i + n) p → word (turned K levels r rs ws .words) p ≡ word ws p
+    pub stands : (i n p : ℕ) → i < levels → n < firstNode i + 1 → (Busy r rs ws i n → ⊥) → InNode (firstNode i + n) p → word (cycled K levels r rs ws .words) p ≡ word ws p
     -- .. and so a level with nothing to do changes no word
-    pub still : (i p : ℕ) → i < levels → ((n : ℕ) → n < firstNode i + 1 → Busy r rs ws i n → ⊥) → InLevel i p → word (turned K levels r rs ws .words) p ≡ word ws p
+    pub still : (i p : ℕ) → i < levels → ((n : ℕ) → n < firstNode i + 1 → Busy r rs ws i n → ⊥) → InLevel i p → word (cycled K levels r rs ws .words) p ≡ word ws p
     -- no word past the shape's changes
-    pub past : (p : ℕ) → extent K levels 1 ≤ p → word (turned K levels r rs ws .words) p ≡ word ws p
+    pub past : (p : ℕ) → extent K levels 1 ≤ p → word (cycled K levels r rs ws .words) p ≡ word ws p
     -- each record is what the level above leaves for it, else nothing: it lives for one cycle
-    pub loads : (i : ℕ) → suc i < levels → stageAt (turned K levels r rs ws .records) i ≡ levelStage K (firstNode i) (workOf r rs ws i) (stageAt rs i) ws
+    pub loads : (i : ℕ) → suc i < levels → stageAt (cycled K levels r rs ws .records) i ≡ levelStage K (firstNode i) (workOf r rs ws i) (stageAt rs i) ws
     -- a record of nothing is zeros: "What is not loaded is written as nothing with all numbers 0"
-    pub zeros : (i : ℕ) → suc i < levels → stageAt (turned K levels r rs ws .records) i .due ≡ Nothing → stageAt (turned K levels r rs ws .records) i .node ≡ 0
+    pub zeros : (i : ℕ) → suc i < levels → stageAt (cycled K levels r rs ws .records) i .due ≡ Nothing → stageAt (cycled K levels r rs ws .records) i .node ≡ 0
     -- the last level leaves nothing
     pub last : levelStage K (firstNode (pred levels)) (workOf r rs ws (pred levels)) noStage ws ≡ noStage
     -- records past the last level are left alone
-    pub spare : (j : ℕ) → pred levels ≤ j → stageAt (turned K levels r rs ws .records) j ≡ stageAt rs j
+    pub spare : (j : ℕ) → pred levels ≤ j → stageAt (cycled K levels r rs ws .records) j ≡ stageAt rs j
 
   -- what level i reads in a cycle: its own words and the record below it; of a node that waits in it the two children; of the level above the record between, and a node
   -- that waits there, whose two children are its own. The request is the root's alone. Two machines with the same of it
@@ -249,7 +222,7 @@ leaveBelow K levels i w x y = let q = levelStage K (firstNode i) w (stageBelow K
 
 -- an operation's work on its way down: w at level i in this cycle, what it leaves at level i + 1 in the next, whatever is asked then
 abbrev pub flight : (K levels i : ℕ) → Work → List Request → Machine → Work
-flight K levels = flights.flight (turnQueue K levels) (leaveBelow K levels)
+flight K levels = flights.flight (cycleQueue K levels) (leaveBelow K levels)
 
 -- "a gap filled from below one cycle later": place j of node m, empty in ws with something below it, is not in vs; and where no put is done there in that cycle, it has the
 -- lowest of one of the two children as they stood
@@ -281,7 +254,7 @@ module _ (K levels : ℕ) where
 
   -- the calls between two clearings: a cycle with any request, a drain with any budget
   abbrev pub machineQueue : Call → Machine → Step Answer Machine
-  machineQueue (cycle r) x = turnQueue K levels r x
+  machineQueue (cycle r) x = cycleQueue K levels r x
   machineQueue (drain b) x =
       let d = drains K levels b (x .records) (x .words) in
       step (d .answer) (machine (d .records) (d .words))

@@ -1,15 +1,10 @@
 -- One cycle over the words and the records: one pass in place, from the root down. A level is read before it is written, the level below is read as it
 -- stood at the cycle's start, and each level writes its own nodes and loads the record below it.
-use Prim.Native.Nat.{_+_, suc, zero, ℕ}
-use mathlib.Core.Bool.{Bool, false, true}
-use mathlib.Core.List.{[], _∷_, List}
-use lib.ListN.{getD, set}
+use Rattle.laws.specs.Prelude.{Bool, Element, List, _+_, _∷_, blank, elementNumbers, false, getD, set, suc, true, zero, ℕ}
 use Rattle.cluster_clock_model.specs.declared.Due.{Due}
 use Rattle.cluster_clock_model.specs.declared.Due.the-variants.{Fill, Nothing, Put, Swap}
 use Rattle.cluster_clock_model.specs.declared.Stage.{Stage}
-use Rattle.cluster_model.specs.Node.{begin, Begun, fill, finish, Finished, lhs, low, lowElem, none, Note, nothing, onto, Op, put, rhs, Side, trial}
-use Rattle.cluster_model.specs.Way.{child, nodeIn, spotOf, touch, works}
-use Rattle.strip.specs.declared.Element.{Element}
+use Rattle.cluster_model.specs.Prelude.{Begun, Finished, Note, Op, Side, begin, child, fill, finish, lhs, low, lowElem, nodeIn, none, nothing, onto, put, rhs, spotOf, touch, trial, works}
 
 -- ---- records
 abbrev pub stage : Due → ℕ → Stage
@@ -38,10 +33,10 @@ waits (Swap j x) = true
 
 -- a record as six numbers: kind (0 nothing, 1 put, 2 fill, 3 swap), node, place, rank, tag, length. "Numbers that a kind does not use are written 0"
 abbrev pub numbersFrom : Due → ℕ → List ℕ
-numbersFrom Nothing n = 0 ∷ 0 ∷ 0 ∷ 0 ∷ 0 ∷ 0 ∷ []
-numbersFrom (Put y) n = 1 ∷ n ∷ 0 ∷ y .rank .0 ∷ y .tag .0 ∷ y .length .0 ∷ []
-numbersFrom (Fill j) n = 2 ∷ n ∷ j ∷ 0 ∷ 0 ∷ 0 ∷ []
-numbersFrom (Swap j x) n = 3 ∷ n ∷ j ∷ x .rank .0 ∷ x .tag .0 ∷ x .length .0 ∷ []
+numbersFrom Nothing n = 0 ∷ 0 ∷ 0 ∷ elementNumbers blank
+numbersFrom (Put y) n = 1 ∷ n ∷ 0 ∷ elementNumbers y
+numbersFrom (Fill j) n = 2 ∷ n ∷ j ∷ elementNumbers blank
+numbersFrom (Swap j x) n = 3 ∷ n ∷ j ∷ elementNumbers x
 
 abbrev pub stageNumbers : Stage → List ℕ
 stageNumbers q = numbersFrom (q .due) (q .node)

@@ -1,17 +1,11 @@
 -- The tests for damage: of a node, of a record with what it reads, and of all that a cycle reads. All come before the first write.
-use Prim.Native.Nat.{_+_, suc, zero, ℕ}
-use mathlib.Core.Bool.{_&&_, _||_, Bool, false, not, true}
-use mathlib.Core.List.{List}
-use lib.Dec.{eqb, leb, ltb}
-use lib.ListN.{length}
+use Rattle.laws.specs.Prelude.{Bool, List, _&&_, _+_, _||_, eqb, false, leb, length, ltb, not, suc, true, zero, ℕ}
 use Rattle.cluster_clock_model.specs.declared.Due.{Due}
 use Rattle.cluster_clock_model.specs.declared.Due.the-variants.{Fill, Nothing, Put, Swap}
 use Rattle.cluster_clock_model.specs.declared.Stage.{Stage}
 use Rattle.cluster_clock_model.specs.Stage.{below, stageAt}
-use Rattle.cluster_model.specs.Heap.{room}
-use Rattle.cluster_model.specs.Node.{gap, has, inside, lhs, Node, nothingBelow, Place, placeAt, rhs}
-use Rattle.cluster_model.specs.Way.{child, neatTo, nodeIn, roomy, some, spotOf}
-use Rattle.promise.specs.Served.{always}
+use Rattle.cluster_model.specs.Prelude.{Node, Place, child, gap, has, inside, lhs, neatTo, nodeIn, nothingBelow, placeAt, rhs, room, roomy, some, spotOf}
+use Rattle.promise.specs.Prelude.{always}
 
 unfoldable pub isGap : Place → Bool
 isGap gap = true

@@ -1,22 +1,8 @@
 -- Each test for damage fails exactly where the place, the node, the step or the path is damaged; and the shape's test says what 02's numbers say.
-use Prim.Native.Nat.{_*_, _+_, _<_, _≤_, suc, zero, ℕ}
-use native.Mathlib.Omega.{arith}
-use mathlib.Core.Bool.{_&&_, _||_, Bool, false, true, true≢false}
-use mathlib.Core.List.{List}
-use mathlib.Core.Logic.{_⊎_, inl, inr, ⊎-elim}
-use mathlib.Core.Path.{_≡_, refl}
-use lib.Dec.{eqb, leb, ltb}
-use lib.ListN.{length}
-use borrow.Author.Tests.{eqb-false, eqb-true, le-ltb, ltb-false, ne-eqb}
-use Rattle.laws.specs.Fails.{Fails, fails-and, fails-leb, fails-or, fails-true}
-use Rattle.laws.specs.Means.{Means, means-and, means-by, means-leb}
-use Rattle.promise.specs.Served.{always}
-use Rattle.cluster_model.specs.Calls.{placeLimit, shapeOk}
-use Rattle.cluster_model.specs.Heap.{room}
-use Rattle.cluster_model.specs.Node.{inside, lhs, Node, none, nothingBelow, Op, put, rhs, swap, take}
-use Rattle.cluster_model.specs.Promise.{AnyTo, ChildDamaged, marked, NodeDamaged, PathDamaged, PlaceDamaged, Shape, StepDamaged, Stuck}
-use Rattle.cluster_model.specs.Way.{child, childrenOk, extent, neatTo, nodeIn, nodeOk, ownOk, readOk, roomy, some, stepIn, strict, under1, wayOk}
-use Rattle.cluster_model.specs.Words.{neatPlace, width, word}
+use Rattle.laws.specs.Prelude.{Bool, Element, Fails, List, Means, _&&_, _*_, _+_, _<_, _||_, _≡_, _≤_, _⊎_, arith, elementIn, eqb, eqb-false, eqb-true, fails-and, fails-leb, fails-or, fails-true, false, inl, inr, isBlank, le-ltb, leb, length, ltb, ltb-false, means-and, means-by, means-leb, ne-eqb, refl, suc, true, true≢false, zero, ℕ, ⊎-elim}
+use Rattle.promise.specs.Prelude.{always, blank-fails}
+use Rattle.strip.proofs.Words.{blank-says}
+use Rattle.cluster_model.specs.Prelude.{AnyTo, ChildDamaged, Node, NodeDamaged, Op, PathDamaged, PlaceDamaged, Shape, StepDamaged, Stuck, child, childrenOk, extent, inside, lhs, markAt, marked, neatPlace, neatTo, nodeIn, nodeOk, none, nothingBelow, ownOk, placeLimit, placeWords, put, readOk, rhs, room, roomy, shapeOk, some, stepIn, strict, swap, take, under1, wayOk, width, word}
 use Rattle.cluster_model.proofs.Pass.{node-count}
 
 -- the same damage in other words
@@ -29,47 +15,35 @@ fails-ltb a b = record { found = λ e. ltb-false a b e; shown = λ h. le-ltb a b
 -- ---- a place
 pub place-fails : (ws : List ℕ) (o : ℕ) → Fails (neatPlace ws o) (PlaceDamaged ws o)
 unfolding neatPlace
-place-fails ws o =
-    go (eqb (word ws (o + 3)) 0) refl (eqb (word ws (o + 3)) 1) refl (eqb (word ws o) 0) refl (eqb (word ws (o + 1)) 0) refl (eqb (word ws (o + 2)) 0) refl
+place-fails ws o = go (eqb m 0) refl (eqb m 1) refl (isBlank x) refl
   where
-    r : ℕ
-    r = word ws o
-
-    t : ℕ
-    t = word ws (o + 1)
-
-    l : ℕ
-    l = word ws (o + 2)
+    x : Element
+    x = elementIn ws o
 
     m : ℕ
-    m = word ws (o + 3)
+    m = word ws (markAt o)
 
     one : m ≡ 1 → PlaceDamaged ws o → ⊥
     one e d = ⊎-elim (λ h. omega arith) (λ h. omega (arith, h .0)) d
 
-    go : (a : Bool) → eqb m 0 ≡ a → (u : Bool) → eqb m 1 ≡ u → (b : Bool) → eqb r 0 ≡ b → (c : Bool) → eqb t 0 ≡ c → (d : Bool) → eqb l 0 ≡ d
-        → Fails ((a && (b && (c && d))) || u) (PlaceDamaged ws o)
-    go true pa u pu true pb true pc true pd =
+    go : (a : Bool) → eqb m 0 ≡ a → (u : Bool) → eqb m 1 ≡ u → (b : Bool) → isBlank x ≡ b → Fails ((a && b) || u) (PlaceDamaged ws o)
+    go true pa u pu true pb =
         record {
           found = λ e. absurd (true≢false e);
-          shown = λ d. absurd (⊎-elim (λ h. omega (arith, eqb-true m 0 pa)) (λ h. h .1 (eqb-true r 0 pb, eqb-true t 0 pc, eqb-true l 0 pd)) d);
+          shown = λ d. absurd (⊎-elim (λ h. omega (arith, eqb-true m 0 pa)) (λ h. h .1 (blank-says x pb)) d);
         }
-    go true pa true pu true pb true pc false pd = absurd (omega (arith, eqb-true m 0 pa, eqb-true m 1 pu))
-    go true pa false pu true pb true pc false pd = record { found = λ e. inr (eqb-true m 0 pa, λ z. eqb-false l 0 pd (z .2)); shown = λ d. refl }
-    go true pa true pu true pb false pc d pd = absurd (omega (arith, eqb-true m 0 pa, eqb-true m 1 pu))
-    go true pa false pu true pb false pc d pd = record { found = λ e. inr (eqb-true m 0 pa, λ z. eqb-false t 0 pc (z .1)); shown = λ d. refl }
-    go true pa true pu false pb c pc d pd = absurd (omega (arith, eqb-true m 0 pa, eqb-true m 1 pu))
-    go true pa false pu false pb c pc d pd = record { found = λ e. inr (eqb-true m 0 pa, λ z. eqb-false r 0 pb (z .0)); shown = λ d. refl }
-    go false pa true pu b pb c pc d pd = record { found = λ e. absurd (true≢false e); shown = λ x. absurd (one (eqb-true m 1 pu) x) }
-    go false pa false pu b pb c pc d pd =
+    go true pa true pu false pb = absurd (omega (arith, eqb-true m 0 pa, eqb-true m 1 pu))
+    go true pa false pu false pb = record { found = λ e. inr (eqb-true m 0 pa, blank-fails x .found pb); shown = λ d. refl }
+    go false pa true pu b pb = record { found = λ e. absurd (true≢false e); shown = λ x. absurd (one (eqb-true m 1 pu) x) }
+    go false pa false pu b pb =
         let n0 : m ≡ 0 → ⊥ = eqb-false m 0 pa in
         let n1 : m ≡ 1 → ⊥ = eqb-false m 1 pu in
         record { found = λ e. inl (omega arith); shown = λ d. refl }
 
-pub to-fails : (K : ℕ) (ws : List ℕ) (o n : ℕ) → Fails (neatTo K ws o n) (AnyTo n (λ j. PlaceDamaged ws (o + j * 4)))
+pub to-fails : (K : ℕ) (ws : List ℕ) (o n : ℕ) → Fails (neatTo K ws o n) (AnyTo n (λ j. PlaceDamaged ws (o + j * placeWords)))
 unfolding neatTo
 to-fails K ws o zero = fails-true
-to-fails K ws o (suc n) = fails-and (neatTo K ws o n) (neatPlace ws (o + n * 4)) (to-fails K ws o n) (place-fails ws (o + n * 4))
+to-fails K ws o (suc n) = fails-and (neatTo K ws o n) (neatPlace ws (o + n * placeWords)) (to-fails K ws o n) (place-fails ws (o + n * placeWords))
 
 -- ---- a node
 pub below-fails : (n : Node) → Fails (nothingBelow n) (0 < n .left + n .right)

@@ -1,25 +1,11 @@
 -- The limits of the cluster heap by their edges, in plain numbers: K, levels, capacity and words. The words are any that are long enough, so that K and the capacity decide. And the largest
 -- capacity that there is.
-use Prim.Native.Nat.{_*_, _+_, _-_, _<_, _≤_, suc, zero, ℕ}
+use Rattle.laws.specs.Prelude.{BadShape, Bool, List, _*_, _+_, _-_, _<_, _≡_, _≤_, ap, arith, false, inl, length, ltb, ltb-false, ltb-true, numberOf, refl, suc, true, zero, ℕ}
 use native.Mathlib.Nat.{mul-add, mul-one}
-use native.Mathlib.Omega.{arith}
-use mathlib.Core.Bool.{Bool, false, true}
-use mathlib.Core.List.{List}
-use mathlib.Core.Logic.{inl}
-use mathlib.Core.Path.{_≡_, ap, refl}
-use lib.Dec.{ltb}
-use lib.ListN.{length}
-use borrow.Author.Tests.{ltb-false, ltb-true}
 use Rattle.promise.proofs.Calls.{said}
-use Rattle.strip.specs.Answers.{numberOf}
-use Rattle.strip.specs.declared.Refusal.the-variants.{BadShape}
 use Rattle.cluster_model.proofs.Damages.{is-shape}
 use Rattle.cluster_model.proofs.Exactly.{exactly-clear}
-use Rattle.cluster_model.specs.Calls.{cleared}
-use Rattle.cluster_model.specs.Edge.{Edge}
-use Rattle.cluster_model.specs.Heap.{room}
-use Rattle.cluster_model.specs.Promise.{Shape}
-use Rattle.cluster_model.specs.Way.{extent}
+use Rattle.cluster_model.specs.Prelude.{Edge, Shape, cleared, extent, room}
 
 -- a shape is taken, and what is none is refused
 taken : (K levels : ℕ) (ws : List ℕ) → Shape K levels (length ws) → numberOf (cleared K levels ws .answer) ≡ 0

@@ -1,34 +1,9 @@
 -- Every refusal is given exactly for its cause.
-use Prim.Native.Nat.{_*_, _+_, _≤_, pred, suc, zero, ℕ}
-use native.Mathlib.Nat.{not-suc-le-zero}
-use native.Mathlib.Omega.{arith}
-use mathlib.Core.Bool.{_&&_, _||_, Bool, false, true}
-use mathlib.Core.List.{List}
-use mathlib.Core.Logic.{inr}
-use mathlib.Core.Path.{_≡_, refl}
-use lib.Dec.{leb}
-use lib.ListN.{length}
-use borrow.Author.Tests.{leb-true}
-use Rattle.laws.specs.Ladder.{Exactly}
-use Rattle.laws.specs.Tests.{and-left, and-right}
+use Rattle.laws.specs.Prelude.{BadShape, Bool, Damaged, Done, Exactly, Idle, List, Pop, Push, Refusal, Refused, Replace, Request, Unknown, _&&_, _*_, _+_, _||_, _≡_, _≤_, and-left, and-right, arith, countNumber, false, inr, leb, leb-true, length, not-suc-le-zero, numberOf, pred, refl, refusalNumber, suc, true, zero, ℕ}
 use Rattle.promise.proofs.Calls as calls
 use Rattle.promise.proofs.Calls.{last-guards, last-told, said, Tested}
-use Rattle.promise.specs.Calls.{left}
-use Rattle.promise.specs.Served.{always, Kind}
-use Rattle.promise.specs.Tagged.{Barred}
-use Rattle.strip.specs.Answers.{countNumber, numberOf, refusalNumber}
-use Rattle.strip.specs.declared.Answer.the-variants.{Done, Refused}
-use Rattle.strip.specs.declared.Count.the-variants.{Unknown}
-use Rattle.strip.specs.declared.Refusal.{Refusal}
-use Rattle.strip.specs.declared.Refusal.the-variants.{BadShape, Damaged}
-use Rattle.strip.specs.declared.Request.{Request}
-use Rattle.strip.specs.declared.Request.the-variants.{Idle, Pop, Push, Replace}
-use Rattle.cluster_model.specs.Calls.{called, cleared, heap, heldCount, heldIn, Outcome, outcome, rootHeld, rootOk, rule, ruleAt, Ruling, shapeOk, wipe}
-use Rattle.cluster_model.specs.Heap.{room}
-use Rattle.cluster_model.specs.Node.{begin, finish, inside, Node, none, nothingBelow}
-use Rattle.cluster_model.specs.Promise.{clearRefusals, heldRefusals, refusals}
-use Rattle.cluster_model.specs.Way.{extent, neatTo, nodeIn, nodeOk, runWords, stepIn, strict, touch, wayOk, works}
-use Rattle.cluster_model.specs.Words.{width}
+use Rattle.promise.specs.Prelude.{Barred, Kind, always, left}
+use Rattle.cluster_model.specs.Prelude.{Node, Outcome, Ruling, begin, called, clearRefusals, cleared, extent, finish, heap, heldCount, heldIn, heldRefusals, inside, neatTo, nodeIn, nodeOk, none, nothingBelow, outcome, refusals, room, rootHeld, rootOk, rule, ruleAt, runWords, shapeOk, stepIn, strict, touch, wayOk, width, wipe, works}
 use Rattle.cluster_model.proofs.Damages.{node-fails, path-fails, shape-is, shape-means}
 use Rattle.cluster_model.proofs.Pass.{node-count}
 use Rattle.cluster_model.proofs.Places.{inside-length}

@@ -1,14 +1,7 @@
 -- The main lemma: an operation that can be done keeps the heap sound, and changes what it holds by what comes in and what is given.
-use Prim.Native.Nat.{ℕ, zero, suc, _+_, _≤_, _<_}
-use native.Mathlib.Nat.{not-suc-le-zero}
-use native.Mathlib.Omega.{arith}
-use mathlib.Core.Path.{_≡_, refl}
-use mathlib.Core.Bool.{Bool}
-use mathlib.Core.List.{List}
-use Rattle.promise.specs.Served.{always, hit}
-use Rattle.strip.specs.declared.Element.{Element}
-use Rattle.cluster_model.specs.Node.{Bag, under, Place, has, inside, placeAt, low, lowElem, Op, none, put, take, swap, nothing, Begun, begin, Finished, finish, toLeft, toRight}
-use Rattle.cluster_model.specs.Heap.{Heap, lowest, act, many, room, Sound, Can, Became}
+use Rattle.laws.specs.Prelude.{Bool, Element, List, _+_, _<_, _≡_, _≤_, arith, not-suc-le-zero, refl, suc, zero, ℕ}
+use Rattle.promise.specs.Prelude.{always, hit}
+use Rattle.cluster_model.specs.Prelude.{Bag, Became, Begun, Can, Finished, Heap, Op, Place, Sound, act, begin, finish, has, inside, low, lowElem, lowest, many, none, nothing, placeAt, put, room, swap, take, toLeft, toRight, under}
 use Rattle.cluster_model.proofs.Places.{hit-le, under-mono, inside-le, inside-length, place-hit, low-least}
 use Rattle.cluster_model.proofs.Step.{IsBag, Least, Asks, begins, Finishes, children-can, finishes, low-fit}
 

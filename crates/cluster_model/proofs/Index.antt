@@ -1,15 +1,6 @@
 -- Nodes by number and nodes by level: the same words.
-use Prim.Native.Nat.{ℕ, zero, suc, _+_, _*_, _≤_, _<_}
-use native.Mathlib.Nat.{zero-add}
-use native.Mathlib.Omega.{arith}
-use mathlib.Core.Path.{_≡_, refl, sym, ap, ap₂, _∙_, subst}
-use mathlib.Core.List.{List}
-use lib.ListN.{length}
-use Rattle.strip.specs.declared.Element.{Element}
-use Rattle.cluster_model.specs.Node.{low, lowElem, Side, lhs, rhs, Op, begin, Finished, finish}
-use Rattle.cluster_model.specs.Heap.{act}
-use Rattle.cluster_model.specs.Words.{width, nodeOf, rowOf, Neat, Only}
-use Rattle.cluster_model.specs.Way.{child, extent, heapIn, lowIn, nodeIn, runWords, stepIn, touch, works}
+use Rattle.laws.specs.Prelude.{Element, List, _*_, _+_, _<_, _∙_, _≡_, _≤_, ap, ap₂, arith, length, refl, subst, suc, sym, zero, zero-add, ℕ}
+use Rattle.cluster_model.specs.Prelude.{Finished, Neat, Only, Op, Side, act, begin, child, extent, finish, heapIn, lhs, low, lowElem, lowIn, nodeIn, nodeOf, rhs, rowOf, runWords, stepIn, touch, width, works}
 use Rattle.cluster_model.proofs.Levels.{apply-root, childOf, heapOf, Levels, nodeAt, Shaped}
 use Rattle.cluster_model.proofs.NeatLevels.{apply-neat, NeatLevels}
 use Rattle.cluster_model.proofs.Pass.{actWords, apply-length, apply-only, applyWords, child-in, lowWords, row-at, spot, words-apply}

@@ -1,18 +1,7 @@
 -- The store level by level, as the proofs go through it: an operation at a node of the topmost level is the same operation on the heap that hangs at
 -- that node, and changes no other.
-use Prim.Native.Nat.{ℕ, zero, suc, _+_, _<_}
-use native.Mathlib.Omega.{arith}
-use mathlib.Core.Path.{_≡_, refl, sym, ap, ap₂, _∙_, subst}
-use mathlib.Core.Bool.{Bool, true, false}
-use mathlib.Core.List.{List, []}
-use lib.Dec.{eqb}
-use lib.ListN.{length, getD, set, replicate, length-set, length-replicate, getD-replicate}
-use lib.Seq.{getD-set-same, getD-set-other}
-use borrow.Author.Tests.{eqb-true, eqb-false, eq-eqb, ne-eqb}
-use Rattle.strip.specs.declared.Element.{Element}
-use Rattle.strip.specs.Answers.{blank}
-use Rattle.cluster_model.specs.Node.{gap, low, lowElem, Node, Side, lhs, rhs, pick, Op, none, Begun, begin, Finished, finish, toLeft, toRight}
-use Rattle.cluster_model.specs.Heap.{Heap, lowest, act}
+use Rattle.laws.specs.Prelude.{Bool, Element, List, [], _+_, _<_, _∙_, _≡_, ap, ap₂, arith, blank, eq-eqb, eqb, eqb-false, eqb-true, false, getD, getD-replicate, getD-set-other, getD-set-same, length, length-replicate, length-set, ne-eqb, refl, replicate, set, subst, suc, sym, true, zero, ℕ}
+use Rattle.cluster_model.specs.Prelude.{Begun, Finished, Heap, Node, Op, Side, act, begin, finish, gap, lhs, low, lowElem, lowest, none, pick, rhs, toLeft, toRight}
 
 -- ---- the store as levels, the topmost first
 abbrev pub Levels : ℕ → Type 0

@@ -1,20 +1,21 @@
-pub mod Places
-pub mod Step
-pub mod Heap
-pub mod Rules
-pub mod Levels
-pub mod Words
-pub mod Pass
-pub mod Neat
-pub mod NeatLevels
-pub mod Index
-pub mod Ways
-pub mod Serve
+mod Places
+mod Step
+mod Heap
+mod Rules
+mod Levels
+mod Words
+mod Pass
+mod Neat
+mod NeatLevels
+mod Index
+mod Ways
+mod Serve
 pub mod Damages
 pub mod Exactly
-pub mod Stored
+mod Stored
 pub mod Promises
-pub mod Slice
+mod Slice
 pub mod Unread
-pub mod Cases
+mod Cases
 pub mod Edge
+pub mod Laws

@@ -1,19 +1,8 @@
 -- The words stay neat: what an operation writes is neat, and so is a cleared slice.
-use Prim.Native.Nat.{ℕ, zero, suc, _+_, _*_, _^_, _≤_, _<_}
-use native.Mathlib.Nat.{mul-le-mul-right, pow-suc}
-use native.Mathlib.Omega.{arith}
-use mathlib.Core.Path.{_≡_, refl, sym, ap, _∙_, subst}
-use mathlib.Core.Bool.{Bool, true, false}
-use mathlib.Core.List.{List, [], _∷_}
-use mathlib.Core.Logic.{inl, inr}
-use lib.Dec.{ltb, eqb}
-use lib.ListN.{length, set, length-set}
-use borrow.Author.Tests.{ltb-true, ltb-false, eqb-true, eqb-false}
-use Rattle.strip.specs.Answers.{element}
-use Rattle.cluster_model.specs.Node.{Place, gap, Node, Op, Finished}
+use Rattle.laws.specs.Prelude.{Bool, List, [], _*_, _+_, _<_, _^_, _∙_, _∷_, _≡_, _≤_, ap, arith, elementIn, eqb, eqb-false, eqb-true, false, inl, inr, length, length-set, ltb, ltb-false, ltb-true, mul-le-mul-right, pow-suc, refl, set, subst, suc, sym, true, zero, ℕ}
+use Rattle.strip.proofs.Words.{read-zeros}
+use Rattle.cluster_model.specs.Prelude.{Finished, Neat, NeatPlace, NeatRow, Node, Only, Op, Place, countWords, elemOf, extent, gap, markAt, markOf, placeBy, placeOf, placeWords, touch, width, word, works, writeNode, writePlace, writeRow}
 use Rattle.cluster_model.proofs.Levels.{childOf}
-use Rattle.cluster_model.specs.Words.{word, placeBy, placeOf, width, markOf, rankIn, tagIn, lengthIn, writePlace, writeRow, writeNode, Only, NeatPlace, NeatRow, Neat}
-use Rattle.cluster_model.specs.Way.{touch, works, extent}
 use Rattle.cluster_model.proofs.Words.{written, write-length, write-place}
 use Rattle.cluster_model.proofs.Neat.{neat-local, neat-row}
 use Rattle.cluster_model.proofs.Pass.{actWords, applyWords, spot, row-only, touch-only, touch-length, spot-in, act-count, child-in, apply-only}
@@ -24,20 +13,20 @@ NeatLevels K zero ws b c = Unit {0}
 NeatLevels K (suc k) ws b c = ((n : ℕ) → n < c → Neat K ws (spot K b n)) × NeatLevels K k ws (b + c * width K) (c + c)
 
 -- ---- what is written is neat
-place-written : (ws : List ℕ) (o : ℕ) (p : Place) → o + 4 ≤ length ws → NeatPlace (writePlace ws o p) o
+place-written : (ws : List ℕ) (o : ℕ) (p : Place) → o + placeWords ≤ length ws → NeatPlace (writePlace ws o p) o
 place-written ws o p h =
     let w = written ws o p h in
     let same : placeOf (writePlace ws o p) o ≡ p = write-place ws o p h in
-    (ap rankIn same ∙ sym (w .rank), ap tagIn same ∙ sym (w .tag), ap lengthIn same ∙ sym (w .length), ap markOf same ∙ sym (w .mark))
+    (ap elemOf same ∙ sym (w .element), ap markOf same ∙ sym (w .mark))
 
-row-written : (ps : List Place) (ws : List ℕ) (o : ℕ) → o + length ps * 4 ≤ length ws → NeatRow (length ps) (writeRow ps ws o) o
+row-written : (ps : List Place) (ws : List ℕ) (o : ℕ) → o + length ps * placeWords ≤ length ws → NeatRow (length ps) (writeRow ps ws o) o
 unfolding writeRow
 row-written [] ws o h = tt
 row-written (p ∷ ps) ws o h =
     let ws₁ : List ℕ = writePlace ws o p in
     let len : length ws₁ ≡ length ws = write-length ws o p in (
-      neat-local ws₁ (writeRow ps ws₁ (o + 4)) o (λ i g g′. row-only ps ws₁ (o + 4) i (inl g′)) (place-written ws o p (omega arith)),
-      row-written ps ws₁ (o + 4) (omega arith),
+      neat-local ws₁ (writeRow ps ws₁ (o + placeWords)) o (λ i g g′. row-only ps ws₁ (o + placeWords) i (inl g′)) (place-written ws o p (omega arith)),
+      row-written ps ws₁ (o + placeWords) (omega arith),
     )
 
 pub node-written : (K : ℕ) (ws : List ℕ) (o : ℕ) (n : Node) → length (n .places) ≡ K → o + width K ≤ length ws → Neat K (writeNode ws o n) o
@@ -46,7 +35,7 @@ node-written K ws o n e h =
     let w1 : List ℕ = set ws o (n .left) in
     let w2 : List ℕ = set w1 (o + 1) (n .right) in
     let l2 : length w2 ≡ length ws = length-set w1 (o + 1) (n .right) ∙ length-set ws o (n .left) in
-    subst (λ (c : ℕ). NeatRow c (writeRow (n .places) w2 (o + 2)) (o + 2)) e (row-written (n .places) w2 (o + 2) (omega (arith, e, l2)))
+    subst (λ (c : ℕ). NeatRow c (writeRow (n .places) w2 (o + countWords)) (o + countWords)) e (row-written (n .places) w2 (o + countWords) (omega (arith, e, l2)))
 
 pub touch-written : (K : ℕ) (t : Bool) (ws : List ℕ) (o : ℕ) (n : Node) → length (n .places) ≡ K → o + width K ≤ length ws → Neat K ws o → Neat K (touch t ws o n) o
 unfolding touch
@@ -57,7 +46,7 @@ touch-written K false ws o n e h g = g
 neat-after : (K k : ℕ) (ws ws′ : List ℕ) (b c : ℕ) → ((i : ℕ) → b ≤ i → word ws′ i ≡ word ws i) → NeatLevels K k ws b c → NeatLevels K k ws′ b c
 neat-after K zero ws ws′ b c h n = tt
 neat-after K (suc k) ws ws′ b c h n = (
-  λ m l. neat-row K ws ws′ (spot K b m + 2) (λ i g g′. h i (down (m * width K) i g)) (n .0 m l),
+  λ m l. neat-row K ws ws′ (spot K b m + countWords) (λ i g g′. h i (down (m * width K) i g)) (n .0 m l),
   neat-after K k ws ws′ (b + c * width K) (c + c) (λ i g. h i (base (c * width K) i g)) (n .1),
 )
   where
@@ -82,10 +71,10 @@ neat-write K k ws ws′ b c m h own only n = (
 
     go : (j : ℕ) → j < c → (e : Bool) → eqb j m ≡ e → (t : Bool) → ltb j m ≡ t → Neat K ws′ (spot K b j)
     go j l true e t q = subst (λ (i : ℕ). Neat K ws′ (spot K b i)) (sym (eqb-true j m e)) own
-    go j l false e true q = neat-row K ws ws′ (spot K b j + 2) (λ i g g′. only i (inl (omega (arith, before j (width K) (ltb-true j m q))))) (n .0 j l)
+    go j l false e true q = neat-row K ws ws′ (spot K b j + countWords) (λ i g g′. only i (inl (omega (arith, before j (width K) (ltb-true j m q))))) (n .0 j l)
     go j l false e false q =
         let more : m < j = omega (arith, ltb-false j m q, eqb-false j m e) in
-        neat-row K ws ws′ (spot K b j + 2) (λ i g g′. only i (inr (omega (arith, past j (width K) more)))) (n .0 j l)
+        neat-row K ws ws′ (spot K b j + countWords) (λ i g g′. only i (inr (omega (arith, past j (width K) more)))) (n .0 j l)
 
 -- ---- how many words: extent K L 1 = (3K + 2)(2^L - 1)
 pub extent-is : (K k c : ℕ) → extent K k c + c * width K ≡ c * 2 ^ k * width K
@@ -108,31 +97,26 @@ apply-neat K (suc k) o n b c ws h fits g =
     let g₁ : NeatLevels K (suc k) ws₁ b c =
     neat-write K k ws ws₁ b c n h (touch-written K (works o) ws (spot K b n) (v .node) (act-count K k o n b c ws) (omega (arith, spot-in K b c n h)) (g .0 n h)) (touch-only K (works o) ws (spot K b n) (v .node) (act-count K k o n b c ws)) g in
     let ws₂ : List ℕ = applyWords K k (v .op) (childOf n (v .side)) b′ (c + c) ws₁ in (
-      λ j l. neat-row K ws₁ ws₂ (spot K b j + 2) (λ i x y. apply-only K k (v .op) (childOf n (v .side)) b′ (c + c) ws₁ (child-in n c (v .side) h) i (inl (omega (arith, spot-in K b c j l)))) (g₁ .0 j l),
+      λ j l. neat-row K ws₁ ws₂ (spot K b j + countWords) (λ i x y. apply-only K k (v .op) (childOf n (v .side)) b′ (c + c) ws₁ (child-in n c (v .side) h) i (inl (omega (arith, spot-in K b c j l)))) (g₁ .0 j l),
       apply-neat K k (v .op) (childOf n (v .side)) b′ (c + c) ws₁ (child-in n c (v .side) h) (omega arith) (g₁ .1),
     )
 
 -- a cleared slice is neat
-pub zero-row : (K : ℕ) (ws : List ℕ) (o : ℕ) → ((i : ℕ) → o ≤ i → i < o + K * 4 → word ws i ≡ 0) → NeatRow K ws o
-unfolding placeOf placeBy rankIn tagIn lengthIn markOf
+pub zero-row : (K : ℕ) (ws : List ℕ) (o : ℕ) → ((i : ℕ) → o ≤ i → i < o + K * placeWords → word ws i ≡ 0) → NeatRow K ws o
+unfolding placeOf placeBy markOf
 zero-row zero ws o h = tt
 zero-row (suc K) ws o h =
-    let m : word ws (o + 3) ≡ 0 = h (o + 3) (omega arith) (omega arith) in
-    let p : placeOf ws o ≡ gap = ap (λ (x : ℕ). placeBy (eqb x 0) (element (word ws o) (word ws (o + 1)) (word ws (o + 2)))) m in (
-      (
-        ap rankIn p ∙ sym (h o (omega arith) (omega arith)),
-        ap tagIn p ∙ sym (h (o + 1) (omega arith) (omega arith)),
-        ap lengthIn p ∙ sym (h (o + 2) (omega arith) (omega arith)),
-        ap markOf p ∙ sym m,
-      ),
-      zero-row K ws (o + 4) (λ i g g′. h i (omega arith) (omega arith)),
+    let m : word ws (markAt o) ≡ 0 = h (markAt o) (omega arith) (omega arith) in
+    let p : placeOf ws o ≡ gap = ap (λ (x : ℕ). placeBy (eqb x 0) (elementIn ws o)) m in (
+      (ap elemOf p ∙ sym (read-zeros ws o (λ i g g′. h i g (omega arith))), ap markOf p ∙ sym m),
+      zero-row K ws (o + placeWords) (λ i g g′. h i (omega arith) (omega arith)),
     )
 
 pub clear-neat : (K k : ℕ) (ws : List ℕ) (b c : ℕ) → ((i : ℕ) → b ≤ i → i < b + extent K k c → word ws i ≡ 0) → NeatLevels K k ws b c
 unfolding extent
 clear-neat K zero ws b c h = tt
 clear-neat K (suc k) ws b c h = (
-  λ n l. zero-row K ws (spot K b n + 2) (λ i g g′. h i (down (n * width K) i g) (omega (arith, spot-in K b c n l))),
+  λ n l. zero-row K ws (spot K b n + countWords) (λ i g g′. h i (down (n * width K) i g) (omega (arith, spot-in K b c n l))),
   clear-neat K k ws (b + c * width K) (c + c) (λ i g g′. h i (base (c * width K) i g) (omega arith)),
 )
   where

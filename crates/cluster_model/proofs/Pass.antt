@@ -1,20 +1,7 @@
 -- The pass over the words, from the top down, is the operation on the levels that the words hold.
-use Prim.Native.Nat.{ℕ, zero, suc, _+_, _*_, _≤_, _<_}
-use native.Mathlib.Nat.{not-suc-le-zero, le-of-suc-le-suc, mul-le-mul-right}
-use native.Mathlib.Omega.{arith}
-use mathlib.Core.Path.{_≡_, refl, sym, ap, ap₂, _∙_, subst}
-use mathlib.Core.Bool.{Bool, true, false, true≢false}
-use mathlib.Core.List.{List, [], _∷_}
-use mathlib.Core.Logic.{inl, inr, ⊎-elim}
-use lib.Dec.{ltb}
-use lib.ListN.{length, set, length-set}
-use lib.Seq.{getD-set-same, getD-set-other}
-use Rattle.strip.specs.declared.Element.{Element}
-use Rattle.strip.specs.Answers.{blank, key}
-use Rattle.cluster_model.specs.Node.{Place, gap, has, free, low, high, lowElem, highElem, keep, Node, Side, lhs, rhs, pick, fewer, lowerSide, store, raise, sink, nothingBelow, Op, none, put, take, swap, Note, nothing, fill, trial, onto, Begun, putBy, takeBy, swapBy, begin, Finished, fillFrom, trialBy, trialFrom, finish}
+use Rattle.laws.specs.Prelude.{Bool, Element, List, [], _*_, _+_, _<_, _∙_, _∷_, _≡_, _≤_, ap, ap₂, arith, blank, false, getD-set-other, getD-set-same, inl, inr, key, le-of-suc-le-suc, length, length-set, ltb, mul-le-mul-right, not-suc-le-zero, refl, set, subst, suc, sym, true, true≢false, zero, ℕ, ⊎-elim}
+use Rattle.cluster_model.specs.Prelude.{Begun, Finished, Node, Note, Only, Op, Place, Side, begin, extent, fewer, fill, fillFrom, finish, free, gap, has, high, highElem, keep, lhs, low, lowElem, lowerSide, nodeOf, none, nothing, nothingBelow, onto, pick, placeOf, put, putBy, raise, rhs, rowOf, sink, store, swap, swapBy, take, takeBy, touch, trial, trialBy, trialFrom, width, word, works, writeNode, writePlace, writeRow}
 use Rattle.cluster_model.proofs.Levels.{Levels, nodeAt, childOf, lowAt, actAt, apply}
-use Rattle.cluster_model.specs.Words.{word, rowOf, placeOf, width, nodeOf, writePlace, writeRow, writeNode, Only}
-use Rattle.cluster_model.specs.Way.{touch, works, extent}
 use Rattle.cluster_model.proofs.Words.{levelsOf, row-local, place-local, write-only, write-length, write-place, node-local, levels-write}
 
 -- where node n of a level stands that begins at b

@@ -1,19 +1,9 @@
 -- The laws of counting over places, and of the three choices of a place. What comes after goes by these laws alone.
-use Prim.Native.Nat.{ℕ, zero, suc, _+_, _≤_, _<_}
-use native.Mathlib.Nat.{not-suc-le-zero, le-of-suc-le-suc, le-of-lt}
-use native.Mathlib.Omega.{arith}
-use mathlib.Core.Path.{_≡_, refl, ap, subst}
-use mathlib.Core.Bool.{Bool, true, false, cond}
-use mathlib.Core.List.{List, [], _∷_}
-use lib.Dec.{ltb, leb, eqb}
-use lib.ListN.{length, getD, set}
-use lib.Seq.{getD-set-same, getD-set-other}
-use borrow.Author.Tests.{ltb-true, ltb-false, lt-ltb, le-ltb, leb-true, leb-false, eqb-true, eqb-false}
-use Rattle.promise.specs.Served.{always, hit}
-use Rattle.strip.specs.declared.Element.{Element}
+use Rattle.laws.specs.Prelude.{Bool, Element, List, [], _+_, _<_, _∷_, _≡_, _≤_, ap, arith, cond, eqb, eqb-false, eqb-true, false, getD, getD-set-other, getD-set-same, key, le-ltb, le-of-suc-le-suc, leb, leb-false, leb-true, length, lt-ltb, ltb, ltb-false, ltb-true, not-suc-le-zero, precedes, refl, set, subst, suc, true, zero, ℕ}
+use native.Mathlib.Nat.{le-of-lt}
+use Rattle.promise.specs.Prelude.{always, hit}
 use Rattle.strip.proofs.Order.{Before, before-not, before-upto, rank-before, UpTo, upto-before, upto-self}
-use Rattle.strip.specs.Answers.{key, precedes}
-use Rattle.cluster_model.specs.Node.{ahead, under, above, Place, gap, has, hitAt, inside, elemOf, placeAt, seek, freeHere, lowHere, highHere, free, low, high, lowElem, highElem, keep, pass}
+use Rattle.cluster_model.specs.Prelude.{Place, above, ahead, elemOf, free, freeHere, gap, has, high, highElem, highHere, hitAt, inside, keep, low, lowElem, lowHere, pass, placeAt, seek, under}
 
 pub not-lt : (a b : ℕ) → ¬ (b < a) → a ≤ b
 not-lt a b h = omega arith

@@ -1,34 +1,11 @@
 -- The promises: from a cleared store, over any list of requests, the heap is sound, nothing is damaged, it holds exactly what went in and has not come
 -- out, and what comes out has the lowest rank. What the heap keeps between calls makes it a queue (`is-queue`); what follows is every queue's (`promise/proofs/Kept.antt`).
-use Prim.Native.Nat.{_+_, _<_, _≤_, suc, zero, ℕ}
-use native.Mathlib.Nat.{not-suc-le-zero}
-use native.Mathlib.Omega.{arith}
-use mathlib.Core.Bool.{Bool, true}
-use mathlib.Core.List.{List}
-use mathlib.Core.Logic.{_⊎_, inl, inr}
-use mathlib.Core.Path.{_∙_, _≡_, ap, refl, subst, sym}
-use lib.ListN.{getD, length}
+use Rattle.laws.specs.Prelude.{Answer, Bool, Done, Element, List, Replace, Request, _+_, _<_, _∙_, _≡_, _≤_, _⊎_, ap, arith, countNumber, countOf, getD, inl, inr, length, not-suc-le-zero, numberOf, refl, subst, suc, sym, true, zero, ℕ}
 use Rattle.promise.proofs.Calls.{fits-least, last-each, last-fits}
 use Rattle.promise.proofs.Kept as queue
 use Rattle.promise.proofs.Kept.{IsQueue}
-use Rattle.promise.specs.Calls.{grants, lastTable}
-use Rattle.promise.specs.Queue.{answers}
-use Rattle.promise.specs.Refused.{Untagged}
-use Rattle.promise.specs.Served.{allBrought, allGiven, always, brought, given, Holds, Least, lower, triple}
-use Rattle.promise.specs.Table.{Clear}
-use Rattle.promise.specs.Tagged.{Tagged}
-use Rattle.strip.specs.Answers.{countNumber, countOf, numberOf}
-use Rattle.strip.specs.declared.Answer.{Answer}
-use Rattle.strip.specs.declared.Answer.the-variants.{Done}
-use Rattle.strip.specs.declared.Element.{Element}
-use Rattle.strip.specs.declared.Request.{Request}
-use Rattle.strip.specs.declared.Request.the-variants.{Replace}
-use Rattle.cluster_model.specs.Calls.{called, cleared, heap, heldCount, heldIn, opOf, Outcome, rootOk, rule, ruleAt, wipe}
-use Rattle.cluster_model.specs.Heap.{act, Can, gain, Heap, loss, lowest, many, room, Sound}
-use Rattle.cluster_model.specs.Node.{lowElem, none, Op}
-use Rattle.cluster_model.specs.Promise.{after, clusterQueue, Damage, PopThenPush, Shape, start, storedCount, Zeroed}
-use Rattle.cluster_model.specs.Way.{extent, heapIn, nodeIn, runWords, wayOk}
-use Rattle.cluster_model.specs.Words.{word}
+use Rattle.promise.specs.Prelude.{Clear, Holds, Least, Tagged, Untagged, allBrought, allGiven, always, answers, brought, given, grants, lastTable, lower, triple}
+use Rattle.cluster_model.specs.Prelude.{Can, Damage, Heap, Op, Outcome, PopThenPush, Shape, Sound, Zeroed, act, after, called, cleared, clusterQueue, extent, gain, heap, heapIn, heldCount, heldIn, loss, lowElem, lowest, many, nodeIn, none, opOf, room, rootOk, rule, ruleAt, runWords, start, storedCount, wayOk, wipe, word}
 use Rattle.cluster_model.proofs.Damages.{is-shape, shape-is}
 use Rattle.cluster_model.proofs.Exactly.{called-either, cleared-fine, root-limit, tested}
 use Rattle.cluster_model.proofs.Heap.{acts}

@@ -1,23 +1,10 @@
 -- The definitions say what 02's own words say.
-use Prim.Native.Nat.{_+_, _<_, _≤_, suc, zero, ℕ}
-use native.Mathlib.Nat.{le-of-suc-le-suc, le-refl, not-suc-le-zero}
-use native.Mathlib.Omega.{arith}
-use mathlib.Core.Bool.{_&&_, _||_, Bool, cond, false, not, true}
-use mathlib.Core.List.{[], _∷_, List}
-use mathlib.Core.Logic.{inl, inr}
-use mathlib.Core.Path.{_≡_, ap, refl, subst, sym}
-use lib.Dec.{eqb, ltb}
-use lib.ListN.{getD, length}
-use borrow.Author.Tests.{eqb-false, eqb-true, ltb-false, ltb-true}
+use Rattle.laws.specs.Prelude.{Bool, Element, List, Request, [], _&&_, _+_, _<_, _||_, _∷_, _≡_, _≤_, ap, arith, cond, eqb, eqb-false, eqb-true, false, getD, inl, inr, key, le-of-suc-le-suc, length, ltb, ltb-false, ltb-true, not, not-suc-le-zero, precedes, refl, subst, suc, sym, true, zero, ℕ}
+use native.Mathlib.Nat.{le-refl}
 use Rattle.promise.proofs.Calls.{last-comes}
-use Rattle.promise.specs.Served.{always, hit}
+use Rattle.promise.specs.Prelude.{always, hit}
 use Rattle.strip.proofs.Order.{Before, before-says, UpTo, upto-says}
-use Rattle.strip.specs.Answers.{key, precedes}
-use Rattle.strip.specs.declared.Element.{Element}
-use Rattle.strip.specs.declared.Request.{Request}
-use Rattle.cluster_model.specs.Calls.{opOf, rule}
-use Rattle.cluster_model.specs.Node.{above, ahead, begin, elemOf, fewer, fillFrom, finish, finished, free, freeHere, gap, has, high, highElem, highHere, inside, keep, lhs, low, lowElem, lowerSide, lowHere, Node, nothingBelow, pass, pick, Place, placeAt, put, putBy, rhs, seek, Side, sideIf, sink, store, swap, swapBy, take, takeBy, trialBy, trialFrom}
-use Rattle.cluster_model.specs.Rules.{clears, Comes, ends, exchanges, Fewer, fills, goes, IsFree, IsHighest, IsLowest, Lower, passes, Puts, stays, stepOf, Swaps, Takes}
+use Rattle.cluster_model.specs.Prelude.{Comes, Fewer, IsFree, IsHighest, IsLowest, Lower, Node, Place, Puts, Side, Swaps, Takes, above, ahead, begin, clears, elemOf, ends, exchanges, fewer, fillFrom, fills, finish, finished, free, freeHere, gap, goes, has, high, highElem, highHere, inside, keep, lhs, low, lowElem, lowHere, lowerSide, nothingBelow, opOf, pass, passes, pick, placeAt, put, putBy, rhs, rule, seek, sideIf, sink, stays, stepOf, store, swap, swapBy, take, takeBy, trialBy, trialFrom}
 use Rattle.cluster_model.proofs.Places.{above-of, gap-has, high-is, inside-most, low-is, place-hit, set-twice, some-ahead}
 
 -- ---- places

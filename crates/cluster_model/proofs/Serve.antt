@@ -1,18 +1,7 @@
 -- A request served on a sound heap leaves it sound, holding what was brought in less what was given out; what is given has the lowest rank.
-use Prim.Native.Nat.{_<_, suc, zero, ℕ}
-use native.Mathlib.Omega.{arith}
-use mathlib.Core.Bool.{Bool}
-use mathlib.Core.Path.{_≡_, refl}
-use lib.ListN.{length-replicate, replicate}
-use Rattle.promise.specs.Calls.{Fits, grants}
-use Rattle.promise.specs.Served.{always, brought, given, lower}
-use Rattle.strip.specs.Answers.{key}
-use Rattle.strip.specs.declared.Element.{Element}
-use Rattle.strip.specs.declared.Request.{Request}
-use Rattle.strip.specs.declared.Request.the-variants.{Idle, Pop, Push, Replace}
-use Rattle.cluster_model.specs.Calls.{opOf, rootHeld}
-use Rattle.cluster_model.specs.Heap.{Can, gain, Heap, loss, lowest, many, Sound}
-use Rattle.cluster_model.specs.Node.{gap, inside, lowElem, under}
+use Rattle.laws.specs.Prelude.{Bool, Element, Idle, Pop, Push, Replace, Request, _<_, _≡_, arith, key, length-replicate, refl, replicate, suc, zero, ℕ}
+use Rattle.promise.specs.Prelude.{Fits, always, brought, given, grants, lower}
+use Rattle.cluster_model.specs.Prelude.{Can, Heap, Sound, gain, gap, inside, loss, lowElem, lowest, many, opOf, rootHeld, under}
 use Rattle.cluster_model.proofs.Heap.{heap-least}
 use Rattle.cluster_model.proofs.Levels.{clearHeap, clearNode}
 

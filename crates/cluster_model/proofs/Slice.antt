@@ -1,17 +1,6 @@
 -- Where the words stand, in 02's numbers: the capacity, the slice, the number of a node, and the words of a node.
-use Prim.Native.Nat.{_*_, _+_, _<_, _^_, _≤_, suc, zero, ℕ}
-use native.Mathlib.Nat.{le-of-suc-le-suc, not-suc-le-zero, pow-suc}
-use native.Mathlib.Omega.{arith}
-use mathlib.Core.List.{List}
-use mathlib.Core.Path.{_∙_, _≡_, ap, refl}
-use lib.Dec.{eqb}
-use lib.ListN.{getD}
-use Rattle.strip.specs.Answers.{element}
-use Rattle.cluster_model.specs.Heap.{room}
-use Rattle.cluster_model.specs.Node.{lhs, Place, placeAt, rhs}
-use Rattle.cluster_model.specs.Promise.{nodes}
-use Rattle.cluster_model.specs.Way.{child, extent, Lies, nodeIn}
-use Rattle.cluster_model.specs.Words.{nodeOf, placeBy, placeOf, rowOf, width}
+use Rattle.laws.specs.Prelude.{List, _*_, _+_, _<_, _^_, _∙_, _≡_, _≤_, ap, arith, element, eqb, getD, le-of-suc-le-suc, not-suc-le-zero, pow-suc, refl, suc, zero, ℕ}
+use Rattle.cluster_model.specs.Prelude.{Lies, Place, child, extent, lhs, nodeIn, nodeOf, nodes, placeAt, placeBy, placeOf, rhs, room, rowOf, width}
 use Rattle.cluster_model.proofs.Index.{base-next, child-next, spot-is}
 use Rattle.cluster_model.proofs.Levels.{childOf}
 use Rattle.cluster_model.proofs.Pass.{child-in, spot-in}

@@ -1,18 +1,8 @@
 -- The two halves of an operation at one node, over the bags of its children.
-use Prim.Native.Nat.{ℕ, zero, suc, _+_, _≤_, _<_, pred}
+use Rattle.laws.specs.Prelude.{Bool, Element, List, _&&_, _+_, _<_, _||_, _∙_, _≡_, _≤_, ap, arith, eqb, eqb-false, eqb-true, false, key, length, length-set, ltb, ltb-false, ltb-true, not, pred, refl, set, subst, suc, sym, true, zero, ℕ}
 use native.Mathlib.Nat.{le-refl}
-use native.Mathlib.Omega.{arith}
-use mathlib.Core.Path.{_≡_, refl, sym, ap, _∙_, subst}
-use mathlib.Core.Bool.{Bool, true, false, not, _&&_, _||_}
-use mathlib.Core.List.{List}
-use lib.Dec.{ltb, eqb}
-use lib.ListN.{length, set, length-set}
-use borrow.Author.Tests.{ltb-true, ltb-false, eqb-true, eqb-false}
-use Rattle.promise.specs.Served.{always, hit}
-use Rattle.strip.specs.declared.Element.{Element}
-use Rattle.strip.specs.Answers.{key}
-use Rattle.cluster_model.specs.Node.{Bag, under, above, Place, gap, has, inside, elemOf, placeAt, free, low, high, lowElem, highElem, keep, pass, Node, Side, lhs, rhs, pick, sideIf, fewer, lowerSide, store, raise, sink, nothingBelow, Op, none, put, take, swap, Note, nothing, fill, trial, onto, Begun, begun, putBy, takeBy, swapBy, begin, Finished, fillFrom, trialBy, trialFrom, finish, toLeft, toRight}
-use Rattle.cluster_model.specs.Heap.{carried, Rest, Waiting, Fit, Can, gain, loss, Became}
+use Rattle.promise.specs.Prelude.{always, hit}
+use Rattle.cluster_model.specs.Prelude.{Bag, Became, Begun, Can, Finished, Fit, Node, Note, Op, Place, Rest, Side, Waiting, above, begin, begun, carried, elemOf, fewer, fill, fillFrom, finish, free, gain, gap, has, high, highElem, inside, keep, lhs, loss, low, lowElem, lowerSide, none, nothing, nothingBelow, onto, pass, pick, placeAt, put, putBy, raise, rhs, sideIf, sink, store, swap, swapBy, take, takeBy, toLeft, toRight, trial, trialBy, trialFrom, under}
 use Rattle.cluster_model.proofs.Places.{hit-le, not-under, is-under, parted, is-above, above-of, inside-length, inside-parted, inside-put, gap-has, place-here, place-hit, place-same, place-other, set-twice, free-found, no-free, IsLow, low-is, low-least, IsHigh, high-is, keep-pass, keep-le}
 
 -- the laws of a bag

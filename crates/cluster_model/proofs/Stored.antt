@@ -1,22 +1,8 @@
 -- What the words of a store hold, node by node, is what the heap at its root holds; and a cleared slice is the cleared heap.
-use Prim.Native.Nat.{_*_, _+_, _-_, _<_, _≤_, suc, zero, ℕ}
-use native.Mathlib.Nat.{zero-add}
-use native.Mathlib.Omega.{arith}
-use mathlib.Core.Bool.{Bool}
-use mathlib.Core.List.{_++_, _∷_, List}
-use mathlib.Core.Path.{_∙_, _≡_, ap, ap₂, refl, sym}
-use lib.Dec.{eqb}
-use lib.ListN.{drop, getD, getD-replicate, length, length-append, length-drop, length-replicate, List·getD-append, replicate}
+use Rattle.laws.specs.Prelude.{Bool, Element, List, _*_, _++_, _+_, _-_, _<_, _∙_, _∷_, _≡_, _≤_, ap, ap₂, arith, drop, elementIn, eqb, getD, getD-replicate, grid, length, length-append, length-drop, length-replicate, refl, replicate, suc, sumTo, sym, to-add, to-append, to-ext, to-zero, zero, zero-add, ℕ}
+use lib.ListN.{List·getD-append}
 use lib.Seq.{getD-append-add, getD-drop}
-use Rattle.laws.specs.Sums.{grid, sumTo, to-add, to-append, to-ext, to-zero}
-use Rattle.strip.specs.Answers.{element}
-use Rattle.strip.specs.declared.Element.{Element}
-use Rattle.cluster_model.specs.Calls.{wipe}
-use Rattle.cluster_model.specs.Heap.{many}
-use Rattle.cluster_model.specs.Node.{gap, inside, Node, Place}
-use Rattle.cluster_model.specs.Promise.{nodes, storedCount, Zeroed}
-use Rattle.cluster_model.specs.Way.{extent, heapIn, nodeIn}
-use Rattle.cluster_model.specs.Words.{nodeOf, placeBy, placeOf, rowOf, width, word}
+use Rattle.cluster_model.specs.Prelude.{Node, Place, Zeroed, countWords, extent, gap, heapIn, inside, many, markAt, nodeIn, nodeOf, nodes, placeBy, placeOf, placeWords, rightAt, rowOf, storedCount, width, wipe, word}
 use Rattle.cluster_model.proofs.Index.{root-heap}
 use Rattle.cluster_model.proofs.Levels.{clear-heap, clearHeap, clearLevels, clearNode, heapOf, Levels, nodeAt}
 use Rattle.cluster_model.proofs.Pass.{row-at}
@@ -90,19 +76,19 @@ wiped n ws h =
         let at : p ≡ length z + (p - n) = rw length-replicate (omega arith) in
         ap (λ (p : ℕ). getD (z ++ drop n ws) p d) at ∙ getD-append-add z (drop n ws) (p - n) d ∙ getD-drop n ws (p - n) d ∙ ap (λ (p : ℕ). getD ws p d) (omega arith)
 
-zero-places : (K : ℕ) (ws : List ℕ) (o : ℕ) → ((i : ℕ) → o ≤ i → i < o + K * 4 → word ws i ≡ 0) → rowOf placeOf 4 K ws o ≡ replicate K gap
+zero-places : (K : ℕ) (ws : List ℕ) (o : ℕ) → ((i : ℕ) → o ≤ i → i < o + K * placeWords → word ws i ≡ 0) → rowOf placeOf placeWords K ws o ≡ replicate K gap
 unfolding rowOf placeOf placeBy
 zero-places zero ws o h = refl
 zero-places (suc K) ws o h =
-    ap₂ (λ (p : Place) (l : List Place). p ∷ l) (ap (λ (x : ℕ). placeBy (eqb x 0) (element (word ws o) (word ws (o + 1)) (word ws (o + 2)))) (h (o + 3) (omega arith) (omega arith)))
-    (zero-places K ws (o + 4) (λ i g g′. h i (omega arith) (omega arith)))
+    ap₂ (λ (p : Place) (l : List Place). p ∷ l) (ap (λ (x : ℕ). placeBy (eqb x 0) (elementIn ws o)) (h (markAt o) (omega arith) (omega arith)))
+    (zero-places K ws (o + placeWords) (λ i g g′. h i (omega arith) (omega arith)))
 
 zero-node : (K : ℕ) (ws : List ℕ) (o : ℕ) → ((i : ℕ) → o ≤ i → i < o + width K → word ws i ≡ 0) → nodeOf K ws o ≡ clearNode K
 unfolding nodeOf clearNode
 zero-node K ws o h =
     let l : word ws o ≡ 0 = h o (omega arith) (omega arith) in
-    let r : word ws (o + 1) ≡ 0 = h (o + 1) (omega arith) (omega arith) in
-    let p : rowOf placeOf 4 K ws (o + 2) ≡ replicate K gap = zero-places K ws (o + 2) (λ i g g′. h i (omega arith) (omega arith)) in
+    let r : word ws (rightAt o) ≡ 0 = h (rightAt o) (omega arith) (omega arith) in
+    let p : rowOf placeOf placeWords K ws (o + countWords) ≡ replicate K gap = zero-places K ws (o + countWords) (λ i g g′. h i (omega arith) (omega arith)) in
     λ i. record { left = l i; right = r i; places = p i }
 
 zero-row : (K c : ℕ) (ws : List ℕ) (o : ℕ) → ((i : ℕ) → o ≤ i → i < o + c * width K → word ws i ≡ 0) → rowOf (nodeOf K) (width K) c ws o ≡ replicate c (clearNode K)

@@ -1,27 +1,10 @@
 -- "of a longer one the rest is never touched": not read either. Two stores that agree on the words of the shape are answered the same and left the
 -- same there, whatever stands behind.
-use Prim.Native.Nat.{_*_, _+_, _<_, _≤_, pred, suc, zero, ℕ}
-use native.Mathlib.Decide.{ℕ-discrete}
-use native.Mathlib.Nat.{not-suc-le-zero}
-use native.Mathlib.Omega.{arith}
-use mathlib.Core.Bool.{_&&_, _||_, Bool, false, true}
-use mathlib.Core.List.{[], _∷_, List}
-use mathlib.Core.Path.{_∙_, _≡_, ap, ap₂, refl, subst, sym}
-use lib.Dec.{eqb, leb}
-use lib.ListN.{getD, length, length-set, set}
-use lib.Seq.{getD-set-other, getD-set-same}
-use borrow.Author.Tests.{eq-eqb, leb-true}
-use Rattle.laws.specs.Tests.{and-left, and-right}
+use Rattle.laws.specs.Prelude.{Bool, Element, List, Request, [], _&&_, _*_, _+_, _<_, _||_, _∙_, _∷_, _≡_, _≤_, and-left, and-right, ap, ap₂, arith, eq-eqb, eqb, false, getD, getD-set-other, getD-set-same, isBlank, leb, leb-true, length, length-set, not-suc-le-zero, pred, refl, set, subst, suc, sym, true, zero, ℕ, ℕ-discrete}
 use Rattle.promise.proofs.Calls.{unread-by}
-use Rattle.promise.specs.Served.{always}
-use Rattle.strip.specs.declared.Element.{Element}
-use Rattle.strip.specs.declared.Request.{Request}
-use Rattle.cluster_model.specs.Calls.{called, heap, heldCount, rootHeld, rootOk, rule, ruleAt, Ruling}
-use Rattle.cluster_model.specs.Heap.{room}
-use Rattle.cluster_model.specs.Node.{begin, finish, Finished, inside, lhs, low, lowElem, Node, none, nothingBelow, Op, Place, put, rhs, Side, swap, take}
-use Rattle.cluster_model.specs.Promise.{Agree, Shape}
-use Rattle.cluster_model.specs.Way.{child, childrenOk, extent, Lies, lowIn, neatTo, nodeIn, nodeOk, ownOk, readOk, roomy, runWords, some, stepIn, strict, touch, under1, wayOk, works}
-use Rattle.cluster_model.specs.Words.{lengthIn, markOf, neatPlace, rankIn, tagIn, width, writeNode, writePlace, writeRow}
+use Rattle.promise.specs.Prelude.{always}
+use Rattle.strip.proofs.Words.{read-local, write-both}
+use Rattle.cluster_model.specs.Prelude.{Agree, Finished, Lies, Node, Op, Place, Ruling, Shape, Side, begin, called, child, childrenOk, countWords, elemOf, extent, finish, heap, heldCount, inside, lhs, low, lowElem, lowIn, markAt, markOf, neatPlace, neatTo, nodeIn, nodeOk, none, nothingBelow, ownOk, placeWords, put, readOk, rhs, rightAt, room, roomy, rootHeld, rootOk, rule, ruleAt, runWords, some, stepIn, strict, swap, take, touch, under1, wayOk, width, works, writeNode, writePlace, writeRow}
 use Rattle.cluster_model.proofs.Damages.{is-shape}
 use Rattle.cluster_model.proofs.Slice.{lies-all}
 use Rattle.cluster_model.proofs.Words.{node-local}
@@ -46,16 +29,16 @@ module _ (P : ℕ → Type 0) where
 
   like-place : (ws vs : List ℕ) (o : ℕ) (p : Place) → Alike ws vs → Alike (writePlace ws o p) (writePlace vs o p)
   unfolding writePlace
-  like-place ws vs o p a = like-set _ _ (o + 3) (markOf p) (like-set _ _ (o + 2) (lengthIn p) (like-set _ _ (o + 1) (tagIn p) (like-set ws vs o (rankIn p) a)))
+  like-place ws vs o p a = like-set _ _ (markAt o) (markOf p) (write-both Alike o (λ us vs i v g g′ a. like-set us vs i v a) ws vs (elemOf p) a)
 
   like-row : (ps : List Place) (ws vs : List ℕ) (o : ℕ) → Alike ws vs → Alike (writeRow ps ws o) (writeRow ps vs o)
   unfolding writeRow
   like-row [] ws vs o a = a
-  like-row (p ∷ ps) ws vs o a = like-row ps (writePlace ws o p) (writePlace vs o p) (o + 4) (like-place ws vs o p a)
+  like-row (p ∷ ps) ws vs o a = like-row ps (writePlace ws o p) (writePlace vs o p) (o + placeWords) (like-place ws vs o p a)
 
   pub like-touch : (t : Bool) (ws vs : List ℕ) (o : ℕ) (n : Node) → Alike ws vs → Alike (touch t ws o n) (touch t vs o n)
   unfolding touch writeNode
-  like-touch true ws vs o n a = like-row (n .places) _ _ (o + 2) (like-set _ _ (o + 1) (n .right) (like-set ws vs o (n .left) a))
+  like-touch true ws vs o n a = like-row (n .places) _ _ (o + countWords) (like-set _ _ (rightAt o) (n .right) (like-set ws vs o (n .left) a))
   like-touch false ws vs o n a = a
 
 -- the first N words
@@ -67,16 +50,16 @@ module _ (K N : ℕ) (ws vs : List ℕ) (a : Alike (Under N) ws vs) where
   pub same-node : (m : ℕ) → m * width K + width K ≤ N → nodeIn K ws m ≡ nodeIn K vs m
   same-node m h = node-local K vs ws (m * width K) (λ i l g. a .same i (omega arith))
 
-  pub same-neat : (o n : ℕ) → o + n * 4 ≤ N → neatTo K ws o n ≡ neatTo K vs o n
+  pub same-neat : (o n : ℕ) → o + n * placeWords ≤ N → neatTo K ws o n ≡ neatTo K vs o n
   unfolding neatTo neatPlace
   same-neat o zero h = refl
   same-neat o (suc n) h =
       ap₂ (λ (x y : Bool). x && y) (same-neat o n (omega arith))
-      (rw (a .same (o + n * 4) (omega arith), a .same (o + n * 4 + 1) (omega arith), a .same (o + n * 4 + 2) (omega arith), a .same (o + n * 4 + 3) (omega arith)))
+      (ap₂ (λ (e : Element) (m : ℕ). (eqb m 0 && isBlank e) || eqb m 1) (read-local vs ws (o + n * placeWords) (λ i g g′. a .same i (omega arith))) (a .same (markAt (o + n * placeWords)) (omega arith)))
 
   same-ok : (limit m : ℕ) → m * width K + width K ≤ N → nodeOk K limit ws m ≡ nodeOk K limit vs m
   unfolding nodeOk
-  same-ok limit m h = ap₂ (λ (x y : Bool). x && y) (same-neat (m * width K + 2) K (omega arith)) (ap (strict limit) (same-node m h))
+  same-ok limit m h = ap₂ (λ (x y : Bool). x && y) (same-neat (m * width K + countWords) K (omega arith)) (ap (strict limit) (same-node m h))
 
   same-read : (b : Bool) (limit m : ℕ) → m * width K + width K ≤ N → readOk K b limit ws m ≡ readOk K b limit vs m
   unfolding readOk
@@ -107,7 +90,7 @@ module _ (K N : ℕ) (ws vs : List ℕ) (a : Alike (Under N) ws vs) where
   last-children : (us : List ℕ) (m : ℕ) → nodeOk K 0 us m ≡ true → childrenOk K 0 us m ≡ true
   unfolding nodeOk childrenOk readOk
   last-children us m e =
-      let z = strict-none (nodeIn K us m) (and-right (neatTo K us (m * width K + 2) K) (strict 0 (nodeIn K us m)) e) in
+      let z = strict-none (nodeIn K us m) (and-right (neatTo K us (m * width K + countWords) K) (strict 0 (nodeIn K us m)) e) in
       rw (eq-eqb (nodeIn K us m .left) 0 (z .0), eq-eqb (nodeIn K us m .right) 0 (z .1))
 
   same-last : (m : ℕ) → m * width K + width K ≤ N → (nodeOk K 0 ws m && childrenOk K 0 ws m) ≡ (nodeOk K 0 vs m && childrenOk K 0 vs m)

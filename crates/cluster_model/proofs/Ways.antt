@@ -1,21 +1,8 @@
 -- On a sound heap whose words are neat, every test of an operation that can be done is passed.
-use Prim.Native.Nat.{_*_, _+_, _<_, _≤_, suc, zero, ℕ}
-use native.Mathlib.Nat.{not-suc-le-zero}
-use native.Mathlib.Omega.{arith}
-use mathlib.Core.Bool.{_&&_, _||_, Bool, false, true}
-use mathlib.Core.List.{List}
-use mathlib.Core.Path.{_≡_, ap, ap₂, refl, subst, sym}
-use lib.Dec.{eqb, ltb}
-use lib.ListN.{length}
-use borrow.Author.Tests.{eq-eqb, eqb-false, le-leb, lt-ltb, ltb-false}
-use Rattle.laws.specs.Tests.{and-true}
-use Rattle.promise.specs.Served.{always}
-use Rattle.strip.specs.Answers.{element}
-use Rattle.strip.specs.declared.Element.{Element}
-use Rattle.cluster_model.specs.Node.{Bag, Begun, begin, Finished, finish, inside, lhs, low, lowElem, Node, none, nothing, nothingBelow, Op, pick, Place, put, rhs, Side, swap, take}
-use Rattle.cluster_model.specs.Heap.{Can, Fit, Heap, lowest, many, room, Sound}
-use Rattle.cluster_model.specs.Words.{lengthIn, markOf, Neat, neatPlace, NeatPlace, NeatRow, placeBy, placeOf, rankIn, tagIn, width, word}
-use Rattle.cluster_model.specs.Way.{child, childrenOk, heapIn, lowIn, neatTo, nodeIn, nodeOk, ownOk, readOk, roomy, some, stepIn, strict, under1, wayOk}
+use Rattle.laws.specs.Prelude.{Bool, Element, List, _&&_, _*_, _+_, _<_, _||_, _∙_, _≡_, _≤_, and-true, ap, ap₂, arith, elementIn, eq-eqb, eqb, eqb-false, false, isBlank, le-leb, length, lt-ltb, ltb, ltb-false, not-suc-le-zero, refl, subst, suc, sym, true, zero, ℕ}
+use Rattle.promise.specs.Prelude.{always}
+use Rattle.strip.proofs.Words.{blank-none}
+use Rattle.cluster_model.specs.Prelude.{Bag, Begun, Can, Finished, Fit, Heap, Neat, NeatPlace, NeatRow, Node, Op, Place, Side, Sound, begin, child, childrenOk, countWords, elemOf, finish, heapIn, inside, lhs, low, lowElem, lowIn, lowest, many, markAt, markOf, neatPlace, neatTo, nodeIn, nodeOk, none, nothing, nothingBelow, ownOk, pick, placeBy, placeOf, placeWords, put, readOk, rhs, room, roomy, some, stepIn, strict, swap, take, under1, wayOk, width, word}
 use Rattle.cluster_model.proofs.Places.{place-hit}
 use Rattle.cluster_model.proofs.Step.{begins, children-can, Least, low-fit}
 use Rattle.cluster_model.proofs.Heap.{ask, heap-bag, heap-least}
@@ -27,27 +14,25 @@ or-not false b h = h refl
 
 -- ---- neat places pass their test
 neat-place : (ws : List ℕ) (o : ℕ) → NeatPlace ws o → neatPlace ws o ≡ true
-unfolding neatPlace placeOf placeBy rankIn tagIn lengthIn markOf
-neat-place ws o n = go (eqb (word ws (o + 3)) 0) refl n
+unfolding neatPlace placeOf placeBy markOf
+neat-place ws o n = go (eqb (word ws (markAt o)) 0) refl n
   where
     x : Element
-    x = element (word ws o) (word ws (o + 1)) (word ws (o + 2))
+    x = elementIn ws o
 
-    go : (b : Bool) → eqb (word ws (o + 3)) 0 ≡ b
-        → (rankIn (placeBy b x) ≡ word ws o) × (tagIn (placeBy b x) ≡ word ws (o + 1)) × (lengthIn (placeBy b x) ≡ word ws (o + 2)) × (markOf (placeBy b x) ≡ word ws (o + 3))
-        → ((b && (eqb (word ws o) 0 && (eqb (word ws (o + 1)) 0 && eqb (word ws (o + 2)) 0))) || eqb (word ws (o + 3)) 1) ≡ true
-    go true e n = rw (eq-eqb (word ws o) 0 (sym (n .0)), eq-eqb (word ws (o + 1)) 0 (sym (n .1)), eq-eqb (word ws (o + 2)) 0 (sym (n .2))) refl
-    go false e n = rw (eq-eqb (word ws (o + 3)) 1 (sym (n .3))) refl
+    go : (b : Bool) → eqb (word ws (markAt o)) 0 ≡ b → (elemOf (placeBy b x) ≡ x) × (markOf (placeBy b x) ≡ word ws (markAt o)) → ((b && isBlank x) || eqb (word ws (markAt o)) 1) ≡ true
+    go true e n = rw (ap isBlank (sym (n .0)) ∙ blank-none)
+    go false e n = rw (eq-eqb (word ws (markAt o)) 1 (sym (n .1))) refl
 
-neat-at : (K : ℕ) (ws : List ℕ) (o j : ℕ) → j < K → NeatRow K ws o → NeatPlace ws (o + j * 4)
+neat-at : (K : ℕ) (ws : List ℕ) (o j : ℕ) → j < K → NeatRow K ws o → NeatPlace ws (o + j * placeWords)
 neat-at zero ws o j h n = absurd (not-suc-le-zero h)
-neat-at (suc K) ws o zero h n = let at : o ≡ o + 0 * 4 = omega arith in subst (λ (i : ℕ). NeatPlace ws i) at (n .0)
-neat-at (suc K) ws o (suc j) h n = let at : o + 4 + j * 4 ≡ o + suc j * 4 = omega arith in subst (λ (i : ℕ). NeatPlace ws i) at (neat-at K ws (o + 4) j (omega arith) (n .1))
+neat-at (suc K) ws o zero h n = let at : o ≡ o + 0 * placeWords = omega arith in subst (λ (i : ℕ). NeatPlace ws i) at (n .0)
+neat-at (suc K) ws o (suc j) h n = let at : o + placeWords + j * placeWords ≡ o + suc j * placeWords = omega arith in subst (λ (i : ℕ). NeatPlace ws i) at (neat-at K ws (o + placeWords) j (omega arith) (n .1))
 
 pub neat-to : (K : ℕ) (ws : List ℕ) (o n : ℕ) → n ≤ K → NeatRow K ws o → neatTo K ws o n ≡ true
 unfolding neatTo
 neat-to K ws o zero h g = refl
-neat-to K ws o (suc n) h g = and-true _ _ (neat-to K ws o n (omega arith) g) (neat-place ws (o + n * 4) (neat-at K ws o n h g))
+neat-to K ws o (suc n) h g = and-true _ _ (neat-to K ws o n (omega arith) g) (neat-place ws (o + n * placeWords) (neat-at K ws o n h g))
 
 -- ---- a node that fits
 strict-fit : (K limit : ℕ) (n : Node) (α β : Bag) → Fit K limit nothing n α β → strict limit n ≡ true
@@ -60,7 +45,7 @@ strict-fit K limit n α β fit =
 
 pub node-fine : (K limit : ℕ) (ws : List ℕ) (m : ℕ) (α β : Bag) → Neat K ws (m * width K) → Fit K limit nothing (nodeIn K ws m) α β → nodeOk K limit ws m ≡ true
 unfolding nodeOk
-node-fine K limit ws m α β n fit = and-true _ _ (neat-to K ws (m * width K + 2) K (omega arith) n) (strict-fit K limit (nodeIn K ws m) α β fit)
+node-fine K limit ws m α β n fit = and-true _ _ (neat-to K ws (m * width K + countWords) K (omega arith) n) (strict-fit K limit (nodeIn K ws m) α β fit)
 
 module _ (K : ℕ) (two : 1 < K) (ws : List ℕ) where
   -- node m's heap, and what its two children hold

@@ -1,17 +1,8 @@
 -- What is written in the words of one node is a store into that node of its level, and nothing else changes.
-use Prim.Native.Nat.{ℕ, zero, suc, _+_, _*_, _≤_, _<_}
-use native.Mathlib.Nat.{not-suc-le-zero, le-of-suc-le-suc, mul-le-mul-right}
-use native.Mathlib.Omega.{arith}
-use mathlib.Core.Path.{_≡_, refl, sym, ap, ap₂, _∙_}
-use mathlib.Core.List.{List, _∷_}
-use mathlib.Core.Logic.{_⊎_, inl, inr, ⊎-elim}
-use lib.Dec.{eqb}
-use lib.ListN.{length, set, length-set}
-use lib.Seq.{getD-set-same, getD-set-other}
-use Rattle.strip.specs.Answers.{element}
-use Rattle.cluster_model.specs.Node.{Place, gap, has, Node}
+use Rattle.laws.specs.Prelude.{Element, List, _*_, _+_, _<_, _∙_, _∷_, _≡_, _≤_, _⊎_, ap, ap₂, arith, elementIn, eqb, getD-set-other, getD-set-same, inl, inr, le-of-suc-le-suc, length, length-set, mul-le-mul-right, not-suc-le-zero, refl, set, suc, sym, writeElement, zero, ℕ, ⊎-elim}
+use Rattle.strip.proofs.Words.{read-local, write-apart as element-apart, write-back, write-length as element-length}
+use Rattle.cluster_model.specs.Prelude.{Node, Only, Place, countWords, elemOf, gap, has, markAt, markOf, nodeOf, placeBy, placeOf, placeWords, rightAt, rowOf, width, word, writePlace}
 use Rattle.cluster_model.proofs.Levels.{Levels}
-use Rattle.cluster_model.specs.Words.{word, rowOf, placeBy, placeOf, width, nodeOf, markOf, rankIn, tagIn, lengthIn, writePlace, Only}
 
 -- k levels from word b on, the first of c nodes
 unfoldable pub levelsOf : ℕ → (k : ℕ) → List ℕ → ℕ → ℕ → Levels k
@@ -44,96 +35,53 @@ module _ {A : Type 0} (rd : List ℕ → ℕ → A) (d : ℕ) (local : Local rd 
       (row-write c j (o + d) ws ws′ x (le-of-suc-le-suc h) (ap (rd ws′) at ∙ e) (λ i h. only i (⊎-elim (λ g. inl (omega arith)) (λ g. inr (omega arith)) h)))
 
 -- ---- a place
--- four words, put together
-place-path : {a b c d a′ b′ c′ d′ : ℕ} → a ≡ a′ → b ≡ b′ → c ≡ c′ → d ≡ d′ → placeBy (eqb d 0) (element a b c) ≡ placeBy (eqb d′ 0) (element a′ b′ c′)
-place-path p q r s = λ i. placeBy (eqb (s i) 0) (element (p i) (q i) (r i))
+-- an element and a mark, put together
+place-path : {e e′ : Element} {d d′ : ℕ} → e ≡ e′ → d ≡ d′ → placeBy (eqb d 0) e ≡ placeBy (eqb d′ 0) e′
+place-path p s = λ i. placeBy (eqb (s i) 0) (p i)
 
-pub place-local : Local placeOf 4
+pub place-local : Local placeOf placeWords
 unfolding placeOf
-place-local ws ws′ o h =
-    place-path (h o (omega arith) (omega arith)) (h (o + 1) (omega arith) (omega arith)) (h (o + 2) (omega arith) (omega arith)) (h (o + 3) (omega arith) (omega arith))
+place-local ws ws′ o h = place-path (read-local ws ws′ o (λ i l r. h i l (omega arith))) (h (markAt o) (omega arith) (omega arith))
 
-apart : (i o a : ℕ) → a < 4 → (i < o) ⊎ (o + 4 ≤ i) → i ≡ o + a → ⊥
-apart i o a l h e = ⊎-elim (λ (g : i < o). omega arith) (λ (g : o + 4 ≤ i). omega arith) h
-
--- four words set in a row, read back
-module _ (ws : List ℕ) (o a b c d : ℕ) where
-  abbrev four : List ℕ
-  four = set (set (set (set ws o a) (o + 1) b) (o + 2) c) (o + 3) d
-
-  four-length : length four ≡ length ws
-  four-length = simp length-set
-
-  four-other : (i : ℕ) → (i < o) ⊎ (o + 4 ≤ i) → word four i ≡ word ws i
-  four-other i h =
-      let n0 : i ≡ o → ⊥ = λ e. apart i o 0 (omega arith) h (omega arith) in
-      getD-set-other (set (set (set ws o a) (o + 1) b) (o + 2) c) (o + 3) i d 0 (apart i o 3 (omega arith) h)
-      ∙ getD-set-other (set (set ws o a) (o + 1) b) (o + 2) i c 0 (apart i o 2 (omega arith) h)
-      ∙ getD-set-other (set ws o a) (o + 1) i b 0 (apart i o 1 (omega arith) h)
-      ∙ getD-set-other ws o i a 0 n0
-
-  module _ (fits : o + 4 ≤ length ws) where
-    four-0 : word four o ≡ a
-    four-0 =
-        getD-set-other (set (set (set ws o a) (o + 1) b) (o + 2) c) (o + 3) o d 0 (λ e. omega arith)
-        ∙ getD-set-other (set (set ws o a) (o + 1) b) (o + 2) o c 0 (λ e. omega arith)
-        ∙ getD-set-other (set ws o a) (o + 1) o b 0 (λ e. omega arith) ∙ getD-set-same ws o a 0 (omega arith)
-
-    four-1 : word four (o + 1) ≡ b
-    four-1 =
-        getD-set-other (set (set (set ws o a) (o + 1) b) (o + 2) c) (o + 3) (o + 1) d 0 (λ e. omega arith)
-        ∙ getD-set-other (set (set ws o a) (o + 1) b) (o + 2) (o + 1) c 0 (λ e. omega arith)
-        ∙ getD-set-same (set ws o a) (o + 1) b 0 (simp length-set (omega arith))
-
-    four-2 : word four (o + 2) ≡ c
-    four-2 =
-        getD-set-other (set (set (set ws o a) (o + 1) b) (o + 2) c) (o + 3) (o + 2) d 0 (λ e. omega arith)
-        ∙ getD-set-same (set (set ws o a) (o + 1) b) (o + 2) c 0 (simp length-set (omega arith))
-
-    four-3 : word four (o + 3) ≡ d
-    four-3 = getD-set-same (set (set (set ws o a) (o + 1) b) (o + 2) c) (o + 3) d 0 (simp length-set (omega arith))
-
-pub write-only : (ws : List ℕ) (o : ℕ) (p : Place) → Only o (o + 4) ws (writePlace ws o p)
+pub write-only : (ws : List ℕ) (o : ℕ) (p : Place) → Only o (o + placeWords) ws (writePlace ws o p)
 unfolding writePlace
-write-only ws o p = four-other ws o (rankIn p) (tagIn p) (lengthIn p) (markOf p)
+write-only ws o p i (inl h) = getD-set-other (writeElement ws o (elemOf p)) (markAt o) i (markOf p) 0 (λ e. omega arith) ∙ element-apart ws o i (elemOf p) (inl h)
+write-only ws o p i (inr h) = getD-set-other (writeElement ws o (elemOf p)) (markAt o) i (markOf p) 0 (λ e. omega arith) ∙ element-apart ws o i (elemOf p) (inr (omega arith))
 
 pub write-length : (ws : List ℕ) (o : ℕ) (p : Place) → length (writePlace ws o p) ≡ length ws
 unfolding writePlace
-write-length ws o p = four-length ws o (rankIn p) (tagIn p) (lengthIn p) (markOf p)
+write-length ws o p = length-set (writeElement ws o (elemOf p)) (markAt o) (markOf p) ∙ element-length ws o (elemOf p)
 
-coded : (p : Place) → placeBy (eqb (markOf p) 0) (element (rankIn p) (tagIn p) (lengthIn p)) ≡ p
-unfolding placeBy markOf rankIn tagIn lengthIn
+coded : (p : Place) → placeBy (eqb (markOf p) 0) (elemOf p) ≡ p
+unfolding placeBy markOf
 coded gap = refl
 coded (has e) = refl
 
 -- what is written is read back, and stands so in the words
 pub record Written (ws : List ℕ) (o : ℕ) (p : Place) : Type 0 where
-  pub rank : word (writePlace ws o p) o ≡ rankIn p
-  pub tag : word (writePlace ws o p) (o + 1) ≡ tagIn p
-  pub length : word (writePlace ws o p) (o + 2) ≡ lengthIn p
-  pub mark : word (writePlace ws o p) (o + 3) ≡ markOf p
+  pub element : elementIn (writePlace ws o p) o ≡ elemOf p
+  pub mark : word (writePlace ws o p) (markAt o) ≡ markOf p
 
-pub written : (ws : List ℕ) (o : ℕ) (p : Place) → o + 4 ≤ length ws → Written ws o p
+pub written : (ws : List ℕ) (o : ℕ) (p : Place) → o + placeWords ≤ length ws → Written ws o p
 unfolding writePlace
 written ws o p h =
+    let v : List ℕ = writeElement ws o (elemOf p) in
     record {
-      rank = four-0 ws o (rankIn p) (tagIn p) (lengthIn p) (markOf p) h;
-      tag = four-1 ws o (rankIn p) (tagIn p) (lengthIn p) (markOf p) h;
-      length = four-2 ws o (rankIn p) (tagIn p) (lengthIn p) (markOf p) h;
-      mark = four-3 ws o (rankIn p) (tagIn p) (lengthIn p) (markOf p) h;
+      element = read-local v (set v (markAt o) (markOf p)) o (λ i l r. getD-set-other v (markAt o) i (markOf p) 0 (λ e. omega arith)) ∙ write-back ws o (elemOf p) (omega arith);
+      mark = getD-set-same v (markAt o) (markOf p) 0 (omega (arith, element-length ws o (elemOf p)));
     }
 
-pub write-place : (ws : List ℕ) (o : ℕ) (p : Place) → o + 4 ≤ length ws → placeOf (writePlace ws o p) o ≡ p
+pub write-place : (ws : List ℕ) (o : ℕ) (p : Place) → o + placeWords ≤ length ws → placeOf (writePlace ws o p) o ≡ p
 unfolding placeOf
-write-place ws o p h = let w = written ws o p h in place-path (w .rank) (w .tag) (w .length) (w .mark) ∙ coded p
+write-place ws o p h = let w = written ws o p h in place-path (w .element) (w .mark) ∙ coded p
 
 -- ---- a node
 pub node-local : (K : ℕ) → Local (nodeOf K) (width K)
 unfolding nodeOf
 node-local K ws ws′ b h =
     let l : word ws′ b ≡ word ws b = h b (omega arith) (omega arith) in
-    let r : word ws′ (b + 1) ≡ word ws (b + 1) = h (b + 1) (omega arith) (omega arith) in
-    let p : rowOf placeOf 4 K ws′ (b + 2) ≡ rowOf placeOf 4 K ws (b + 2) = row-local placeOf 4 place-local K ws ws′ (b + 2) (λ i g g′. h i (omega arith) (omega arith)) in
+    let r : word ws′ (rightAt b) ≡ word ws (rightAt b) = h (rightAt b) (omega arith) (omega arith) in
+    let p : rowOf placeOf placeWords K ws′ (b + countWords) ≡ rowOf placeOf placeWords K ws (b + countWords) = row-local placeOf placeWords place-local K ws ws′ (b + countWords) (λ i g g′. h i (omega arith) (omega arith)) in
     λ i. record { left = l i; right = r i; places = p i }
 
 -- ---- levels

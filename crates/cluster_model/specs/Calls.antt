@@ -1,19 +1,7 @@
 -- The five calls of the cluster heap, each a total function of K, levels and words to an answer and the words afterwards: what the heap brings, to the calls that every queue has (`promise/specs/Calls.antt`).
-use Prim.Native.Nat.{ℕ, _+_, pred}
-use mathlib.Core.Bool.{Bool, _&&_}
-use mathlib.Core.List.{List, _++_}
-use lib.Dec.{leb}
-use lib.ListN.{length, drop, replicate}
+use Rattle.laws.specs.Prelude.{Answer, BadShape, Bool, Count, Element, Idle, List, Pop, Push, Replace, Request, _&&_, _++_, _+_, drop, leb, length, pred, replicate, ℕ}
 use Rattle.promise.specs.Calls as calls
-use Rattle.promise.specs.Calls.{lastTable, Queue}
-use Rattle.promise.specs.Served.{always}
-use Rattle.promise.specs.Table.{ends, needs}
-use Rattle.strip.specs.declared.Answer.{Answer}
-use Rattle.strip.specs.declared.Count.{Count}
-use Rattle.strip.specs.declared.Element.{Element}
-use Rattle.strip.specs.declared.Refusal.the-variants.{BadShape}
-use Rattle.strip.specs.declared.Request.{Request}
-use Rattle.strip.specs.declared.Request.the-variants.{Idle, Push, Pop, Replace}
+use Rattle.promise.specs.Prelude.{Queue, always, ends, lastTable, needs}
 use Rattle.cluster_model.specs.Causes.{NodeDamaged, PathDamaged, Shape, storedCount}
 use Rattle.cluster_model.specs.Node.{inside, lowElem, Node, Op, none, put, take, swap}
 use Rattle.cluster_model.specs.Heap.{room}

@@ -1,14 +1,6 @@
 -- A worked store, K = 2, levels 2, capacity 6: push 5/50, 3/30, 8/80, 1/10, 9/90 with lengths, then replace 4/7, pop and pop.
-use Prim.Native.Nat.{ℕ}
-use mathlib.Core.List.{[], _++_, _∷_, List}
-use lib.ListN.{replicate}
-use Rattle.promise.specs.Queue.{answers}
-use Rattle.strip.specs.Answers.{element}
-use Rattle.strip.specs.declared.Answer.{Answer}
-use Rattle.strip.specs.declared.Answer.the-variants.{Done, Out, Refused}
-use Rattle.strip.specs.declared.Refusal.the-variants.{Empty, Full, NoTag}
-use Rattle.strip.specs.declared.Request.{Request}
-use Rattle.strip.specs.declared.Request.the-variants.{Pop, Push, Replace}
+use Rattle.laws.specs.Prelude.{Answer, Done, Empty, Full, List, NoTag, Out, Pop, Push, Refused, Replace, Request, [], _++_, _∷_, element, replicate, ℕ}
+use Rattle.promise.specs.Prelude.{answers}
 use Rattle.cluster_model.specs.Promise.{after, clusterQueue, start}
 
 abbrev pub clusterCalls : List Request

@@ -1,12 +1,6 @@
 -- The causes of refusal in 02 [2]'s words, and what stands in a store.
-use Prim.Native.Nat.{_*_, _+_, _<_, _≤_, suc, zero, ℕ}
-use mathlib.Core.Bool.{Bool}
-use mathlib.Core.List.{List}
-use mathlib.Core.Logic.{_⊎_}
-use mathlib.Core.Path.{_≡_}
-use Rattle.laws.specs.Sums.{sumTo}
-use Rattle.promise.specs.Served.{always}
-use Rattle.strip.specs.declared.Element.{Element}
+use Rattle.laws.specs.Prelude.{Bool, Element, List, Zeros, _*_, _+_, _<_, _≡_, _≤_, _⊎_, elementIn, suc, sumTo, zero, ℕ}
+use Rattle.promise.specs.Prelude.{always}
 use Rattle.cluster_model.specs.Heap.{room}
 use Rattle.cluster_model.specs.Node.{inside, lhs, Node, none, Op, put, rhs, swap, take}
 use Rattle.cluster_model.specs.Way.{child, extent, nodeIn, stepIn, under1}
@@ -28,7 +22,7 @@ AnyTo (suc n) P = AnyTo n P ⊎ P n
 
 -- a mark above 1, or a mark of 0 and another word not 0
 abbrev pub PlaceDamaged : List ℕ → ℕ → Type 0
-PlaceDamaged ws o = (1 < word ws (o + 3)) ⊎ ((word ws (o + 3) ≡ 0) × ((word ws o ≡ 0) × (word ws (o + 1) ≡ 0) × (word ws (o + 2) ≡ 0) → ⊥))
+PlaceDamaged ws o = (1 < word ws (o + 3)) ⊎ ((word ws (o + 3) ≡ 0) × (Zeros (elementIn ws o) → ⊥))
 
 -- how many places are marked
 abbrev pub marked : Node → ℕ

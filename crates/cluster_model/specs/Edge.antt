@@ -1,9 +1,5 @@
 -- A shape of the cluster heap at the edge of the limits: "K from 2 to 16; .. capacity K times (2^L − 1), at most 5,460".
-use Prim.Native.Nat.{_≤_, ℕ}
-use mathlib.Core.List.{List}
-use mathlib.Core.Path.{_≡_}
-use lib.ListN.{length}
-use Rattle.strip.specs.Answers.{numberOf}
+use Rattle.laws.specs.Prelude.{List, _≡_, _≤_, length, numberOf, ℕ}
 use Rattle.cluster_model.specs.Calls.{cleared}
 use Rattle.cluster_model.specs.Heap.{room}
 use Rattle.cluster_model.specs.Way.{extent}

@@ -1,12 +1,6 @@
 -- The heap as a tree of nodes: an operation done to its end, what the heap holds, and when it is sound.
-use Prim.Native.Nat.{ℕ, zero, suc, _+_, _≤_, _<_}
-use mathlib.Core.Path.{_≡_}
-use mathlib.Core.Bool.{Bool}
-use mathlib.Core.List.{List}
-use lib.ListN.{length, set}
-use Rattle.promise.specs.Served.{always, hit}
-use Rattle.strip.specs.declared.Element.{Element}
-use Rattle.strip.specs.Answers.{blank}
+use Rattle.laws.specs.Prelude.{Bool, Element, List, _+_, _<_, _≡_, _≤_, blank, length, set, suc, zero, ℕ}
+use Rattle.promise.specs.Prelude.{always, hit}
 use Rattle.cluster_model.specs.Node.{Bag, under, above, Place, gap, has, inside, placeAt, low, lowElem, Node, lhs, rhs, Op, none, put, take, swap, Note, nothing, fill, trial, onto, begin, finish, toLeft, toRight}
 
 -- a node and the two heaps below it

@@ -8,3 +8,4 @@ pub mod Promise
 pub mod Rules
 pub mod Cases
 pub mod Edge
+pub mod Prelude

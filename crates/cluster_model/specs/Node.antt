@@ -1,13 +1,8 @@
 -- A place, a node; the choice of a place; the two halves of an operation at one node: what it does at the node alone, and what is settled with the
 -- children.
-use Prim.Native.Nat.{ℕ, suc, _+_, pred}
-use mathlib.Core.Bool.{Bool, true, false, cond, not, _&&_, _||_}
-use mathlib.Core.List.{List, [], _∷_}
-use lib.Dec.{ltb, leb, eqb}
-use lib.ListN.{length, getD, set}
-use Rattle.promise.specs.Served.{hit}
-use Rattle.strip.specs.declared.Element.{Element}
-use Rattle.strip.specs.Answers.{blank, key, precedes}
+use Rattle.laws.specs.Prelude.{Bool, Element, List, [], _&&_, _+_, _||_, _∷_, blank, cond, eqb, false, getD, key, leb, length, ltb, not, precedes, pred, set, suc, true, ℕ}
+use Rattle.promise.specs.Prelude.{hit}
+unfoldable pub use Rattle.strip.specs.Words.{keep, pass}
 
 -- ---- counting: how many elements pass a test
 abbrev pub Bag : Type 0
@@ -78,13 +73,6 @@ lowElem ps = elemOf (placeAt ps (low ps))
 
 unfoldable pub highElem : List Place → Element
 highElem ps = elemOf (placeAt ps (high ps))
-
--- "exchanges .. if strictly lower": of the element put and the element met the one that stays, and the one that goes on below
-unfoldable pub keep : Element → Element → Element
-keep x e = cond (ltb (key x) (key e)) x e
-
-unfoldable pub pass : Element → Element → Element
-pass x e = cond (ltb (key x) (key e)) e x
 
 -- ---- a node: how many are held in all below it on the left and on the right, and its places
 pub record Node : Type 0 where

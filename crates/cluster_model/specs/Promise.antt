@@ -1,18 +1,7 @@
 -- What is promised of the cluster heap is said in these words: the tables of refusal, and what a list of requests leaves.
-use Prim.Native.Nat.{_<_, _≤_, pred, ℕ}
-use mathlib.Core.List.{List}
-use mathlib.Core.Logic.{_⊎_}
-use mathlib.Core.Path.{_≡_}
-use lib.ListN.{getD, length}
-use Rattle.laws.specs.Ladder.{fine, Ladder, rung, stop}
+use Rattle.laws.specs.Prelude.{Answer, BadShape, Damaged, Element, Ladder, List, NoTag, Refusal, Request, _<_, _≡_, _≤_, _⊎_, fine, getD, length, pred, rung, stop, ℕ}
 use Rattle.promise.specs.Calls as calls
-use Rattle.promise.specs.Queue.{leaves, Step}
-use Rattle.promise.specs.Refused.{limits, Untagged}
-use Rattle.strip.specs.declared.Answer.{Answer}
-use Rattle.strip.specs.declared.Element.{Element}
-use Rattle.strip.specs.declared.Refusal.{Refusal}
-use Rattle.strip.specs.declared.Refusal.the-variants.{BadShape, Damaged, NoTag}
-use Rattle.strip.specs.declared.Request.{Request}
+use Rattle.promise.specs.Prelude.{Step, Untagged, leaves, limits}
 use Rattle.cluster_model.specs.Calls.{called, cleared, heldIn, ruleAt}
 use Rattle.cluster_model.specs.Heap.{room}
 pub use Rattle.cluster_model.specs.Causes.{AnyTo, ChildDamaged, marked, NodeDamaged, PathDamaged, PlaceDamaged, Shape, StepDamaged, Stuck}

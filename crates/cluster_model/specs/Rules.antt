@@ -1,13 +1,7 @@
 -- The rules in 02's own words: the three choices of a place, the two of a child, and the steps of put, take and swap at a node.
-use Prim.Native.Nat.{_+_, _<_, _≤_, ℕ}
-use mathlib.Core.List.{List}
-use mathlib.Core.Logic.{_⊎_}
-use mathlib.Core.Path.{_≡_}
-use lib.ListN.{length}
+use Rattle.laws.specs.Prelude.{Element, List, Request, _+_, _<_, _≡_, _≤_, _⊎_, length, ℕ}
 use Rattle.promise.specs.Calls as calls
 pub use Rattle.promise.specs.Calls.{empty, full, idles, lacks, no-tag, puts, swaps, takes}
-use Rattle.strip.specs.declared.Element.{Element}
-use Rattle.strip.specs.declared.Request.{Request}
 use Rattle.cluster_model.specs.Calls.{Ruling}
 use Rattle.cluster_model.specs.Node.{begin, fewer, finish, Finished, finished, free, gap, has, high, highElem, lhs, low, lowerSide, Node, none, Op, pick, Place, placeAt, put, raise, rhs, Side, sink, store, swap, take}
 

@@ -1,16 +1,10 @@
 -- An operation over the words, by node number: nodes lie level by level, so node m begins at word m times the width, and its children are nodes
 -- 2m + 1 and 2m + 2. The tests for damage: of a node, of a step, and of an operation's whole path.
-use Prim.Native.Nat.{ℕ, zero, suc, _+_, _*_, _≤_}
-use mathlib.Core.Bool.{Bool, true, false, _&&_, _||_}
-use mathlib.Core.List.{List}
-use lib.Dec.{eqb, leb, ltb}
-use lib.ListN.{length}
-use Rattle.promise.specs.Served.{always}
-use Rattle.strip.specs.declared.Element.{Element}
-use Rattle.strip.specs.Answers.{blank}
+use Rattle.laws.specs.Prelude.{Bool, Element, List, _&&_, _*_, _+_, _||_, _≤_, blank, eqb, false, leb, length, ltb, suc, true, zero, ℕ}
+use Rattle.promise.specs.Prelude.{always}
 use Rattle.cluster_model.specs.Node.{inside, low, lowElem, nothingBelow, Node, Side, lhs, rhs, Op, none, put, take, swap, begin, Finished, finish}
 use Rattle.cluster_model.specs.Heap.{Heap, room}
-use Rattle.cluster_model.specs.Words.{width, nodeOf, neatPlace, placeWords, writeNode}
+use Rattle.cluster_model.specs.Words.{countWords, width, nodeOf, neatPlace, placeWords, writeNode}
 
 -- a node that has nothing to do is not written
 unfoldable pub touch : Bool → List ℕ → ℕ → Node → List ℕ
@@ -90,7 +84,7 @@ module _ (K : ℕ) where
 
   -- node m, whose children have room for limit each
   unfoldable pub nodeOk : ℕ → List ℕ → ℕ → Bool
-  nodeOk limit ws m = neatTo ws (spotOf m + 2) K && strict limit (nodeIn ws m)
+  nodeOk limit ws m = neatTo ws (spotOf m + countWords) K && strict limit (nodeIn ws m)
 
   -- a child is read for its lowest only where its count is not 0, and must then have an element
   unfoldable pub readOk : Bool → ℕ → List ℕ → ℕ → Bool

@@ -1,25 +1,8 @@
 -- What each return of the calls comes to, from what the callees ensure.
-use Prim.Native.Nat.{_*_, _+_, _<_, _≤_, ℕ}
+use Rattle.laws.specs.Prelude.{Answer, BadShape, Bool, Count, Done, Element, Held, List, Out, Pop, Push, Refusal, Refused, Unknown, _*_, _++_, _+_, _<_, _∙_, _≡_, _≤_, add-one, ap, arith, drop, element, eq-eqb, false, getD, le-leb, length, lt-leb, ne-eqb, not, not-false, not-true, refl, replicate, set, subst, sym, true, ℕ}
 use native.Mathlib.Nat.{div-le-self, mul-le-mul}
-use native.Mathlib.Numerals.{add-one}
-use native.Mathlib.Omega.{arith}
-use mathlib.Core.Bool.{Bool, false, not, true}
-use mathlib.Core.List.{_++_, List}
-use mathlib.Core.Path.{_∙_, _≡_, ap, refl, subst, sym}
-use lib.ListN.{drop, getD, length, replicate, set}
-use borrow.Author.Tests.{eq-eqb, le-leb, lt-leb, ne-eqb, not-false, not-true}
-use Rattle.strip.specs.Answers.{element}
-use Rattle.strip.specs.declared.Answer.{Answer}
-use Rattle.strip.specs.declared.Answer.the-variants.{Done, Out, Refused}
-use Rattle.strip.specs.declared.Count.{Count}
-use Rattle.strip.specs.declared.Count.the-variants.{Held, Unknown}
-use Rattle.strip.specs.declared.Element.{Element}
-use Rattle.strip.specs.declared.Refusal.{Refusal}
-use Rattle.strip.specs.declared.Refusal.the-variants.{BadShape}
-use Rattle.strip.specs.declared.Request.the-variants.{Pop, Push}
-use Rattle.tree_model.specs.Calls.{called, heldCount, outcome}
-use Rattle.fair_model.proofs.Outcomes.{strip-means}
-use Rattle.fair_model.proofs.Orderly.{cells-most, finish-is}
+use Rattle.tree_model.specs.Prelude.{called, heldCount, outcome}
+use Rattle.fair_model.proofs.Laws.{cells-most, finish-is, strip-means}
 use Rattle.fair_model.specs.Calls.{desk, nextFinish, noted, pops, pushes, reply, resets, stripOk, timed, told}
 use Rattle.fair_model.specs.Ranks.{cells, finish, Good, latest, step}
 use Rattle.fair_model.specs.declared.FairAnswer.{FairAnswer}

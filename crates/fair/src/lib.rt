@@ -13,7 +13,6 @@ use fair_model::FairRefusal;
 use fair_model::Flow;
 use fair_model::Weight;
 use fair_table::step_of;
-use node::zero_words;
 use strip::Answer;
 use strip::Count;
 use strip::Element;
@@ -21,6 +20,7 @@ use strip::Length;
 use strip::Rank;
 use strip::Refusal;
 use strip::Tag;
+use tree_node::slot::zero_words;
 
 // The words of a state: the clock and 64 finishes.
 pub const STATE_WORDS: usize = 65;

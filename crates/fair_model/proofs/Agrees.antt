@@ -1,31 +1,8 @@
 -- The words and the ledger agree after every call: the clock, the finishes and what the store holds. So what a call comes to in the ledger is lawful.
-use Prim.Native.Nat.{_+_, _<_, _≤_, suc, zero, ℕ}
-use native.Mathlib.Decide.{ℕ-discrete}
-use native.Mathlib.Nat.{le-of-suc-le-suc, not-suc-le-zero}
-use native.Mathlib.Omega.{arith}
-use mathlib.Core.Bool.{Bool, false, true}
-use mathlib.Core.List.{[], _++_, _∷_, List}
-use mathlib.Core.Path.{_∙_, _≡_, ap, refl, subst, sym}
-use lib.Dec.{ltb}
-use lib.ListN.{getD, length, length-set, set}
-use lib.Seq.{getD-set-other, getD-set-same}
-use borrow.Author.Tests.{ltb-false}
-use Rattle.laws.specs.Lists.{All, sumOf}
-use Rattle.laws.specs.Updates.{is-upd, upd}
-use Rattle.promise.specs.Queue.{leaves}
-use Rattle.promise.specs.Served.{always, brought, given, hit, Least, lower}
-use Rattle.strip.specs.Answers.{countOf, element}
-use Rattle.strip.specs.declared.Answer.{Answer}
-use Rattle.strip.specs.declared.Answer.the-variants.{Done, Out, Refused}
-use Rattle.strip.specs.declared.Count.the-variants.{Held}
-use Rattle.strip.specs.declared.Element.{Element}
-use Rattle.strip.specs.declared.Refusal.{Refusal}
-use Rattle.strip.specs.declared.Request.{Request}
-use Rattle.strip.specs.declared.Request.the-variants.{Pop, Push}
-use Rattle.tree_model.proofs.Promises.{call-sum, called-kept, Kept, kept-held, kept-least}
-use Rattle.tree_model.specs.Calls.{called, heldCount, Outcome}
-use Rattle.tree_model.specs.Damage.{room}
-use Rattle.tree_model.specs.Promise.{storedCount}
+use Rattle.laws.specs.Prelude.{All, Answer, Bool, Done, Element, Held, List, Out, Pop, Push, Refusal, Refused, Request, [], _++_, _+_, _<_, _∙_, _∷_, _≡_, _≤_, ap, arith, countOf, element, false, getD, getD-set-other, getD-set-same, is-upd, le-of-suc-le-suc, length, length-set, ltb, ltb-false, not-suc-le-zero, refl, set, subst, suc, sumOf, sym, true, upd, zero, ℕ, ℕ-discrete}
+use Rattle.promise.specs.Prelude.{Least, always, brought, given, hit, leaves, lower}
+use Rattle.tree_model.proofs.Laws.{Kept, call-sum, called-kept, kept-held, kept-least}
+use Rattle.tree_model.specs.Prelude.{Outcome, called, heldCount, room, storedCount}
 use Rattle.fair_model.specs.Calls.{blankState, clockOf, Desk, desk, lastOf, nextElement, nextFinish, noted, pops, pushes, Reply, resets, stateWords, timed, told}
 use Rattle.fair_model.specs.Ledger.{AllLawful, anew, comes, entry, found, goes, Lawful, listed, Move, moved, noStrip, rank, run, stays, Strip, without, World}
 use Rattle.fair_model.specs.Promise.{Attributed, Call, Entry, fairQueue, moveBy, moveOf, moves, pop, push, replyTo, reset, Struck}

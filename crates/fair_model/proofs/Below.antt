@@ -1,17 +1,8 @@
 -- The queue below: what it is asked and answers in the middle of fair ranks' calls is a list of its own requests, so that all that is promised of those
 -- is promised here.
-use Prim.Native.Nat.{ℕ}
-use mathlib.Core.Bool.{_&&_, Bool, cond, false, true}
-use mathlib.Core.List.{[], _++_, _∷_, List}
-use mathlib.Core.Path.{_∙_, _≡_, ap, refl, sym}
-use lib.Dec.{leb}
-use Rattle.laws.specs.Lists.{All}
-use Rattle.promise.specs.Queue.{answers, leaves, Step}
-use Rattle.strip.specs.declared.Refusal.the-variants.{BadShape}
-use Rattle.strip.specs.declared.Request.{Request}
-use Rattle.strip.specs.declared.Request.the-variants.{Pop, Push}
-use Rattle.tree_model.specs.Calls.{called}
-use Rattle.tree_model.specs.Promise.{after, start, treeQueue}
+use Rattle.laws.specs.Prelude.{All, BadShape, Bool, List, Pop, Push, Request, [], _&&_, _++_, _∙_, _∷_, _≡_, ap, cond, false, leb, refl, sym, true, ℕ}
+use Rattle.promise.specs.Prelude.{Step, answers, leaves}
+use Rattle.tree_model.specs.Prelude.{after, called, start, treeQueue}
 use Rattle.fair_model.specs.Calls.{denied, Desk, desk, handedOut, nextElement, nextFinish, passedOn, pops, pushes, Reply, stateOk, stripOk, told}
 use Rattle.fair_model.specs.Promise.{allPassed, Call, fairQueue, opened, passed, pop, push, reset}
 use Rattle.fair_model.specs.Ranks.{latest}

@@ -1,16 +1,7 @@
 -- The bound: over any stretch in which two flows keep one weight each and always have something waiting, their served cells times step differ by
 -- at most one largest strip of each.
-use Prim.Native.Nat.{_*_, _+_, _≤_, ℕ}
-use native.Mathlib.Decide.{ℕ-discrete}
+use Rattle.laws.specs.Prelude.{All, Any, List, [], _*_, _+_, _∙_, _∷_, _≡_, _≤_, all-at, all-map-both, all-snoc, ap, arith, eq-eqb, eqb, ne-eqb, subst, sym, ℕ, ℕ-discrete}
 use native.Mathlib.Nat.{add-mul, zero-mul}
-use native.Mathlib.Omega.{arith}
-use mathlib.Core.List.{[], _∷_, List}
-use mathlib.Core.Path.{_∙_, _≡_, ap, subst, sym}
-use lib.Dec.{eqb}
-use borrow.Author.Tests.{eq-eqb, ne-eqb}
-use Rattle.laws.specs.Fails.{Any}
-use Rattle.laws.specs.Lists.{All, all-at}
-use Rattle.laws.specs.Snoc.{all-map-both, all-snoc}
 use Rattle.fair_model.specs.Ranks.{cellLimit, cells, step}
 use Rattle.fair_model.specs.Ledger.{AllLawful, anew, Busy, bytes, cellsIf, comes, cost, entry, found, goes, Lawful, Move, moved, noStrip, rank, run, served, servedBy, stays, Steady, Strip, Waits, Weighs, Within, without, World}
 use Rattle.fair_model.proofs.Chain.{chain-near}

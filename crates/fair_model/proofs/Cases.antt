@@ -1,16 +1,8 @@
 -- The worked cases, computed from the definitions. The bound is reached, so it cannot be smaller.
-use native.Mathlib.Omega.{arith}
-use mathlib.Core.List.{[]}
-use mathlib.Core.Logic.{inl, inr}
-use mathlib.Core.Path.{_≡_, refl}
-use Rattle.promise.specs.Queue.{answers, leaves}
-use Rattle.strip.specs.Answers.{blank, key, precedes, untagged}
-use Rattle.tree_model.proofs.Exactly.{shape-is}
-use Rattle.tree_model.specs.Calls.{called, cleared, heldCount, orderOk, rule, shapeOk}
-use Rattle.tree_model.specs.Damage.{hasRoom, hasSome, isBlank, lifts, nodeOk, pathOk, readOk, room, slotOk, stepOk, workOk}
-use Rattle.tree_model.specs.Levels.{levelMove, stepWork, top, work}
-use Rattle.tree_model.specs.Node.{every, firstEmpty, isEmpty, isNothing, keep, leastCount, low, lowest, opMove, pass, putBy, putMove, seek, slotAt, sumCounts, swapBy, swapMove, takeBy, takeMove, vacant}
-use Rattle.tree_model.specs.Words.{applyWords, levelOf, levelsOf, nodeOf, size, slotOf, stepWords, tabulate, wipe, write}
+use Rattle.laws.specs.Prelude.{[], _≡_, arith, blank, inl, inr, key, precedes, refl, untagged}
+use Rattle.promise.specs.Prelude.{answers, leaves}
+use Rattle.tree_model.proofs.Laws.{shape-is}
+use Rattle.tree_model.specs.Prelude.{applyWords, called, cleared, every, firstEmpty, hasRoom, hasSome, heldCount, isBlank, isEmpty, isNothing, keep, leastCount, levelMove, levelOf, levelsOf, lifts, low, lowest, nodeOf, nodeOk, opMove, orderOk, pass, pathOk, putBy, putMove, readOk, room, rule, seek, shapeOk, size, slotAt, slotOf, slotOk, stepOk, stepWords, stepWork, sumCounts, swapBy, swapMove, tabulate, takeBy, takeMove, top, vacant, wipe, work, workOk, write}
 use Rattle.fair_model.specs.Calls.{pops, pushes, resets, stripOk}
 use Rattle.fair_model.specs.Cases.{caseBefore, caseFair, caseFairSays, caseLimits, caseLimitsSays, caseReset, caseResetSays, caseServed, caseServedSays, caseSpent, caseSpentSays, caseState, caseStore, caseStretch, caseWords, caseWordsSays}
 use Rattle.fair_model.specs.Ledger.{moved, run, served, servedBy, without}

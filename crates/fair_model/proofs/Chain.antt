@@ -1,16 +1,5 @@
 -- The waiting strips of one flow, in the ledger's order: each one's rank is the rank before it plus its cost.
-use Prim.Native.Nat.{_+_, _<_, _≤_, suc, zero, ℕ}
-use native.Mathlib.Nat.{le-of-suc-le-suc, not-suc-le-zero}
-use native.Mathlib.Omega.{arith}
-use mathlib.Core.Bool.{Bool, false, true}
-use mathlib.Core.List.{[], _++_, _∷_, List}
-use mathlib.Core.Logic.{_⊎_, inl, inr, ⊎-elim}
-use mathlib.Core.Path.{_≡_, refl, subst, sym}
-use lib.Dec.{eqb}
-use lib.ListN.{getD, length, take}
-use borrow.Author.Tests.{eq-eqb, eqb-false, eqb-true, ne-eqb}
-use Rattle.laws.specs.Fails.{Any}
-use Rattle.laws.specs.Lists.{All}
+use Rattle.laws.specs.Prelude.{All, Any, Bool, List, [], _++_, _+_, _<_, _∷_, _≡_, _≤_, _⊎_, arith, eq-eqb, eqb, eqb-false, eqb-true, false, getD, inl, inr, le-of-suc-le-suc, length, ne-eqb, not-suc-le-zero, refl, subst, suc, sym, take, true, zero, ℕ, ⊎-elim}
 use Rattle.fair_model.specs.Ledger.{cost, noStrip, rank, Strip, without}
 
 -- one strip of the ledger: of the flow, or passed over

@@ -1,32 +1,9 @@
 -- EXACTLY: each refusal is given for its causes and no others, and leaves everything, whatever the words.
-use Prim.Native.Nat.{_<_, _≤_, pred, ℕ}
+use Rattle.laws.specs.Prelude.{Answer, BadPort, BadRank, BadShape, Bool, Damaged, Done, Empty, Exactly, First, Full, Held, Ladder, NoHeap, NoTag, Out, Pop, Push, Refusal, Refused, Request, TooSoon, Unknown, _<_, _∙_, _≡_, _≤_, ap, arith, climb-by, climb-fine, climb-stop, cond, eqb, eqb-false, eqb-true, fails-leb, false, fine, inl, inr, length, means-leb, numberOf, pred, refl, refusalNumber, rung, stop, subst, sym, true, true≢false, ℕ, ⊎-elim}
 use native.Mathlib.Nat.{pos-of-ne-zero}
-use native.Mathlib.Omega.{arith}
-use mathlib.Core.Bool.{Bool, cond, false, true, true≢false}
-use mathlib.Core.Logic.{inl, inr, ⊎-elim}
-use mathlib.Core.Path.{_∙_, _≡_, ap, refl, subst, sym}
-use lib.Dec.{eqb}
-use lib.ListN.{length}
-use borrow.Author.Tests.{eqb-false, eqb-true}
-use Rattle.laws.specs.Fails.{fails-leb}
-use Rattle.laws.specs.Ladder.{climb-by, climb-fine, climb-stop, Exactly, fine, First, Ladder, rung, stop}
-use Rattle.laws.specs.Means.{means-leb}
-use Rattle.promise.specs.Refused.{refusal-told, zero-told}
-use Rattle.promise.specs.Served.{IsOut}
-use Rattle.promise.specs.Table.{Clear, decided, decided-exactly, each-any, ends, ladder, TableOf, Told}
-use Rattle.strip.specs.Answers.{numberOf, refusalNumber}
-use Rattle.strip.specs.declared.Answer.{Answer}
-use Rattle.strip.specs.declared.Answer.the-variants.{Done, Out, Refused}
-use Rattle.strip.specs.declared.Count.the-variants.{Held, Unknown}
-use Rattle.strip.specs.declared.Refusal.{Refusal}
-use Rattle.strip.specs.declared.Refusal.the-variants.{BadPort, BadRank, BadShape, Damaged, Empty, Full, NoTag, TooSoon}
-use Rattle.strip.specs.declared.Request.{Request}
-use Rattle.strip.specs.declared.Request.the-variants.{Pop, Push}
+use Rattle.promise.specs.Prelude.{Clear, IsOut, TableOf, Told, decided, decided-exactly, each-any, ends, ladder, refusal-told, zero-told}
 use Rattle.tree_model.proofs.Exactly as tree
-use Rattle.tree_model.specs.Calls.{called, heldCount, Outcome, outcome, rootOf, rootOk, shapeOk}
-use Rattle.tree_model.specs.Damage.{room}
-use Rattle.tree_model.specs.Node.{sumCounts}
-use Rattle.tree_model.specs.Promise.{heldRefusals, refusals}
+use Rattle.tree_model.specs.Prelude.{Outcome, called, heldCount, heldRefusals, outcome, refusals, room, rootOf, rootOk, shapeOk, sumCounts}
 use Rattle.fair_model.specs.Calls.{answerNumber, blankState, denied, Desk, desk, emptied, fairNumber, handedOut, nextElement, nextFinish, passedOn, pops, pushes, pushTable, Reply, reply, resets, stateTable, stateWords, told}
 use Rattle.fair_model.specs.Promise.{Call, FairKind, fairQueue, fairRefusals, IsServed, pop, push, queued, reset}
 use Rattle.fair_model.specs.Ranks.{latest}
@@ -35,38 +12,39 @@ use Rattle.fair_model.specs.declared.FairRefusal.{FairRefusal}
 use Rattle.fair_model.specs.declared.FairRefusal.the-variants.{BadStrip, ClockSpent, NotEmpty, Queue}
 use Rattle.fair_model.proofs.Outcomes.{pop-either, push-either, reset-either, strip-means}
 
--- ---- the numbers tell the refusals apart
-number-most : (r : Refusal) → refusalNumber r ≤ 8
-number-most BadShape = omega arith
-number-most Damaged = omega arith
-number-most TooSoon = omega arith
-number-most BadRank = omega arith
-number-most Full = omega arith
-number-most Empty = omega arith
-number-most NoTag = omega arith
-number-most BadPort = omega arith
+-- ---- the numbers tell the refusals apart: none of a queue is 9, 10 or 11
+apart : (r : Refusal) (n : ℕ) → refusalNumber r ≡ n → 9 ≤ n → n ≤ 11 → ⊥
+apart BadShape n e low high = omega arith
+apart Damaged n e low high = omega arith
+apart TooSoon n e low high = omega arith
+apart BadRank n e low high = omega arith
+apart Full n e low high = omega arith
+apart Empty n e low high = omega arith
+apart NoTag n e low high = omega arith
+apart BadPort n e low high = omega arith
+apart NoHeap n e low high = omega arith
 
-answer-most : (a : Answer) → numberOf a ≤ 8
-answer-most Done = omega arith
-answer-most (Out e) = omega arith
-answer-most (Refused r) = number-most r
+answer-apart : (a : Answer) (n : ℕ) → numberOf a ≡ n → 9 ≤ n → n ≤ 11 → ⊥
+answer-apart Done n e low high = omega arith
+answer-apart (Out x) n e low high = omega arith
+answer-apart (Refused r) n e low high = apart r n e low high
 
 pub fair-told : (x y : FairRefusal) → fairNumber x ≡ fairNumber y → x ≡ y
 fair-told BadStrip BadStrip e = refl
 fair-told BadStrip ClockSpent e = absurd (omega arith)
 fair-told BadStrip NotEmpty e = absurd (omega arith)
-fair-told BadStrip (Queue y) e = absurd (omega (arith, e, number-most y))
+fair-told BadStrip (Queue y) e = absurd (apart y 9 (sym e) (omega arith) (omega arith))
 fair-told ClockSpent BadStrip e = absurd (omega arith)
 fair-told ClockSpent ClockSpent e = refl
 fair-told ClockSpent NotEmpty e = absurd (omega arith)
-fair-told ClockSpent (Queue y) e = absurd (omega (arith, e, number-most y))
+fair-told ClockSpent (Queue y) e = absurd (apart y 10 (sym e) (omega arith) (omega arith))
 fair-told NotEmpty BadStrip e = absurd (omega arith)
 fair-told NotEmpty ClockSpent e = absurd (omega arith)
 fair-told NotEmpty NotEmpty e = refl
-fair-told NotEmpty (Queue y) e = absurd (omega (arith, e, number-most y))
-fair-told (Queue x) BadStrip e = absurd (omega (arith, e, number-most x))
-fair-told (Queue x) ClockSpent e = absurd (omega (arith, e, number-most x))
-fair-told (Queue x) NotEmpty e = absurd (omega (arith, e, number-most x))
+fair-told NotEmpty (Queue y) e = absurd (apart y 11 (sym e) (omega arith) (omega arith))
+fair-told (Queue x) BadStrip e = absurd (apart x 9 e (omega arith) (omega arith))
+fair-told (Queue x) ClockSpent e = absurd (apart x 10 e (omega arith) (omega arith))
+fair-told (Queue x) NotEmpty e = absurd (apart x 11 e (omega arith) (omega arith))
 fair-told (Queue x) (Queue y) e = ap Queue (refusal-told x y e)
 
 told-number : (a : Answer) → answerNumber (told a) ≡ numberOf a
@@ -104,9 +82,9 @@ module _ (m levels : ℕ) (d : Desk) where
       }
     where
       by : (x : FairRefusal) → numberOf (called m levels r (d .store) .answer) ≡ fairNumber x → First (queued (refusals m levels r (d .store)) fine) x
-      by BadStrip e = absurd (omega (arith, e, answer-most (called m levels r (d .store) .answer)))
-      by ClockSpent e = absurd (omega (arith, e, answer-most (called m levels r (d .store) .answer)))
-      by NotEmpty e = absurd (omega (arith, e, answer-most (called m levels r (d .store) .answer)))
+      by BadStrip e = absurd (answer-apart (called m levels r (d .store) .answer) 9 e (omega arith) (omega arith))
+      by ClockSpent e = absurd (answer-apart (called m levels r (d .store) .answer) 10 e (omega arith) (omega arith))
+      by NotEmpty e = absurd (answer-apart (called m levels r (d .store) .answer) 11 e (omega arith) (omega arith))
       by (Queue q) e = first-queued (refusals m levels r (d .store)) fine q (tree.exactly m levels (d .store) r .only q e)
 
   -- a table of fair ranks' own, before what comes then

@@ -1,17 +1,6 @@
 -- What each call leaves, word by word, whatever the words were: the clock's word, the finishes' words, all else.
-use Prim.Native.Nat.{_+_, _<_, _≤_, suc, ℕ}
-use native.Mathlib.Omega.{arith}
-use mathlib.Core.List.{List}
-use mathlib.Core.Path.{_∙_, _≡_, ap, refl, sym}
-use lib.ListN.{length, length-drop, length-set}
-use lib.Seq.{getD-set-other, getD-set-same}
-use Rattle.strip.specs.declared.Answer.{Answer}
-use Rattle.strip.specs.declared.Answer.the-variants.{Done, Out, Refused}
-use Rattle.strip.specs.declared.Element.{Element}
-use Rattle.strip.specs.declared.Refusal.{Refusal}
-use Rattle.strip.specs.declared.Request.{Request}
-use Rattle.strip.specs.declared.Request.the-variants.{Pop, Push}
-use Rattle.tree_model.specs.Calls.{called, Outcome, outcome}
+use Rattle.laws.specs.Prelude.{Answer, Done, Element, List, Out, Pop, Push, Refusal, Refused, Request, _+_, _<_, _∙_, _≡_, _≤_, ap, arith, getD-set-other, getD-set-same, length, length-drop, length-set, refl, suc, sym, ℕ}
+use Rattle.tree_model.specs.Prelude.{Outcome, called, outcome}
 use Rattle.fair_model.specs.Calls.{blankState, Desk, desk, handedOut, nextElement, nextFinish, passedOn, pops, pushes, resets, stateWords}
 use Rattle.fair_model.specs.Promise.{PopLeaves, PushLeaves, ResetLeaves}
 use Rattle.fair_model.specs.Ranks.{flows}

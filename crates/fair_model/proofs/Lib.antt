@@ -1,13 +1,14 @@
-pub mod Table
-pub mod Steps
-pub mod Chain
-pub mod Orderly
-pub mod Bound
-pub mod Outcomes
+mod Table
+mod Steps
+mod Chain
+mod Orderly
+mod Bound
+mod Outcomes
 pub mod Exactly
-pub mod Agrees
-pub mod Promises
-pub mod Below
+mod Agrees
+mod Promises
+mod Below
 pub mod Cases
-pub mod Slice
-pub mod Leaves
+mod Slice
+mod Leaves
+pub mod Laws

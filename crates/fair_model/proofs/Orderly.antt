@@ -1,17 +1,7 @@
 -- What lawful calls keep from a reset on: no waiting rank is below the clock, each flow's waiting strips are a chain up to its last finish that
 -- starts at the clock or before, and no number is above the largest rank.
-use Prim.Native.Nat.{_*_, _+_, _<_, _≤_, max, suc, zero, ℕ}
-use native.Mathlib.Decide.{ℕ-discrete}
-use native.Mathlib.Nat.{le-div-iff-mul-le, mul-le-mul-right, mul-pos}
-use native.Mathlib.Omega.{arith}
-use mathlib.Core.List.{[], _++_, _∷_, List}
-use mathlib.Core.Logic.{⊎-elim}
-use mathlib.Core.Path.{_∙_, _≡_, refl, subst, sym}
-use lib.ListN.{length, take}
-use Rattle.laws.specs.Fails.{Any}
-use Rattle.laws.specs.Lists.{All, all-at, all-map}
-use Rattle.laws.specs.Snoc.{all-snoc}
-use Rattle.laws.specs.Updates.{is-upd, upd}
+use Rattle.laws.specs.Prelude.{All, Any, List, [], _*_, _++_, _+_, _<_, _∙_, _∷_, _≡_, _≤_, all-at, all-map, all-snoc, arith, is-upd, length, max, mul-le-mul-right, refl, subst, suc, sym, take, upd, zero, ℕ, ℕ-discrete, ⊎-elim}
+use native.Mathlib.Nat.{le-div-iff-mul-le, mul-pos}
 use Rattle.fair_model.specs.Ranks.{cellLimit, cells, finish, Good, heaviest, latest, longest, step}
 use Rattle.fair_model.specs.Ledger.{AllLawful, anew, bytes, comes, cost, entry, found, fresh, goes, Lawful, Move, moved, noStrip, rank, run, stays, Strip, without, World}
 use Rattle.fair_model.proofs.Chain.{Chain, chain-any, chain-comes, chain-first, chain-goes, chain-none, chain-other, chain-passes, chain-some, some-or-none}

@@ -1,27 +1,9 @@
 -- What a call may come to: a refusal that leaves everything, or what the queue makes of what is passed on to it.
-use Prim.Native.Nat.{_<_, _≤_, ℕ}
-use native.Mathlib.Omega.{arith}
-use mathlib.Core.Bool.{Bool, cond, false, true}
-use mathlib.Core.List.{List}
-use mathlib.Core.Path.{_∙_, _≡_, ap, refl, subst, sym}
-use lib.Dec.{eqb}
-use lib.ListN.{drop, getD, getD-replicate, length, length-append, length-replicate, List·getD-append, replicate}
-use borrow.Author.Tests.{eqb-true, leb-true}
-use Rattle.laws.specs.Ladder.{left-behind}
-use Rattle.laws.specs.Means.{Means, means-and, means-by, means-leb, means-ltb}
-use Rattle.promise.specs.Served.{IsOut}
-use Rattle.promise.specs.Table.{decided-either, each-any, ends}
-use Rattle.strip.specs.Answers.{numberOf}
-use Rattle.strip.specs.declared.Answer.{Answer}
-use Rattle.strip.specs.declared.Answer.the-variants.{Done, Out, Refused}
-use Rattle.strip.specs.declared.Count.{Count}
-use Rattle.strip.specs.declared.Count.the-variants.{Held, Unknown}
-use Rattle.strip.specs.declared.Element.{Element}
-use Rattle.strip.specs.declared.Refusal.{Refusal}
-use Rattle.strip.specs.declared.Request.{Request}
-use Rattle.strip.specs.declared.Request.the-variants.{Pop, Push}
-use Rattle.tree_model.proofs.Exactly.{exactly, kind}
-use Rattle.tree_model.specs.Calls.{called, heldCount, Outcome, outcome}
+use Rattle.laws.specs.Prelude.{Answer, Bool, Count, Done, Element, Held, List, Means, Out, Pop, Push, Refusal, Refused, Request, Unknown, _<_, _∙_, _≡_, _≤_, ap, arith, cond, drop, eqb, eqb-true, false, getD, getD-replicate, leb-true, left-behind, length, length-append, length-replicate, means-and, means-by, means-leb, means-ltb, numberOf, refl, replicate, subst, sym, true, ℕ}
+use lib.ListN.{List·getD-append}
+use Rattle.promise.specs.Prelude.{IsOut, decided-either, each-any, ends}
+use Rattle.tree_model.proofs.Laws.{exactly, kind}
+use Rattle.tree_model.specs.Prelude.{Outcome, called, heldCount, outcome}
 use Rattle.fair_model.specs.Calls.{blankState, denied, Desk, desk, emptied, handedOut, Long, nextElement, nextFinish, passedOn, pops, pushes, pushTable, Reply, reply, resets, stateTable, stateWords, stripOk}
 use Rattle.fair_model.specs.Ranks.{flows, Good, heaviest, latest, longest}
 use Rattle.fair_model.specs.declared.FairAnswer.the-variants.{Accepted}

@@ -1,39 +1,9 @@
 -- The promises of fair ranks over the one-at-a-time tree: from a reset that is accepted, over any list of calls, however served strips are attributed.
-use Prim.Native.Nat.{_*_, _+_, _<_, _≤_, suc, zero, ℕ}
-use native.Mathlib.Decide.{ℕ-discrete}
-use native.Mathlib.Nat.{not-suc-le-zero}
-use native.Mathlib.Omega.{arith}
-use mathlib.Core.Bool.{Bool, cond, false, true}
-use mathlib.Core.List.{[], _∷_, List}
-use mathlib.Core.Logic.{_⊎_, inl, inr, ⊎-elim}
-use mathlib.Core.Path.{_∙_, _≡_, ap, refl, subst, sym}
-use lib.Dec.{eqb, ltb}
-use lib.ListN.{getD, length}
-use lib.Seq.{getD-set-other, getD-set-same}
-use borrow.Author.Tests.{eq-eqb, eqb-true, le-ltb}
-use Rattle.laws.specs.Ladder.{fine, First, stop}
-use Rattle.laws.specs.Lists.{All, all-map, sumOf}
-use Rattle.laws.specs.Tests.{and-left, and-right}
-use Rattle.laws.specs.Updates.{is-upd, upd}
-use Rattle.promise.specs.Refused.{zero-told}
-use Rattle.promise.specs.Served.{always, hit, Least, lower, same, triple}
-use Rattle.strip.specs.Answers.{countNumber, countOf, numberOf, refusalNumber}
-use Rattle.strip.specs.declared.Answer.{Answer}
-use Rattle.strip.specs.declared.Answer.the-variants.{Done, Out, Refused}
-use Rattle.strip.specs.declared.Element.{Element}
-use Rattle.strip.specs.declared.Refusal.{Refusal}
-use Rattle.strip.specs.declared.Request.{Request}
-use Rattle.strip.specs.declared.Request.the-variants.{Pop, Push}
+use Rattle.laws.specs.Prelude.{All, Answer, Bool, Done, Element, First, List, Out, Pop, Push, Refusal, Refused, Request, [], _*_, _+_, _<_, _∙_, _∷_, _≡_, _≤_, _⊎_, all-map, and-left, and-right, ap, arith, cond, countNumber, countOf, eq-eqb, eqb, eqb-true, false, fine, getD, getD-set-other, getD-set-same, inl, inr, is-upd, le-ltb, length, ltb, not-suc-le-zero, numberOf, refl, refusalNumber, stop, subst, suc, sumOf, sym, true, upd, zero, ℕ, ℕ-discrete, ⊎-elim}
+use Rattle.promise.specs.Prelude.{Least, always, hit, lower, same, triple, zero-told}
 use Rattle.tree_model.proofs.Exactly as tree
-use Rattle.tree_model.proofs.Many.{many-held}
-use Rattle.tree_model.proofs.Promises.{Kept, kept-held, kept-least, kept-numbers, leaves-kept, start-kept, stored-holding}
-use Rattle.tree_model.specs.Calls.{called, Outcome, rootOf}
-use Rattle.tree_model.specs.Damage.{room}
-use Rattle.tree_model.specs.Node.{sumCounts}
-use Rattle.tree_model.specs.Promise.{after, heldRefusals, refusals, Shape, start, storedCount}
-use Rattle.tree_model.specs.Serve.{holding}
-use Rattle.tree_model.specs.Tree.{treeOf}
-use Rattle.tree_model.specs.Words.{levelsOf}
+use Rattle.tree_model.proofs.Laws.{Kept, kept-held, kept-least, kept-numbers, leaves-kept, many-held, start-kept, stored-holding}
+use Rattle.tree_model.specs.Prelude.{Outcome, Shape, after, called, heldRefusals, holding, levelsOf, refusals, room, rootOf, start, storedCount, sumCounts, treeOf}
 use Rattle.fair_model.specs.Calls.{clockOf, Desk, desk, lastOf, nextElement, nextFinish, noted, pops, pushes, Reply, resets, stateWords, told}
 use Rattle.fair_model.specs.Ledger.{AllLawful, anew, comes, fresh, goes, Lawful, listed, Move, moved, noStrip, rank, stays, Strip, Within, World}
 use Rattle.fair_model.specs.Promise.{Attributed, book, booked, Call, deskAt, Entry, fairQueue, fairRefusals, From, moveBy, moveOf, moves, Noted, opened, placeBy, placeOf, pop, push, queued, reset, Runs, servedIn, SteadyIn, Struck, StruckIn, worldAt}

@@ -1,20 +1,7 @@
 -- "of a longer one the rest is never touched": no call writes a word of the state behind the last finish, and none reads one.
-use Prim.Native.Nat.{_+_, _-_, _<_, _≤_, suc, ℕ}
-use native.Mathlib.Decide.{ℕ-discrete}
-use native.Mathlib.Omega.{arith}
-use mathlib.Core.Bool.{Bool, cond, false, true}
-use mathlib.Core.List.{List}
-use mathlib.Core.Path.{_∙_, _≡_, refl, subst, sym}
-use lib.Dec.{eqb, leb}
-use lib.ListN.{drop, getD, length, length-replicate, replicate, set}
-use lib.Seq.{getD-append-add, getD-drop, getD-set-other, getD-set-same}
-use borrow.Author.Tests.{le-leb}
-use Rattle.strip.specs.declared.Answer.{Answer}
-use Rattle.strip.specs.declared.Answer.the-variants.{Done, Out, Refused}
-use Rattle.strip.specs.declared.Count.{Count}
-use Rattle.strip.specs.declared.Count.the-variants.{Held, Unknown}
-use Rattle.strip.specs.declared.Request.the-variants.{Pop, Push}
-use Rattle.tree_model.specs.Calls.{called, heldCount}
+use Rattle.laws.specs.Prelude.{Answer, Bool, Count, Done, Held, List, Out, Pop, Push, Refused, Unknown, _+_, _-_, _<_, _∙_, _≡_, _≤_, arith, cond, drop, eqb, false, getD, getD-set-other, getD-set-same, le-leb, leb, length, length-replicate, refl, replicate, set, subst, suc, sym, true, ℕ, ℕ-discrete}
+use lib.Seq.{getD-append-add, getD-drop}
+use Rattle.tree_model.specs.Prelude.{called, heldCount}
 use Rattle.fair_model.specs.Calls.{blankState, denied, Desk, desk, emptied, nextElement, nextFinish, noted, passedOn, pops, pushes, Reply, reply, resets, stateWords, stripOk, timed}
 use Rattle.fair_model.specs.Promise.{Alike, AlikeReply, Call, fairQueue, pop, push, reset}
 use Rattle.fair_model.specs.Ranks.{latest}

@@ -1,10 +1,6 @@
 -- The table of steps in plain numbers has the quotient rule: one test, computed over the whole table, and what it says of each entry.
-use mathlib.Core.Path.{_∙_, _≡_, ap, refl}
-use mathlib.Core.Bool.{Bool}
-use Prim.Native.Nat.{_-_, _<_, _≤_, suc, ℕ}
-use native.Mathlib.Omega.{arith}
-use lib.Dec.{eqb, eqb→eq, T}
-use lib.ListN.{getD, length}
+use Rattle.laws.specs.Prelude.{Bool, _-_, _<_, _∙_, _≡_, _≤_, ap, arith, eqb, getD, length, refl, suc, ℕ}
+use lib.Dec.{eqb→eq, T}
 use Rattle.fair_model.specs.Ranks.{step}
 use Rattle.fair_model.specs.Steps.{stepTable}
 use Rattle.fair_model.proofs.Table.{at, every}

@@ -1,11 +1,6 @@
 -- A rule of a table, proved at all of its entries by one test that antt computes, one entry after the other.
-use mathlib.Core.Path.{_∙_, subst, sym}
-use mathlib.Core.Bool.{Bool, true, false}
-use mathlib.Core.List.{List, [], _∷_}
-use Prim.Native.Nat.{ℕ, zero, suc, _+_, _<_}
-use native.Mathlib.Nat.{add-zero, zero-add, add-suc, suc-add, le-of-suc-le-suc, not-suc-le-zero}
+use Rattle.laws.specs.Prelude.{Bool, List, [], _+_, _<_, _∙_, _∷_, add-suc, add-zero, false, getD, le-of-suc-le-suc, length, not-suc-le-zero, subst, suc, suc-add, sym, true, zero, zero-add, ℕ}
 use lib.Dec.{T}
-use lib.ListN.{length, getD}
 
 abbrev pub both : Bool → Bool → Bool
 both true b = b

@@ -1,20 +1,7 @@
 -- The calls of fair ranks over the one-at-a-time tree, each a total function of all numbers and words handed in to an answer and all words afterwards.
-use Prim.Native.Nat.{_<_, _≤_, suc, ℕ}
-use mathlib.Core.Bool.{_&&_, Bool, cond}
-use mathlib.Core.List.{_++_, List}
-use lib.Dec.{eqb, leb, ltb}
-use lib.ListN.{drop, getD, length, replicate, set}
-use Rattle.promise.specs.Queue.{step, Step}
-use Rattle.promise.specs.Table.{bars, decided, ends, needs, TableOf}
-use Rattle.strip.specs.Answers.{blank, element, refusalNumber}
-use Rattle.strip.specs.declared.Answer.{Answer}
-use Rattle.strip.specs.declared.Answer.the-variants.{Done, Out, Refused}
-use Rattle.strip.specs.declared.Count.{Count}
-use Rattle.strip.specs.declared.Count.the-variants.{Held, Unknown}
-use Rattle.strip.specs.declared.Element.{Element}
-use Rattle.strip.specs.declared.Refusal.the-variants.{BadShape}
-use Rattle.strip.specs.declared.Request.the-variants.{Pop, Push}
-use Rattle.tree_model.specs.Calls.{called, heldCount, Outcome}
+use Rattle.laws.specs.Prelude.{Answer, BadShape, Bool, Count, Done, Element, Held, List, Out, Pop, Push, Refused, Unknown, _&&_, _++_, _<_, _≤_, blank, cond, drop, element, eqb, getD, leb, length, ltb, refusalNumber, replicate, set, suc, ℕ}
+use Rattle.promise.specs.Prelude.{Step, TableOf, bars, decided, ends, needs, step}
+use Rattle.tree_model.specs.Prelude.{Outcome, called, heldCount}
 use Rattle.fair_model.specs.Ranks.{finish, flows, Good, heaviest, latest, longest}
 use Rattle.fair_model.specs.declared.FairAnswer.{FairAnswer}
 use Rattle.fair_model.specs.declared.FairAnswer.the-variants.{Accepted, Denied, Served}

@@ -1,8 +1,6 @@
 -- Worked cases, order 2, levels 2: the bound reached, every refusal, and the largest finish.
-use Prim.Native.Nat.{_*_, _+_, ℕ}
-use mathlib.Core.List.{[], _++_, _∷_, List, map}
-use lib.ListN.{getD, replicate, take}
-use Rattle.promise.specs.Queue.{answers, leaves}
+use Rattle.laws.specs.Prelude.{List, [], _*_, _++_, _+_, _∷_, getD, map, replicate, take, ℕ}
+use Rattle.promise.specs.Prelude.{answers, leaves}
 use Rattle.fair_model.specs.Calls.{answerNumber, Desk, desk, pushes, Reply, resets, servedElement}
 use Rattle.fair_model.specs.Promise.{Call, Entry, fairQueue, opened, pop, push, reset, servedIn}
 use Rattle.fair_model.specs.Ranks.{step}

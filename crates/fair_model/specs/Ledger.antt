@@ -1,17 +1,7 @@
 -- The strips that wait, each with its flow and weight, and what one call makes of them. A queue keeps neither flow nor weight, so which of two
 -- waiting strips with one and the same element has left is not told: a ledger may strike out either.
-use Prim.Native.Nat.{_*_, _+_, _<_, _≤_, suc, zero, ℕ}
-use mathlib.Core.Bool.{Bool, false, true}
-use mathlib.Core.List.{[], _++_, _∷_, List}
-use mathlib.Core.Path.{_≡_}
-use lib.Dec.{eqb}
-use lib.ListN.{getD, length}
-use Rattle.laws.specs.Fails.{Any}
-use Rattle.laws.specs.Lists.{All, sumOf}
-use Rattle.laws.specs.Updates.{upd}
-use Rattle.promise.specs.Served.{hit}
-use Rattle.strip.specs.Answers.{element}
-use Rattle.strip.specs.declared.Element.{Element}
+use Rattle.laws.specs.Prelude.{All, Any, Bool, Element, List, [], _*_, _++_, _+_, _<_, _∷_, _≡_, _≤_, element, eqb, false, getD, length, suc, sumOf, true, upd, zero, ℕ}
+use Rattle.promise.specs.Prelude.{hit}
 use Rattle.fair_model.specs.Ranks.{cells, finish, Good, latest, step}
 
 -- a waiting strip

@@ -1,26 +1,7 @@
 -- What is promised of fair ranks is said in these words: the table of refusals, a list of calls, and the ledger that goes with it.
-use Prim.Native.Nat.{_+_, _<_, _≤_, suc, ℕ}
-use mathlib.Core.Bool.{_&&_, Bool, cond}
-use mathlib.Core.List.{[], _++_, _∷_, List}
-use mathlib.Core.Logic.{_⊎_}
-use mathlib.Core.Path.{_≡_}
-use lib.Dec.{leb, ltb}
-use lib.ListN.{getD, length, take}
-use Rattle.laws.specs.Ladder.{fine, Ladder, rung, stop}
-use Rattle.laws.specs.Lists.{All}
-use Rattle.promise.specs.Queue.{leaves, Step}
-use Rattle.promise.specs.Served.{lower, triple}
-use Rattle.strip.specs.Answers.{refusalNumber}
-use Rattle.strip.specs.declared.Answer.the-variants.{Done, Out}
-use Rattle.strip.specs.declared.Element.{Element}
-use Rattle.strip.specs.declared.Refusal.{Refusal}
-use Rattle.strip.specs.declared.Refusal.the-variants.{BadShape}
-use Rattle.strip.specs.declared.Request.{Request}
-use Rattle.strip.specs.declared.Request.the-variants.{Pop, Push}
-use Rattle.tree_model.specs.Calls.{called, outcome, rootOf}
-use Rattle.tree_model.specs.Damage.{room}
-use Rattle.tree_model.specs.Node.{sumCounts}
-use Rattle.tree_model.specs.Promise.{after, heldRefusals, refusals, Shape, storedCount}
+use Rattle.laws.specs.Prelude.{All, BadShape, Bool, Done, Element, Ladder, List, Out, Pop, Push, Refusal, Request, [], _&&_, _++_, _+_, _<_, _∷_, _≡_, _≤_, _⊎_, cond, fine, getD, leb, length, ltb, refusalNumber, rung, stop, suc, take, ℕ}
+use Rattle.promise.specs.Prelude.{Step, leaves, lower, triple}
+use Rattle.tree_model.specs.Prelude.{Shape, after, called, heldRefusals, outcome, refusals, room, rootOf, storedCount, sumCounts}
 use Rattle.fair_model.specs.Calls.{answerNumber, clockOf, Desk, desk, lastOf, Long, nextElement, nextFinish, pops, pushes, Reply, resets, stateOk, stateWords, stripOk}
 use Rattle.fair_model.specs.Ledger.{anew, comes, found, fresh, goes, listed, Move, moved, run, served, stays, Steady, Strip, World}
 use Rattle.fair_model.specs.Ranks.{flows, Good, latest}

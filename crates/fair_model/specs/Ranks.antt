@@ -1,5 +1,5 @@
 -- The numbers of 02 [10]: cells, steps and finishes.
-use Prim.Native.Nat.{_*_, _+_, _/_, _<_, _≤_, max, ℕ}
+use Rattle.laws.specs.Prelude.{_*_, _+_, _/_, _<_, _≤_, max, ℕ}
 
 -- "for up to 64 flows, weight 1 to 1,024"
 abbrev pub flows : ℕ

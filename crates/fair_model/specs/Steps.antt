@@ -1,6 +1,5 @@
 -- "A constant table of 1,024 step sizes holds, for weight w, 65,536 / w rounded down": the table in plain numbers, entry w − 1 for weight w.
-use Prim.Native.Nat.{ℕ}
-use mathlib.Core.List.{[], _∷_, List}
+use Rattle.laws.specs.Prelude.{List, [], _∷_, ℕ}
 
 unfoldable pub stepTable : List ℕ
 stepTable =

@@ -6,3 +6,4 @@ pub mod Snoc
 pub mod Updates
 pub mod Means
 pub mod Ladder
+pub mod Prelude

@@ -1,36 +1,20 @@
 -- From what a call has tested to what its next step asks for, and to what the rules answer.
-use mathlib.Core.Path.{_≡_, refl, sym, subst, _∙_}
-use mathlib.Core.Bool.{Bool, true, _&&_, Bool·beq}
-use mathlib.Core.List.{List}
-use Prim.Native.Nat.{ℕ, _+_, _-_, _*_, _≤_, _<_, max}
-use native.Mathlib.Decide.{ℕ-discrete}
-use native.Mathlib.Omega.{arith}
-use borrow.Author.Tests.{ltb-true, ne-eqb, le-leb}
-use lib.Dec.{ltb, eqb}
-use lib.ListN.{length}
-use Rattle.laws.specs.Tests.{and-left, and-right}
+use Rattle.laws.specs.Prelude.{Bool, Bool·beq, List, _&&_, _*_, _+_, _-_, _<_, _∙_, _≡_, _≤_, and-left, and-right, arith, eqb, le-leb, length, ltb, ltb-true, max, ne-eqb, refl, subst, sym, true, ℕ, ℕ-discrete}
 use Rattle.bucket_model.specs.declared.Lay.{Lay}
 use Rattle.bucket_model.specs.declared.Lowest.{Lowest}
 use Rattle.bucket_model.specs.declared.Room.{Room}
-use Rattle.bucket_model.specs.Layout.{Laid, word}
-use Rattle.bucket_model.specs.Calls.{takenBits, takenWords, roomWith}
-use Rattle.bucket_model.proofs.Taken.{held-after, free-after, taken-foreign}
-use Rattle.bucket_tests.specs.Stores.{Stands, Roomy, Freeing, FoundRoom, roomFreed}
-use Rattle.bucket_tests.proofs.Read.{freed-is, node-after}
-use Rattle.bucket_steps.specs.Stores.{Joining}
-use Rattle.bucket_steps.proofs.Steps as steps
+use Rattle.bucket_model.specs.Prelude.{Laid, roomWith, takenBits, takenWords, word}
+use Rattle.bucket_model.proofs.Laws.{free-after, held-after, taken-foreign}
+use Rattle.bucket_step.specs.Tested.{Stands, Roomy, Freeing, FoundRoom, roomFreed}
+use Rattle.bucket_step.proofs.Read.{freed-is, node-after}
+use Rattle.bucket_step.specs.Stores.{Joining}
+use Rattle.bucket_step.proofs.Steps as steps
 use Rattle.ports_model.specs.declared.Shape.{Shape}
-use Rattle.ports_model.specs.Layout.{freeAt, heldAt, floorAt, ceilingAt, seat}
-use Rattle.ports_model.specs.Checks.{isShaped, usedIn, claimedIn, limitsKept, wholeOk, isWhole, roomOk, hasRoom}
-use Rattle.ports_model.specs.Calls.{roomAfter}
-use Rattle.ports_model.specs.Causes.{Shaped, Whole}
+use Rattle.ports_model.specs.Prelude.{Shaped, Whole, ceilingAt, claimedIn, floorAt, freeAt, hasRoom, heldAt, isShaped, isWhole, limitsKept, roomAfter, roomOk, seat, usedIn, wholeOk}
 use Rattle.ports_model.specs.Causes as ports
-use Rattle.ports_model.proofs.Frame.{room-used, free-some}
-use Rattle.ports_model.proofs.Facts.{shape-means, kept-means, whole-means, room-means}
-use Rattle.ports_model.proofs.Places.{laid, shaped-at, foreign-held, foreign-floor, foreign-ceiling}
-use Rattle.ports_model.proofs.Sums.{to-upd, to-le, to-part}
-use Rattle.ports_tests.specs.declared.Totals.{Totals}
-use Rattle.ports_tests.specs.Sums.{Summed, Numbers, wholeBy, roomBy}
+use Rattle.ports_model.proofs.Laws.{foreign-ceiling, foreign-floor, foreign-held, free-some, kept-means, laid, room-means, room-used, shape-means, shaped-at, to-le, to-part, to-upd, whole-means}
+use Rattle.ports_step.specs.declared.Totals.{Totals}
+use Rattle.ports_step.specs.Sums.{Summed, Numbers, wholeBy, roomBy}
 
 -- ---- what a known port is
 

@@ -1,35 +1,16 @@
 -- Each answer of a call from what it has tested, by the seat and the sums that it works with: it is the rules'.
-use mathlib.Core.Path.{_≡_, refl, sym, ap, subst, _∙_}
-use mathlib.Core.Bool.{Bool, true, false, cond, not, _&&_, false≢true}
-use mathlib.Core.List.{List}
-use Prim.Native.Nat.{ℕ, _+_, _*_, _<_}
-use native.Mathlib.Omega.{arith}
-use borrow.Author.Tests.{ltb-true, not-true}
-use lib.Dec.{ltb, eqb}
-use Rattle.laws.specs.Means.{means-eqb, means-not}
-use Rattle.laws.specs.Tests.{and-left, and-right}
-use Rattle.strip.specs.Answers.{untagged}
-use Rattle.strip.specs.declared.Answer.the-variants.{Done, Out}
-use Rattle.strip.specs.declared.Count.{Count}
-use Rattle.strip.specs.declared.Count.the-variants.{Held, Unknown}
-use Rattle.strip.specs.declared.Element.{Element}
-use Rattle.strip.specs.declared.Refusal.{Refusal}
-use Rattle.strip.specs.declared.Refusal.the-variants.{BadShape, BadPort, BadRank, NoTag, Damaged, Full, Empty}
+use Rattle.laws.specs.Prelude.{BadPort, BadRank, BadShape, Bool, Count, Damaged, Done, Element, Empty, Full, Held, List, NoTag, Out, Refusal, Unknown, _&&_, _*_, _+_, _<_, _∙_, _≡_, and-left, and-right, ap, arith, cond, eqb, false, false≢true, ltb, ltb-true, means-eqb, means-not, not, not-true, refl, subst, sym, true, untagged, ℕ}
 use Rattle.bucket_model.specs.declared.Lay.{Lay}
 use Rattle.bucket_model.specs.declared.Lowest.{Lowest}
 use Rattle.bucket_model.specs.declared.Room.{Room}
-use Rattle.bucket_model.specs.Layout.{word}
-use Rattle.bucket_model.specs.Checks.{depthOk}
-use Rattle.bucket_model.specs.Calls.{outcome, refused, fill, lowestOf, takenBits, takenWords, given, roomWith, joinedBits, joinedWords}
-use Rattle.bucket_model.proofs.Returns.{either}
-use Rattle.bucket_tests.specs.Stores.{Freeing, FoundRoom, roomFreed}
+use Rattle.bucket_model.specs.Prelude.{depthOk, fill, given, joinedBits, joinedWords, lowestOf, outcome, refused, roomWith, takenBits, takenWords, word}
+use Rattle.bucket_model.proofs.Laws.{either}
+use Rattle.bucket_step.specs.Tested.{Freeing, FoundRoom, roomFreed}
 use Rattle.ports_model.specs.declared.Shape.{Shape}
-use Rattle.ports_model.specs.Layout.{ranksOf, bitWords, heldAt, seat}
-use Rattle.ports_model.specs.Checks.{shapeOk, isShaped, limitsOk, isWhole, hasRoom}
-use Rattle.ports_model.specs.Calls.{blankWord, cleared, heldCount, popped, pushed, roomOf, roomAfter, replaced}
+use Rattle.ports_model.specs.Prelude.{bitWords, blankWord, cleared, hasRoom, heldAt, heldCount, isShaped, isWhole, limitsOk, popped, pushed, ranksOf, replaced, roomAfter, roomOf, seat, shapeOk}
 use Rattle.ports_model.proofs.Returns as told
-use Rattle.ports_tests.specs.declared.Totals.{Totals}
-use Rattle.ports_tests.specs.Sums.{Summed, wholeBy, roomBy}
+use Rattle.ports_step.specs.declared.Totals.{Totals}
+use Rattle.ports_step.specs.Sums.{Summed, wholeBy, roomBy}
 use Rattle.ports.specs.Blank.{blankAt}
 use Rattle.ports.proofs.Pool.{Known, shape-ok, port-ok, shaped, port<, used-is, whole-by, room-by, push-whole, push-room, after-is}
 

@@ -1,13 +1,8 @@
 -- What clear's functions ask of their callers, and what they promise. These are definitions.
-use mathlib.Core.Bool.{cond}
-use mathlib.Core.List.{List}
-use Prim.Native.Nat.{ℕ, _+_, _-_, _*_, _≤_}
-use lib.Dec.{ltb}
-use lib.ListN.{length}
+use Rattle.laws.specs.Prelude.{List, _*_, _+_, _-_, _≤_, cond, length, ltb, ℕ}
 use Rattle.bucket_model.specs.declared.Lay.{Lay}
-use Rattle.bucket_model.specs.Layout.{Laid, pool}
-use Rattle.bucket_model.specs.Calls.{blankWord}
-use Rattle.ports_model.specs.Calls.{blankPort}
+use Rattle.bucket_model.specs.Prelude.{Laid, blankWord, pool}
+use Rattle.ports_model.specs.Prelude.{blankPort}
 
 -- word j of a cleared store, by the seat of its first port
 abbrev pub blankAt : Lay → List ℕ → ℕ → ℕ

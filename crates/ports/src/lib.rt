@@ -9,88 +9,66 @@
 // loop, so that each depth has code of its own with its numbers in it.
 use bucket_bits::wipe;
 use bucket_model::Lay;
-use bucket_nodes::LEAST_STOREYS;
-use bucket_nodes::MOST_STOREYS;
-use bucket_nodes::blank;
-use bucket_nodes::element_of;
-use bucket_nodes::held_count;
-use bucket_steps::join;
-use bucket_steps::show;
-use bucket_steps::swap;
-use bucket_steps::take;
-use bucket_tests::agrees;
-use bucket_tests::agrees_after;
-use bucket_tests::find_lowest;
-use bucket_tests::find_room;
-use bucket_tests::may_come;
-use bucket_tests::rank_or_tag;
-use bucket_tests::room_after;
+use bucket_node::LEAST_STOREYS;
+use bucket_node::MOST_STOREYS;
+use bucket_node::element_of;
+use bucket_node::held_count;
+use bucket_node::wipe_lists;
+use bucket_step::join;
+use bucket_step::show;
+use bucket_step::swap;
+use bucket_step::take;
+use bucket_step::tests::agrees;
+use bucket_step::tests::agrees_after;
+use bucket_step::tests::find_lowest;
+use bucket_step::tests::find_room;
+use bucket_step::tests::may_come;
+use bucket_step::tests::rank_or_tag;
+use bucket_step::tests::room_after;
 use ports_model::Shape;
-use ports_tests::add_up;
-use ports_tests::bit_words;
-use ports_tests::ceiling_of;
-use ports_tests::floor_of;
-use ports_tests::has_room;
-use ports_tests::has_some;
-use ports_tests::is_known;
-use ports_tests::is_shaped;
-use ports_tests::is_whole;
-use ports_tests::limit_or_damage;
-use ports_tests::limits_fit;
-use ports_tests::seat_of;
-use ports_tests::shape_or_port;
+use ports_step::CEILING;
+use ports_step::FLOOR;
+use ports_step::HELD;
+use ports_step::PORT;
+use ports_step::add_up;
+use ports_step::bit_words;
+use ports_step::ceiling_of;
+use ports_step::floor_of;
+use ports_step::has_room;
+use ports_step::has_some;
+use ports_step::is_known;
+use ports_step::is_shaped;
+use ports_step::is_whole;
+use ports_step::limit_or_damage;
+use ports_step::limits_fit;
+use ports_step::seat_of;
+use ports_step::shape_or_port;
 use strip::Answer;
 use strip::Count;
 use strip::Element;
 use strip::Refusal;
 ghost use mathlib.Core.Path.{_≡_};
-ghost use Prim.Native.Nat.{_+_, _*_, _/_, _≤_, _<_};
+ghost use Prim.Native.Nat.{_+_, _*_, _≤_};
 ghost use lib.ListN.{length};
 ghost use Rattle.bucket_model.specs.Calls.{outcome, fill};
-ghost use Rattle.ports_model.specs.Calls.{cleared, pushed, popped, replaced, heldCount, blankPort};
+ghost use Rattle.ports_model.specs.Calls.{cleared, pushed, popped, replaced, heldCount};
 ghost use Rattle.ports.specs.Blank.{Wiping, blankAt};
-
-// The words of a port behind the free link.
-const PORT: usize = 3;
 
 // ---- clear
 
-// Word i of the ports' words: held 0, floor, ceiling.
-fn blank_port(limits: &[u32], i: usize) -> u32
-    requires { ⌜ (i < 48) × (2 * (i / 3) + 2 ≤ length (now limits)) ⌝ }
-    ensures { λ r. ⌜ r ≡ blankPort (now (limits .entry)) i ⌝ }
-{
-    let p = i / PORT;
-    let part = i % PORT;
-    if part == 0 {
-        return 0;
-    }
-    if part == 1 {
-        return floor_of(limits, p);
-    }
-    ceiling_of(limits, p)
-}
-
-// Word j of a cleared store: up to the free link the bucket queue's own, and behind it the ports'.
-fn blank_word(k: Lay, limits: &[u32], ports: usize, j: usize) -> u32
-    requires { ⌜ Wiping k ports (now limits) ⌝ ∗ ⌜ j < k .free + (1 + 3 * ports) ⌝ }
-    ensures { λ r. ⌜ r ≡ blankAt k (now (limits .entry)) j ⌝ }
-{
-    if k.free < j {
-        return blank_port(limits, j - (k.free + 1));
-    }
-    blank(k, j)
-}
-
+// Up to the free link as the bucket queue's, and behind it for each port held 0, its floor and its ceiling.
 fn wipe_words(words: &mut [u32], k: Lay, limits: &[u32], ports: usize)
     requires { ⌜ Wiping k ports (now limits) ⌝ ∗ ⌜ k .free + (1 + 3 * ports) ≤ length (now words) ⌝ }
     ensures { λ _. ⌜ now (words .exit) ≡ fill (blankAt k (now (limits .entry))) (k .free + (1 + 3 * ports)) (now (words .entry)) ⌝ }
 {
-    let end = k.free + (1 + PORT * ports);
-    let mut j = 0;
-    while j < end {
-        words[j] = blank_word(k, limits, ports, j);
-        j += 1;
+    wipe_lists(words, k);
+    let mut p = 0;
+    while p < ports {
+        let port = k.free + PORT * p;
+        words[port + HELD] = 0;
+        words[port + FLOOR] = floor_of(limits, p);
+        words[port + CEILING] = ceiling_of(limits, p);
+        p += 1;
     }
 }
 

@@ -1,25 +1,9 @@
 -- What a port's list tells of its words: all but the numbers of nodes.
-use mathlib.Core.Path.{_≡_, refl, sym, ap, subst, _∙_}
-use mathlib.Core.Bool.{Bool, true, false, cond}
-use mathlib.Core.List.{List, [], _∷_, _++_, append-nil}
-use Prim.Native.Nat.{ℕ, zero, suc, _+_, _-_, _≤_, _<_}
-use native.Mathlib.Decide.{ℕ-discrete}
-use native.Mathlib.Omega.{arith}
-use borrow.Author.Tests.{eq-eqb, ne-eqb}
-use lib.Dec.{eqb}
-use lib.ListN.{length}
-use Rattle.laws.specs.Lists.{All}
-use Rattle.strip.specs.declared.Element.{Element}
-use Rattle.bucket_model.specs.Layout.{word, headAt, tailAt, Load, loadOf}
-use Rattle.bucket_model.specs.Plain.{Store, lane, elements, inOrder}
-use Rattle.bucket_model.proofs.Chain.{Node, Mine, Chain}
-use Rattle.bucket_model.proofs.Linked.{lastFrom, lastLink}
-use Rattle.bucket_model.proofs.Queue.{flag, loads, chainOf}
-use Rattle.bucket_model.proofs.Runs.{lane-is}
-use Rattle.bucket_model.proofs.Tower.{Ranks, ranks-ext, ranks-same}
-use Rattle.ports_model.specs.Layout.{Shape, ranksOf, seat}
-use Rattle.ports_model.specs.Lists.{Lists, heldInAll}
-use Rattle.ports_model.specs.Promise.{Alike}
+use Rattle.laws.specs.Prelude.{All, Bool, Element, List, [], _++_, _+_, _-_, _<_, _∙_, _∷_, _≡_, _≤_, ap, arith, cond, eq-eqb, eqb, false, length, ne-eqb, refl, subst, suc, sym, true, zero, ℕ, ℕ-discrete}
+use mathlib.Core.List.{append-nil}
+use Rattle.bucket_model.specs.Prelude.{Load, Store, elements, headAt, inOrder, lane, loadOf, tailAt, word}
+use Rattle.bucket_model.proofs.Laws.{Chain, Mine, Node, Ranks, chainOf, flag, lane-is, lastFrom, lastLink, loads, ranks-ext, ranks-same}
+use Rattle.ports_model.specs.Prelude.{Alike, Lists, Shape, heldInAll, ranksOf, seat}
 use Rattle.ports_model.proofs.Places.{laid, seating}
 use Rattle.ports_model.proofs.Store.{Holds, port-holds}
 

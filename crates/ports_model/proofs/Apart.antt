@@ -1,14 +1,8 @@
 -- Isolation, on the words: two clearings of one shape with the same limits, on slices whatever was in them, and two histories of any length and interleaving.
-use mathlib.Core.Path.{_≡_, refl, sym, ap, _∙_}
-use mathlib.Core.List.{List}
-use Prim.Native.Nat.{ℕ, _<_}
-use Rattle.promise.specs.Queue.{leaves}
-use Rattle.bucket_model.specs.Plain.{Store}
-use Rattle.ports_model.specs.Layout.{Shape}
-use Rattle.ports_model.specs.Causes.{Shaped, Fair}
-use Rattle.ports_model.specs.Lists.{Ask, none, served, heardAt, callsAt, answersOf, yeses, touched}
-use Rattle.ports_model.specs.Runs.{called, start, heardOn}
-use Rattle.ports_model.specs.Promise.{SameAt}
+use Rattle.laws.specs.Prelude.{List, _<_, _∙_, _≡_, ap, refl, sym, ℕ}
+use Rattle.promise.specs.Prelude.{leaves}
+use Rattle.bucket_model.specs.Prelude.{Store}
+use Rattle.ports_model.specs.Prelude.{Ask, Fair, SameAt, Shape, Shaped, answersOf, called, callsAt, heardAt, heardOn, none, served, start, touched, yeses}
 use Rattle.ports_model.proofs.Alike.{alike}
 use Rattle.ports_model.proofs.Clear.{deep}
 use Rattle.ports_model.proofs.Isolation.{longAt, isolated, untouched}

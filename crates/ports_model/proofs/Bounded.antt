@@ -1,30 +1,11 @@
 -- On any words, whatever stands in them: a call that is not refused finds every port within its ceiling and what is claimed within N, and leaves them so.
-use mathlib.Core.Path.{_≡_, ap}
-use mathlib.Core.List.{List, [], _∷_, _++_}
-use mathlib.Core.Logic.{_⊎_, inl, inr}
-use Prim.Native.Nat.{ℕ, _+_, _-_, _^_, _≤_, _<_, max}
-use native.Mathlib.Decide.{ℕ-discrete, decLt}
-use native.Mathlib.Omega.{arith}
-use lib.ListN.{length, length-set}
+use Rattle.laws.specs.Prelude.{Element, Idle, List, Pop, Push, Replace, Request, [], _++_, _+_, _-_, _<_, _^_, _∷_, _≡_, _≤_, _⊎_, ap, arith, decLt, inl, inr, length, length-set, max, ℕ, ℕ-discrete}
 use Rattle.promise.proofs.Tabled.{Passed, either}
-use Rattle.strip.specs.declared.Element.{Element}
-use Rattle.strip.specs.declared.Request.{Request}
-use Rattle.strip.specs.declared.Request.the-variants.{Idle, Push, Pop, Replace}
 use Rattle.bucket_model.specs.declared.Lay.{Lay}
 use Rattle.bucket_model.specs.declared.Room as found
-use Rattle.bucket_model.specs.Layout.{word, write, tailAt, nextAt, loadWrites, loadOf}
-use Rattle.bucket_model.specs.Calls.{Outcome, lowestOf, linkAt, joinedWords}
-use Rattle.bucket_model.specs.Plain.{Store}
-use Rattle.bucket_model.proofs.Pop.{taken-length}
-use Rattle.bucket_model.proofs.Push.{joined-length}
-use Rattle.bucket_model.proofs.Taken.{held-after}
-use Rattle.bucket_model.proofs.Writes.{same}
-use Rattle.ports_model.specs.Layout.{Shape, heldAt, floorAt, ceilingAt, seat}
-use Rattle.ports_model.specs.Checks.{claimedIn}
-use Rattle.ports_model.specs.Calls.{roomOf, roomAfter}
-use Rattle.ports_model.specs.Causes.{Shaped, Whole, Room, bitsAfter, wordsAfter, callTable, done}
-use Rattle.ports_model.specs.Runs.{asked}
-use Rattle.ports_model.specs.Promise.{Framed, Bounds}
+use Rattle.bucket_model.specs.Prelude.{Outcome, Store, joinedWords, linkAt, loadOf, loadWrites, lowestOf, nextAt, tailAt, word, write}
+use Rattle.bucket_model.proofs.Laws.{held-after, joined-length, same, taken-length}
+use Rattle.ports_model.specs.Prelude.{Bounds, Framed, Room, Shape, Shaped, Whole, asked, bitsAfter, callTable, ceilingAt, claimedIn, done, floorAt, heldAt, roomAfter, roomOf, seat, wordsAfter}
 use Rattle.ports_model.proofs.Exactly.{goes}
 use Rattle.ports_model.proofs.Frame.{push-framed, pop-framed, replace-framed}
 use Rattle.ports_model.proofs.Places.{laid}

@@ -1,24 +1,10 @@
 -- Two ports on three nodes, worked through: the answers on the plain lists, and so on the words; the words of one push computed.
-use mathlib.Core.Path.{_≡_, refl, ap, _∙_}
-use mathlib.Core.List.{List, map}
-use Prim.Native.Nat.{ℕ}
-use lib.ListN.{replicate}
-use Rattle.laws.specs.Sums.{sumTo}
-use Rattle.promise.specs.Queue.{answers, leaves}
-use Rattle.strip.specs.Answers.{blank, untagged}
+use Rattle.laws.specs.Prelude.{List, _∙_, _≡_, ap, blank, map, refl, replicate, sumTo, untagged, ℕ}
+use Rattle.promise.specs.Prelude.{answers, leaves}
 use Rattle.bitmap.specs.Bits.{bitAt}
-use Rattle.bucket_model.specs.Storeys.{marked, rankAgrees}
-use Rattle.bucket_model.specs.Checks.{nextOf, pushOk}
+use Rattle.bucket_model.specs.Prelude.{Store, fill, filled, joinedBits, joinedWords, linkAt, marked, nextOf, plainWith, pushFound, pushOk, rankAgrees, roomWith}
 use Rattle.bucket_model.specs.Calls as bucket
-use Rattle.bucket_model.specs.Calls.{fill, roomWith, linkAt, joinedWords, joinedBits, pushFound}
-use Rattle.bucket_model.specs.Plain.{Store, plainWith}
-use Rattle.bucket_model.specs.Filled.{filled}
-use Rattle.ports_model.specs.Checks.{allTo, shapeOk, limitsOk, wholeOk, roomOk}
-use Rattle.ports_model.specs.Calls.{blankWord, cleared, pushed}
-use Rattle.ports_model.specs.Causes.{Shaped, Fair}
-use Rattle.ports_model.specs.Lists.{none, served}
-use Rattle.ports_model.specs.Runs.{asked, called, start}
-use Rattle.ports_model.specs.Cases.{twoPorts, twoLimits, sharing, sharingSays, inNumbers, tight, tightLimits, tightSays, onePush, onePushBits, onePushWords}
+use Rattle.ports_model.specs.Prelude.{Fair, Shaped, allTo, asked, blankWord, called, cleared, inNumbers, limitsOk, none, onePush, onePushBits, onePushWords, pushed, roomOk, served, shapeOk, sharing, sharingSays, start, tight, tightLimits, tightSays, twoLimits, twoPorts, wholeOk}
 use Rattle.ports_model.proofs.Facts.{limits-mean}
 use Rattle.ports_model.proofs.Promises.{ports-answer}
 

@@ -1,23 +1,9 @@
 -- A cleared store: every port holds nothing, and its floor and its ceiling are those that were handed over.
-use mathlib.Core.Path.{_≡_, refl, sym, ap, _∙_}
-use mathlib.Core.List.{List, []}
-use Prim.Native.Nat.{ℕ, _+_, _-_, _*_, _/_, _%_, _≤_, _<_}
-use native.Mathlib.Omega.{arith}
-use borrow.Author.Tests.{lt-ltb, le-ltb, eq-eqb}
-use Rattle.laws.specs.Means.{means-and}
-use Rattle.laws.specs.Sums.{to-zero}
-use Rattle.strip.specs.declared.Answer.the-variants.{Done}
-use Rattle.bucket_model.specs.Layout.{word, headAt}
+use Rattle.laws.specs.Prelude.{Done, List, [], _%_, _*_, _+_, _-_, _/_, _<_, _∙_, _≡_, _≤_, ap, arith, eq-eqb, le-ltb, lt-ltb, means-and, refl, sym, to-zero, ℕ}
+use Rattle.bucket_model.specs.Prelude.{fill, headAt, outcome, word}
 use Rattle.bucket_model.specs.Calls as bucket
-use Rattle.bucket_model.specs.Calls.{outcome, fill}
-use Rattle.bucket_model.proofs.Clear.{freshQ, freshOwn, fresh-free, fresh-blank, fresh-list, fresh-linked, blank-from}
-use Rattle.bucket_model.proofs.Fill.{fill-length, fill-at}
-use Rattle.bucket_model.proofs.Order.{order-none}
-use Rattle.bucket_model.proofs.Queue.{flag, loads}
-use Rattle.ports_model.specs.Layout.{Shape, portWords, ranksOf, bitWords, storeWords, freeAt, heldAt, floorAt, ceilingAt, seat, floorOf, ceilingOf}
-use Rattle.ports_model.specs.Calls.{blankPort, blankWord, cleared}
-use Rattle.ports_model.specs.Causes.{Shaped, Fair}
-use Rattle.ports_model.specs.Lists.{none}
+use Rattle.bucket_model.proofs.Laws.{blank-from, fill-at, fill-length, flag, fresh-blank, fresh-free, fresh-linked, fresh-list, freshOwn, freshQ, loads, order-none}
+use Rattle.ports_model.specs.Prelude.{Fair, Shape, Shaped, bitWords, blankPort, blankWord, ceilingAt, ceilingOf, cleared, floorAt, floorOf, freeAt, heldAt, none, portWords, ranksOf, seat, storeWords}
 use Rattle.ports_model.proofs.Facts.{shape-means, limits-mean}
 use Rattle.ports_model.proofs.Places.{seating, shaped-at, blank-bits}
 use Rattle.ports_model.proofs.Returns as told

@@ -1,27 +1,11 @@
 -- What goes in and out at a port, in the words in which every queue's promises are said: by number, rank, tag and length, over any list of requests at any ports. To a port a request at another one is an idle one.
-use mathlib.Core.Path.{_≡_, refl, sym, ap, subst, _∙_}
-use mathlib.Core.Bool.{Bool, true, false, cond}
-use mathlib.Core.List.{List, [], _∷_, map}
-use Prim.Native.Nat.{ℕ, _+_, _≤_, _<_}
-use native.Mathlib.Decide.{ℕ-discrete, decLt}
-use native.Mathlib.Omega.{arith}
-use borrow.Author.Tests.{eq-eqb, ne-eqb}
-use lib.Dec.{eqb}
-use Rattle.laws.specs.Updates.{is-upd}
+use Rattle.laws.specs.Prelude.{Answer, Bool, Element, Idle, List, [], _+_, _<_, _∙_, _∷_, _≡_, _≤_, ap, arith, cond, decLt, eq-eqb, eqb, false, is-upd, map, ne-eqb, refl, subst, sym, true, untagged, ℕ, ℕ-discrete}
 use Rattle.promise.proofs.Forest.{At, seen-sum, seenBy}
-use Rattle.promise.specs.Queue.{answers, leaves, Step, step}
+use Rattle.promise.specs.Prelude.{Barred, Step, Tagged, answers, leaves, none-brought, step}
 use Rattle.promise.specs.Served as said
-use Rattle.promise.specs.Tagged.{Barred, none-brought, Tagged}
-use Rattle.strip.specs.Answers.{untagged}
-use Rattle.strip.specs.declared.Answer.{Answer}
-use Rattle.strip.specs.declared.Element.{Element}
-use Rattle.strip.specs.declared.Request.the-variants.{Idle}
-use Rattle.bucket_model.specs.Plain.{answered, ask, plainWith, Said, Store, store, times}
-use Rattle.bucket_model.proofs.Served.{answerOf, sums}
-use Rattle.ports_model.specs.Layout.{ranksOf, Shape}
-use Rattle.ports_model.specs.Causes.{Fair, Shaped}
-use Rattle.ports_model.specs.Lists.{accepts, Ask, at, Lists, none, served}
-use Rattle.ports_model.specs.Runs.{asked, called, start, storedAt}
+use Rattle.bucket_model.specs.Prelude.{Said, Store, answered, ask, plainWith, store, times}
+use Rattle.bucket_model.proofs.Laws.{answerOf, sums}
+use Rattle.ports_model.specs.Prelude.{Ask, Fair, Lists, Shape, Shaped, accepts, asked, at, called, none, ranksOf, served, start, storedAt}
 use Rattle.ports_model.proofs.Clear.{deep}
 use Rattle.ports_model.proofs.Kind.{barred}
 use Rattle.ports_model.proofs.Promises.{start-holds}

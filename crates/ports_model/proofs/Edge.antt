@@ -1,22 +1,8 @@
 -- Shapes, floors and ceilings at their edges: the tests computed, on slices of any contents.
-use mathlib.Core.Path.{_≡_, refl, ap, _∙_}
-use mathlib.Core.Bool.{Bool, true, false, cond, _&&_}
-use mathlib.Core.List.{List}
-use mathlib.Core.Logic.{inl}
-use Prim.Native.Nat.{ℕ, _≤_}
-use native.Mathlib.Omega.{arith}
-use borrow.Author.Tests.{le-leb}
-use lib.ListN.{length}
-use Rattle.laws.specs.Lists.{All, all-map}
-use Rattle.laws.specs.Sums.{sumTo}
-use Rattle.strip.specs.Answers.{numberOf}
-use Rattle.strip.specs.declared.Refusal.the-variants.{BadShape}
-use Rattle.bucket_model.specs.Calls.{Outcome}
-use Rattle.ports_model.specs.Layout.{Shape, bitWords, storeWords}
-use Rattle.ports_model.specs.Checks.{allTo, isShaped, limitsOk, shapeOk}
-use Rattle.ports_model.specs.Calls.{cleared}
-use Rattle.ports_model.specs.Causes.{Shaped}
-use Rattle.ports_model.specs.Edge.{Edge, edgeTable, Right, shapeOf}
+use Rattle.laws.specs.Prelude.{All, BadShape, Bool, List, _&&_, _∙_, _≡_, _≤_, all-map, ap, arith, cond, false, inl, le-leb, length, numberOf, refl, sumTo, true, ℕ}
+use Rattle.bucket_model.specs.Prelude.{Outcome}
+use Rattle.ports_model.specs.Prelude.{Edge, Shape, Shaped, allTo, bitWords, cleared, edgeTable, isShaped, limitsOk, shapeOf, shapeOk, storeWords}
+use Rattle.ports_model.specs.Edge.{Right}
 use Rattle.ports_model.proofs.Exactly.{exactly-clear}
 
 -- by slices just long enough

@@ -1,27 +1,12 @@
 -- Every call is refused exactly when the table says so, and then leaves everything behind; and what else follows of every call from the table that decides it.
-use mathlib.Core.Path.{_≡_, refl}
-use mathlib.Core.List.{List}
-use Prim.Native.Nat.{ℕ}
-use Rattle.laws.specs.Means.{means-and, means-ltb, means-eqb, means-not}
+use Rattle.laws.specs.Prelude.{Done, Element, Idle, List, Pop, Push, Replace, Request, _≡_, means-and, means-eqb, means-ltb, means-not, refl, ℕ}
 use Rattle.promise.proofs.Calls.{grants-zero}
 use Rattle.promise.proofs.Tabled as tabled
 use Rattle.promise.proofs.Tabled.{Goes}
-use Rattle.promise.specs.Table.{Table, Told, decided, ends}
-use Rattle.strip.specs.declared.Element.{Element}
-use Rattle.strip.specs.declared.Answer.the-variants.{Done}
-use Rattle.strip.specs.declared.Request.{Request}
-use Rattle.strip.specs.declared.Request.the-variants.{Idle, Push, Pop, Replace}
-use Rattle.bucket_model.specs.Layout.{word}
-use Rattle.bucket_model.specs.Calls.{Outcome, outcome, refused, fill, popFound, pushFound, replaceJoined}
-use Rattle.bucket_model.specs.Causes.{Exactly, ExactlyCount}
-use Rattle.bucket_model.specs.Plain.{store}
-use Rattle.bucket_model.proofs.Exactly.{said, tag-means}
-use Rattle.bucket_model.proofs.Facts.{pop-means, join-means}
-use Rattle.ports_model.specs.Layout.{Shape, ranksOf, bitWords, storeWords, heldAt, seat}
-use Rattle.ports_model.specs.Checks.{usedIn}
-use Rattle.ports_model.specs.Calls.{blankWord, cleared, heldCount, popped, pushed, replaceFound, replaced}
-use Rattle.ports_model.specs.Causes.{clearTable, heldTable, giveTable, roomAfterTable, bitsAfter, wordsAfter, callTable, done}
-use Rattle.ports_model.specs.Runs.{asked}
+use Rattle.promise.specs.Prelude.{Table, Told, decided, ends}
+use Rattle.bucket_model.specs.Prelude.{Exactly, ExactlyCount, Outcome, fill, outcome, popFound, pushFound, refused, replaceJoined, store, word}
+use Rattle.bucket_model.proofs.Laws.{join-means, pop-means, said, tag-means}
+use Rattle.ports_model.specs.Prelude.{Shape, asked, bitWords, bitsAfter, blankWord, callTable, clearTable, cleared, done, giveTable, heldAt, heldCount, heldTable, popped, pushed, ranksOf, replaceFound, replaced, roomAfterTable, seat, storeWords, usedIn, wordsAfter}
 use Rattle.ports_model.proofs.Facts.{shape-means, limits-mean, whole-means, room-means, after-means}
 
 pub goes-clear : (s : Shape) (lim b w : List ℕ) → Goes said (λ x. refused x b w) (clearTable s lim b w) (outcome Done (fill (λ j. 0) (bitWords s) b) (fill (blankWord s lim) (storeWords s) w)) (cleared s lim b w)

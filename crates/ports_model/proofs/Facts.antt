@@ -1,22 +1,8 @@
 -- Each test of a call and the facts that it stands for.
-use mathlib.Core.Path.{refl}
-use mathlib.Core.Bool.{Bool, true, false, _||_, false≢true}
-use mathlib.Core.List.{List}
-use mathlib.Core.Logic.{_⊎_, inl, inr, ⊎-elim}
-use Prim.Native.Nat.{ℕ, zero, suc, _-_, _≤_, _<_}
-use native.Mathlib.Decide.{ℕ-discrete}
-use native.Mathlib.Nat.{not-suc-le-zero}
-use native.Mathlib.Omega.{arith}
-use lib.ListN.{length}
-use Rattle.laws.specs.Means.{Means, means-leb, means-ltb, means-eqb, means-and, means-beq, means-by}
-use Rattle.laws.specs.Sums.{sumTo}
-use Rattle.bucket_model.specs.Layout.{leastStoreys, mostStoreys, pool, word}
-use Rattle.bucket_model.specs.Causes.{JoinFit}
-use Rattle.bucket_model.proofs.Facts.{join-means}
-use Rattle.ports_model.specs.Layout.{Shape, mostPorts, bitWords, storeWords, freeAt, heldAt, floorAt, ceilingAt, seat, limitWords, floorOf, ceilingOf}
-use Rattle.ports_model.specs.Checks.{allTo, shapeOk, isShaped, limitsOk, usedIn, claimedIn, keptAt, limitsKept, wholeOk, isWhole, roomOk, hasRoom}
-use Rattle.ports_model.specs.Causes.{Shaped, Fair, Whole, Room}
-use Rattle.ports_model.specs.Calls.{roomAfter}
+use Rattle.laws.specs.Prelude.{Bool, List, Means, _-_, _<_, _||_, _≤_, _⊎_, arith, false, false≢true, inl, inr, length, means-and, means-beq, means-by, means-eqb, means-leb, means-ltb, not-suc-le-zero, refl, suc, sumTo, true, zero, ℕ, ℕ-discrete, ⊎-elim}
+use Rattle.bucket_model.specs.Prelude.{JoinFit, leastStoreys, mostStoreys, pool, word}
+use Rattle.bucket_model.proofs.Laws.{join-means}
+use Rattle.ports_model.specs.Prelude.{Fair, Room, Shape, Shaped, Whole, allTo, bitWords, ceilingAt, ceilingOf, claimedIn, floorAt, floorOf, freeAt, hasRoom, heldAt, isShaped, isWhole, keptAt, limitWords, limitsKept, limitsOk, mostPorts, roomAfter, roomOk, seat, shapeOk, storeWords, usedIn, wholeOk}
 
 -- yes of every number below n
 pub means-all : (n : ℕ) (f : ℕ → Bool) (P : ℕ → Type 0) → ((i : ℕ) → Means (f i) (P i)) → Means (allTo n f) ((i : ℕ) → i < n → P i)

@@ -1,36 +1,11 @@
 -- What a call at a port leaves alone, on any words whatever.
-use mathlib.Core.Path.{_≡_, refl, _∙_}
-use mathlib.Core.Bool.{true}
-use mathlib.Core.List.{List}
-use mathlib.Core.Logic.{_⊎_, inl, inr}
-use Prim.Native.Nat.{ℕ, _+_, _^_, _≤_, _<_, max}
-use native.Mathlib.Omega.{arith}
-use lib.ListN.{length}
+use Rattle.laws.specs.Prelude.{Answer, Element, Idle, List, Pop, Push, Replace, Request, _+_, _<_, _^_, _∙_, _≡_, _≤_, _⊎_, arith, inl, inr, length, max, refl, true, ℕ}
 use Rattle.promise.proofs.Tabled.{Passed, either}
-use Rattle.strip.specs.declared.Answer.{Answer}
-use Rattle.strip.specs.declared.Element.{Element}
-use Rattle.strip.specs.declared.Request.{Request}
-use Rattle.strip.specs.declared.Request.the-variants.{Idle, Push, Pop, Replace}
 use Rattle.bucket_model.specs.declared.Lowest.{Lowest}
 use Rattle.bucket_model.specs.Layout as bucket
-use Rattle.bucket_model.specs.Layout.{Laid, word, headAt, tailAt}
-use Rattle.bucket_model.specs.Storeys.{lowestRank}
-use Rattle.bucket_model.specs.Calls.{Outcome, outcome, lowestOf, roomWith}
-use Rattle.bucket_model.specs.Causes.{PopFit}
-use Rattle.bucket_model.specs.Plain.{Store}
-use Rattle.bucket_model.proofs.Facts.{pop-means}
-use Rattle.bucket_model.proofs.Fill.{fill-length}
-use Rattle.bucket_model.proofs.Joined.{joined-foreign}
-use Rattle.bucket_model.proofs.Pop.{taken-length, taken-bits-length}
-use Rattle.bucket_model.proofs.Push.{joined-length, joined-bits-length}
-use Rattle.bucket_model.proofs.Taken.{Foreign, taken-foreign, free-after}
-use Rattle.bucket_model.proofs.Untouched.{fill-past, taken-bits-away, joined-bits-away, low-lt, low-head}
-use Rattle.ports_model.specs.Layout.{Shape, ranksOf, bitWords, storeWords, freeAt, heldAt, floorAt, ceilingAt, seat}
-use Rattle.ports_model.specs.Checks.{usedIn}
-use Rattle.ports_model.specs.Calls.{blankWord, cleared, roomOf, roomAfter}
-use Rattle.ports_model.specs.Causes.{Shaped, Whole, Room, bitsAfter, wordsAfter, callTable, done}
-use Rattle.ports_model.specs.Runs.{asked}
-use Rattle.ports_model.specs.Promise.{Framed, Untouched}
+use Rattle.bucket_model.specs.Prelude.{Laid, Outcome, PopFit, Store, headAt, lowestOf, lowestRank, outcome, roomWith, tailAt, word}
+use Rattle.bucket_model.proofs.Laws.{Foreign, fill-length, fill-past, free-after, joined-bits-away, joined-bits-length, joined-foreign, joined-length, low-head, low-lt, pop-means, taken-bits-away, taken-bits-length, taken-foreign, taken-length}
+use Rattle.ports_model.specs.Prelude.{Framed, Room, Shape, Shaped, Untouched, Whole, asked, bitWords, bitsAfter, blankWord, callTable, ceilingAt, cleared, done, floorAt, freeAt, heldAt, ranksOf, roomAfter, roomOf, seat, storeWords, usedIn, wordsAfter}
 use Rattle.ports_model.proofs.Exactly.{goes, goes-clear}
 use Rattle.ports_model.proofs.Places.{laid, foreign-held, foreign-floor, foreign-ceiling, foreign-list, foreign-rest, bits-apart, bits-rest, shaped-at}
 use Rattle.ports_model.proofs.Sums.{to-le, to-lt}

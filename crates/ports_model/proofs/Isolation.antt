@@ -1,25 +1,9 @@
 -- What the other ports can touch.
-use mathlib.Core.Path.{_≡_, refl, sym, ap, subst, _∙_}
-use mathlib.Core.Bool.{Bool, true, false, cond, not, _&&_, _||_, false≢true, true≢false}
-use mathlib.Core.List.{List, [], _∷_, _++_}
-use Prim.Native.Nat.{ℕ, _-_, _<_}
-use native.Mathlib.Decide.{ℕ-discrete, decLt}
-use native.Mathlib.Omega.{arith}
-use borrow.Author.Tests.{lt-ltb, leb-false, eq-eqb, ne-eqb}
-use lib.Dec.{ltb, eqb, leb}
-use lib.ListN.{length}
-use Rattle.laws.specs.Updates.{is-upd}
-use Rattle.promise.specs.Queue.{Step, step, leaves}
-use Rattle.strip.specs.Answers.{untagged}
-use Rattle.strip.specs.declared.Element.{Element}
-use Rattle.strip.specs.declared.Refusal.the-variants.{BadRank, NoTag}
-use Rattle.strip.specs.declared.Answer.the-variants.{Done, Refused}
-use Rattle.strip.specs.declared.Request.the-variants.{Idle, Push, Pop, Replace}
+use Rattle.laws.specs.Prelude.{BadRank, Bool, Done, Element, Idle, List, NoTag, Pop, Push, Refused, Replace, [], _&&_, _++_, _-_, _<_, _||_, _∙_, _∷_, _≡_, ap, arith, cond, decLt, eq-eqb, eqb, false, false≢true, is-upd, leb, leb-false, length, lt-ltb, ltb, ne-eqb, not, refl, subst, sym, true, true≢false, untagged, ℕ, ℕ-discrete}
+use Rattle.promise.specs.Prelude.{Step, leaves, step}
 use Rattle.bucket_model.specs.Plain as plain
-use Rattle.bucket_model.specs.Plain.{Call, ask, held, Said, answered, insert, roomy, plainWith}
-use Rattle.ports_model.specs.Layout.{Shape, ranksOf, floorOf, ceilingOf}
-use Rattle.ports_model.specs.Checks.{roomOk}
-use Rattle.ports_model.specs.Lists.{Ask, at, Lists, claimed, accepts, back, served, Heard, heardIf, heardAt, callsIf, callsAt, callsOf, agreedTo, yesOf, yeses, onlyIf, open′, touchedIn, touched}
+use Rattle.bucket_model.specs.Prelude.{Call, Said, answered, ask, held, insert, plainWith, roomy}
+use Rattle.ports_model.specs.Prelude.{Ask, Heard, Lists, Shape, accepts, agreedTo, at, back, callsAt, callsIf, callsOf, ceilingOf, claimed, floorOf, heardAt, heardIf, onlyIf, open′, ranksOf, roomOk, served, touched, touchedIn, yesOf, yeses}
 use Rattle.ports_model.proofs.Room.{served-in, served-out}
 
 -- how many a port holds

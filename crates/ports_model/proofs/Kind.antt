@@ -1,17 +1,10 @@
 -- What a call answers that is not refused, and that no element without a tag comes in: for all inputs.
-use mathlib.Core.Path.{_≡_}
-use Prim.Native.Nat.{ℕ}
+use Rattle.laws.specs.Prelude.{Idle, Pop, Push, Replace, Request, _≡_, numberOf, ℕ}
 use Rattle.promise.proofs.Calls.{grants-kind}
 use Rattle.promise.proofs.Tabled.{granted, keeps}
-use Rattle.promise.specs.Served.{Kind}
-use Rattle.promise.specs.Tagged.{Barred}
-use Rattle.strip.specs.Answers.{numberOf}
-use Rattle.strip.specs.declared.Request.{Request}
-use Rattle.strip.specs.declared.Request.the-variants.{Idle, Push, Pop, Replace}
-use Rattle.bucket_model.specs.Calls.{Outcome}
-use Rattle.bucket_model.specs.Plain.{Store}
-use Rattle.ports_model.specs.Layout.{Shape}
-use Rattle.ports_model.specs.Runs.{asked}
+use Rattle.promise.specs.Prelude.{Barred, Kind}
+use Rattle.bucket_model.specs.Prelude.{Outcome, Store}
+use Rattle.ports_model.specs.Prelude.{Shape, asked}
 use Rattle.ports_model.proofs.Exactly.{goes}
 
 -- KIND

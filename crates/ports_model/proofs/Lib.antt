@@ -1,27 +1,28 @@
 -- What follows from the rules.
-pub mod Facts
+mod Facts
 pub mod Exactly
-pub mod Sums
-pub mod Room
-pub mod Isolation
-pub mod Places
-pub mod Store
+mod Sums
+mod Room
+mod Isolation
+mod Places
+mod Store
 pub mod Returns
-pub mod Steps
-pub mod Clear
-pub mod Promises
-pub mod Alike
-pub mod Apart
-pub mod Rule
-pub mod Frame
-pub mod OnePort
-pub mod Kind
-pub mod Served
-pub mod Counted
-pub mod Unread
-pub mod Cases
-pub mod Edge
-pub mod Spoilt
-pub mod Lies
-pub mod Bounded
-pub mod Shown
+mod Steps
+mod Clear
+mod Promises
+mod Alike
+mod Apart
+mod Rule
+mod Frame
+mod OnePort
+mod Kind
+mod Served
+mod Counted
+mod Unread
+mod Cases
+mod Edge
+mod Spoilt
+mod Lies
+mod Bounded
+mod Shown
+pub mod Laws

@@ -1,23 +1,10 @@
 -- The layout and clear in numbers, at two storeys and at three, by one proof.
-use mathlib.Core.Path.{_≡_, refl, sym, ap, _∙_}
-use mathlib.Core.List.{List}
-use Prim.Native.Nat.{ℕ, _+_, _*_, _^_, _≤_, _<_}
-use native.Mathlib.Omega.{arith}
-use borrow.Author.Tests.{eq-eqb, ne-eqb}
-use lib.ListN.{length}
-use Rattle.laws.specs.Means.{Iff}
-use Rattle.bucket_model.specs.Layout.{Laid, word, wordsOf, loadWords, cell}
-use Rattle.bucket_model.specs.Storeys.{storeysFrom}
+use Rattle.laws.specs.Prelude.{Iff, List, _*_, _+_, _<_, _^_, _∙_, _≡_, _≤_, ap, arith, eq-eqb, length, ne-eqb, refl, sym, ℕ}
+use Rattle.bucket_model.specs.Prelude.{Depth, Laid, Outcome, blankCell, cell, fill, loadWords, storeysFrom, threeStoreys, twoStoreys, word, wordsOf}
 use Rattle.bucket_model.specs.Calls as bucket
-use Rattle.bucket_model.specs.Calls.{Outcome, fill, blankCell}
-use Rattle.bucket_model.specs.Promise.{Depth, twoStoreys, threeStoreys}
 use Rattle.bucket_model.proofs.Clear as cleared-queue
-use Rattle.bucket_model.proofs.Fill.{fill-at}
-use Rattle.bucket_model.proofs.Places.{Right, right-two, right-three}
-use Rattle.ports_model.specs.Layout.{Shape, ranksOf, bitWords, storeWords, nodesAt, freeAt, heldAt, floorAt, ceilingAt, seat}
-use Rattle.ports_model.specs.Calls.{blankWord, cleared}
-use Rattle.ports_model.specs.Causes.{Shaped, Fair}
-use Rattle.ports_model.specs.Promise.{Sized, Lies, Blank}
+use Rattle.bucket_model.proofs.Laws.{Right, fill-at, right-three, right-two}
+use Rattle.ports_model.specs.Prelude.{Blank, Fair, Lies, Shape, Shaped, Sized, bitWords, blankWord, ceilingAt, cleared, floorAt, freeAt, heldAt, nodesAt, ranksOf, seat, storeWords}
 use Rattle.ports_model.proofs.Clear.{blank-low, blank-held, blank-floor, blank-ceiling, word-is, clear-done}
 use Rattle.ports_model.proofs.Frame.{rest-clear}
 use Rattle.ports_model.proofs.Places.{laid}

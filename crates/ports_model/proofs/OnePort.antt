@@ -1,28 +1,12 @@
 -- One port that may fill the pool is the bucket queue: it answers every list of calls as the bucket queue of as many nodes does.
-use mathlib.Core.Path.{_≡_, refl, sym, ap, ap₂, _∙_}
-use mathlib.Core.Bool.{Bool}
-use mathlib.Core.List.{List, [], _∷_, map}
-use mathlib.Core.Logic.{inl, inr, ⊎-elim}
-use Prim.Native.Nat.{ℕ, _≤_, max}
-use native.Mathlib.Decide.{decLt}
-use native.Mathlib.Omega.{arith}
-use borrow.Author.Tests.{lt-ltb, le-ltb}
-use lib.Dec.{ltb}
-use lib.ListN.{length}
-use Rattle.laws.specs.Means.{means-off}
-use Rattle.laws.specs.Sums.{sumTo}
-use Rattle.laws.specs.Updates.{is-upd}
-use Rattle.promise.specs.Queue.{Step, answers}
-use Rattle.bucket_model.specs.Layout.{queue}
+use Rattle.laws.specs.Prelude.{Bool, List, [], _∙_, _∷_, _≡_, _≤_, ap, ap₂, arith, decLt, inl, inr, is-upd, le-ltb, length, lt-ltb, ltb, map, max, means-off, refl, sumTo, sym, ℕ, ⊎-elim}
+use Rattle.promise.specs.Prelude.{Step, answers}
+use Rattle.bucket_model.specs.Prelude.{Call, Said, plainSays, plainWith, queue, says}
 use Rattle.bucket_model.specs.Causes as bucket
 use Rattle.bucket_model.specs.Plain as plain
-use Rattle.bucket_model.specs.Plain.{Call, Said, plainWith, plainSays, says}
 use Rattle.bucket_model.proofs.Promises as queues
-use Rattle.bucket_model.proofs.Promises.{queue-laid}
-use Rattle.ports_model.specs.Layout.{Shape, ranksOf, floorOf, ceilingOf}
-use Rattle.ports_model.specs.Causes.{Shaped, Fair}
-use Rattle.ports_model.specs.Lists.{at, Lists, none, claimed, accepts, back, served}
-use Rattle.ports_model.specs.Runs.{called, start}
+use Rattle.bucket_model.proofs.Laws.{queue-laid}
+use Rattle.ports_model.specs.Prelude.{Fair, Lists, Shape, Shaped, accepts, at, back, called, ceilingOf, claimed, floorOf, none, ranksOf, served, start}
 use Rattle.ports_model.proofs.Promises.{ports-answer}
 use Rattle.ports_model.proofs.Room.{Sound, none-sound, step-sound, served-in, accepts-means}
 

@@ -1,20 +1,10 @@
 -- Each port is a bucket queue among the others: where its words stand, and that no two ports' words are the same. The only file that multiplies.
-use mathlib.Core.Path.{_≡_, refl}
-use mathlib.Core.List.{List}
-use mathlib.Core.Logic.{_⊎_, inl, inr}
-use Prim.Native.Nat.{ℕ, zero, suc, _+_, _*_, _^_, _≤_, _<_}
-use native.Mathlib.Decide.{decLt}
-use native.Mathlib.Nat.{mul-le-mul-right, suc-mul, pow-suc}
-use native.Mathlib.Omega.{arith}
+use Rattle.laws.specs.Prelude.{List, _*_, _+_, _<_, _^_, _≡_, _≤_, _⊎_, arith, decLt, inl, inr, mul-le-mul-right, pow-suc, refl, suc, suc-mul, zero, ℕ}
 use Rattle.bucket_model.specs.Layout as bucket
-use Rattle.bucket_model.specs.Layout.{Laid, nodeWords, wordsOf, headAt}
+use Rattle.bucket_model.specs.Prelude.{Laid, headAt, nodeWords, wordsOf}
 use Rattle.bucket_model.specs.Causes as causes
-use Rattle.bucket_model.proofs.Chain.{Node}
-use Rattle.bucket_model.proofs.Linked.{Linked}
-use Rattle.bucket_model.proofs.Queue.{Seat, area, pow-pos64}
-use Rattle.bucket_model.proofs.Taken.{Foreign}
-use Rattle.ports_model.specs.Layout.{Shape, ranksOf, bitWords, storeWords, nodesAt, heldAt, floorAt, ceilingAt, seat}
-use Rattle.ports_model.specs.Causes.{Shaped}
+use Rattle.bucket_model.proofs.Laws.{Foreign, Linked, Node, Seat, area, pow-pos64}
+use Rattle.ports_model.specs.Prelude.{Shape, Shaped, bitWords, ceilingAt, floorAt, heldAt, nodesAt, ranksOf, seat, storeWords}
 
 -- rows of m words: one ends where the next may begin
 rows : (p q m : ℕ) → p < q → p * m + m ≤ q * m

@@ -1,23 +1,9 @@
 -- What several ports on one pool promise, at either depth, from any clearing with fair limits on.
-use mathlib.Core.Path.{_≡_, refl, sym, ap, subst, _∙_}
-use mathlib.Core.Bool.{Bool, true, false, cond}
-use mathlib.Core.List.{List, [], _∷_, _++_}
-use Prim.Native.Nat.{ℕ, _+_, _≤_, _<_}
-use native.Mathlib.Omega.{arith}
-use lib.Dec.{ltb, eqb}
-use lib.ListN.{length}
-use Rattle.laws.specs.Lists.{All}
-use Rattle.promise.specs.Queue.{step, answers, leaves, answers-same, leaves-in-step}
-use Rattle.strip.specs.declared.Element.{Element}
-use Rattle.strip.specs.declared.Refusal.the-variants.{BadPort}
-use Rattle.strip.specs.declared.Request.the-variants.{Idle, Push, Pop, Replace}
-use Rattle.bucket_model.specs.Plain.{Call, ask, held, Said, Store, plainWith, saidNumber, brought, gone, ofRank, times, Sorted}
-use Rattle.bucket_model.proofs.Promises.{plain-sane}
-use Rattle.bucket_model.proofs.Sorted.{Kept, plain-kept, Through, through-step, through-none}
-use Rattle.ports_model.specs.Layout.{Shape, ranksOf, ceilingOf}
-use Rattle.ports_model.specs.Causes.{Shaped, Fair}
-use Rattle.ports_model.specs.Lists.{Ask, denied, Lists, none, claimed, accepts, back, served, Heard, heardIf, heardAt, callsAt, callsOf, answersOf}
-use Rattle.ports_model.specs.Runs.{called, start, manyAt, storedAt, heardOn}
+use Rattle.laws.specs.Prelude.{All, BadPort, Bool, Element, Idle, List, Pop, Push, Replace, [], _++_, _+_, _<_, _∙_, _∷_, _≡_, _≤_, ap, arith, cond, eqb, false, length, ltb, refl, subst, sym, true, ℕ}
+use Rattle.promise.specs.Prelude.{answers, answers-same, leaves, leaves-in-step, step}
+use Rattle.bucket_model.specs.Prelude.{Call, Said, Sorted, Store, ask, brought, gone, held, ofRank, plainWith, saidNumber, times}
+use Rattle.bucket_model.proofs.Laws.{Kept, Through, plain-kept, plain-sane, through-none, through-step}
+use Rattle.ports_model.specs.Prelude.{Ask, Fair, Heard, Lists, Shape, Shaped, accepts, answersOf, back, called, callsAt, callsOf, ceilingOf, claimed, denied, heardAt, heardIf, heardOn, manyAt, none, ranksOf, served, start, storedAt}
 use Rattle.ports_model.proofs.Clear.{deep, clear-holds, clear-done}
 use Rattle.ports_model.proofs.Isolation.{longAt, Own, own, heard-calls, stepAt}
 use Rattle.ports_model.proofs.Room.{reached}

@@ -1,21 +1,9 @@
 -- Each answer of each call at a port, from what the call has tested.
-use mathlib.Core.Path.{_≡_}
-use mathlib.Core.Bool.{true, false, _&&_}
-use mathlib.Core.List.{List}
-use Prim.Native.Nat.{ℕ, _≤_, _<_}
-use borrow.Author.Tests.{eq-eqb, ne-eqb, lt-ltb, le-ltb}
-use Rattle.strip.specs.Answers.{untagged}
-use Rattle.strip.specs.declared.Element.{Element}
-use Rattle.strip.specs.declared.Refusal.the-variants.{BadShape, Damaged, BadRank, Full, Empty, NoTag, BadPort}
-use Rattle.strip.specs.declared.Answer.the-variants.{Done, Out}
-use Rattle.strip.specs.declared.Count.the-variants.{Held, Unknown}
+use Rattle.laws.specs.Prelude.{BadPort, BadRank, BadShape, Damaged, Done, Element, Empty, Full, Held, List, NoTag, Out, Unknown, _&&_, _<_, _≡_, _≤_, eq-eqb, false, le-ltb, lt-ltb, ne-eqb, true, untagged, ℕ}
 use Rattle.bucket_model.specs.declared.Lowest.{Lowest}
 use Rattle.bucket_model.specs.declared.Room.{Room}
-use Rattle.bucket_model.specs.Layout.{word}
-use Rattle.bucket_model.specs.Calls.{outcome, refused, fill, lowestOf, takenBits, takenWords, given, popFound, joinedBits, joinedWords, pushFound, replaceJoined}
-use Rattle.ports_model.specs.Layout.{Shape, ranksOf, bitWords, storeWords, heldAt, seat}
-use Rattle.ports_model.specs.Checks.{isShaped, limitsOk, isWhole, hasRoom}
-use Rattle.ports_model.specs.Calls.{blankWord, cleared, heldCount, popped, roomOf, pushed, roomAfter, replaceFound, replaced}
+use Rattle.bucket_model.specs.Prelude.{fill, given, joinedBits, joinedWords, lowestOf, outcome, popFound, pushFound, refused, replaceJoined, takenBits, takenWords, word}
+use Rattle.ports_model.specs.Prelude.{Shape, bitWords, blankWord, cleared, hasRoom, heldAt, heldCount, isShaped, isWhole, limitsOk, popped, pushed, ranksOf, replaceFound, replaced, roomAfter, roomOf, seat, storeWords}
 
 pub clear-bad : (s : Shape) (lim b w : List ℕ) → (isShaped s b w && limitsOk s lim) ≡ false → refused BadShape b w ≡ cleared s lim b w
 unfolding cleared

@@ -1,29 +1,10 @@
 -- The room of the pool, floors and ceilings, on the plain lists.
-use mathlib.Core.Path.{_≡_, refl, sym, ap, subst}
-use mathlib.Core.Bool.{Bool, true, false, cond, not}
-use mathlib.Core.List.{List, [], _∷_}
-use mathlib.Core.Logic.{_⊎_, inl, inr}
-use Prim.Native.Nat.{ℕ, suc, _+_, _-_, _≤_, _<_, max}
-use native.Mathlib.Decide.{ℕ-discrete, decLt}
-use native.Mathlib.Omega.{arith}
-use borrow.Author.Tests.{lt-ltb, le-ltb}
-use lib.Dec.{ltb}
-use lib.ListN.{length}
-use Rattle.laws.specs.Means.{Means, means-ltb, means-and}
-use Rattle.laws.specs.Updates.{upd, is-upd}
-use Rattle.promise.specs.Queue.{Step, step, leaves, leaves-keep}
-use Rattle.strip.specs.Answers.{untagged}
-use Rattle.strip.specs.declared.Element.{Element}
-use Rattle.strip.specs.declared.Refusal.the-variants.{BadRank, NoTag, BadPort}
-use Rattle.strip.specs.declared.Answer.the-variants.{Done, Refused}
-use Rattle.strip.specs.declared.Request.the-variants.{Idle, Push, Pop, Replace}
+use Rattle.laws.specs.Prelude.{BadPort, BadRank, Bool, Done, Element, Idle, List, Means, NoTag, Pop, Push, Refused, Replace, [], _+_, _-_, _<_, _∷_, _≡_, _≤_, _⊎_, ap, arith, cond, decLt, false, inl, inr, is-upd, le-ltb, length, lt-ltb, ltb, max, means-and, means-ltb, not, refl, subst, suc, sym, true, untagged, upd, ℕ, ℕ-discrete}
+use Rattle.promise.specs.Prelude.{Step, leaves, leaves-keep, step}
 use Rattle.bucket_model.specs.Plain as plain
-use Rattle.bucket_model.specs.Plain.{Call, ask, held, answered, insert, ranked, tagged, roomy, plainPop, plainReplace, plainWith}
-use Rattle.bucket_model.proofs.Sorted.{insert-length}
-use Rattle.ports_model.specs.Layout.{Shape, ranksOf, floorOf, ceilingOf}
-use Rattle.ports_model.specs.Checks.{roomOk}
-use Rattle.ports_model.specs.Causes.{Fair}
-use Rattle.ports_model.specs.Lists.{Ask, denied, Lists, none, claim, claimed, heldInAll, accepts, Accepts, back, served}
+use Rattle.bucket_model.specs.Prelude.{Call, answered, ask, held, insert, plainPop, plainReplace, plainWith, ranked, roomy, tagged}
+use Rattle.bucket_model.proofs.Laws.{insert-length}
+use Rattle.ports_model.specs.Prelude.{Accepts, Ask, Fair, Lists, Shape, accepts, back, ceilingOf, claim, claimed, denied, floorOf, heldInAll, none, ranksOf, roomOk, served}
 use Rattle.ports_model.proofs.Facts.{means-or}
 use Rattle.ports_model.proofs.Sums.{to-upd, to-le, to-lt}
 

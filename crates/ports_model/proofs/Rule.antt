@@ -1,33 +1,11 @@
 -- 02's rule of acceptance on the words, what a replace is, and what a pop gives: on every store that calls lead to.
-use mathlib.Core.Path.{_≡_, refl, sym, ap, subst, _∙_}
-use mathlib.Core.Bool.{Bool, true, false, cond}
-use mathlib.Core.List.{List, _∷_}
-use mathlib.Core.Logic.{inl}
-use Prim.Native.Nat.{ℕ, _<_}
-use native.Mathlib.Omega.{arith}
-use borrow.Author.Tests.{lt-ltb}
-use lib.ListN.{length}
-use Rattle.laws.specs.Means.{Iff, Means, means-no, means-off}
-use Rattle.laws.specs.Updates.{is-upd}
+use Rattle.laws.specs.Prelude.{Bool, Done, Element, Iff, List, Means, Out, Pop, Push, Replace, _<_, _∙_, _∷_, _≡_, ap, arith, cond, countNumber, countOf, false, inl, is-upd, length, lt-ltb, means-no, means-off, numberOf, refl, subst, sym, true, untagged, ℕ}
 use Rattle.promise.proofs.Tabled.{granted, passes}
-use Rattle.promise.specs.Queue.{Step, leaves}
-use Rattle.promise.specs.Refused.{untagged-means}
-use Rattle.strip.specs.Answers.{countNumber, countOf, numberOf, untagged}
-use Rattle.strip.specs.declared.Element.{Element}
-use Rattle.strip.specs.declared.Answer.the-variants.{Done, Out}
+use Rattle.promise.specs.Prelude.{Step, leaves, untagged-means}
 use Rattle.strip.specs.declared.Count.the-variants as count
-use Rattle.strip.specs.declared.Request.the-variants.{Push, Pop, Replace}
-use Rattle.bucket_model.specs.Layout.{word}
-use Rattle.bucket_model.specs.Calls.{Outcome}
-use Rattle.bucket_model.specs.Plain.{ask, held, Said, answered, counted, saidNumber, Store, roomy, plainWith, Sorted}
+use Rattle.bucket_model.specs.Prelude.{Outcome, Said, Sorted, Store, answered, ask, counted, held, plainWith, roomy, saidNumber, word}
 use Rattle.bucket_model.specs.Plain as plain
-use Rattle.ports_model.specs.Layout.{Shape, ranksOf, floorAt, ceilingAt, floorOf, ceilingOf}
-use Rattle.ports_model.specs.Checks.{usedIn, hasRoom}
-use Rattle.ports_model.specs.Calls.{heldCount}
-use Rattle.ports_model.specs.Causes.{Shaped, Fair, Room}
-use Rattle.ports_model.specs.Lists.{Ask, at, Lists, none, accepts, served}
-use Rattle.ports_model.specs.Runs.{asked, called, start, manyAt, storedAt}
-use Rattle.ports_model.specs.Promise.{FirstOut, Swaps}
+use Rattle.ports_model.specs.Prelude.{Ask, Fair, FirstOut, Lists, Room, Shape, Shaped, Swaps, accepts, asked, at, called, ceilingAt, ceilingOf, floorAt, floorOf, hasRoom, heldCount, manyAt, none, ranksOf, served, start, storedAt, usedIn}
 use Rattle.ports_model.proofs.Clear.{deep}
 use Rattle.ports_model.proofs.Exactly.{goes}
 use Rattle.ports_model.proofs.Facts.{room-means}

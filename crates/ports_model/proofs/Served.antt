@@ -1,22 +1,9 @@
 -- What is least, and that nothing without a tag is held, in 01's numbers, port by port.
-use mathlib.Core.Path.{_≡_, refl, sym, _∙_}
-use mathlib.Core.Bool.{Bool, true, false}
-use mathlib.Core.List.{List, [], _∷_}
-use Prim.Native.Nat.{ℕ, _<_}
-use native.Mathlib.Omega.{arith}
-use lib.Dec.{eqb}
-use Rattle.promise.specs.Queue.{leaves}
-use Rattle.promise.specs.Served.{Least}
-use Rattle.strip.specs.Answers.{untagged}
-use Rattle.strip.specs.declared.Request.{Request}
-use Rattle.strip.specs.declared.Request.the-variants.{Idle, Push, Pop, Replace}
-use Rattle.bucket_model.specs.Plain.{Call, ask, held, Store, came, brought, times}
-use Rattle.bucket_model.proofs.Served.{none-brings, none-lower, least-out}
-use Rattle.bucket_model.proofs.Sorted.{times-append}
-use Rattle.ports_model.specs.Layout.{Shape}
-use Rattle.ports_model.specs.Causes.{Shaped, Fair}
-use Rattle.ports_model.specs.Lists.{Ask, heardIf, heardAt, callsIf, callsAt, answersOf}
-use Rattle.ports_model.specs.Runs.{asked, called, start, manyAt, storedAt, heardOn}
+use Rattle.laws.specs.Prelude.{Bool, Idle, List, Pop, Push, Replace, Request, [], _<_, _∙_, _∷_, _≡_, arith, eqb, false, refl, sym, true, untagged, ℕ}
+use Rattle.promise.specs.Prelude.{Least, leaves}
+use Rattle.bucket_model.specs.Prelude.{Call, Store, ask, brought, came, held, times}
+use Rattle.bucket_model.proofs.Laws.{least-out, none-brings, none-lower, times-append}
+use Rattle.ports_model.specs.Prelude.{Ask, Fair, Shape, Shaped, answersOf, asked, called, callsAt, callsIf, heardAt, heardIf, heardOn, manyAt, start, storedAt}
 use Rattle.ports_model.proofs.Kind.{kind, barred}
 use Rattle.ports_model.proofs.Promises.{holds}
 use Rattle.ports_model.proofs.Rule.{least, replace-gives}

@@ -1,20 +1,9 @@
 -- What stands in the words of a store that calls lead to: each port's bits tell what it holds, and the free chain has all that nobody holds.
-use mathlib.Core.List.{List}
-use Prim.Native.Nat.{ℕ, _-_, _<_}
-use native.Mathlib.Omega.{arith}
-use lib.ListN.{length}
-use Rattle.promise.specs.Queue.{leaves}
-use Rattle.bucket_model.specs.Storeys.{storeysAt}
-use Rattle.bucket_model.specs.Plain.{Store}
-use Rattle.bucket_model.specs.Promise.{Occupied, Shows}
-use Rattle.bucket_model.proofs.Queue.{HoldsIn}
-use Rattle.bucket_model.proofs.Shown.{shown-in}
-use Rattle.bucket_model.proofs.Spare.{free-many, free-tags, free-lengths}
-use Rattle.ports_model.specs.Layout.{Shape, seat}
-use Rattle.ports_model.specs.Causes.{Shaped, Fair}
-use Rattle.ports_model.specs.Lists.{Ask, Lists, none, heldInAll, served}
-use Rattle.ports_model.specs.Runs.{called, start}
-use Rattle.ports_model.specs.Promise.{Spare}
+use Rattle.laws.specs.Prelude.{List, _-_, _<_, arith, length, ℕ}
+use Rattle.promise.specs.Prelude.{leaves}
+use Rattle.bucket_model.specs.Prelude.{Occupied, Shows, Store, storeysAt}
+use Rattle.bucket_model.proofs.Laws.{HoldsIn, free-lengths, free-many, free-tags, shown-in}
+use Rattle.ports_model.specs.Prelude.{Ask, Fair, Lists, Shape, Shaped, Spare, called, heldInAll, none, seat, served, start}
 use Rattle.ports_model.proofs.Clear.{deep}
 use Rattle.ports_model.proofs.Places.{seating}
 use Rattle.ports_model.proofs.Promises.{now-holds}

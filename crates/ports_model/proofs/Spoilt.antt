@@ -1,18 +1,10 @@
 -- One spoilt word for each test of the pool and of a port: the numbers, computed from the definitions; and whatever is refused leaves every word.
-use mathlib.Core.Path.{_≡_, refl}
+use Rattle.laws.specs.Prelude.{All, _≡_, all-map, refl, sumTo, untagged}
 use lib.Count.{trailingZeros}
-use Rattle.laws.specs.Lists.{All, all-map}
-use Rattle.laws.specs.Sums.{sumTo}
-use Rattle.strip.specs.Answers.{untagged}
 use Rattle.bitmap.specs.Bits.{bitAt}
-use Rattle.bucket_model.specs.Storeys.{marked, lowestRank, lowestOpen, rankAgrees}
-use Rattle.bucket_model.specs.Checks.{nextOf, popOk, pushOk}
-use Rattle.bucket_model.specs.Calls.{lowestOf, tailLeft, takenWords, takenBits, popFound, roomWith, linkAt, joinedWords, joinedBits, pushFound, replaceJoined}
-use Rattle.ports_model.specs.Checks.{allTo, shapeOk, wholeOk, roomOk}
-use Rattle.ports_model.specs.Calls.{heldCount, popped, pushed, roomAfter, replaceFound, replaced}
-use Rattle.ports_model.specs.Cases.{twoPorts}
-use Rattle.ports_model.specs.Runs.{asked}
-use Rattle.ports_model.specs.Spoilt.{at, numbers, Right, Row, spoiltTable}
+use Rattle.bucket_model.specs.Prelude.{joinedBits, joinedWords, linkAt, lowestOf, lowestOpen, lowestRank, marked, nextOf, popFound, popOk, pushFound, pushOk, rankAgrees, replaceJoined, roomWith, tailLeft, takenBits, takenWords}
+use Rattle.ports_model.specs.Prelude.{Right, Row, allTo, asked, heldCount, numbers, popped, pushed, replaceFound, replaced, roomAfter, roomOk, shapeOk, spoiltTable, twoPorts, wholeOk}
+use Rattle.ports_model.specs.Spoilt.{at}
 use Rattle.ports_model.proofs.Exactly.{stands}
 
 right : (r : Row) → numbers (at r) ≡ r .wants → Right r

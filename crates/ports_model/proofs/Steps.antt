@@ -1,43 +1,12 @@
 -- A store whose ports hold lists does what the plain lists do, call by call.
-use mathlib.Core.Path.{_≡_, refl, sym, ap, subst, _∙_}
-use mathlib.Core.Bool.{Bool, true, false, cond, not}
-use mathlib.Core.List.{List, [], _∷_}
-use mathlib.Core.Logic.{inl, inr}
-use Prim.Native.Nat.{ℕ, suc, _-_, _≤_, _<_}
-use native.Mathlib.Decide.{ℕ-discrete, decLt}
-use native.Mathlib.Omega.{arith}
-use borrow.Author.Tests.{lt-ltb, le-ltb}
-use lib.ListN.{length}
-use Rattle.laws.specs.Updates.{upd, is-upd, same-upd}
-use Rattle.promise.specs.Queue.{Step, step}
-use Rattle.strip.specs.Answers.{lengthOf, numberOf, rankOf, tagOf, untagged}
-use Rattle.strip.specs.declared.Element.{Element}
-use Rattle.strip.specs.declared.Refusal.the-variants.{BadRank, Full, Empty, NoTag, BadPort}
-use Rattle.strip.specs.declared.Answer.the-variants.{Done, Out, Refused}
-use Rattle.strip.specs.declared.Count.the-variants.{Held}
-use Rattle.strip.specs.declared.Request.the-variants.{Idle, Push, Pop, Replace}
+use Rattle.laws.specs.Prelude.{BadPort, BadRank, Bool, Done, Element, Empty, Full, Held, Idle, List, NoTag, Out, Pop, Push, Refused, Replace, [], _-_, _<_, _∙_, _∷_, _≡_, _≤_, ap, arith, cond, decLt, false, inl, inr, is-upd, le-ltb, length, lengthOf, lt-ltb, not, numberOf, rankOf, refl, same-upd, subst, suc, sym, tagOf, true, untagged, upd, ℕ, ℕ-discrete}
+use Rattle.promise.specs.Prelude.{Step, step}
 use Rattle.bucket_model.specs.declared.Lowest.{Lowest}
 use Rattle.bucket_model.specs.declared.Room.{Room}
-use Rattle.bucket_model.specs.Layout.{word}
-use Rattle.bucket_model.specs.Storeys.{lowestRank}
-use Rattle.bucket_model.specs.Calls.{Outcome, outcome, refused, lowestOf, takenBits, takenWords, joinedBits, joinedWords, roomWith}
+use Rattle.bucket_model.specs.Prelude.{Call, Outcome, Said, Store, answered, ask, counted, held, insert, joinedBits, joinedWords, lowestOf, lowestRank, outcome, plainPop, plainReplace, plainWith, refused, roomWith, roomy, store, tagged, takenBits, takenWords, word}
 use Rattle.bucket_model.specs.Plain as plain
-use Rattle.bucket_model.specs.Plain.{Call, ask, held, Said, answered, counted, Store, store, insert, tagged, roomy, plainPop, plainReplace, plainWith}
-use Rattle.bucket_model.proofs.Facts.{pop-means, pop-way, low-is, low-rank, join-means}
-use Rattle.bucket_model.proofs.Joined.{joined-foreign}
-use Rattle.bucket_model.proofs.Pop.{Popped, pops, taken-length, taken-bits-length}
-use Rattle.bucket_model.proofs.Push.{Pushed, pushes, joined-length, joined-bits-length}
-use Rattle.bucket_model.proofs.Queue.{HoldsIn}
-use Rattle.bucket_model.proofs.Sorted.{insert-length}
-use Rattle.bucket_model.proofs.Taken.{taken-foreign}
-use Rattle.bucket_model.proofs.Untouched.{taken-bits-away, joined-bits-away}
-use Rattle.ports_model.specs.Layout.{Shape, ranksOf, freeAt, heldAt, seat}
-use Rattle.ports_model.specs.Checks.{isShaped, usedIn, isWhole}
-use Rattle.ports_model.specs.Calls.{popped, roomOf, pushed, roomAfter, replaced}
-use Rattle.ports_model.specs.Causes.{Whole}
-use Rattle.ports_model.specs.Lists.{Ask, at, denied, Lists, heldInAll, accepts, back, served}
-use Rattle.ports_model.specs.Runs.{asked, calledAt, called}
-use Rattle.ports_model.specs.Promise.{popLeaves, Swaps}
+use Rattle.bucket_model.proofs.Laws.{HoldsIn, Popped, Pushed, insert-length, join-means, joined-bits-away, joined-bits-length, joined-foreign, joined-length, low-is, low-rank, pop-means, pop-way, pops, pushes, taken-bits-away, taken-bits-length, taken-foreign, taken-length}
+use Rattle.ports_model.specs.Prelude.{Ask, Lists, Shape, Swaps, Whole, accepts, asked, at, back, called, calledAt, denied, freeAt, heldAt, heldInAll, isShaped, isWhole, popLeaves, popped, pushed, ranksOf, replaced, roomAfter, roomOf, seat, served, usedIn}
 use Rattle.ports_model.proofs.Facts.{shape-means, whole-means, after-means}
 use Rattle.ports_model.proofs.Places.{laid, seating}
 use Rattle.ports_model.proofs.Returns as told

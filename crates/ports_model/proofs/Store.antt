@@ -1,28 +1,9 @@
 -- A store whose ports hold lists in leaving order, that it passes the tests of every call, and what it holds once one port's list has changed.
-use mathlib.Core.Path.{_≡_, sym, ap, subst, _∙_}
-use mathlib.Core.List.{List}
-use mathlib.Core.Logic.{_⊎_}
-use Prim.Native.Nat.{ℕ, _+_, _-_, _≤_, _<_, max}
-use native.Mathlib.Decide.{ℕ-discrete}
-use native.Mathlib.Omega.{arith}
-use lib.ListN.{length}
-use Rattle.laws.specs.Sums.{to-ext}
-use Rattle.laws.specs.Updates.{upd, is-upd}
-use Rattle.strip.specs.declared.Element.{Element}
+use Rattle.laws.specs.Prelude.{Element, List, _+_, _-_, _<_, _∙_, _≡_, _≤_, _⊎_, ap, arith, is-upd, length, max, subst, sym, to-ext, upd, ℕ, ℕ-discrete}
 use Rattle.bucket_model.specs.Layout as bucket
-use Rattle.bucket_model.specs.Layout.{word, headAt}
-use Rattle.bucket_model.specs.Plain.{inOrder, stored}
-use Rattle.bucket_model.proofs.Chain.{Node}
-use Rattle.bucket_model.proofs.Linked.{Linked}
-use Rattle.bucket_model.proofs.Order.{order-else}
-use Rattle.bucket_model.proofs.Queue.{flag, NoLoads, loads, area, HoldsIn, top-held, free-le, free-none}
-use Rattle.bucket_model.proofs.Runs.{stored-is}
-use Rattle.bucket_model.proofs.Taken.{Foreign}
-use Rattle.bucket_model.proofs.Tower.{Ranks, ranks-ext, ranks-keep}
-use Rattle.ports_model.specs.Layout.{Shape, ranksOf, freeAt, heldAt, floorAt, ceilingAt, seat, floorOf, ceilingOf}
-use Rattle.ports_model.specs.Checks.{roomOk, usedIn, claimedIn, hasRoom}
-use Rattle.ports_model.specs.Causes.{Shaped, Fair, Whole}
-use Rattle.ports_model.specs.Lists.{Lists, claim, claimed, heldInAll, accepts}
+use Rattle.bucket_model.specs.Prelude.{headAt, inOrder, stored, word}
+use Rattle.bucket_model.proofs.Laws.{Foreign, HoldsIn, Linked, NoLoads, Node, Ranks, area, flag, free-le, free-none, loads, order-else, ranks-ext, ranks-keep, stored-is, top-held}
+use Rattle.ports_model.specs.Prelude.{Fair, Lists, Shape, Shaped, Whole, accepts, ceilingAt, ceilingOf, claim, claimed, claimedIn, floorAt, floorOf, freeAt, hasRoom, heldAt, heldInAll, ranksOf, roomOk, seat, usedIn}
 use Rattle.ports_model.proofs.Sums.{to-upd, to-part}
 use Rattle.ports_model.proofs.Room.{Sound}
 use Rattle.ports_model.proofs.Places.{laid, Head, seating, other-head, foreign-held, foreign-floor, foreign-ceiling, bits-apart, shaped-at, relinked}

@@ -1,10 +1,5 @@
 -- Sums over all ports where one part has changed, and sums compared part by part.
-use mathlib.Core.Path.{_≡_}
-use Prim.Native.Nat.{ℕ, zero, suc, _+_, _≤_, _<_}
-use native.Mathlib.Nat.{not-suc-le-zero, le-of-suc-le-suc}
-use native.Mathlib.Omega.{arith}
-use Rattle.laws.specs.Sums.{sumTo, to-ext}
-use Rattle.laws.specs.Updates.{Upd}
+use Rattle.laws.specs.Prelude.{Upd, _+_, _<_, _≡_, _≤_, arith, le-of-suc-le-suc, not-suc-le-zero, suc, sumTo, to-ext, zero, ℕ}
 
 pub to-upd : (n : ℕ) (g g′ : ℕ → ℕ) (p v : ℕ) → Upd g g′ p v → p < n → sumTo n g′ + g p ≡ sumTo n g + v
 unfolding sumTo

@@ -1,34 +1,10 @@
 -- What a call at a port does not read: the other ports' bits, heads and tails, and what stands behind the shape. Two stores that agree on the rest are answered the same and left the same there. Clear reads the limits alone.
-use mathlib.Core.Path.{_≡_, refl, sym, ap, _∙_}
-use mathlib.Core.Bool.{Bool, cond, not, _&&_}
-use mathlib.Core.List.{List}
-use mathlib.Core.Logic.{inl, inr}
-use Prim.Native.Nat.{ℕ, zero, suc, _+_, _-_, _*_, _/_, _%_, _^_, _≤_, _<_, max}
-use native.Mathlib.Omega.{arith}
-use native.Mathlib.Decide.{decLt}
-use borrow.Author.Tests.{ltb-true, le-ltb}
-use lib.Dec.{leb, ltb, eqb}
-use Rattle.laws.specs.Sums.{to-ext}
-use Rattle.strip.specs.Answers.{untagged}
-use Rattle.strip.specs.declared.Answer.{Answer}
-use Rattle.strip.specs.declared.Answer.the-variants.{Done, Out}
-use Rattle.strip.specs.declared.Element.{Element}
-use Rattle.strip.specs.declared.Request.{Request}
-use Rattle.strip.specs.declared.Request.the-variants.{Idle, Push, Pop, Replace}
+use Rattle.laws.specs.Prelude.{Answer, Bool, Done, Element, Idle, List, Out, Pop, Push, Replace, Request, _%_, _&&_, _*_, _+_, _-_, _/_, _<_, _^_, _∙_, _≡_, _≤_, ap, arith, cond, decLt, eqb, inl, inr, le-ltb, leb, ltb, ltb-true, max, not, refl, suc, sym, to-ext, untagged, zero, ℕ}
 use Rattle.bucket_model.specs.declared.Lowest.{Lowest}
-use Rattle.bucket_model.specs.Layout.{Laid, word}
-use Rattle.bucket_model.specs.Calls.{Outcome, outcome, lowestOf, takenBits, takenWords, given, roomWith, pushFound, taking, replaceJoined}
-use Rattle.bucket_model.specs.Plain.{store}
-use Rattle.bucket_model.specs.Promise.{AgreeOn, Agree, AlikeOn}
+use Rattle.bucket_model.specs.Prelude.{Agree, AgreeOn, AlikeOn, Laid, Outcome, given, lowestOf, outcome, pushFound, replaceJoined, roomWith, store, takenBits, takenWords, taking, word}
 use Rattle.bucket_model.specs.Calls as queue
-use Rattle.bucket_model.proofs.Fill.{fill-at}
-use Rattle.bucket_model.proofs.Unread.{Has, Covers, alike-cond, top-same, room-same, standing, join-same, push-found-same, low-same, given-same, pop-found-same, after-agrees, has-taken, has-taken-bits}
-use Rattle.ports_model.specs.Layout.{Shape, ranksOf, bitWords, freeAt, storeWords, heldAt, floorAt, ceilingAt, seat, limitWords}
-use Rattle.ports_model.specs.Checks.{allTo, isShaped, usedIn, claimedIn, keptAt, limitsKept, wholeOk, isWhole, roomOk, hasRoom}
-use Rattle.ports_model.specs.Calls.{blankPort, blankWord, cleared, known, heldCount, giving, popped, roomOf, pushed, roomAfter, replaceFound, replaced}
-use Rattle.ports_model.specs.Causes.{Shaped, Fair}
-use Rattle.ports_model.specs.Runs.{asked}
-use Rattle.ports_model.specs.Promise.{ReadBits, ReadWords}
+use Rattle.bucket_model.proofs.Laws.{Covers, Has, after-agrees, alike-cond, fill-at, given-same, has-taken, has-taken-bits, join-same, low-same, pop-found-same, push-found-same, room-same, standing, top-same}
+use Rattle.ports_model.specs.Prelude.{Fair, ReadBits, ReadWords, Shape, Shaped, allTo, asked, bitWords, blankPort, blankWord, ceilingAt, claimedIn, cleared, floorAt, freeAt, giving, hasRoom, heldAt, heldCount, isShaped, isWhole, keptAt, known, limitWords, limitsKept, popped, pushed, ranksOf, replaceFound, replaced, roomAfter, roomOf, roomOk, seat, storeWords, usedIn, wholeOk}
 use Rattle.ports_model.proofs.Clear.{word-is, clear-done}
 use Rattle.ports_model.proofs.Facts.{shape-means}
 use Rattle.ports_model.proofs.Places.{laid, shaped-at}

@@ -1,18 +1,9 @@
 -- The five calls as functions of every word that they are lent, to their answer and every word that they leave. What is done at a port is the bucket queue's rule over the port's seat. These are definitions, and the contracts cite them.
-use mathlib.Core.Bool.{cond, not, _&&_}
-use mathlib.Core.List.{List}
-use Prim.Native.Nat.{ℕ, _+_, _-_, _/_, _%_}
-use lib.Dec.{ltb, eqb}
-use Rattle.strip.specs.declared.Element.{Element}
-use Rattle.strip.specs.declared.Refusal.the-variants.{BadShape, Damaged, Full, Empty, BadPort}
-use Rattle.strip.specs.declared.Answer.the-variants.{Done}
-use Rattle.strip.specs.declared.Count.{Count}
-use Rattle.strip.specs.declared.Count.the-variants.{Held, Unknown}
+use Rattle.laws.specs.Prelude.{BadPort, BadShape, Count, Damaged, Done, Element, Empty, Full, Held, List, Unknown, _%_, _&&_, _+_, _-_, _/_, cond, eqb, ltb, not, ℕ}
 use Rattle.bucket_model.specs.declared.Lowest.{Lowest}
 use Rattle.bucket_model.specs.declared.Room.{Room}
-use Rattle.bucket_model.specs.Layout.{word}
+use Rattle.bucket_model.specs.Prelude.{Outcome, fill, lowestOf, outcome, popFound, pushFound, refused, replaceJoined, roomWith, takenBits, takenWords, taking, word}
 use Rattle.bucket_model.specs.Calls as bucket
-use Rattle.bucket_model.specs.Calls.{Outcome, outcome, refused, fill, lowestOf, takenWords, takenBits, popFound, roomWith, pushFound, taking, replaceJoined}
 use Rattle.ports_model.specs.Layout.{Shape, portWords, bitWords, storeWords, freeAt, heldAt, seat, floorOf, ceilingOf}
 use Rattle.ports_model.specs.Checks.{isShaped, limitsOk, usedIn, isWhole, hasRoom}
 

@@ -1,12 +1,6 @@
 -- Two ports on three nodes: calls, the answers that they want, and the words that the first leaves. These are definitions.
-use mathlib.Core.List.{List, [], _∷_}
-use Prim.Native.Nat.{ℕ}
-use Rattle.strip.specs.Answers.{countNumber, countOf, element, lengthOf, numberOf, rankOf, tagOf}
-use Rattle.strip.specs.declared.Refusal.the-variants.{BadRank, Full, Empty, NoTag, BadPort}
-use Rattle.strip.specs.declared.Answer.the-variants.{Done, Out, Refused}
-use Rattle.strip.specs.declared.Count.the-variants.{Held, Unknown}
-use Rattle.strip.specs.declared.Request.the-variants.{Push, Pop, Replace}
-use Rattle.bucket_model.specs.Plain.{ask, held, Said, answered, counted}
+use Rattle.laws.specs.Prelude.{BadPort, BadRank, Done, Empty, Full, Held, List, NoTag, Out, Pop, Push, Refused, Replace, Unknown, [], _∷_, countNumber, countOf, element, lengthOf, numberOf, rankOf, tagOf, ℕ}
+use Rattle.bucket_model.specs.Prelude.{Said, answered, ask, counted, held}
 use Rattle.ports_model.specs.Layout.{Shape}
 use Rattle.ports_model.specs.Lists.{Ask, at}
 

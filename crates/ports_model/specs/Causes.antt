@@ -1,24 +1,8 @@
 -- When a call at a port says no, in facts: what it asks in turn, with the refusal where it does not hold. A bucket's facts are the bucket queue's own. These are definitions.
-use mathlib.Core.Bool.{not, _&&_}
-use mathlib.Core.Path.{_≡_}
-use mathlib.Core.List.{List}
-use mathlib.Core.Logic.{_⊎_}
-use Prim.Native.Nat.{ℕ, _-_, _≤_, _<_}
-use lib.Dec.{eqb, ltb}
-use lib.ListN.{length}
-use Rattle.laws.specs.Means.{Iff}
-use Rattle.laws.specs.Sums.{sumTo}
-use Rattle.promise.specs.Calls.{grants}
-use Rattle.promise.specs.Table.{Table, ends, needs}
-use Rattle.strip.specs.declared.Element.{Element}
-use Rattle.strip.specs.declared.Refusal.the-variants.{BadShape, Damaged, Full, Empty, BadPort}
-use Rattle.strip.specs.declared.Request.{Request}
-use Rattle.strip.specs.declared.Request.the-variants.{Idle, Push, Pop, Replace}
-use Rattle.bucket_model.specs.Layout.{leastStoreys, mostStoreys, pool, word}
-use Rattle.bucket_model.specs.Storeys.{lowestRank}
-use Rattle.bucket_model.specs.Calls.{Outcome, outcome, lowestOf, given, joinedBits, joinedWords}
+use Rattle.laws.specs.Prelude.{BadPort, BadShape, Damaged, Element, Empty, Full, Idle, Iff, List, Pop, Push, Replace, Request, _&&_, _-_, _<_, _≡_, _≤_, _⊎_, eqb, length, ltb, not, sumTo, ℕ}
+use Rattle.promise.specs.Prelude.{Table, ends, grants, needs}
+use Rattle.bucket_model.specs.Prelude.{JoinFit, Outcome, PopFit, given, joinedBits, joinedWords, leastStoreys, lowestOf, lowestRank, mostStoreys, newTable, outcome, pool, word}
 use Rattle.bucket_model.specs.Causes as bucket
-use Rattle.bucket_model.specs.Causes.{PopFit, JoinFit, newTable}
 use Rattle.ports_model.specs.Layout.{Shape, mostPorts, bitWords, storeWords, freeAt, heldAt, floorAt, ceilingAt, seat, limitWords, floorOf, ceilingOf}
 use Rattle.ports_model.specs.Checks.{isShaped, limitsOk, usedIn, claimedIn, isWhole, hasRoom}
 use Rattle.ports_model.specs.Calls.{roomOf, roomAfter}

@@ -1,12 +1,6 @@
 -- What a call at a port tests, as computed yes or no; a bucket's tests are the bucket queue's own. Causes.antt says the same in facts. These are definitions.
-use mathlib.Core.Bool.{Bool, true, _&&_, _||_, Bool·beq}
-use mathlib.Core.List.{List}
-use Prim.Native.Nat.{ℕ, zero, suc, _-_, max}
-use lib.Dec.{leb, ltb, eqb}
-use lib.ListN.{length}
-use Rattle.laws.specs.Sums.{sumTo}
-use Rattle.bucket_model.specs.Layout.{pool, word}
-use Rattle.bucket_model.specs.Checks.{depthOk}
+use Rattle.laws.specs.Prelude.{Bool, Bool·beq, List, _&&_, _-_, _||_, eqb, leb, length, ltb, max, suc, sumTo, true, zero, ℕ}
+use Rattle.bucket_model.specs.Prelude.{depthOk, pool, word}
 use Rattle.ports_model.specs.Layout.{Shape, mostPorts, bitWords, storeWords, freeAt, heldAt, floorAt, ceilingAt, seat, limitWords, floorOf, ceilingOf}
 
 -- yes of every number below n

@@ -1,9 +1,5 @@
 -- Shapes, floors and ceilings at their edges, in numbers: what clear says. These are definitions.
-use mathlib.Core.List.{List, [], _∷_, _++_}
-use mathlib.Core.Path.{_≡_}
-use Prim.Native.Nat.{ℕ, zero, suc, _≤_, _<_}
-use lib.ListN.{length}
-use Rattle.strip.specs.Answers.{numberOf}
+use Rattle.laws.specs.Prelude.{List, [], _++_, _<_, _∷_, _≡_, _≤_, length, numberOf, suc, zero, ℕ}
 use Rattle.ports_model.specs.Layout.{Shape}
 use Rattle.ports_model.specs.Calls.{cleared}
 

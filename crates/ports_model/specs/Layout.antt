@@ -1,8 +1,7 @@
 -- Where the words of several ports on one pool stand: each port is a bucket queue laid out of its own, and all have the nodes and the free link together. These are definitions.
-use mathlib.Core.List.{List}
-use Prim.Native.Nat.{ℕ, _+_, _-_, _*_, _^_}
+use Rattle.laws.specs.Prelude.{List, _*_, _+_, _-_, _^_, ℕ}
 use Rattle.bucket_model.specs.declared.Lay.{Lay}
-use Rattle.bucket_model.specs.Layout.{word, nodeWords, wordsOf}
+use Rattle.bucket_model.specs.Prelude.{nodeWords, word, wordsOf}
 pub use Rattle.ports_model.specs.declared.Shape.{Shape}
 
 -- "Up to 16 ports"

@@ -9,3 +9,4 @@ pub mod Promise
 pub mod Cases
 pub mod Edge
 pub mod Spoilt
+pub mod Prelude

@@ -1,22 +1,8 @@
 -- Several ports as plain lists, one a port, under 02's rule of acceptance; and what one port hears of a history. These are definitions.
-use mathlib.Core.Bool.{Bool, true, false, cond, _&&_}
-use mathlib.Core.List.{List, [], _∷_, _++_}
-use mathlib.Core.Logic.{_⊎_}
-use Prim.Native.Nat.{ℕ, _-_, _<_, max}
-use lib.Dec.{leb, ltb, eqb}
-use lib.ListN.{length}
-use Rattle.laws.specs.Sums.{sumTo}
-use Rattle.laws.specs.Updates.{upd}
-use Rattle.promise.specs.Queue.{Step, step}
-use Rattle.strip.specs.declared.Element.{Element}
-use Rattle.strip.specs.declared.Answer.{Answer}
-use Rattle.strip.specs.declared.Answer.the-variants.{Done, Out, Refused}
-use Rattle.strip.specs.declared.Count.the-variants.{Unknown}
-use Rattle.strip.specs.declared.Refusal.{Refusal}
-use Rattle.strip.specs.declared.Refusal.the-variants.{BadPort}
-use Rattle.strip.specs.declared.Request.the-variants.{Idle, Push, Pop, Replace}
+use Rattle.laws.specs.Prelude.{Answer, BadPort, Bool, Done, Element, Idle, List, Out, Pop, Push, Refusal, Refused, Replace, Unknown, [], _&&_, _++_, _-_, _<_, _∷_, _⊎_, cond, eqb, false, leb, length, ltb, max, sumTo, true, upd, ℕ}
+use Rattle.promise.specs.Prelude.{Step, step}
 use Rattle.bucket_model.specs.Plain as plain
-use Rattle.bucket_model.specs.Plain.{Call, ask, held, Said, answered, counted, plainWith}
+use Rattle.bucket_model.specs.Prelude.{Call, Said, answered, ask, counted, held, plainWith}
 use Rattle.ports_model.specs.Layout.{Shape, ranksOf, floorOf, ceilingOf}
 use Rattle.ports_model.specs.Checks.{roomOk}
 

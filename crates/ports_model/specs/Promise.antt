@@ -1,21 +1,6 @@
 -- What is promised of several ports on one pool, beside the plain lists. These are definitions.
-use mathlib.Core.List.{List, _∷_}
-use mathlib.Core.Logic.{_⊎_}
-use mathlib.Core.Path.{_≡_}
-use Prim.Native.Nat.{ℕ, _+_, _*_, _≤_, _<_}
-use lib.Dec.{eqb}
-use lib.ListN.{length}
-use Rattle.laws.specs.Lists.{All}
-use Rattle.laws.specs.Means.{Iff}
-use Rattle.strip.specs.Answers.{numberOf, rankOf, tagOf, lengthOf}
-use Rattle.strip.specs.declared.Answer.the-variants.{Done}
-use Rattle.strip.specs.declared.Element.{Element}
-use Rattle.strip.specs.declared.Request.the-variants.{Push, Pop, Replace}
-use Rattle.bucket_model.specs.Layout.{word, wordsOf, headAt, tailAt, nextAt, loadIn}
-use Rattle.bucket_model.specs.Storeys.{storeysFrom, storeysAt}
-use Rattle.bucket_model.specs.Calls.{Outcome}
-use Rattle.bucket_model.specs.Plain.{Store, store, walk, lane}
-use Rattle.bucket_model.specs.Promise.{Depth}
+use Rattle.laws.specs.Prelude.{All, Done, Element, Iff, List, Pop, Push, Replace, _*_, _+_, _<_, _∷_, _≡_, _≤_, _⊎_, eqb, length, lengthOf, numberOf, rankOf, tagOf, ℕ}
+use Rattle.bucket_model.specs.Prelude.{Depth, Outcome, Store, headAt, lane, loadIn, nextAt, store, storeysAt, storeysFrom, tailAt, walk, word, wordsOf}
 use Rattle.ports_model.specs.Layout.{Shape, ranksOf, bitWords, storeWords, nodesAt, freeAt, heldAt, floorAt, ceilingAt, seat}
 use Rattle.ports_model.specs.Checks.{usedIn, claimedIn}
 use Rattle.ports_model.specs.Causes.{Shaped}

@@ -1,14 +1,7 @@
 -- Lists of calls on the words of several ports, and what a port holds there. These are definitions.
-use mathlib.Core.List.{List}
-use Prim.Native.Nat.{ℕ}
-use Rattle.promise.specs.Queue.{Step, step}
-use Rattle.strip.specs.declared.Answer.the-variants.{Done}
-use Rattle.strip.specs.declared.Element.{Element}
-use Rattle.strip.specs.declared.Request.{Request}
-use Rattle.strip.specs.declared.Request.the-variants.{Idle, Push, Pop, Replace}
-use Rattle.bucket_model.specs.Layout.{word}
-use Rattle.bucket_model.specs.Calls.{Outcome, outcome}
-use Rattle.bucket_model.specs.Plain.{Call, ask, held, Said, answered, counted, Store, store, stored}
+use Rattle.laws.specs.Prelude.{Done, Element, Idle, List, Pop, Push, Replace, Request, ℕ}
+use Rattle.promise.specs.Prelude.{Step, step}
+use Rattle.bucket_model.specs.Prelude.{Call, Outcome, Said, Store, answered, ask, counted, held, outcome, store, stored, word}
 use Rattle.ports_model.specs.Layout.{Shape, heldAt, seat}
 use Rattle.ports_model.specs.Calls.{cleared, heldCount, popped, pushed, replaced}
 use Rattle.ports_model.specs.Lists.{Ask, Heard, heardAt}

@@ -1,14 +1,6 @@
 -- One spoilt word for each test of the pool and of a port, on two ports and three nodes: what the calls say then, in numbers. These are definitions.
-use mathlib.Core.List.{List, [], _∷_}
-use mathlib.Core.Path.{_≡_}
-use Prim.Native.Nat.{ℕ}
-use lib.ListN.{replicate}
-use Rattle.strip.specs.Answers.{countNumber, element, numberOf}
-use Rattle.strip.specs.declared.Request.{Request}
-use Rattle.strip.specs.declared.Request.the-variants.{Push, Pop, Replace}
-use Rattle.bucket_model.specs.Layout.{write}
-use Rattle.bucket_model.specs.Plain.{Store, store}
-use Rattle.bucket_model.specs.Spoilt.{Spoil, spoil, nothing, inBits, inWords}
+use Rattle.laws.specs.Prelude.{List, Pop, Push, Replace, Request, [], _∷_, _≡_, countNumber, element, numberOf, replicate, ℕ}
+use Rattle.bucket_model.specs.Prelude.{Spoil, Store, inBits, inWords, nothing, spoil, store, write}
 use Rattle.ports_model.specs.Calls.{heldCount}
 use Rattle.ports_model.specs.Runs.{asked}
 use Rattle.ports_model.specs.Cases.{twoPorts}

@@ -1,32 +1,8 @@
 -- What is so of every queue's calls, whatever the words: each refusal is given exactly for its cause, of a request that is not refused the answer is of its
 -- kind, and no element without a tag is let in.
-use Prim.Native.Nat.{_<_, _≤_, ℕ}
+use Rattle.laws.specs.Prelude.{Answer, Bool, Count, Damaged, Done, Element, Empty, Exactly, Fails, Full, Held, Idle, Ladder, Means, NoTag, Out, Pop, Push, Refusal, Refused, Replace, Request, Unknown, _<_, _∙_, _≡_, _≤_, _⊎_, ap, arith, climb-fine, climb-stop, cond, cond-both, countNumber, elementOf, eqb, eqb-false, eqb-true, false, false≢true, fine, inl, inr, le-ltb, left-behind, ltb, ltb-false, ltb-true, means-eqb, means-no, numberOf, refl, refusalNumber, stop, subst, sym, true, true≢false, untagged, ℕ, ⊎-elim}
 use native.Mathlib.Nat.{pos-of-ne-zero}
-use native.Mathlib.Omega.{arith}
-use mathlib.Core.Bool.{Bool, cond, false, false≢true, true, true≢false}
-use mathlib.Core.Logic.{_⊎_, inl, inr, ⊎-elim}
-use mathlib.Core.Path.{_∙_, _≡_, ap, refl, subst, sym}
-use lib.Dec.{eqb, ltb}
-use borrow.Author.Tests.{eqb-false, eqb-true, le-ltb, ltb-false, ltb-true}
-use Rattle.laws.specs.Fails.{Fails}
-use Rattle.laws.specs.Ladder.{climb-fine, climb-stop, Exactly, fine, Ladder, left-behind, stop}
-use Rattle.laws.specs.Means.{Means, means-eqb, means-no}
-use Rattle.laws.specs.Tests.{cond-both}
-use Rattle.promise.specs.Calls.{called, carriedOut, cleared, clearRefusals, Comes, Damage, does, empty, Fits, full, grants, heldCount, heldRefusals, idles, lacks, lacksTag, lastTable, left, no-tag, Outcome, outcome, puts, Queue, refusals, ruleAt, ruled, Ruling, ruling, swaps, takes}
-use Rattle.promise.specs.Refused.{IsPush, limits, refusal-told, Untagged, untagged-means, zero-told}
-use Rattle.promise.specs.Served.{IsOut, Kind, Least, lower}
-use Rattle.promise.specs.Table.{Clear, decided-clear, decided-either, decided-exactly, Each, each-any, guarded, Guards, ladder, Table, Told}
-use Rattle.promise.specs.Tagged.{Barred}
-use Rattle.strip.specs.Answers.{countNumber, elementOf, numberOf, refusalNumber, untagged}
-use Rattle.strip.specs.declared.Answer.{Answer}
-use Rattle.strip.specs.declared.Answer.the-variants.{Done, Out, Refused}
-use Rattle.strip.specs.declared.Count.{Count}
-use Rattle.strip.specs.declared.Count.the-variants.{Held, Unknown}
-use Rattle.strip.specs.declared.Element.{Element}
-use Rattle.strip.specs.declared.Refusal.{Refusal}
-use Rattle.strip.specs.declared.Refusal.the-variants.{Damaged, Empty, Full, NoTag}
-use Rattle.strip.specs.declared.Request.{Request}
-use Rattle.strip.specs.declared.Request.the-variants.{Idle, Pop, Push, Replace}
+use Rattle.promise.specs.Prelude.{Barred, Clear, Comes, Damage, Each, Fits, Guards, IsOut, IsPush, Kind, Least, Outcome, Queue, Ruling, Table, Told, Untagged, called, carriedOut, clearRefusals, cleared, decided-clear, decided-either, decided-exactly, does, each-any, empty, full, grants, guarded, heldCount, heldRefusals, idles, lacks, lacksTag, ladder, lastTable, left, limits, lower, no-tag, outcome, puts, refusal-told, refusals, ruleAt, ruled, ruling, swaps, takes, untagged-means, zero-told}
 
 -- ---- the last rungs: 7, then 5 or 6
 pub tag-means : (r : Request) → Means (lacksTag r) (Untagged r)

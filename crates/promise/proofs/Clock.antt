@@ -1,27 +1,8 @@
 -- What is so of every cycle of a machine that works by clock cycles, whatever stands in it. `Ticks`: its tests stand for their causes; then each refusal is given
 -- exactly for its cause and leaves what the table says, and no element without a tag is let in.
 -- All is said of a `queue` that goes as the clock's cycles do, so that a model may keep a definition and outcome records of its own.
-use Prim.Native.Nat.{ℕ}
-use mathlib.Core.Bool.{Bool, false, true, true≢false}
-use mathlib.Core.Path.{_∙_, _≡_, ap, refl, subst, sym}
-use Rattle.laws.specs.Fails.{Fails}
-use Rattle.laws.specs.Ladder.{climb-fine, Exactly, fine, left-behind}
-use Rattle.laws.specs.Means.{Means}
-use Rattle.promise.specs.Calls.{left, Outcome, outcome, Ruling, ruling}
-use Rattle.promise.specs.Clock.{clearedTo, Clock, comes, countRefusals, cycled, cycling, cycleLeft, cycleRefusals, goes, heldIn, runsIdle, wipeRefusals}
-use Rattle.promise.specs.Queue.{leaves, step, Step}
-use Rattle.promise.specs.Refused.{refusal-told, Untagged, zero-told}
-use Rattle.promise.specs.Served.{Kind}
-use Rattle.promise.specs.Table.{bars, Clear, decided-clear, decided-either, decided-exactly, Each, each-any, ends, needs, stops, Table, Told}
-use Rattle.promise.specs.Tagged.{Barred}
-use Rattle.strip.specs.Answers.{countNumber, numberOf, refusalNumber}
-use Rattle.strip.specs.declared.Answer.{Answer}
-use Rattle.strip.specs.declared.Answer.the-variants.{Done, Refused}
-use Rattle.strip.specs.declared.Count.{Count}
-use Rattle.strip.specs.declared.Count.the-variants.{Held, Unknown}
-use Rattle.strip.specs.declared.Refusal.{Refusal}
-use Rattle.strip.specs.declared.Refusal.the-variants.{BadShape, Damaged}
-use Rattle.strip.specs.declared.Request.the-variants.{Idle}
+use Rattle.laws.specs.Prelude.{Answer, BadShape, Bool, Count, Damaged, Done, Exactly, Fails, Held, Idle, Means, Refusal, Refused, Unknown, _∙_, _≡_, ap, climb-fine, countNumber, false, fine, left-behind, numberOf, refl, refusalNumber, runsIdle, subst, sym, true, true≢false, ℕ}
+use Rattle.promise.specs.Prelude.{Barred, Clear, Clock, Each, Kind, Outcome, Ruling, Step, Table, Told, Untagged, bars, clearedTo, comes, countRefusals, cycleLeft, cycleRefusals, cycled, cycling, decided-clear, decided-either, decided-exactly, each-any, ends, goes, heldIn, leaves, left, needs, outcome, refusal-told, ruling, step, stops, wipeRefusals, zero-told}
 
 -- ---- a queue whose cycles are the clock's, and whose tests stand for their causes
 pub record Ticks {C M : Type 0} (k : Clock C M) (queue : C → M → Step Answer M) : Type 0 where

@@ -1,28 +1,8 @@
 -- A drain of any machine is so many idle cycles: none once nothing is pending, no more than the budget, and it stops at damage. First of a queue and what is pending
 -- in its state, where on a good state an idle cycle runs, or jams and leaves everything; then of any clock.
-use Prim.Native.Nat.{_+_, _<_, _≤_, suc, zero, ℕ}
-use native.Mathlib.Nat.{add-zero, not-suc-le-zero, zero-add}
-use native.Mathlib.Omega.{arith}
-use mathlib.Core.Bool.{Bool, cond, false, false≢true, true, true≢false}
-use mathlib.Core.Logic.{_⊎_, inl, inr}
-use mathlib.Core.Path.{_∙_, _≡_, ap, refl, subst, sym}
-use lib.Dec.{leb}
-use lib.ListN.{replicate}
-use borrow.Author.Tests.{leb-false, leb-true}
-use Rattle.laws.specs.Ladder.{climb-by, climb-fine, climb-stop, Exactly, fine, left-behind}
-use Rattle.laws.specs.Means.{means-no}
+use Rattle.laws.specs.Prelude.{Answer, BadShape, Bool, Damaged, Done, Exactly, Idle, Refusal, Refused, Request, _+_, _<_, _∙_, _≡_, _≤_, _⊎_, add-zero, ap, arith, climb-by, climb-fine, climb-stop, cond, false, false≢true, fine, inl, inr, isRefused, leb, leb-false, leb-true, left-behind, means-no, not-suc-le-zero, numberOf, refl, refusalNumber, replicate, subst, suc, sym, true, true≢false, zero, zero-add, ℕ}
 use Rattle.promise.proofs.Clock.{damaged, idle-runs, shape-stays, Ticks}
-use Rattle.promise.specs.Clock.{asking, Clock, drainedBy}
-use Rattle.promise.specs.Drains.{behind, capped, Close, done, drainBy, drained, Drained, drainRefusals, drainsBy, idled, isRefused, stopped, Stuck}
-use Rattle.promise.specs.Queue.{leaves, leaves-keep, step, Step}
-use Rattle.promise.specs.Refused.{refusal-told, zero-told}
-use Rattle.strip.specs.Answers.{numberOf, refusalNumber}
-use Rattle.strip.specs.declared.Answer.{Answer}
-use Rattle.strip.specs.declared.Answer.the-variants.{Done, Refused}
-use Rattle.strip.specs.declared.Refusal.{Refusal}
-use Rattle.strip.specs.declared.Refusal.the-variants.{BadShape, Damaged}
-use Rattle.strip.specs.declared.Request.{Request}
-use Rattle.strip.specs.declared.Request.the-variants.{Idle}
+use Rattle.promise.specs.Prelude.{Clock, Close, Drained, Step, Stuck, asking, behind, capped, done, drainBy, drainRefusals, drained, drainedBy, drainsBy, idled, leaves, leaves-keep, refusal-told, step, stopped, zero-told}
 
 pub less-not : {a b : ℕ} → (a < b → ⊥) → b ≤ a
 less-not {a} {b} h = go (leb b a) refl

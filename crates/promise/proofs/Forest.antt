@@ -1,24 +1,9 @@
 -- Several queues in one store, each call at one of them: what is so of each follows from what each shows of itself, and from what a call at one leaves of the
 -- others. To a queue a call at another is an idle one.
-use Prim.Native.Nat.{_+_, ℕ}
-use native.Mathlib.Decide.{ℕ-discrete}
-use native.Mathlib.Omega.{arith}
-use mathlib.Core.Bool.{Bool, cond}
-use mathlib.Core.List.{[], _∷_, List, map}
-use mathlib.Core.Logic.{_⊎_, ⊎-elim}
-use mathlib.Core.Path.{_≡_, refl, subst, sym}
-use lib.Dec.{eqb}
-use borrow.Author.Tests.{eq-eqb, ne-eqb}
+use Rattle.laws.specs.Prelude.{Answer, Bool, Element, Idle, List, Request, [], _+_, _∷_, _≡_, _⊎_, arith, cond, eq-eqb, eqb, map, ne-eqb, refl, subst, sym, ℕ, ℕ-discrete, ⊎-elim}
 use Rattle.promise.proofs.Calls.{called-either}
 use Rattle.promise.proofs.Kept.{call-sum, called-kept, IsQueue, kept-either, kept-least}
-use Rattle.promise.specs.Calls.{called, Outcome, Queue, stepping}
-use Rattle.promise.specs.Queue.{answers, leaves, leaves-keep, Step}
-use Rattle.promise.specs.Served.{allBrought, allGiven, brought, given, Least}
-use Rattle.promise.specs.Table.{Clear, each-any}
-use Rattle.strip.specs.declared.Answer.{Answer}
-use Rattle.strip.specs.declared.Element.{Element}
-use Rattle.strip.specs.declared.Request.{Request}
-use Rattle.strip.specs.declared.Request.the-variants.{Idle}
+use Rattle.promise.specs.Prelude.{Clear, Least, Outcome, Queue, Step, allBrought, allGiven, answers, brought, called, each-any, given, leaves, leaves-keep, stepping}
 
 -- what a list of calls of any kind brings and gives, by what each is to the one who counts
 module _ {C S : Type 0} (queue : C → S → Step Answer S) (seen : C → Request) (Kept : S → Type 0) (keep : (c : C) (s : S) → Kept s → Kept (queue c s .next)) (held : S → (Element → Bool) → ℕ)

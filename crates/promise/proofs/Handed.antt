@@ -1,14 +1,6 @@
 -- A call that hands on to another: it asks one thing more first, and gives what comes back another form. It goes by the other's table behind its own rung.
-use Prim.Native.Nat.{ℕ}
-use mathlib.Core.Bool.{Bool, cond, true}
-use mathlib.Core.Logic.{_⊎_, inl, inr}
-use mathlib.Core.Path.{_∙_, _≡_, ap, refl, sym}
-use Rattle.laws.specs.Ladder.{climb, Exactly, First, Ladder, rung}
-use Rattle.laws.specs.Means.{Means}
-use Rattle.promise.specs.Refused.{refusal-told}
-use Rattle.strip.specs.Answers.{refusalNumber}
-use Rattle.strip.specs.declared.Refusal.{Refusal}
-use Rattle.strip.specs.declared.Refusal.the-variants.{BadShape, Damaged}
+use Rattle.laws.specs.Prelude.{BadShape, Bool, Damaged, Exactly, First, Ladder, Means, Refusal, _∙_, _≡_, _⊎_, ap, climb, cond, inl, inr, refl, refusalNumber, rung, sym, true, ℕ}
+use Rattle.promise.specs.Prelude.{refusal-told}
 
 -- a refusal that a table gives and that is neither 1 nor 2 is given where the shape P is good and nothing is damaged
 pub given-later : (ran : Refusal → Bool) → (ran BadShape ≡ true → ⊥) → (ran Damaged ≡ true → ⊥) → {P D L : Type 0} (n : Refusal) → ((P → ⊥) × (n ≡ BadShape)) ⊎ (P × ((D × (n ≡ Damaged)) ⊎ ((D → ⊥) × L))) → ran n ≡ true

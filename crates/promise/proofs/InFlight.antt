@@ -1,29 +1,11 @@
 -- What a machine keeps between cycles (`IsClock`) and what it holds in flight (`Bag`, `Lowest`). Then, over any list of cycles and drains from a cleared machine,
 -- nothing is damaged, nothing is lost, what comes out has the lowest rank, a replace is a pop and then a push, and idling brings the machine to rest.
-use Prim.Native.Nat.{_+_, _<_, _≤_, suc, zero, ℕ}
-use native.Mathlib.Omega.{arith}
-use mathlib.Core.Bool.{Bool, false, true, true≢false}
-use mathlib.Core.List.{[], _∷_, List, map}
-use mathlib.Core.Path.{_∙_, _≡_, ap, refl, subst, sym}
-use lib.ListN.{replicate}
+use Rattle.laws.specs.Prelude.{Answer, Bool, Done, Element, Idle, List, Pop, Push, Refusal, Refused, Replace, Request, [], _+_, _<_, _∙_, _∷_, _≡_, _≤_, ap, arith, false, map, numberOf, refl, refusalNumber, replicate, subst, suc, sym, true, true≢false, zero, ℕ}
 use Rattle.promise.proofs.Clock.{in-order, idle-runs, let-in, no-damage, stands, Ticks}
 use Rattle.promise.proofs.Drains.{drain-ends, drain-left, drain-needed, drain-spent, drain-state, less-not}
 use Rattle.promise.proofs.Forest.{seen-sum}
 use Rattle.promise.proofs.Kept.{given-out, none-least, none-moved, passed, replaces-by}
-use Rattle.promise.specs.Calls.{Outcome, outcome, PopThenPush, ruling}
-use Rattle.promise.specs.Clock.{asking, Call, calls, Clock, comes, cycle, cycleLeft, drain, drainedBy, rested, sees}
-use Rattle.promise.specs.Drains.{Close, done, Drained, stopped}
-use Rattle.promise.specs.Queue.{answers, leaves, leaves-keep, step, Step}
-use Rattle.promise.specs.Refused.{Untagged}
-use Rattle.promise.specs.Served.{all-sum, always, brought, given, Holds, Kind, Least}
-use Rattle.promise.specs.Table.{Clear, Each, each-any}
-use Rattle.strip.specs.Answers.{numberOf, refusalNumber}
-use Rattle.strip.specs.declared.Answer.{Answer}
-use Rattle.strip.specs.declared.Answer.the-variants.{Done, Refused}
-use Rattle.strip.specs.declared.Element.{Element}
-use Rattle.strip.specs.declared.Refusal.{Refusal}
-use Rattle.strip.specs.declared.Request.{Request}
-use Rattle.strip.specs.declared.Request.the-variants.{Idle, Pop, Push, Replace}
+use Rattle.promise.specs.Prelude.{Call, Clear, Clock, Close, Drained, Each, Holds, Kind, Least, Outcome, PopThenPush, Step, Untagged, all-sum, always, answers, asking, brought, calls, comes, cycle, cycleLeft, done, drain, drainedBy, each-any, given, leaves, leaves-keep, outcome, rested, ruling, sees, step, stopped}
 
 -- ---- what a machine keeps between cycles, and what a request that is let in does
 pub record IsClock {C M : Type 0} (k : Clock C M) (queue : C → M → Step Answer M) (Kept : M → Type 0) : Type 0 where

@@ -1,30 +1,9 @@
 -- THE PROMISES of a queue that does one operation at a time, from what it keeps between calls. `IsQueue` is all that a queue has to show; what follows is the
 -- same for every queue: from a cleared store, over any list of requests, nothing is damaged, it holds exactly what went in and has not come out, what comes out
 -- has the lowest rank, and a replace is a pop and then a push.
-use Prim.Native.Nat.{_+_, _<_, _≤_, suc, zero, ℕ}
-use native.Mathlib.Omega.{arith}
-use mathlib.Core.Bool.{Bool, cond, false, true}
-use mathlib.Core.List.{List}
-use mathlib.Core.Path.{_∙_, _≡_, ap, refl, subst, sym}
-use lib.Dec.{eqb}
-use borrow.Author.Tests.{lt-ltb}
-use Rattle.laws.specs.Means.{means-off}
+use Rattle.laws.specs.Prelude.{Answer, Bool, Done, Element, Empty, Held, Idle, List, Out, Pop, Push, Refusal, Refused, Replace, Request, Unknown, _+_, _<_, _∙_, _≡_, _≤_, ap, arith, blank, cond, countNumber, countOf, elementOf, eqb, false, lt-ltb, means-off, numberOf, refl, refusalNumber, subst, suc, sym, true, untagged, zero, ℕ}
 use Rattle.promise.proofs.Calls.{barred, grants-zero, no-damage, stands, Tested}
-use Rattle.promise.specs.Calls.{called, cleared, Damage, does, grants, heldCount, lastTable, left, Outcome, outcome, PopThenPush, Queue, ruleAt, ruled, Ruling, ruling, stepping}
-use Rattle.promise.specs.Queue.{answers, leaves, leaves-keep, Step}
-use Rattle.promise.specs.Refused.{Untagged, untagged-means, zero-told}
-use Rattle.promise.specs.Served.{all-sum, allBrought, allGiven, always, brought, given, hit, Holds, Least, same, triple, unrefused}
-use Rattle.promise.specs.Table.{Clear, decided, decided-clear, decided-either, Each, each-any, Table}
-use Rattle.promise.specs.Tagged.{Tagged, tagged-by}
-use Rattle.strip.specs.Answers.{blank, countNumber, countOf, elementOf, numberOf, refusalNumber, untagged}
-use Rattle.strip.specs.declared.Answer.{Answer}
-use Rattle.strip.specs.declared.Answer.the-variants.{Done, Out, Refused}
-use Rattle.strip.specs.declared.Count.the-variants.{Held, Unknown}
-use Rattle.strip.specs.declared.Element.{Element}
-use Rattle.strip.specs.declared.Refusal.{Refusal}
-use Rattle.strip.specs.declared.Refusal.the-variants.{Empty}
-use Rattle.strip.specs.declared.Request.{Request}
-use Rattle.strip.specs.declared.Request.the-variants.{Idle, Pop, Push, Replace}
+use Rattle.promise.specs.Prelude.{Clear, Damage, Each, Holds, Least, Outcome, PopThenPush, Queue, Ruling, Step, Table, Tagged, Untagged, all-sum, allBrought, allGiven, always, answers, brought, called, cleared, decided, decided-clear, decided-either, does, each-any, given, grants, heldCount, hit, lastTable, leaves, leaves-keep, left, outcome, ruleAt, ruled, ruling, same, stepping, tagged-by, triple, unrefused, untagged-means, zero-told}
 
 -- what a queue keeps between calls, and what an operation that is let in does
 pub record IsQueue {S : Type 0} (q : Queue S) (Kept : S → Type 0) : Type 0 where

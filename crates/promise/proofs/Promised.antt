@@ -1,17 +1,10 @@
 -- A queue that shows `Tested` and `IsQueue` keeps all promises.
-use Prim.Native.Nat.{ℕ}
-use mathlib.Core.List.{List}
-use mathlib.Core.Logic.{_⊎_, inl, inr}
-use mathlib.Core.Path.{_≡_, refl}
+use Rattle.laws.specs.Prelude.{List, Request, _≡_, _⊎_, inl, inr, refl, refusalNumber, ℕ}
 use Rattle.promise.proofs.Calls as calls
 use Rattle.promise.proofs.Calls.{Tested}
 use Rattle.promise.proofs.Kept as kept
 use Rattle.promise.proofs.Kept.{IsQueue, Swaps}
-use Rattle.promise.specs.Calls.{Queue}
-use Rattle.promise.specs.Promised.{after, Answers, OneOf, Promised, Replaces}
-use Rattle.promise.specs.Table.{bars, Clear, Each, ends, needs, stops, Table}
-use Rattle.strip.specs.Answers.{refusalNumber}
-use Rattle.strip.specs.declared.Request.{Request}
+use Rattle.promise.specs.Prelude.{Answers, Clear, Each, OneOf, Promised, Queue, Replaces, Table, after, bars, ends, needs, stops}
 
 -- every refusal of a table is one of it
 pub each-of : (P : ℕ → Type 0) (a : Table) → ((n : ℕ) → OneOf a n → P n) → Each (λ x. P (refusalNumber x)) a

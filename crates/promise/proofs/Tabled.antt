@@ -1,13 +1,6 @@
 -- A call that one table decides: where its tests hold it is done, and else it leaves what its refusal does. What is so of every such call follows from the table and from what is done.
-use Prim.Native.Nat.{ℕ}
-use mathlib.Core.Bool.{false, true, true≢false}
-use mathlib.Core.Path.{_∙_, _≡_, refl, subst, sym}
-use Rattle.laws.specs.Ladder.{climb-fine, Exactly, fine}
-use Rattle.laws.specs.Means.{means-no, means-off}
-use Rattle.promise.specs.Refused.{refusal-told, zero-told}
-use Rattle.promise.specs.Table.{bars, Clear, decided, decided-clear, decided-either, decided-exactly, each-any, ends, ladder, needs, stops, Table, Told}
-use Rattle.strip.specs.Answers.{refusalNumber}
-use Rattle.strip.specs.declared.Refusal.{Refusal}
+use Rattle.laws.specs.Prelude.{Exactly, Refusal, _∙_, _≡_, climb-fine, false, fine, means-no, means-off, refl, refusalNumber, subst, sym, true, true≢false, ℕ}
+use Rattle.promise.specs.Prelude.{Clear, Table, Told, bars, decided, decided-clear, decided-either, decided-exactly, each-any, ends, ladder, needs, refusal-told, stops, zero-told}
 
 -- what is so where no test refuses
 abbrev pub Passed : Table → Type 0

@@ -1,20 +1,10 @@
 -- A clock has all of it.
-use Prim.Native.Nat.{ℕ}
-use mathlib.Core.Bool.{Bool, false}
-use mathlib.Core.List.{List}
-use mathlib.Core.Logic.{_⊎_, inl, inr}
-use mathlib.Core.Path.{_≡_, refl}
+use Rattle.laws.specs.Prelude.{Bool, Element, List, Request, _≡_, _⊎_, false, inl, inr, refl, ℕ}
 use Rattle.promise.proofs.Clock.{barred, exactly-clear, exactly-cycle, exactly-held, Ticks}
 use Rattle.promise.proofs.Drains.{exactly-drain}
 use Rattle.promise.proofs.InFlight.{Bag, cycle-least, drained-few, drained-fine, drained-left, holds, IsClock, kept-numbers, kept-undamaged, Lowest, nothing-lost, ran-kept}
 use Rattle.promise.proofs.Promised.{each-of}
-use Rattle.promise.specs.Clock.{Call, calls, Clock, cycling, rested}
-use Rattle.promise.specs.Promised.{OneOf}
-use Rattle.promise.specs.Refused.{Untagged}
-use Rattle.promise.specs.Table.{Clear}
-use Rattle.promise.specs.Ticked.{CycleAnswers, NothingLost, ran, Running}
-use Rattle.strip.specs.declared.Element.{Element}
-use Rattle.strip.specs.declared.Request.{Request}
+use Rattle.promise.specs.Prelude.{Call, Clear, Clock, CycleAnswers, NothingLost, OneOf, Running, Untagged, calls, cycling, ran, rested}
 
 module _ {C M : Type 0} (k : Clock C M) where
   pub cycle-answers : Ticks k (cycling k) → ((c : C) (x : M) → Untagged (k .wants c) → Clear (k .late c x) → ⊥) → CycleAnswers k

@@ -1,26 +1,10 @@
 -- The calls of a queue that does one operation at a time, once for every such queue: what it has to bring (`Queue`), and from that push, pop and replace
 -- (`called`), clear (`cleared`), held (`heldCount`), their tables of refusals, and what is said of a list of requests.
-use Prim.Native.Nat.{_+_, _<_, _≤_, ℕ}
-use mathlib.Core.Bool.{Bool, cond, false}
-use mathlib.Core.List.{[], _∷_}
-use mathlib.Core.Logic.{_⊎_}
-use mathlib.Core.Path.{_≡_}
-use lib.Dec.{eqb, ltb}
-use Rattle.laws.specs.Ladder.{fine, Ladder, stop}
+use Rattle.laws.specs.Prelude.{Answer, Bool, Count, Damaged, Done, Element, Empty, Full, Held, Idle, Ladder, NoTag, Out, Pop, Push, Refusal, Refused, Replace, Request, Unknown, [], _+_, _<_, _∷_, _≡_, _≤_, _⊎_, cond, eqb, false, fine, ltb, numberOf, stop, untagged, ℕ}
 use Rattle.promise.specs.Queue.{leaves, step, Step}
 use Rattle.promise.specs.Refused.{Untagged}
 use Rattle.promise.specs.Served.{hit}
 use Rattle.promise.specs.Table.{bars, decided, ends, ladder, stops, Table}
-use Rattle.strip.specs.Answers.{numberOf, untagged}
-use Rattle.strip.specs.declared.Answer.{Answer}
-use Rattle.strip.specs.declared.Answer.the-variants.{Done, Out, Refused}
-use Rattle.strip.specs.declared.Count.{Count}
-use Rattle.strip.specs.declared.Count.the-variants.{Held, Unknown}
-use Rattle.strip.specs.declared.Element.{Element}
-use Rattle.strip.specs.declared.Refusal.{Refusal}
-use Rattle.strip.specs.declared.Refusal.the-variants.{Damaged, Empty, Full, NoTag}
-use Rattle.strip.specs.declared.Request.{Request}
-use Rattle.strip.specs.declared.Request.the-variants.{Idle, Pop, Push, Replace}
 
 -- ---- what a request comes to where nothing is damaged: its answer, and the work that is to be done
 pub record Ruling (W : Type 0) : Type 0 where

@@ -1,32 +1,10 @@
 -- The calls of a machine that works by clock cycles, once for every such machine: what it has to bring (`Clock`), and from that a cycle (`cycled`), clear and
 -- held, their tables of refusals, and what a refused cycle leaves.
-use Prim.Native.Nat.{ℕ}
-use mathlib.Core.Bool.{Bool, cond, false, true}
-use Rattle.laws.specs.Ladder.{fine, Ladder, rung, stop}
+use Rattle.laws.specs.Prelude.{Answer, BadShape, Bool, Count, Damaged, Done, Held, Idle, Ladder, Refusal, Refused, Request, Unknown, cond, fine, rung, runsIdle, stop, ℕ}
 use Rattle.promise.specs.Calls.{left, Outcome, outcome, Ruling, ruling}
 use Rattle.promise.specs.Drains.{Drained, drainsBy, idled}
 use Rattle.promise.specs.Queue.{step, Step}
 use Rattle.promise.specs.Table.{decided, ladder, Table}
-use Rattle.strip.specs.declared.Answer.{Answer}
-use Rattle.strip.specs.declared.Answer.the-variants.{Done, Refused}
-use Rattle.strip.specs.declared.Count.{Count}
-use Rattle.strip.specs.declared.Count.the-variants.{Held, Unknown}
-use Rattle.strip.specs.declared.Refusal.{Refusal}
-use Rattle.strip.specs.declared.Refusal.the-variants.{BadPort, BadRank, BadShape, Damaged, Empty, Full, NoTag, TooSoon}
-use Rattle.strip.specs.declared.Request.{Request}
-use Rattle.strip.specs.declared.Request.the-variants.{Idle}
-
--- column "Left behind": after 1 and 2 "everything, mark and records too"; after the others the "cycle runs as idle", after 7 too: "a clocked refusal counts as an
--- idle cycle"
-abbrev pub runsIdle : Refusal → Bool
-runsIdle BadShape = false
-runsIdle Damaged = false
-runsIdle TooSoon = true
-runsIdle BadRank = true
-runsIdle Full = true
-runsIdle Empty = true
-runsIdle NoTag = true
-runsIdle BadPort = true
 
 -- ---- what a machine brings. M is its state, words and records together; C is what a cycle is handed: a request, or a request at one of several queues
 pub record Clock (C M : Type 0) : Type 1 where
@@ -62,6 +40,13 @@ pub data Call (C : Type 0) : Type 0 where
 abbrev pub sees : {C : Type 0} → (C → Request) → Call C → Request
 sees seen (cycle c) = seen c
 sees seen (drain b) = Idle
+
+-- .. of a machine that has one queue
+abbrev pub SoleCall : Type 0
+SoleCall = Call Request
+
+abbrev pub asked : SoleCall → Request
+asked c = sees (λ r. r) c
 
 module _ {C M : Type 0} (k : Clock C M) where
   -- what a request comes to: refused it is an idle cycle

@@ -1,22 +1,6 @@
 -- A drain of any machine: idle cycles until nothing is pending or the budget is spent. A machine is a queue and what is pending in its state.
-use Prim.Native.Nat.{_<_, _≤_, suc, zero, ℕ}
-use mathlib.Core.Bool.{Bool, cond, false, not, true}
-use mathlib.Core.Path.{_≡_}
-use lib.Dec.{leb}
-use lib.ListN.{replicate}
-use Rattle.laws.specs.Ladder.{fine, Ladder, rung, stop}
+use Rattle.laws.specs.Prelude.{Answer, BadPort, BadRank, BadShape, Bool, Damaged, Done, Empty, Full, Idle, Ladder, NoHeap, NoTag, Refusal, Refused, Request, TooSoon, _<_, _≡_, _≤_, cond, false, fine, isRefused, leb, not, replicate, rung, stop, suc, true, zero, ℕ}
 use Rattle.promise.specs.Queue.{leaves, Step}
-use Rattle.strip.specs.declared.Answer.{Answer}
-use Rattle.strip.specs.declared.Answer.the-variants.{Done, Out, Refused}
-use Rattle.strip.specs.declared.Refusal.{Refusal}
-use Rattle.strip.specs.declared.Refusal.the-variants.{BadPort, BadRank, BadShape, Damaged, Empty, Full, NoTag, TooSoon}
-use Rattle.strip.specs.declared.Request.{Request}
-use Rattle.strip.specs.declared.Request.the-variants.{Idle}
-
-unfoldable pub isRefused : Answer → Bool
-isRefused Done = false
-isRefused (Out e) = false
-isRefused (Refused n) = true
 
 -- a number capped by the budget
 abbrev pub capped : ℕ → ℕ → ℕ
@@ -31,6 +15,7 @@ isBadShape Full = false
 isBadShape Empty = false
 isBadShape NoTag = false
 isBadShape BadPort = false
+isBadShape NoHeap = false
 
 -- what a drain reports, and the state that it leaves
 pub record Drained (S : Type 0) : Type 0 where

@@ -1,11 +1,6 @@
 -- An operation on its way down a machine that works level by level: its work at level i in this cycle, and what that leaves for level i + 1 in the next, whatever is
 -- asked then. Said once for every machine in which each level hands down to the next.
-use Prim.Native.Nat.{_+_, _≤_, suc, ℕ}
-use native.Mathlib.Nat.{add-zero}
-use native.Mathlib.Omega.{arith}
-use mathlib.Core.List.{[], _∷_, List}
-use mathlib.Core.Path.{_∙_, _≡_, ap, subst}
-use lib.ListN.{length}
+use Rattle.laws.specs.Prelude.{List, [], _+_, _∙_, _∷_, _≡_, _≤_, add-zero, ap, arith, length, subst, suc, ℕ}
 use Rattle.promise.specs.Queue.{leaves, Step}
 
 -- down i w x y: what the work w at level i, in the cycle that leads from x to y, leaves for the next level to do in y

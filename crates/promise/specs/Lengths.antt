@@ -1,10 +1,5 @@
 -- The same with every length 0: "a length in bytes" travels with its strip and decides nothing (02 [9]).
-use Rattle.strip.specs.Answers.{element}
-use Rattle.strip.specs.declared.Answer.{Answer}
-use Rattle.strip.specs.declared.Answer.the-variants.{Done, Out, Refused}
-use Rattle.strip.specs.declared.Element.{Element}
-use Rattle.strip.specs.declared.Request.{Request}
-use Rattle.strip.specs.declared.Request.the-variants.{Idle, Pop, Push, Replace}
+use Rattle.laws.specs.Prelude.{Answer, Done, Element, Idle, Out, Pop, Push, Refused, Replace, Request, element}
 
 -- rank and tag of an element
 abbrev pub short : Element → Element

@@ -10,3 +10,4 @@ pub mod Flight
 pub mod Clock
 pub mod Promised
 pub mod Ticked
+pub mod Prelude

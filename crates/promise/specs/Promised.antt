@@ -1,22 +1,12 @@
 -- All that is promised of a queue, as two records: of its calls whatever the words (`Answers`), and from a cleared store over any list of requests
 -- (`Promised`). A queue that shows `Tested` and `IsQueue` has both (`promise/proofs/Promised.antt`).
-use Prim.Native.Nat.{_+_, ℕ}
-use mathlib.Core.List.{List}
-use mathlib.Core.Logic.{_⊎_}
-use mathlib.Core.Path.{_≡_}
-use Rattle.laws.specs.Ladder.{Exactly}
+use Rattle.laws.specs.Prelude.{Answer, Element, Exactly, List, Replace, Request, Unknown, _+_, _≡_, _⊎_, countNumber, countOf, numberOf, refusalNumber, ℕ}
 use Rattle.promise.specs.Calls.{called, cleared, clearRefusals, Damage, heldCount, heldRefusals, left, Outcome, PopThenPush, Queue, refusals, stepping}
 use Rattle.promise.specs.Queue.{answers, leaves}
 use Rattle.promise.specs.Refused.{Untagged}
 use Rattle.promise.specs.Served.{allBrought, allGiven, always, Holds, Kind, Least, triple}
 use Rattle.promise.specs.Table.{bars, Clear, ends, needs, stops, Table}
 use Rattle.promise.specs.Tagged.{Barred, Tagged}
-use Rattle.strip.specs.Answers.{countNumber, countOf, numberOf, refusalNumber}
-use Rattle.strip.specs.declared.Answer.{Answer}
-use Rattle.strip.specs.declared.Count.the-variants.{Unknown}
-use Rattle.strip.specs.declared.Element.{Element}
-use Rattle.strip.specs.declared.Request.{Request}
-use Rattle.strip.specs.declared.Request.the-variants.{Replace}
 
 -- the number n is that of a refusal of the table
 abbrev pub OneOf : Table → ℕ → Type 0

@@ -1,22 +1,11 @@
 -- What the tables of refusals share: 01's numbers tell the refusals apart; 7, and 5 and 6. A table is a ladder, `Exactly` of `laws` says that a call
 -- goes by it: by the number that it says, and with all that is left behind.
-use Prim.Native.Nat.{pred, ℕ}
-use native.Mathlib.Omega.{arith}
-use mathlib.Core.List.{[], _∷_}
-use mathlib.Core.Path.{_∙_, _≡_, ap, refl, sym}
-use lib.ListN.{getD}
-use Rattle.laws.specs.Ladder.{Ladder, stop}
-use Rattle.laws.specs.Means.{Means, means-eqb}
-use Rattle.strip.specs.Answers.{refusalNumber, untagged}
-use Rattle.strip.specs.declared.Element.{Element}
-use Rattle.strip.specs.declared.Refusal.{Refusal}
-use Rattle.strip.specs.declared.Refusal.the-variants.{BadPort, BadRank, BadShape, Damaged, Empty, Full, NoTag, TooSoon}
-use Rattle.strip.specs.declared.Request.{Request}
-use Rattle.strip.specs.declared.Request.the-variants.{Idle, Pop, Push, Replace}
+use Rattle.laws.specs.Prelude.{Answer, BadPort, BadRank, BadShape, Bool, Damaged, Done, Element, Empty, Fails, Full, Idle, Ladder, Means, NoHeap, NoTag, Out, Pop, Push, Refusal, Refused, Replace, Request, TooSoon, Zeros, [], _∙_, _∷_, _≡_, ap, arith, asks, fails-true, false, false≢true, getD, hasRun, isBlank, means-eqb, not, numberOf, pred, refl, refusalNumber, stop, sym, true, untagged, ℕ}
+use Rattle.strip.proofs.Words.{blank-holds, blank-says}
 
--- the refusal of a number
+-- the refusal of a number; 9 to 11 are those of ranks from weights, and no queue's
 abbrev pub refusalOf : ℕ → Refusal
-refusalOf n = getD (BadShape ∷ Damaged ∷ TooSoon ∷ BadRank ∷ Full ∷ Empty ∷ NoTag ∷ BadPort ∷ []) (pred n) BadShape
+refusalOf n = getD (BadShape ∷ Damaged ∷ TooSoon ∷ BadRank ∷ Full ∷ Empty ∷ NoTag ∷ BadPort ∷ BadShape ∷ BadShape ∷ BadShape ∷ NoHeap ∷ []) (pred n) BadShape
 
 numbered : (r : Refusal) → refusalOf (refusalNumber r) ≡ r
 numbered BadShape = refl
@@ -27,6 +16,7 @@ numbered Full = refl
 numbered Empty = refl
 numbered NoTag = refl
 numbered BadPort = refl
+numbered NoHeap = refl
 
 -- no two refusals have one number, and none has 0
 pub refusal-told : (x y : Refusal) → refusalNumber x ≡ refusalNumber y → x ≡ y
@@ -41,6 +31,35 @@ zero-told Full e = omega arith
 zero-told Empty e = omega arith
 zero-told NoTag e = omega arith
 zero-told BadPort e = omega arith
+zero-told NoHeap e = omega arith
+
+-- a cycle that is not refused has run
+pub zero-ran : (a : Answer) → numberOf a ≡ 0 → hasRun a ≡ true
+zero-ran Done e = refl
+zero-ran (Out x) e = refl
+zero-ran (Refused n) e = absurd (zero-told n (sym e))
+
+-- an operation is asked for
+abbrev pub Asks : Request → Type 0
+Asks Idle = ⊥
+Asks (Push x) = Unit {0}
+Asks Pop = Unit {0}
+Asks (Replace x) = Unit {0}
+
+pub asks-fails : (r : Request) → Fails (not (asks r)) (Asks r)
+unfolding asks
+asks-fails Idle = fails-true
+asks-fails (Push x) = record { found = λ e. tt; shown = λ d. refl }
+asks-fails Pop = record { found = λ e. tt; shown = λ d. refl }
+asks-fails (Replace x) = record { found = λ e. tt; shown = λ d. refl }
+
+-- 2, of what is empty: "another word not 0"
+pub blank-fails : (x : Element) → Fails (isBlank x) (Zeros x → ⊥)
+blank-fails x = record { found = λ e z. false≢true (sym e ∙ blank-holds x z); shown = λ h. go (isBlank x) refl h }
+  where
+    go : (b : Bool) → isBlank x ≡ b → (Zeros x → ⊥) → b ≡ false
+    go true e h = absurd (h (blank-says x e))
+    go false e h = refl
 
 -- 7: "Push and replace with tag 0 are to be refused with a new number 7, "no tag", in every queue" (02 [1]), whatever the rank and whatever is held
 abbrev pub Untagged : Request → Type 0

@@ -1,17 +1,6 @@
 -- What a request brings in and gives out, in 01's numbers; what a queue then holds; which kind of answer it is, and that it has the lowest rank.
-use Prim.Native.Nat.{_+_, suc, zero, ℕ}
-use native.Mathlib.Omega.{arith}
-use mathlib.Core.Bool.{_&&_, Bool, false, true}
-use mathlib.Core.List.{[], _∷_, List}
-use mathlib.Core.Path.{_∙_, _≡_, refl, sym}
-use lib.Dec.{eqb, ltb}
+use Rattle.laws.specs.Prelude.{Answer, Bool, Done, Element, Idle, List, Out, Pop, Push, Refused, Replace, Request, [], _&&_, _+_, _∙_, _∷_, _≡_, arith, elementOf, eqb, false, ltb, numberOf, rankOf, refl, suc, sym, true, zero, ℕ}
 use Rattle.promise.specs.Queue.{answers, leaves, Step}
-use Rattle.strip.specs.Answers.{elementOf, numberOf, rankOf}
-use Rattle.strip.specs.declared.Answer.{Answer}
-use Rattle.strip.specs.declared.Answer.the-variants.{Done, Out, Refused}
-use Rattle.strip.specs.declared.Element.{Element}
-use Rattle.strip.specs.declared.Request.{Request}
-use Rattle.strip.specs.declared.Request.the-variants.{Idle, Pop, Push, Replace}
 
 -- ---- tests on elements. What a queue holds is said by how many of its elements pass, for every test
 abbrev pub hit : Bool → ℕ

@@ -1,17 +1,8 @@
 -- What follows of 7: where no queue takes in an element without a tag, none holds one and none gives one out. Said once for every queue.
-use Prim.Native.Nat.{suc, zero, ℕ}
-use native.Mathlib.Omega.{arith}
-use mathlib.Core.Bool.{Bool, false, true}
-use mathlib.Core.List.{[], _∷_, List}
-use mathlib.Core.Path.{_≡_, refl}
+use Rattle.laws.specs.Prelude.{Answer, Bool, Element, Idle, List, Pop, Push, Replace, Request, [], _∷_, _≡_, arith, false, numberOf, refl, suc, true, untagged, zero, ℕ}
 use Rattle.promise.specs.Queue.{answers, Step}
 use Rattle.promise.specs.Refused.{Untagged, untagged-means}
 use Rattle.promise.specs.Served.{allBrought, allGiven, brought, hit, Holds, unrefused}
-use Rattle.strip.specs.Answers.{numberOf, untagged}
-use Rattle.strip.specs.declared.Answer.{Answer}
-use Rattle.strip.specs.declared.Element.{Element}
-use Rattle.strip.specs.declared.Request.{Request}
-use Rattle.strip.specs.declared.Request.the-variants.{Idle, Pop, Push, Replace}
 
 -- TAGGED: no element of tag 0 is held, and none has come out
 pub record Tagged (held : (Element → Bool) → ℕ) (rs : List Request) (said : List Answer) : Type 0 where

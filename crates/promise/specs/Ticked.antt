@@ -1,12 +1,7 @@
 -- All that is promised of a machine that works by clock cycles, as two records: of its cycles whatever stands in it (`CycleAnswers`), and from a cleared
 -- machine over any list of cycles (`Running`), or of cycles and drains. A machine that shows `Ticks`, `IsClock` and `Bag` has both
 -- (`promise/proofs/Ticked.antt`).
-use Prim.Native.Nat.{_≤_, ℕ}
-use mathlib.Core.Bool.{Bool, false}
-use mathlib.Core.List.{List, map}
-use mathlib.Core.Logic.{_⊎_}
-use mathlib.Core.Path.{_≡_}
-use Rattle.laws.specs.Ladder.{Exactly}
+use Rattle.laws.specs.Prelude.{Bool, Element, Exactly, Idle, List, Request, Unknown, _≡_, _≤_, _⊎_, countNumber, false, map, numberOf, ℕ}
 use Rattle.promise.specs.Calls.{left, Outcome}
 use Rattle.promise.specs.Clock.{asking, Call, calls, clearedTo, Clock, countRefusals, cycled, cycleLeft, cycleRefusals, cycling, drainedBy, heldIn, rested, sees, wipeRefusals}
 use Rattle.promise.specs.Drains.{behind, Drained, drainRefusals}
@@ -14,11 +9,6 @@ use Rattle.promise.specs.Promised.{OneOf}
 use Rattle.promise.specs.Queue.{answers, leaves}
 use Rattle.promise.specs.Served.{Holds, Least}
 use Rattle.promise.specs.Tagged.{Barred}
-use Rattle.strip.specs.Answers.{countNumber, numberOf}
-use Rattle.strip.specs.declared.Count.the-variants.{Unknown}
-use Rattle.strip.specs.declared.Element.{Element}
-use Rattle.strip.specs.declared.Request.{Request}
-use Rattle.strip.specs.declared.Request.the-variants.{Idle}
 
 module _ {C M : Type 0} (k : Clock C M) where
   -- whatever stands in the machine

@@ -1,14 +1,16 @@
 -- The paper's number, rank, tag and length of each answer.
 use Prim.Native.Nat.{ℕ, _*_, _+_}
-use mathlib.Core.Bool.{Bool, _&&_, _||_}
+use mathlib.Core.Bool.{Bool, true, false, _&&_, _||_}
 use lib.Dec.{eqb, ltb}
 use Rattle.strip.specs.declared.Element.{Element}
 use Rattle.strip.specs.declared.Refusal.{Refusal}
-use Rattle.strip.specs.declared.Refusal.the-variants.{BadShape, Damaged, TooSoon, BadRank, Full, Empty, NoTag, BadPort}
+use Rattle.strip.specs.declared.Refusal.the-variants.{BadShape, Damaged, TooSoon, BadRank, Full, Empty, NoTag, BadPort, NoHeap}
 use Rattle.strip.specs.declared.Answer.{Answer}
 use Rattle.strip.specs.declared.Answer.the-variants.{Done, Out, Refused}
 use Rattle.strip.specs.declared.Count.{Count}
 use Rattle.strip.specs.declared.Count.the-variants.{Held, Unknown}
+use Rattle.strip.specs.declared.Request.{Request}
+use Rattle.strip.specs.declared.Request.the-variants.{Idle, Push, Pop, Replace}
 
 -- an element of this rank, tag and length
 abbrev pub element : ℕ → ℕ → ℕ → Element
@@ -44,12 +46,18 @@ refusalNumber Full = 5
 refusalNumber Empty = 6
 refusalNumber NoTag = 7
 refusalNumber BadPort = 8
+refusalNumber NoHeap = 12
 
 -- .. and 0 where nothing is refused
 abbrev pub numberOf : Answer → ℕ
 numberOf Done = 0
 numberOf (Out e) = 0
 numberOf (Refused r) = refusalNumber r
+
+unfoldable pub isRefused : Answer → Bool
+isRefused Done = false
+isRefused (Out e) = false
+isRefused (Refused r) = true
 
 abbrev pub elementOf : Answer → Element
 elementOf Done = blank
@@ -73,3 +81,30 @@ countNumber (Unknown r) = refusalNumber r
 abbrev pub countOf : Count → ℕ
 countOf (Held n) = n
 countOf (Unknown r) = 0
+
+-- ---- requests, and cycles of a machine that works by clock cycles
+-- is an operation asked for?
+unfoldable pub asks : Request → Bool
+asks Idle = false
+asks (Push x) = true
+asks Pop = true
+asks (Replace x) = true
+
+-- column "Left behind": after 1 and 2 "everything, mark and records too"; after the others the "cycle runs as idle", after 7 too: "a clocked refusal counts as an
+-- idle cycle"
+abbrev pub runsIdle : Refusal → Bool
+runsIdle BadShape = false
+runsIdle Damaged = false
+runsIdle TooSoon = true
+runsIdle BadRank = true
+runsIdle Full = true
+runsIdle Empty = true
+runsIdle NoTag = true
+runsIdle BadPort = true
+runsIdle NoHeap = true
+
+-- a cycle with this answer has run
+abbrev pub hasRun : Answer → Bool
+hasRun Done = true
+hasRun (Out e) = true
+hasRun (Refused r) = runsIdle r

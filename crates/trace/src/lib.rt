@@ -7,21 +7,21 @@ ghost use Rattle.text.specs.Text.{Laid};
 ghost use Rattle.trace_model.specs.Format.{longestLine, recordBytes, entryAt, recordsFrom, cutRecord, badLine};
 ghost use Rattle.trace_model.specs.Play.{Makes, after, carry, whileLive, turn, played, ending, closing, shut, opening, begun, pieceOf};
 ghost use Rattle.trace_model.specs.Program.{nextNumber};
-use clocked::fresh_state;
-use clocked_model::State;
 use strip::Request;
 use text::put_bytes;
 use text::put_number;
-use trace_lines::put_end;
-use trace_lines::put_line;
+use trace_bytes::lines::put_end;
+use trace_bytes::lines::put_line;
+use trace_bytes::records::read_header;
+use trace_bytes::records::record_at;
+use trace_bytes::records::record_bytes;
 use trace_model::Header;
 use trace_model::Piece;
 use trace_model::Playing;
 use trace_model::Record;
 use trace_model::Version;
-use trace_records::read_header;
-use trace_records::record_at;
-use trace_records::record_bytes;
+use tree_clock::fresh_state;
+use tree_clock_model::State;
 
 // More bytes than any line has.
 const LINE: usize = 96;
@@ -50,7 +50,7 @@ fn play_good(store: &mut [u32], play: Playing, request: Request, at: usize, out:
     ensures { λ r. ⌜ Makes (turn (Record.Good request) play (now (store .entry))) at (now (out .entry)) r (now (store .exit)) (now (out .exit)) ⌝ }
 {
     let state = play.state;
-    let done = clocked::cycle(store, play.order, play.levels, state, request);
+    let done = tree_clock::cycle(store, play.order, play.levels, state, request);
     let answer = done.answer;
     let next = done.state;
     let number = std::num::wrapping_add_u64(play.number, 1);
@@ -118,8 +118,8 @@ fn play_end(store: &mut [u32], play: Playing, at: usize, out: &mut [u8]) -> Piec
     let order = play.order;
     let levels = play.levels;
     let state = play.state;
-    let done = clocked::drain(store, order, levels, state, levels);
-    let held = strip::count_of(clocked::held(store, order, levels));
+    let done = tree_clock::drain(store, order, levels, state, levels);
+    let held = strip::count_of(tree_clock::held(store, order, levels));
     let written = put_end(out, at, held, done.cycles);
     let next = done.state;
     carried(play, next, play.number, false, written)
@@ -166,7 +166,7 @@ fn opened(store: &mut [u32], version: Version, order: usize, levels: usize) -> P
     ensures { λ r. ⌜ (r .play ≡ opening (Header.Shape version order levels) (now (store .entry)) .play) × (now (store .exit) ≡ opening (Header.Shape version order levels) (now (store .entry)) .words) × (r .written ≡ 0) ⌝ }
 {
     let none = fresh_state();
-    let cleared = clocked::clear(store, order, levels, none);
+    let cleared = tree_clock::clear(store, order, levels, none);
     let state = cleared.state;
     let play = Playing {
         version,

@@ -1,24 +1,8 @@
 -- Header, records and lines are those of 01 and 02, byte by byte (`specs/Bytes.antt`).
-use Prim.Native.Nat.{_%_, _*_, _+_, _/_, _<_, _^_, _≤_, suc, zero, ℕ}
+use Rattle.laws.specs.Prelude.{Bool, Done, Element, Empty, Full, Idle, Iff, List, NoTag, Out, Pop, Push, Refused, Replace, Request, TooSoon, [], _%_, _&&_, _*_, _++_, _+_, _/_, _<_, _^_, _∙_, _∷_, _≡_, _≤_, _⊎_, and-left, and-right, and-true, ap, ap₂, arith, cond, drop, element, eqb, eqb-false, eqb-true, false, getD, inl, inr, isBlank, le-leb, leb, leb-false, leb-true, length, ne-eqb, not, refl, subst, suc, sumTo, sym, true, zero, ℕ, ⊎-elim}
 use native.Mathlib.Nat.{mul-le-mul-left}
-use native.Mathlib.Omega.{arith}
-use mathlib.Core.Bool.{_&&_, Bool, cond, false, not, true}
-use mathlib.Core.List.{[], _++_, _∷_, append-assoc, append-nil, List}
-use mathlib.Core.Logic.{_⊎_, inl, inr, ⊎-elim}
-use mathlib.Core.Path.{_∙_, _≡_, ap, ap₂, refl, subst, sym}
-use lib.Dec.{eqb, leb}
-use lib.ListN.{drop, getD, length}
-use borrow.Author.Tests.{eqb-false, eqb-true, le-leb, leb-false, leb-true, ne-eqb}
-use Rattle.clocked_model.specs.Calls.{clearedMachine}
-use Rattle.laws.specs.Means.{Iff}
-use Rattle.laws.specs.Sums.{sumTo}
-use Rattle.laws.specs.Tests.{and-left, and-right, and-true}
-use Rattle.strip.specs.Answers.{element}
-use Rattle.strip.specs.declared.Answer.the-variants.{Done, Out, Refused}
-use Rattle.strip.specs.declared.Element.{Element}
-use Rattle.strip.specs.declared.Refusal.the-variants.{Empty, Full, NoTag, TooSoon}
-use Rattle.strip.specs.declared.Request.{Request}
-use Rattle.strip.specs.declared.Request.the-variants.{Idle, Pop, Push, Replace}
+use mathlib.Core.List.{append-assoc, append-nil}
+use Rattle.tree_clock_model.specs.Prelude.{clearedMachine}
 use Rattle.text.specs.Text.{bytesOf, decimal}
 use Rattle.trace_model.proofs.Pieces.{records-append, records-whole}
 use Rattle.trace_model.specs.Bytes.{fourBytes, headBytes, Headless, idle, idle-with, other, pop, pop-with, push, replace, Said, Says, Taken, versionNumber}
@@ -30,12 +14,9 @@ use Rattle.trace_model.specs.declared.Record.{Record}
 use Rattle.trace_model.specs.declared.Record.the-variants.{Bad, Good}
 use Rattle.trace_model.specs.declared.Version.{Version}
 use Rattle.trace_model.specs.declared.Version.the-variants.{One, Two}
-use Rattle.tree_model.proofs.Exactly.{shape-is}
-use Rattle.tree_model.proofs.Slice.{capacity}
-use Rattle.tree_model.specs.Calls.{orderOk, shapeOk, slotLimit}
-use Rattle.tree_model.specs.Damage.{room}
+use Rattle.tree_model.proofs.Laws.{capacity, shape-is}
+use Rattle.tree_model.specs.Prelude.{orderOk, room, shapeOk, slotLimit, slotWords}
 use Rattle.tree_model.specs.Promise as shape
-use Rattle.tree_model.specs.Words.{slotWords}
 
 -- ---- the shapes
 abbrev Order : ℕ → Type 0
@@ -187,6 +168,7 @@ good-trace v m levels records t = ap (λ (h : Header). textOf h records) (header
 -- ---- the records
 -- a code and its numbers say what 01 has
 blank-bad : (rank tag len : ℕ) (q : Request) → (rank ≡ 0 → ⊥) ⊎ (tag ≡ 0 → ⊥) ⊎ (len ≡ 0 → ⊥) → onlyBlank (element rank tag len) q ≡ Bad
+unfolding isBlank
 blank-bad rank tag len q some = go (eqb rank 0) refl (eqb tag 0) refl (eqb len 0) refl
   where
     go : (a : Bool) → eqb rank 0 ≡ a → (b : Bool) → eqb tag 0 ≡ b → (c : Bool) → eqb len 0 ≡ c → cond (a && (b && c)) (Good q) Bad ≡ Bad
@@ -196,7 +178,7 @@ blank-bad rank tag len q some = go (eqb rank 0) refl (eqb tag 0) refl (eqb len 0
     go true x true y true z = absurd (⊎-elim (λ n. n (eqb-true rank 0 x)) (⊎-elim (λ n. n (eqb-true tag 0 y)) (λ n. n (eqb-true len 0 z))) some)
 
 entry-says : (rank tag len code : ℕ) (r : Record) → Says rank tag len code r → entryOf code (element rank tag len) ≡ r
-unfolding entryOf
+unfolding entryOf isBlank
 entry-says rank tag len code r (idle a b c) = λ i. entryOf 0 (element (a i) (b i) (c i))
 entry-says rank tag len code r push = refl
 entry-says rank tag len code r (pop a b c) = λ i. entryOf 2 (element (a i) (b i) (c i))

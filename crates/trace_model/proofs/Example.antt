@@ -1,18 +1,11 @@
 -- 01's worked trace, one of replaces, one of elements without a tag, two of version 2 and six of the format, by computing.
-use mathlib.Core.Path.{_≡_, refl}
-use Rattle.clocked_model.specs.Calls.{asks, drainFrom, drains, fresh, ruleMarked, isRefused, marks, popsOrReplaces, cycled, cycleRun}
-use Rattle.clocked_model.specs.Cycle.{cycleOk, cycleWords, quiet}
-use Rattle.clocked_model.specs.Records.{landed, recordAt, recordsAfter, worksOf}
-use Rattle.strip.specs.Answers.{blank, key, untagged, precedes}
+use Rattle.laws.specs.Prelude.{_≡_, blank, key, precedes, refl, untagged}
+use Rattle.tree_clock_model.specs.Prelude.{asks, cycleOk, cycleRun, cycleWords, cycled, drainFrom, drains, fresh, isRefused, landed, marks, popsOrReplaces, quiet, recordAt, recordsAfter, ruleMarked, worksOf}
 use Rattle.text.specs.Text.{decimal, decimalBy}
 use Rattle.trace_model.specs.Example.{cut, cutLengths, cutLengthsSay, cutSays, deep, deepSays, emptied, emptiedSays, example, exampleSays, idleRanked, idleRankedSays, lengthless, lengthlessSays, lengths, lengthsSay, popTagged, popTaggedSays, untaggedOnes, untaggedSays, wide, wideSays}
 use Rattle.trace_model.specs.Format.{badLine, cutRecord, doneWord, endLine, entryAt, entryOf, headed, headerOf, lengthAt, lengthWord, lineOf, markOk, outWord, recordsFrom, recordsOf, refusalWord, traceShape, wordOf}
 use Rattle.trace_model.specs.Program.{emptyStore, endOf, textFrom, textOf, traceText}
-use Rattle.tree_model.specs.Calls.{cleared, heldCount, orderOk, rule, shapeOk}
-use Rattle.tree_model.specs.Damage.{workOk, hasRoom, hasSome, isBlank, lifts, nodeOk, readOk, room, slotOk, stepOk}
-use Rattle.tree_model.specs.Levels.{levelMove, stepWork, top, work}
-use Rattle.tree_model.specs.Node.{every, firstEmpty, isEmpty, isNothing, keep, leastCount, low, lowest, opMove, pass, putBy, putMove, seek, slotAt, sumCounts, swapBy, swapMove, takeBy, takeMove, vacant}
-use Rattle.tree_model.specs.Words.{levelOf, levelsOf, nodeOf, slotOf, stepWords, tabulate, wipe, write}
+use Rattle.tree_model.specs.Prelude.{cleared, every, firstEmpty, hasRoom, hasSome, heldCount, isBlank, isEmpty, isNothing, keep, leastCount, levelMove, levelOf, levelsOf, lifts, low, lowest, nodeOf, nodeOk, opMove, orderOk, pass, putBy, putMove, readOk, room, rule, seek, shapeOk, slotAt, slotOf, slotOk, stepOk, stepWords, stepWork, sumCounts, swapBy, swapMove, tabulate, takeBy, takeMove, top, vacant, wipe, work, workOk, write}
 
 pub worked : traceText example ≡ exampleSays
 unfolding traceText textOf textFrom emptyStore endOf headerOf headed markOk traceShape recordsOf recordsFrom cutRecord entryAt lengthAt entryOf lineOf wordOf doneWord refusalWord outWord lengthWord endLine decimal decimalBy cycled cycleRun drains drainFrom heldCount fresh ruleMarked asks popsOrReplaces isRefused marks quiet cycleWords cycleOk recordAt worksOf landed recordsAfter blank key precedes untagged vacant isEmpty seek every firstEmpty leastCount lowest slotAt low keep pass putBy putMove takeBy takeMove swapBy swapMove opMove isNothing sumCounts work top levelMove stepWork room isBlank slotOk nodeOk hasRoom hasSome readOk lifts stepOk workOk slotOf write wipe tabulate nodeOf levelOf levelsOf stepWords orderOk shapeOk rule cleared

@@ -1,13 +1,5 @@
 -- The lengths of words and lines.
-use Prim.Native.Nat.{_≤_, ℕ}
-use native.Mathlib.Omega.{arith}
-use lib.ListN.{length, length-append}
-use Rattle.strip.specs.declared.Answer.{Answer}
-use Rattle.strip.specs.declared.Answer.the-variants.{Done, Out, Refused}
-use Rattle.strip.specs.declared.Element.{Element}
-use Rattle.strip.specs.declared.Refusal.the-variants.{BadPort, BadRank, BadShape, Damaged, Empty, Full, NoTag, TooSoon}
-use Rattle.strip.specs.declared.Request.{Request}
-use Rattle.strip.specs.declared.Request.the-variants.{Idle, Pop, Push, Replace}
+use Rattle.laws.specs.Prelude.{Answer, BadPort, BadRank, BadShape, Damaged, Done, Element, Empty, Full, Idle, NoHeap, NoTag, Out, Pop, Push, Refused, Replace, Request, TooSoon, _≤_, arith, length, length-append, ℕ}
 use Rattle.text.proofs.Laws.{decimal-short}
 use Rattle.text.specs.Text.{decimal}
 use Rattle.trace_model.specs.Format.{badLine, doneWord, endLine, lengthWord, lineOf, longestLine, longestWord, outWord, refusalWord, wordOf}
@@ -40,6 +32,7 @@ word-short v r (Refused Full) = omega arith
 word-short v r (Refused Empty) = omega arith
 word-short v r (Refused NoTag) = omega arith
 word-short v r (Refused BadPort) = omega arith
+word-short v r (Refused NoHeap) = omega arith
 
 pub line-short : (v : Version) (n : ℕ) (r : Request) (a : Answer) → length (lineOf v n r a) ≤ longestLine
 unfolding lineOf decimal

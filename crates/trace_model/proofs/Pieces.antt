@@ -1,16 +1,9 @@
 -- Played in the program's pieces, a trace gives the text that the whole program is defined by.
-use Prim.Native.Nat.{_%_, _*_, _+_, _/_, _<_, _≤_, suc, zero, ℕ}
-use native.Mathlib.Nat.{add-assoc, add-zero, le-of-lt, zero-add}
-use native.Mathlib.Numerals.{add-one}
-use native.Mathlib.Omega.{arith}
-use mathlib.Core.Bool.{_&&_, Bool, cond, false, not, true}
-use mathlib.Core.List.{[], _++_, _∷_, append-assoc, append-nil, List}
-use mathlib.Core.Path.{_∙_, _≡_, ap, ap₂, refl, sym}
-use lib.Dec.{eqb, leb, ltb}
-use lib.ListN.{drop, getD, length, length-append, length-drop, List·getD-append, take, take-append-drop}
+use Rattle.laws.specs.Prelude.{Bool, List, [], _%_, _&&_, _*_, _++_, _+_, _/_, _<_, _∙_, _∷_, _≡_, _≤_, add-one, add-zero, ap, ap₂, arith, cond, drop, element, eqb, false, getD, le-leb, leb, leb-false, leb-true, length, length-append, length-drop, lt-ltb, ltb, ltb-false, ltb-true, not, refl, suc, sym, take, true, zero, zero-add, ℕ}
+use native.Mathlib.Nat.{add-assoc, le-of-lt}
+use mathlib.Core.List.{append-assoc, append-nil}
+use lib.ListN.{List·getD-append, take-append-drop}
 use lib.Seq.{getD-append-add, getD-take, length-take-le, take-all}
-use borrow.Author.Tests.{le-leb, leb-false, leb-true, lt-ltb, ltb-false, ltb-true}
-use Rattle.strip.specs.Answers.{element}
 use Rattle.trace_model.proofs.Runs.{after-after, after-stands, closing-ended, played-append, played-ended, played-version, stands-after}
 use Rattle.trace_model.proofs.Sizes.{lot, lots-room, lots-whole, more-records, records-step, size-least, whole-records}
 use Rattle.trace_model.specs.Format.{cutRecord, entryAt, entryOf, headed, headerBytes, headerOf, lengthAt, longestLine, markOk, numberAt, recordBytes, recordsFrom, recordsOf, traceShape}

@@ -1,10 +1,5 @@
 -- What the contracts of `begin` and `play` allow is one outcome.
-use Prim.Native.Nat.{_+_, _<_, _^_, ℕ}
-use native.Mathlib.Omega.{arith}
-use mathlib.Core.Bool.{Bool}
-use mathlib.Core.List.{List}
-use mathlib.Core.Path.{_∙_, _≡_, sym}
-use lib.ListN.{length}
+use Rattle.laws.specs.Prelude.{Bool, List, _+_, _<_, _^_, _∙_, _≡_, arith, length, sym, ℕ}
 use Rattle.trace_model.specs.Play.{begun, Makes, pieceOf, Run}
 use Rattle.trace_model.specs.Program.{nextNumber}
 use Rattle.trace_model.specs.declared.Piece.{Piece}

@@ -1,18 +1,8 @@
 -- A play step by step, by what the code has done.
-use Prim.Native.Nat.{_%_, _+_, _-_, _/_, _<_, _≤_, suc, zero, ℕ}
-use native.Mathlib.Omega.{arith}
-use mathlib.Core.Bool.{Bool, cond, false, not, true}
-use mathlib.Core.List.{[], _++_, _∷_, append-assoc, append-nil, List}
-use mathlib.Core.Path.{_∙_, _≡_, ap, ap₂, refl, subst, sym}
-use lib.Dec.{eqb}
-use lib.ListN.{length, length-append}
-use borrow.Author.Tests.{le-leb, le-ltb, lt-leb, lt-ltb, not-false, not-true}
-use Rattle.clocked_model.specs.Calls.{cycleOutcome, CycleOutcome, DrainOutcome, drainOutcome, drains, fresh, clearedMachine, cycled}
-use Rattle.clocked_model.specs.declared.State.{State}
-use Rattle.strip.specs.Answers.{countOf}
-use Rattle.strip.specs.declared.Answer.{Answer}
-use Rattle.strip.specs.declared.Count.{Count}
-use Rattle.strip.specs.declared.Request.{Request}
+use Rattle.laws.specs.Prelude.{Answer, Bool, Count, List, Request, [], _%_, _++_, _+_, _-_, _/_, _<_, _∙_, _∷_, _≡_, _≤_, ap, ap₂, arith, cond, countOf, eqb, false, le-leb, le-ltb, length, length-append, lt-leb, lt-ltb, not, not-false, not-true, refl, subst, suc, sym, true, zero, ℕ}
+use mathlib.Core.List.{append-assoc, append-nil}
+use Rattle.tree_clock_model.specs.Prelude.{CycleOutcome, DrainOutcome, clearedMachine, cycleOutcome, cycled, drainOutcome, drains, fresh}
+use Rattle.tree_clock_model.specs.declared.State.{State}
 use Rattle.text.proofs.Laws.{overlay-append, overlay-length}
 use Rattle.text.specs.Text.{Laid, overlay}
 use Rattle.trace_model.proofs.Lines.{bad-short, end-short, line-short}
@@ -27,7 +17,7 @@ use Rattle.trace_model.specs.declared.Record.{Record}
 use Rattle.trace_model.specs.declared.Record.the-variants.{Bad, Good}
 use Rattle.trace_model.specs.declared.Version.{Version}
 use Rattle.trace_model.specs.declared.Version.the-variants.{One}
-use Rattle.tree_model.specs.Calls.{heldCount}
+use Rattle.tree_model.specs.Prelude.{heldCount}
 
 -- ---- a step after a run
 pub after-stands : (u : Run) → after u stands ≡ u

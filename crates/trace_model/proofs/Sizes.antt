@@ -1,7 +1,5 @@
 -- Counting records by their bytes, in either version.
-use Prim.Native.Nat.{_%_, _*_, _+_, _-_, _/_, _<_, _≤_, ℕ}
-use native.Mathlib.Omega.{arith}
-use mathlib.Core.Path.{_≡_, ap, subst, sym}
+use Rattle.laws.specs.Prelude.{_%_, _*_, _+_, _-_, _/_, _<_, _≡_, _≤_, ap, arith, subst, sym, ℕ}
 use Rattle.trace_model.specs.Format.{longestLine, recordBytes}
 use Rattle.trace_model.specs.Play.{outBytes, pieceBytes}
 use Rattle.trace_model.specs.declared.Version.{Version}

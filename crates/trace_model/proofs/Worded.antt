@@ -1,25 +1,9 @@
--- Every line of a played trace has a word: from a cleared machine no cycle is refused 1, 2, 4 or 8. The last line says how many are stored.
-use Prim.Native.Nat.{_≤_, pred, suc, zero, ℕ}
-use native.Mathlib.Omega.{arith}
-use mathlib.Core.Bool.{_&&_, Bool, false}
-use mathlib.Core.List.{[], _++_, _∷_, List}
-use mathlib.Core.Logic.{_⊎_, ⊎-elim}
-use mathlib.Core.Path.{_∙_, _≡_, ap, ap₂, refl, subst, sym}
-use lib.ListN.{drop, length, length-replicate}
-use Rattle.clocked_model.proofs.Drain.{drain-left, drain-state}
-use Rattle.clocked_model.proofs.Exactly.{no-damage-sound, cycled-fine}
-use Rattle.clocked_model.proofs.Promises.{drained-fine, drained-left, held-says, numbers, shape-kept, undamaged}
-use Rattle.clocked_model.specs.Calls.{CycleOutcome, DrainOutcome, drains, ruleMarked, pending, popsOrReplaces, clearedMachine, cycled, cycleRun}
-use Rattle.clocked_model.specs.Promise.{ran, runs}
-use Rattle.clocked_model.specs.declared.State.{State}
-use Rattle.laws.specs.Tests.{cond-both}
-use Rattle.promise.specs.Queue.{leaves}
-use Rattle.promise.specs.Served.{always}
-use Rattle.strip.specs.Answers.{countOf, numberOf, refusalNumber}
-use Rattle.strip.specs.declared.Answer.the-variants.{Refused}
-use Rattle.strip.specs.declared.Refusal.{Refusal}
-use Rattle.strip.specs.declared.Refusal.the-variants.{BadPort, BadRank, BadShape, Damaged, Empty, Full, NoTag, TooSoon}
-use Rattle.strip.specs.declared.Request.{Request}
+-- Every line of a played trace has a word: from a cleared machine no cycle is refused 1, 2, 4, 8 or 12. The last line says how many are stored.
+use Rattle.laws.specs.Prelude.{BadPort, BadRank, BadShape, Bool, Damaged, Empty, Full, List, NoHeap, NoTag, Refusal, Refused, Request, TooSoon, [], _&&_, _++_, _∙_, _∷_, _≡_, _≤_, _⊎_, ap, ap₂, arith, cond-both, countOf, drop, false, length, length-replicate, numberOf, pred, refl, refusalNumber, subst, suc, sym, zero, ℕ, ⊎-elim}
+use Rattle.tree_clock_model.proofs.Laws.{cycled-fine, drain-left, drain-state, drained-fine, drained-left, held-says, no-damage-sound, numbers, shape-kept, undamaged}
+use Rattle.tree_clock_model.specs.Prelude.{CycleOutcome, DrainOutcome, clearedMachine, cycleRun, cycled, drains, pending, popsOrReplaces, ran, ruleMarked, runs}
+use Rattle.tree_clock_model.specs.declared.State.{State}
+use Rattle.promise.specs.Prelude.{always, leaves}
 use Rattle.trace_model.proofs.Bytes.{header-only, taken-shape, trace-shape}
 use Rattle.trace_model.specs.Format.{doneWord, endLine, headerBytes, headerOf, outWord, recordsOf, refusalWord, wordOf}
 use Rattle.trace_model.specs.Program.{emptyStore, endOf, storeWords}
@@ -29,12 +13,8 @@ use Rattle.trace_model.specs.declared.Header.the-variants.{Shape as Shap
 use Rattle.trace_model.specs.declared.Record.{Record}
 use Rattle.trace_model.specs.declared.Record.the-variants.{Bad, Good}
 use Rattle.trace_model.specs.declared.Version.{Version}
-use Rattle.tree_model.proofs.Exactly.{is-shape}
-use Rattle.tree_model.proofs.Rules.{comes}
-use Rattle.tree_model.specs.Calls.{heldCount, rule, ruling, Ruling}
-use Rattle.tree_model.specs.Damage.{room}
-use Rattle.tree_model.specs.Promise.{Shape, storedCount}
-use Rattle.tree_model.specs.Rules.{Comes, empty, full, idles, lacks, no-tag, puts, swaps, takes}
+use Rattle.tree_model.proofs.Laws.{comes, is-shape}
+use Rattle.tree_model.specs.Prelude.{Comes, Ruling, Shape, empty, full, heldCount, idles, lacks, no-tag, puts, room, rule, ruling, storedCount, swaps, takes}
 use Rattle.tree_model.specs.declared.Op.the-variants.{Nothing}
 use Rattle.tree_model.specs.declared.Slot.{Slot}
 
@@ -77,7 +57,7 @@ module _ (m levels : ℕ) (ws : List ℕ) (sh : Shape m levels (length ws)) wher
   abbrev wordsAt : List Request → List ℕ
   wordsAt rs = ran m levels rs ws .words
 
-  -- NONE SILENT: after any list of cycles no cycle is refused 1, 2, 4 or 8
+  -- NONE SILENT: after any list of cycles no cycle is refused 1, 2, 4, 8 or 12
   pub none-silent : (rs : List Request) (r : Request) (n : Refusal) → Silent n → cycled m levels r (stateAt rs) (wordsAt rs) .answer ≡ Refused n → ⊥
   none-silent rs r n q e = go n q (sym (ap numberOf e)) (numbers m ws rs levels sh r)
     where
@@ -93,6 +73,7 @@ module _ (m levels : ℕ) (ws : List ℕ) (sh : Shape m levels (length ws)) wher
       go Empty q h = absurd q
       go NoTag q h = absurd q
       go BadPort q h = other _ 8 h (λ d. omega arith) (λ d. omega arith) (λ d. omega arith) (λ d. omega arith) (λ d. omega arith)
+      go NoHeap q h = other _ 12 h (λ d. omega arith) (λ d. omega arith) (λ d. omega arith) (λ d. omega arith) (λ d. omega arith)
 
   word-some : (v : Version) (rs : List Request) (r : Request) → wordOf v r (cycled m levels r (stateAt rs) (wordsAt rs) .answer) ≡ [] → ⊥
   unfolding cycleRun

@@ -1,10 +1,5 @@
 -- The trace format in the words of 01 and 02, byte by byte. `proofs/Bytes.antt` shows that header and records are these.
-use Prim.Native.Nat.{_*_, _+_, _<_, _≤_, ℕ}
-use mathlib.Core.List.{_∷_, List}
-use mathlib.Core.Logic.{_⊎_}
-use mathlib.Core.Path.{_≡_}
-use Rattle.strip.specs.Answers.{element}
-use Rattle.strip.specs.declared.Request.the-variants.{Idle, Pop, Push, Replace}
+use Rattle.laws.specs.Prelude.{Idle, List, Pop, Push, Replace, _*_, _+_, _<_, _∷_, _≡_, _≤_, _⊎_, element, ℕ}
 use Rattle.trace_model.specs.declared.Record.{Record}
 use Rattle.trace_model.specs.declared.Record.the-variants.{Bad, Good}
 use Rattle.trace_model.specs.declared.Version.{Version}

@@ -1,6 +1,5 @@
 -- 01's worked trace, one of replaces, one of elements without a tag and two of version 2, and what they give; and six of the format, byte by byte.
-use Prim.Native.Nat.{ℕ}
-use mathlib.Core.List.{[], _++_, _∷_, List}
+use Rattle.laws.specs.Prelude.{List, [], _++_, _∷_, ℕ}
 use Rattle.text.specs.Text.{bytesOf}
 
 -- a record of nine bytes, of a small rank and tag

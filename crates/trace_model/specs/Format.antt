@@ -1,17 +1,5 @@
 -- The trace's bytes: header, records, and the text of a line.
-use Prim.Native.Nat.{_%_, _*_, _+_, _/_, suc, zero, ℕ}
-use mathlib.Core.Bool.{_&&_, Bool, cond, not}
-use mathlib.Core.List.{[], _++_, _∷_, List}
-use lib.Dec.{eqb, leb}
-use lib.ListN.{getD, length}
-use Rattle.strip.specs.Answers.{element}
-use Rattle.strip.specs.declared.Answer.{Answer}
-use Rattle.strip.specs.declared.Answer.the-variants.{Done, Out, Refused}
-use Rattle.strip.specs.declared.Element.{Element}
-use Rattle.strip.specs.declared.Refusal.{Refusal}
-use Rattle.strip.specs.declared.Refusal.the-variants.{BadPort, BadRank, BadShape, Damaged, Empty, Full, NoTag, TooSoon}
-use Rattle.strip.specs.declared.Request.{Request}
-use Rattle.strip.specs.declared.Request.the-variants.{Idle, Pop, Push, Replace}
+use Rattle.laws.specs.Prelude.{Answer, BadPort, BadRank, BadShape, Bool, Damaged, Done, Element, Empty, Full, Idle, List, NoHeap, NoTag, Out, Pop, Push, Refusal, Refused, Replace, Request, TooSoon, [], _%_, _&&_, _*_, _++_, _+_, _/_, _∷_, cond, element, eqb, getD, isBlank, leb, length, not, suc, zero, ℕ}
 use Rattle.text.specs.Text.{bytesOf, decimal}
 use Rattle.trace_model.specs.declared.Header.{Header}
 use Rattle.trace_model.specs.declared.Header.the-variants.{Shape, Wrong}
@@ -19,8 +7,7 @@ use Rattle.trace_model.specs.declared.Record.{Record}
 use Rattle.trace_model.specs.declared.Record.the-variants.{Bad, Good}
 use Rattle.trace_model.specs.declared.Version.{Version}
 use Rattle.trace_model.specs.declared.Version.the-variants.{One, Two}
-use Rattle.tree_model.specs.Calls.{orderOk}
-use Rattle.tree_model.specs.Damage.{room}
+use Rattle.tree_model.specs.Prelude.{orderOk, room}
 
 -- ---- text
 -- "Other words: idle, full, empty"
@@ -40,6 +27,7 @@ refusalWord Full = bytesOf "full"
 refusalWord Empty = bytesOf "empty"
 refusalWord NoTag = bytesOf "no tag"
 refusalWord BadPort = []
+refusalWord NoHeap = []
 
 -- out R T; "an `out` line with a third number" in version 2, "the old lines" in version 1 (02 [9])
 unfoldable pub lengthWord : Version → ℕ → List ℕ
@@ -120,7 +108,7 @@ lengthAt Two bs i = numberAt bs (i + 9)
 -- "Codes are 0 idle, 1 push, 2 pop, 3 replace; every other code is a bad record, and so is a 0 or 2 with rank or tag not 0"; "length 0
 -- too on codes 0 and 2"
 abbrev pub onlyBlank : Element → Request → Record
-onlyBlank e r = cond (eqb (e .rank .0) 0 && (eqb (e .tag .0) 0 && eqb (e .length .0) 0)) (Good r) Bad
+onlyBlank e r = cond (isBlank e) (Good r) Bad
 
 unfoldable pub entryOf : ℕ → Element → Record
 entryOf code e =

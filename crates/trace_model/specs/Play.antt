@@ -1,12 +1,7 @@
 -- The program's steps: what is carried from one to the next, and the text that each writes.
-use Prim.Native.Nat.{_*_, _+_, _/_, _≤_, suc, zero, ℕ}
-use mathlib.Core.Bool.{Bool, cond, false, true}
-use mathlib.Core.List.{[], _++_, _∷_, List}
-use mathlib.Core.Path.{_≡_}
-use lib.Dec.{leb, ltb}
-use lib.ListN.{drop, length, take}
-use Rattle.clocked_model.specs.Calls.{drains, fresh, clearedMachine, cycled}
-use Rattle.clocked_model.specs.declared.State.{State}
+use Rattle.laws.specs.Prelude.{Bool, List, [], _*_, _++_, _+_, _/_, _∷_, _≡_, _≤_, cond, drop, false, leb, length, ltb, suc, take, true, zero, ℕ}
+use Rattle.tree_clock_model.specs.Prelude.{clearedMachine, cycled, drains, fresh}
+use Rattle.tree_clock_model.specs.declared.State.{State}
 use Rattle.text.specs.Text.{overlay}
 use Rattle.trace_model.specs.Format.{badLine, badTrace, headerBytes, headerOf, lineOf, longestLine, recordBytes, recordsOf}
 use Rattle.trace_model.specs.Program.{emptyStore, endOf, nextNumber}

@@ -1,18 +1,14 @@
 -- The trace program whole: from the bytes of standard input to the bytes of standard output.
-use Prim.Native.Nat.{_%_, _*_, _+_, _^_, ℕ}
-use mathlib.Core.List.{[], _++_, _∷_, List}
-use lib.ListN.{drop, replicate}
-use Rattle.clocked_model.specs.Calls.{drains, clearedMachine, cycled}
-use Rattle.clocked_model.specs.declared.State.{State}
-use Rattle.strip.specs.Answers.{countOf}
+use Rattle.laws.specs.Prelude.{List, [], _%_, _*_, _++_, _+_, _^_, _∷_, countOf, drop, replicate, ℕ}
+use Rattle.tree_clock_model.specs.Prelude.{clearedMachine, cycled, drains}
+use Rattle.tree_clock_model.specs.declared.State.{State}
 use Rattle.trace_model.specs.Format.{badLine, badTrace, endLine, headerBytes, headerOf, lineOf, recordsOf, traceLimit}
 use Rattle.trace_model.specs.declared.Header.{Header}
 use Rattle.trace_model.specs.declared.Header.the-variants.{Shape, Wrong}
 use Rattle.trace_model.specs.declared.Record.{Record}
 use Rattle.trace_model.specs.declared.Record.the-variants.{Bad, Good}
 use Rattle.trace_model.specs.declared.Version.{Version}
-use Rattle.tree_model.specs.Calls.{heldCount}
-use Rattle.tree_model.specs.Words.{slotWords}
+use Rattle.tree_model.specs.Prelude.{heldCount, slotWords}
 
 -- the number of the record behind n others, "counted from 1". It has 64 bits: no input has so many records that it turns over
 abbrev pub nextNumber : ℕ → ℕ

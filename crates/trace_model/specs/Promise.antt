@@ -1,12 +1,7 @@
 -- What is promised of a played trace beside its text.
-use Prim.Native.Nat.{ℕ}
-use mathlib.Core.List.{[], _∷_, List}
-use mathlib.Core.Path.{_≡_}
-use lib.ListN.{drop}
-use Rattle.clocked_model.specs.Calls.{clearedMachine, cycled}
-use Rattle.clocked_model.specs.declared.State.{State}
-use Rattle.strip.specs.declared.Refusal.{Refusal}
-use Rattle.strip.specs.declared.Refusal.the-variants.{BadPort, BadRank, BadShape, Damaged, Empty, Full, NoTag, TooSoon}
+use Rattle.laws.specs.Prelude.{BadPort, BadRank, BadShape, Damaged, Empty, Full, List, NoHeap, NoTag, Refusal, TooSoon, [], _∷_, _≡_, drop, ℕ}
+use Rattle.tree_clock_model.specs.Prelude.{clearedMachine, cycled}
+use Rattle.tree_clock_model.specs.declared.State.{State}
 use Rattle.trace_model.specs.Format.{headerBytes, headerOf, recordsOf, wordOf}
 use Rattle.trace_model.specs.Program.{emptyStore}
 use Rattle.trace_model.specs.declared.Header.{Header}
@@ -15,7 +10,7 @@ use Rattle.trace_model.specs.declared.Record.{Record}
 use Rattle.trace_model.specs.declared.Record.the-variants.{Bad, Good}
 use Rattle.trace_model.specs.declared.Version.{Version}
 
--- refusals 1, 2, 4 and 8, which have no word
+-- refusals 1, 2, 4, 8 and 12, which have no word
 abbrev pub Silent : Refusal → Type 0
 Silent BadShape = Unit {0}
 Silent Damaged = Unit {0}
@@ -25,6 +20,7 @@ Silent Full = ⊥
 Silent Empty = ⊥
 Silent NoTag = ⊥
 Silent BadPort = Unit {0}
+Silent NoHeap = Unit {0}
 
 -- every line that these records write has a word
 abbrev pub Worded : Version → ℕ → ℕ → State → List ℕ → List Record → Type 0

@@ -1,6 +1,6 @@
 // The trace program's types. Its definition, from input to output bytes, is in specs/, what follows from it in proofs/.
-use clocked_model::State;
 use strip::Request;
+use tree_clock_model::State;
 
 // The version of a trace: its records are without a length, or with one.
 pub enum Version {

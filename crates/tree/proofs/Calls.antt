@@ -1,44 +1,16 @@
 -- What a call's tests have found makes its outcome.
-use Prim.Native.Nat.{_*_, _+_, _-_, _<_, _≤_, suc, zero, ℕ}
-use native.Mathlib.Nat.{zero-add}
-use native.Mathlib.Numerals.{add-one}
-use native.Mathlib.Omega.{arith}
-use mathlib.Core.Bool.{_&&_, Bool, cond, false, not, true}
-use mathlib.Core.List.{_++_, List}
-use mathlib.Core.Logic.{⊎-elim}
-use mathlib.Core.Path.{_∙_, _≡_, ap, ap₂, refl, sym}
-use lib.ListN.{drop, length, replicate}
-use borrow.Author.Tests.{lt-ltb, not-false, not-true}
-use Rattle.laws.specs.Tests.{and-left, and-right, sub-one}
-use Rattle.node.proofs.Rulings.{pop-empty, pop-takes, push-full, push-puts, push-untagged, replace-empty, replace-swaps, replace-untagged}
-use Rattle.node_scan.proofs.Scan.{low-found}
-use Rattle.node.proofs.Steps.{lowest-in, room-next, room-up, some-test}
-use Rattle.node.specs.Scan.{Capacity}
-use Rattle.strip.specs.Answers.{untagged}
-use Rattle.strip.specs.declared.Answer.{Answer}
-use Rattle.strip.specs.declared.Answer.the-variants.{Done, Out, Refused}
-use Rattle.strip.specs.declared.Count.{Count}
-use Rattle.strip.specs.declared.Count.the-variants.{Held, Unknown}
-use Rattle.strip.specs.declared.Element.{Element}
-use Rattle.strip.specs.declared.Refusal.{Refusal}
-use Rattle.strip.specs.declared.Refusal.the-variants.{BadShape, Damaged, Empty, Full, NoTag}
-use Rattle.strip.specs.declared.Request.{Request}
-use Rattle.strip.specs.declared.Request.the-variants.{Pop, Push, Replace}
-use Rattle.tree_model.proofs.Exactly.{called-bad, called-fine, called-root, called-way, room-less, root-limit, shape-is, words-none}
-use Rattle.tree_model.proofs.Nothing.{op-work}
-use Rattle.tree_model.proofs.Path.{path-none}
-use Rattle.tree_model.proofs.Words.{has-sum, node-length, size-room}
-use Rattle.tree_model.specs.Calls.{called, cleared, heldCount, outcome, rootOf, rootOk, ruling, Ruling, shapeOk, slotLimit, ruleAt, wayOk}
-use Rattle.tree_model.specs.Damage.{hasRoom, hasSome, nodeOk, readOk, room, stepOk}
-use Rattle.tree_model.specs.Levels.{work}
-use Rattle.tree_model.specs.Node.{isNothing, low, lowest, sumCounts}
-use Rattle.tree_model.specs.Promise.{Shape}
-use Rattle.tree_model.specs.Words.{applyWords, levelsOf, nodeOf, slotOf, slotWords, wipe}
+use Rattle.laws.specs.Prelude.{Answer, BadShape, Bool, Count, Damaged, Done, Element, Empty, Full, Held, List, NoTag, Out, Pop, Push, Refusal, Refused, Replace, Request, Unknown, _&&_, _*_, _++_, _+_, _-_, _<_, _∙_, _≡_, _≤_, add-one, and-left, and-right, ap, ap₂, arith, cond, drop, false, length, lt-ltb, not, not-false, not-true, refl, replicate, sub-one, suc, sym, true, untagged, zero, zero-add, ℕ}
+use Rattle.tree_node.proofs.Rulings.{pop-empty, pop-takes, push-full, push-puts, push-untagged, replace-empty, replace-swaps, replace-untagged}
+use Rattle.tree_node.proofs.Scans.{low-found}
+use Rattle.tree_node.proofs.Steps.{lowest-in, room-next, room-up, some-test}
+use Rattle.tree_node.specs.Room.{Capacity}
+use Rattle.tree_model.proofs.Laws.{called-bad, called-fine, called-root, called-way, has-sum, node-length, op-work, order-few, path-none, room-less, root-limit, shape-is, size-room, words-none}
+use Rattle.tree_model.specs.Prelude.{Ruling, Shape, applyWords, called, cleared, hasRoom, hasSome, heldCount, isNothing, levelsOf, low, lowest, nodeOf, nodeOk, outcome, readOk, room, rootOf, rootOk, ruleAt, ruling, shapeOk, slotLimit, slotOf, slotWords, stepOk, sumCounts, wayOk, wipe, work}
 use Rattle.tree_model.specs.declared.Op.{Op}
 use Rattle.tree_model.specs.declared.Op.the-variants.{Nothing, Put, Swap, Take}
 use Rattle.tree_model.specs.declared.Slot.{Slot}
-use Rattle.tree_paths.proofs.Once.{below-ne, on-path, tested}
-use Rattle.tree_paths.specs.Down.{Carried, Looked, Placed, Stands}
+use Rattle.tree_path.proofs.Once.{below-ne, on-path, tested}
+use Rattle.tree_path.specs.Down.{Carried, Looked, Placed, Stands}
 use Rattle.tree.specs.Untagged.{Bars}
 
 -- ---- the shape
@@ -113,7 +85,7 @@ module _ (m levels : ℕ) (ws : List ℕ) (t : Bool) (shaped : t ≡ shapeOk m l
   shape-here = shape-is m levels (length ws) (sym shaped ∙ not-false t yes)
 
   pub shape-few : (0 < m) × (m ≤ 8)
-  shape-few = ⊎-elim (λ e. (omega arith, omega arith)) (λ d. ⊎-elim (λ e. (omega arith, omega arith)) (λ e. (omega arith, omega arith)) d) (shape-here .order)
+  shape-few = order-few shape-here
 
   pub fit : (cap : ℕ) → Capacity m (levels - 1) cap → Fit m levels cap ws
   fit cap count =

@@ -2,22 +2,22 @@
 ghost use mathlib.Core.Path.{_≡_};
 ghost use Rattle.tree_model.specs.Calls.{outcome, called, cleared, heldCount};
 ghost use Rattle.tree.specs.Untagged.{Bars};
-use node::SLOT_WORDS;
-use node::capacity;
-use node::look_low;
-use node::shape_ok;
-use node::slot_at;
-use node::sum_counts;
-use node::zero_words;
 use strip::Answer;
 use strip::Count;
 use strip::Element;
 use strip::Refusal;
 use strip::Request;
 use strip::is_untagged;
-use tree_paths::put;
-use tree_paths::swap;
-use tree_paths::take;
+use tree_node::capacity;
+use tree_node::scan::look_low;
+use tree_node::scan::sum_counts;
+use tree_node::shape_ok;
+use tree_node::slot::SLOT_WORDS;
+use tree_node::slot::slot_at;
+use tree_node::slot::zero_words;
+use tree_path::put;
+use tree_path::swap;
+use tree_path::take;
 
 // How many are held, by the root alone.
 pub fn held(store: &[u32], order: usize, levels: usize) -> Count

@@ -1,29 +1,12 @@
 -- Put, take and swap keep a tree sound, and it holds what it held, with what came in, less what went out.
-use Prim.Native.Nat.{_*_, _+_, _<_, _≤_, pred, suc, zero, ℕ}
-use native.Mathlib.Nat.{le-of-eq, le-of-lt, lt-of-not-le, not-suc-le-zero}
-use native.Mathlib.Omega.{arith}
-use mathlib.Core.Bool.{Bool, false, true}
-use mathlib.Core.Logic.{_⊎_, inl, inr}
-use mathlib.Core.Path.{_∙_, _≡_, refl, subst, sym}
-use lib.Dec.{ltb}
-use lib.ListN.{length, length-set, set}
+use Rattle.laws.specs.Prelude.{All, Bool, Element, _*_, _+_, _<_, _∙_, _≡_, _≤_, _⊎_, all-at, all-map, all-set, arith, blank, false, inl, inr, length, length-set, ltb, ltb-false, ltb-true, not-suc-le-zero, pred, refl, set, subst, suc, sum-set, sym, true, zero, ℕ}
+use native.Mathlib.Nat.{le-of-eq, le-of-lt, lt-of-not-le}
 use lib.Seq.{set-out}
-use borrow.Author.Tests.{ltb-false, ltb-true}
-use Rattle.laws.specs.Lists.{All, all-at, all-map, all-set, sum-set}
-use Rattle.promise.specs.Served.{always, hit, lower}
-use Rattle.strip.specs.Answers.{blank}
-use Rattle.strip.specs.declared.Element.{Element}
+use Rattle.promise.specs.Prelude.{always, hit, lower}
 use Rattle.tree_model.proofs.Choice.{all-slotAt, counts-lower, empty-found, least-in, least-le, lowest-is, none-empty}
 use Rattle.tree_model.proofs.Many.{length-slots, low-least, many-held, none-lower, not-lower, own-suc, own-zero, slot-at, sum-counts}
 use Rattle.tree_model.proofs.Rules.{put-rule, swap-rule, take-rule}
-use Rattle.tree_model.specs.Damage.{room}
-use Rattle.tree_model.specs.Node.{firstEmpty, leastCount, low, lowest, move, opMove, slotAt, vacant}
-use Rattle.tree_model.specs.Rules.{clears, ends, exchanges, goes, passes, Puts, receives, stays, Swaps, Takes}
-use Rattle.tree_model.specs.Tree.{act, at, bare, Can, Fit, gain, held, loss, lowOf, many, nothing, own, slots, something, Sound, Tree, treeMove}
-use Rattle.tree_model.specs.declared.Move.{Move}
-use Rattle.tree_model.specs.declared.Op.{Op}
-use Rattle.tree_model.specs.declared.Op.the-variants.{Nothing, Put, Swap, Take}
-use Rattle.tree_model.specs.declared.Slot.{Slot}
+use Rattle.tree_model.specs.Prelude.{Can, Fit, Move, Nothing, Op, Put, Puts, Slot, Sound, Swap, Swaps, Take, Takes, Tree, act, at, bare, clears, ends, exchanges, firstEmpty, gain, goes, held, leastCount, loss, low, lowOf, lowest, many, move, nothing, opMove, own, passes, receives, room, slotAt, slots, something, stays, treeMove, vacant}
 
 -- a slot that fits, by its count
 fit-nothing : (k : ℕ) (s : Slot) (u : Tree k) → Fit k s u → s .count ≡ 0 → held k u ≡ 0

@@ -1,22 +1,10 @@
 -- Words and levels: the same levels are the same words as far as the capacity goes, and the same words the same levels.
-use Prim.Native.Nat.{_*_, _+_, _-_, _<_, _≤_, suc, zero, ℕ}
-use native.Mathlib.Nat.{add-zero, not-suc-le-zero, suc-mul, zero-add, zero-mul}
-use native.Mathlib.Omega.{arith}
-use mathlib.Core.Bool.{Bool, false, true}
-use mathlib.Core.List.{[], List}
-use mathlib.Core.Path.{_∙_, _≡_, ap, ap₂, refl, subst, sym}
-use lib.Dec.{ltb}
-use lib.ListN.{getD, length}
-use lib.Seq.{ext-getD}
-use borrow.Author.Tests.{ltb-false, ltb-true}
+use Rattle.laws.specs.Prelude.{Bool, List, [], _*_, _+_, _-_, _<_, _∙_, _≡_, _≤_, ap, ap₂, arith, elementWords, ext-getD, false, getD, length, ltb, ltb-false, ltb-true, not-suc-le-zero, refl, subst, suc, suc-mul, sym, true, zero, zero-add, ℕ}
+use native.Mathlib.Nat.{zero-mul}
 use Rattle.tree_model.proofs.Hang.{past}
+use Rattle.strip.proofs.Words.{read-local, same-words as element-words}
 use Rattle.tree_model.proofs.Words.{level-ext, level-node, node-slot, size-room, slot-path, tab-ext}
-use Rattle.tree_model.specs.Damage.{room}
-use Rattle.tree_model.specs.Levels.{Level, Levels}
-use Rattle.tree_model.specs.Node.{slotAt}
-use Rattle.tree_model.specs.Promise.{Agree}
-use Rattle.tree_model.specs.Words.{levelOf, levelsOf, nodeOf, size, slotOf, slotWords}
-use Rattle.tree_model.specs.declared.Slot.{Slot}
+use Rattle.tree_model.specs.Prelude.{Agree, Level, Levels, Slot, levelOf, levelsOf, nodeOf, room, size, slotAt, slotOf, slotWords}
 
 -- a number below c * m by its row and its place
 pub record Place (m c i : ℕ) : Type 0 where
@@ -59,36 +47,38 @@ module _ (m : ℕ) where
           let at : b + c * m + (i - c * m) ≡ b + i = omega arith in
           subst (λ (n : ℕ). slotOf ws n ≡ slotOf vs n) at (ih (omega arith))
 
--- a word of a slot
-slot-word : (ws vs : List ℕ) (i j : ℕ) → j < 4 → slotOf ws i ≡ slotOf vs i → getD ws (4 * i + j) 0 ≡ getD vs (4 * i + j) 0
+-- a word of a slot: one of its element's, or the count
+slot-word : (ws vs : List ℕ) (i j : ℕ) → j < slotWords → slotOf ws i ≡ slotOf vs i → getD ws (slotWords * i + j) 0 ≡ getD vs (slotWords * i + j) 0
 unfolding slotOf
-slot-word ws vs i zero h e = rw add-zero (ap (λ (s : Slot). s .element .rank .0) e)
-slot-word ws vs i (suc zero) h e = ap (λ (s : Slot). s .element .tag .0) e
-slot-word ws vs i (suc (suc zero)) h e = ap (λ (s : Slot). s .element .length .0) e
-slot-word ws vs i (suc (suc (suc zero))) h e = ap (λ (s : Slot). s .count) e
-slot-word ws vs i (suc (suc (suc (suc j)))) h e = absurd (omega arith)
+slot-word ws vs i j h e = go (ltb j elementWords) refl
+  where
+    go : (b : Bool) → ltb j elementWords ≡ b → getD ws (slotWords * i + j) 0 ≡ getD vs (slotWords * i + j) 0
+    go true l = element-words ws vs (slotWords * i) j (ltb-true j elementWords l) (ap (λ (s : Slot). s .element) e)
+    go false l =
+        let at : j ≡ elementWords = omega (arith, ltb-false j elementWords l) in
+        rw at (ap (λ (s : Slot). s .count) e)
 
 -- the same levels are the same words, as far as the capacity goes
 pub levels-words : (m k : ℕ) (ws vs : List ℕ) → levelsOf m k ws 0 1 ≡ levelsOf m k vs 0 1 → Agree (room m k) ws vs
 levels-words m k ws vs e a lt =
-    let d = place-of 4 (room m k) a (omega arith) in
-    let at : a ≡ 4 * d .row + d .place = omega (arith, d .is) in
+    let d = place-of slotWords (room m k) a (omega arith) in
+    let at : a ≡ slotWords * d .row + d .place = omega (arith, d .is) in
     let in-size : d .row < size m k 1 = omega (arith, d .in-rows, size-room m k 1) in
     let slot : slotOf ws (d .row) ≡ slotOf vs (d .row) = subst (λ (n : ℕ). slotOf ws n ≡ slotOf vs n) (zero-add (d .row)) (levels-slots m k ws vs 0 1 e (d .row) in-size) in
     rw at (slot-word ws vs (d .row) (d .place) (d .in-row) slot)
 
 pub same-words : (m k : ℕ) (ws vs : List ℕ) → length ws ≡ length vs → levelsOf m k ws 0 1 ≡ levelsOf m k vs 0 1
     → ((a : ℕ) → slotWords * room m k ≤ a → getD ws a 0 ≡ getD vs a 0) → ws ≡ vs
-same-words m k ws vs len e past = ext-getD 0 ws vs len (λ a h. go a (ltb a (4 * room m k)) refl)
+same-words m k ws vs len e past = ext-getD 0 ws vs len (λ a h. go a (ltb a (slotWords * room m k)) refl)
   where
-    go : (a : ℕ) (t : Bool) → ltb a (4 * room m k) ≡ t → getD ws a 0 ≡ getD vs a 0
-    go a false q = past a (ltb-false a (4 * room m k) q)
-    go a true q = levels-words m k ws vs e a (ltb-true a (4 * room m k) q)
+    go : (a : ℕ) (t : Bool) → ltb a (slotWords * room m k) ≡ t → getD ws a 0 ≡ getD vs a 0
+    go a false q = past a (ltb-false a (slotWords * room m k) q)
+    go a true q = levels-words m k ws vs e a (ltb-true a (slotWords * room m k) q)
 
 -- .. and the same words are the same slots, nodes and levels
 pub words-slot : (n : ℕ) (ws vs : List ℕ) → Agree n ws vs → (i : ℕ) → i < n → slotOf ws i ≡ slotOf vs i
 unfolding slotOf
-words-slot n ws vs e i h = slot-path (e (4 * i) (omega arith)) (e (4 * i + 1) (omega arith)) (e (4 * i + 2) (omega arith)) (e (4 * i + 3) (omega arith))
+words-slot n ws vs e i h = slot-path (read-local vs ws (slotWords * i) (λ p l r. e p (omega arith))) (e (slotWords * i + elementWords) (omega arith))
 
 pub words-levels : (m k n : ℕ) (ws vs : List ℕ) → Agree n ws vs → (b c : ℕ) → b + size m k c ≤ n → levelsOf m k ws b c ≡ levelsOf m k vs b c
 unfolding levelsOf size

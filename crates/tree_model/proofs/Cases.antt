@@ -1,13 +1,7 @@
 -- Lengths on their way, and orders 4 and 8, computed from the definitions.
-use mathlib.Core.Path.{_≡_, refl}
-use Rattle.promise.specs.Queue.{answers, leaves}
-use Rattle.strip.specs.Answers.{blank, key, untagged, precedes}
-use Rattle.tree_model.specs.Calls.{called, cleared, orderOk, rule, shapeOk}
-use Rattle.tree_model.specs.Cases.{caseLengthAnswers, caseLengthAnswersSay, caseLengths, caseLengthsSays, caseOrders, caseOrdersSays}
-use Rattle.tree_model.specs.Damage.{workOk, hasRoom, hasSome, isBlank, lifts, nodeOk, pathOk, readOk, room, slotOk, stepOk}
-use Rattle.tree_model.specs.Levels.{levelMove, stepWork, top, work}
-use Rattle.tree_model.specs.Node.{every, firstEmpty, isEmpty, isNothing, keep, leastCount, low, lowest, opMove, pass, putBy, putMove, seek, slotAt, sumCounts, swapBy, swapMove, takeBy, takeMove, vacant}
-use Rattle.tree_model.specs.Words.{applyWords, levelOf, levelsOf, nodeOf, slotOf, stepWords, tabulate, wipe, write}
+use Rattle.laws.specs.Prelude.{_≡_, blank, key, precedes, refl, untagged}
+use Rattle.promise.specs.Prelude.{answers, leaves}
+use Rattle.tree_model.specs.Prelude.{applyWords, called, caseLengthAnswers, caseLengthAnswersSay, caseLengths, caseLengthsSays, caseOrders, caseOrdersSays, cleared, every, firstEmpty, hasRoom, hasSome, isBlank, isEmpty, isNothing, keep, leastCount, levelMove, levelOf, levelsOf, lifts, low, lowest, nodeOf, nodeOk, opMove, orderOk, pass, pathOk, putBy, putMove, readOk, room, rule, seek, shapeOk, slotAt, slotOf, slotOk, stepOk, stepWords, stepWork, sumCounts, swapBy, swapMove, tabulate, takeBy, takeMove, top, vacant, wipe, work, workOk, write}
 
 pub case-lengths : caseLengths ≡ caseLengthsSays
 unfolding caseLengths leaves blank key precedes untagged vacant isEmpty seek every firstEmpty leastCount lowest slotAt low keep pass putBy putMove takeBy takeMove swapBy swapMove opMove isNothing sumCounts work top levelMove stepWork room isBlank slotOk nodeOk hasRoom hasSome readOk lifts stepOk workOk pathOk slotOf write wipe tabulate nodeOf levelOf levelsOf stepWords applyWords orderOk shapeOk rule called cleared

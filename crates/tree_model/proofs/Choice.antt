@@ -1,20 +1,8 @@
 -- The laws of the three choices of a slot. What comes after goes by these laws alone.
-use Prim.Native.Nat.{_*_, _+_, _<_, _≤_, suc, zero, ℕ}
-use native.Mathlib.Nat.{le-of-lt, le-of-suc-le-suc, not-suc-le-zero}
-use native.Mathlib.Omega.{arith}
-use mathlib.Core.Bool.{_&&_, _||_, Bool, cond, false, not, true, true≢false}
-use mathlib.Core.List.{[], _∷_, List}
-use mathlib.Core.Path.{_≡_, ap, refl, subst, sym}
-use lib.Dec.{leb, ltb}
-use lib.ListN.{getD, length}
-use borrow.Author.Tests.{eqb-false, eqb-true, leb-false, leb-true, ltb-false, ltb-true, ne-eqb}
-use Rattle.laws.specs.Lists.{All, all-at, all-map}
-use Rattle.laws.specs.Tests.{and-left, and-right}
+use Rattle.laws.specs.Prelude.{All, Bool, Element, List, [], _&&_, _*_, _+_, _<_, _||_, _∷_, _≡_, _≤_, all-at, all-map, and-left, and-right, ap, arith, cond, eqb-false, eqb-true, false, getD, le-of-suc-le-suc, leb, leb-false, leb-true, length, ltb, ltb-false, ltb-true, ne-eqb, not, not-suc-le-zero, precedes, refl, subst, suc, sym, true, true≢false, zero, ℕ}
+use native.Mathlib.Nat.{le-of-lt}
 use Rattle.strip.proofs.Order.{Before, before-not, before-upto, UpTo, upto-before, upto-rank, upto-self}
-use Rattle.strip.specs.Answers.{precedes}
-use Rattle.strip.specs.declared.Element.{Element}
-use Rattle.tree_model.specs.Node.{every, firstEmpty, isEmpty, leastCount, lowest, seek, slotAt, sumCounts, vacant}
-use Rattle.tree_model.specs.declared.Slot.{Slot}
+use Rattle.tree_model.specs.Prelude.{Slot, every, firstEmpty, isEmpty, leastCount, lowest, seek, slotAt, sumCounts, vacant}
 
 -- ---- the first empty slot
 pub empty-found : (nd : List Slot) → firstEmpty nd < length nd → slotAt nd (firstEmpty nd) .count ≡ 0

@@ -1,21 +1,8 @@
 -- 01's worked case 9, at the limits of 02 [7]: "case 9's refused 7, 12 and 5 levels become 9, 16 and 6". The words are any that are long enough, so that
 -- the capacity decides.
-use Prim.Native.Nat.{_<_, ℕ}
-use native.Mathlib.Omega.{arith}
-use mathlib.Core.Bool.{Bool, cond, false, true}
-use mathlib.Core.List.{List}
-use mathlib.Core.Logic.{inl, inr, ⊎-elim}
-use mathlib.Core.Path.{_≡_, refl}
-use lib.ListN.{length}
-use Rattle.strip.specs.Answers.{numberOf}
-use Rattle.strip.specs.declared.Answer.the-variants.{Done, Refused}
-use Rattle.strip.specs.declared.Refusal.the-variants.{BadShape}
+use Rattle.laws.specs.Prelude.{BadShape, Bool, Done, List, Refused, _<_, _≡_, arith, cond, false, inl, inr, length, numberOf, refl, true, ℕ, ⊎-elim}
 use Rattle.tree_model.proofs.Exactly.{is-shape, shape-is}
-use Rattle.tree_model.specs.Calls.{cleared, outcome, shapeOk, slotLimit}
-use Rattle.tree_model.specs.Damage.{room}
-use Rattle.tree_model.specs.Edge.{Edge}
-use Rattle.tree_model.specs.Promise.{Shape}
-use Rattle.tree_model.specs.Words.{wipe}
+use Rattle.tree_model.specs.Prelude.{Edge, Shape, cleared, outcome, room, shapeOk, slotLimit, wipe}
 
 -- a shape is taken, and what is none is refused
 taken : (m levels : ℕ) (ws : List ℕ) → Shape m levels (length ws) → numberOf (cleared m levels ws .answer) ≡ 0

@@ -1,59 +1,13 @@
 -- Every refusal is given exactly for its cause.
 -- ---- each test for damage fails exactly where the node, the step or the path is damaged
-use Prim.Native.Nat.{_*_, _+_, _<_, _≤_, pred, suc, zero, ℕ}
-use native.Mathlib.Nat.{not-suc-le-zero}
-use native.Mathlib.Omega.{arith}
-use mathlib.Core.Bool.{_&&_, _||_, Bool, false, false≢true, not, true, true≢false}
-use mathlib.Core.List.{[], _∷_, List}
-use mathlib.Core.Logic.{_⊎_, inl, inr, ⊎-elim}
-use mathlib.Core.Path.{_∙_, _≡_, ap, refl, subst, sym}
-use lib.Dec.{eqb, leb, ltb}
-use lib.ListN.{getD, length}
+use Rattle.laws.specs.Prelude.{All, BadShape, Bool, Count, Damaged, Done, Exactly, Fails, Held, Idle, List, Means, Pop, Push, Refusal, Refused, Replace, Request, Unknown, [], _*_, _+_, _<_, _||_, _∙_, _∷_, _≡_, _≤_, _⊎_, and-left, and-right, ap, arith, countNumber, eq-eqb, eqb, eqb-true, fails-and, fails-every, fails-leb, fails-not-eqb, fails-not-every, fails-or, fails-true, false, false≢true, getD, inl, inr, le-ltb, leb, leb-true, length, ltb, ltb-false, ltb-true, means-and, means-by, means-leb, not, not-suc-le-zero, numberOf, or-right, pred, refl, refusalNumber, subst, suc, sym, true, true≢false, zero, ℕ, ⊎-elim}
 use lib.Seq.{slice}
-use borrow.Author.Tests.{eq-eqb, eqb-false, eqb-true, le-ltb, leb-true, ltb-false, ltb-true}
-use Rattle.laws.specs.Fails.{Fails, fails-and, fails-every, fails-leb, fails-not-eqb, fails-not-every, fails-or, fails-true}
-use Rattle.laws.specs.Ladder.{Exactly}
-use Rattle.laws.specs.Lists.{All}
-use Rattle.laws.specs.Means.{Means, means-and, means-by, means-leb}
-use Rattle.laws.specs.Tests.{and-left, and-right, or-right}
 use Rattle.promise.proofs.Calls as calls
 use Rattle.promise.proofs.Calls.{last-guards, last-told, said, Tested}
-use Rattle.promise.specs.Calls.{left}
-use Rattle.promise.specs.Served.{Kind}
-use Rattle.promise.specs.Tagged.{Barred}
-use Rattle.strip.specs.Answers.{countNumber, numberOf, refusalNumber}
-use Rattle.strip.specs.declared.Answer.the-variants.{Done, Refused}
-use Rattle.strip.specs.declared.Count.{Count}
-use Rattle.strip.specs.declared.Count.the-variants.{Held, Unknown}
-use Rattle.strip.specs.declared.Element.{Element}
-use Rattle.strip.specs.declared.Refusal.{Refusal}
-use Rattle.strip.specs.declared.Refusal.the-variants.{BadShape, Damaged}
-use Rattle.strip.specs.declared.Request.{Request}
-use Rattle.strip.specs.declared.Request.the-variants.{Idle, Pop, Push, Replace}
+use Rattle.promise.specs.Prelude.{Barred, Kind, blank-fails, left}
 use Rattle.tree_model.proofs.Nothing.{op-work, work-none}
 use Rattle.tree_model.proofs.Words.{node-length}
-use Rattle.tree_model.specs.Calls.{called, cleared, heldCount, orderOk, Outcome, outcome, rootOf, rootOk, rule, Ruling, shapeOk, slotLimit, ruleAt, tree, wayOk}
-use Rattle.tree_model.specs.Damage.{workOk, hasRoom, hasSome, isBlank, lifts, nodeOk, pathOk, readOk, room, slotOk, stepOk}
-use Rattle.tree_model.specs.Levels.{Level, Levels, stepWork, top, work}
-use Rattle.tree_model.specs.Node.{every, isEmpty, isNothing, lowest, slotAt, sumCounts}
-use Rattle.tree_model.specs.Promise.{clearRefusals, heldRefusals, Lifts, NodeDamaged, PathDamaged, ReadDamaged, refusals, Shape, SlotDamaged, Some, StepDamaged, WorkDamaged}
-use Rattle.tree_model.specs.Words.{applyWords, levelOf, levelsOf, stepWords, under, wipe}
-use Rattle.tree_model.specs.declared.Op.{Op}
-use Rattle.tree_model.specs.declared.Op.the-variants.{Nothing, Put, Swap, Take}
-use Rattle.tree_model.specs.declared.Slot.{Slot}
-use Rattle.tree_model.specs.declared.Work.{Work}
-
-pub blank-fails : (e : Element) → Fails (isBlank e) ((e .rank .0 ≡ 0) × (e .tag .0 ≡ 0) × (e .length .0 ≡ 0) → ⊥)
-unfolding isBlank
-blank-fails e = go (eqb (e .rank .0) 0) refl (eqb (e .tag .0) 0) refl (eqb (e .length .0) 0) refl
-  where
-    go : (a : Bool) → eqb (e .rank .0) 0 ≡ a → (b : Bool) → eqb (e .tag .0) 0 ≡ b → (c : Bool) → eqb (e .length .0) 0 ≡ c
-        → Fails (a && (b && c)) ((e .rank .0 ≡ 0) × (e .tag .0 ≡ 0) × (e .length .0 ≡ 0) → ⊥)
-    go true p true q true u =
-        record { found = λ z. absurd (true≢false z); shown = λ h. absurd (h (eqb-true (e .rank .0) 0 p, eqb-true (e .tag .0) 0 q, eqb-true (e .length .0) 0 u)) }
-    go true p true q false u = record { found = λ z d. eqb-false (e .length .0) 0 u (d .2); shown = λ h. refl }
-    go true p false q c u = record { found = λ z d. eqb-false (e .tag .0) 0 q (d .1); shown = λ h. refl }
-    go false p b q c u = record { found = λ z d. eqb-false (e .rank .0) 0 p (d .0); shown = λ h. refl }
+use Rattle.tree_model.specs.Prelude.{Level, Levels, Lifts, NodeDamaged, Nothing, Op, Outcome, PathDamaged, Put, ReadDamaged, Ruling, Shape, Slot, SlotDamaged, Some, StepDamaged, Swap, Take, Work, WorkDamaged, applyWords, called, clearRefusals, cleared, every, hasRoom, hasSome, heldCount, heldRefusals, isBlank, isEmpty, isNothing, levelOf, levelsOf, lifts, lowest, nodeOk, orderOk, outcome, pathOk, readOk, refusals, room, rootOf, rootOk, rule, ruleAt, shapeOk, slotAt, slotLimit, slotOk, stepOk, stepWords, stepWork, sumCounts, top, tree, under, wayOk, wipe, work, workOk}
 
 slot-fails : (r : ℕ) (s : Slot) → Fails (slotOk r s) (SlotDamaged r s)
 unfolding slotOk isEmpty
@@ -149,8 +103,11 @@ shape-is m levels len = shape-means m levels len .says
 pub is-shape : (m levels len : ℕ) → Shape m levels len → shapeOk m levels len ≡ true
 is-shape m levels len = shape-means m levels len .holds
 
+pub order-few : {m levels len : ℕ} → Shape m levels len → (0 < m) × (m ≤ 8)
+order-few s = ⊎-elim (λ e. (omega arith, omega arith)) (λ d. ⊎-elim (λ e. (omega arith, omega arith)) (λ e. (omega arith, omega arith)) d) (s .order)
+
 pub order-pos : {m levels len : ℕ} → Shape m levels len → 0 < m
-order-pos s = ⊎-elim (λ e. omega arith) (λ d. ⊎-elim (λ e. omega arith) (λ e. omega arith) d) (s .order)
+order-pos s = order-few s .0
 
 -- ---- a root that is in order holds at most the capacity
 pub slot-limit : (r : ℕ) (s : Slot) → slotOk r s ≡ true → s .count ≤ suc r

@@ -1,26 +1,12 @@
 -- An operation at a node of a store is the operation on the tree that hangs there, and leaves every other node's tree as it was.
-use Prim.Native.Nat.{_*_, _+_, _<_, _≤_, pred, suc, zero, ℕ}
-use native.Mathlib.Nat.{le-of-eq, le-of-suc-le-suc, lt-of-not-le, mul-le-mul-right, not-suc-le-zero}
-use native.Mathlib.Omega.{arith}
-use mathlib.Core.List.{[], _∷_, List, map}
-use mathlib.Core.Logic.{_≢_, _⊎_, inl, inr, ⊎-elim}
-use mathlib.Core.Path.{_∙_, _≡_, ap, ap₂, refl, subst, sym}
-use lib.ListN.{getD, length, length-map, length-set, List·getD-eq-default, set}
-use lib.Seq.{getD-set-other, getD-set-same, set-out}
-use Rattle.laws.specs.Lists.{All, all-at, all-set′}
-use Rattle.strip.specs.declared.Element.{Element}
+use Rattle.laws.specs.Prelude.{All, Element, List, [], _*_, _+_, _<_, _∙_, _∷_, _≡_, _≢_, _≤_, _⊎_, all-at, all-set′, ap, ap₂, arith, getD, getD-set-other, getD-set-same, inl, inr, le-of-suc-le-suc, length, length-map, length-set, map, mul-le-mul-right, not-suc-le-zero, pred, refl, set, subst, suc, sym, zero, ℕ, ⊎-elim}
+use native.Mathlib.Nat.{le-of-eq, lt-of-not-le}
+use lib.ListN.{List·getD-eq-default}
+use lib.Seq.{set-out}
 use Rattle.tree_model.proofs.Choice.{least-in}
 use Rattle.tree_model.proofs.Nothing.{apply-none}
 use Rattle.tree_model.proofs.Rules.{put-rule, swap-rule, take-rule}
-use Rattle.tree_model.specs.Levels.{apply, idle, Level, levelMove, Levels, Shaped, stepLevel, stepWork, top, work}
-use Rattle.tree_model.specs.Node.{low, lowest, move, opMove, slotAt, swapMove, takeMove, vacant}
-use Rattle.tree_model.specs.Rules.{clears, ends, exchanges, goes, passes, Puts, receives, stays, Swaps, Takes}
-use Rattle.tree_model.specs.Tree.{act, at, bare, hang, lowOf, slots, Tree, treeMove, treeOf}
-use Rattle.tree_model.specs.declared.Move.{Move}
-use Rattle.tree_model.specs.declared.Op.{Op}
-use Rattle.tree_model.specs.declared.Op.the-variants.{Nothing, Put, Swap, Take}
-use Rattle.tree_model.specs.declared.Slot.{Slot}
-use Rattle.tree_model.specs.declared.Work.{Work}
+use Rattle.tree_model.specs.Prelude.{Level, Levels, Move, Nothing, Op, Put, Puts, Shaped, Slot, Swap, Swaps, Take, Takes, Tree, Work, act, apply, at, bare, clears, ends, exchanges, goes, hang, idle, levelMove, low, lowOf, lowest, move, opMove, passes, receives, slotAt, slots, stays, stepLevel, stepWork, swapMove, takeMove, top, treeMove, treeOf, vacant, work}
 
 -- ---- a node's slots with their trees
 module _ {T : Type 0} where

@@ -1,34 +1,8 @@
 -- The length decides nothing: two histories alike but for lengths are answered alike but for lengths.
-use Prim.Native.Nat.{_*_, _+_, suc, zero, ℕ}
-use native.Mathlib.Nat.{not-suc-le-zero}
-use mathlib.Core.Bool.{_&&_, _||_, Bool, cond, false, not, true}
-use mathlib.Core.List.{[], _∷_, List, map}
-use mathlib.Core.Path.{_∙_, _≡_, ap, ap₂, refl, sym}
-use lib.Dec.{eqb, leb, ltb}
-use lib.ListN.{getD, length, replicate, set}
-use Rattle.promise.specs.Queue.{answers}
-use Rattle.strip.specs.Answers.{blank, key, precedes, untagged}
-use Rattle.strip.specs.declared.Answer.{Answer}
-use Rattle.strip.specs.declared.Answer.the-variants.{Done, Out, Refused}
-use Rattle.strip.specs.declared.Element.{Element}
-use Rattle.strip.specs.declared.Refusal.the-variants.{Empty, Full, NoTag}
-use Rattle.strip.specs.declared.Request.{Request}
-use Rattle.strip.specs.declared.Request.the-variants.{Idle, Pop, Push, Replace}
+use Rattle.laws.specs.Prelude.{Answer, Bool, Done, Element, Empty, Full, Idle, List, NoTag, Out, Pop, Push, Refused, Replace, Request, [], _&&_, _*_, _+_, _||_, _∙_, _∷_, _≡_, ap, ap₂, blank, cond, eqb, false, getD, key, leb, length, ltb, map, not, not-suc-le-zero, precedes, refl, replicate, set, suc, sym, true, untagged, zero, ℕ}
+use Rattle.promise.specs.Prelude.{answers, short, shortAnswer, shortRequest}
 use Rattle.tree_model.proofs.Promises.{called-kept, Kept, kept-answer, kept-words, said, start-bare, start-kept}
-use Rattle.tree_model.specs.Calls.{called, rule, Ruling, ruling}
-use Rattle.tree_model.specs.Damage.{room}
-use Rattle.promise.specs.Lengths.{short, shortAnswer, shortRequest}
-use Rattle.tree_model.specs.Lengths.{shortLevel, shortLevels, shortNode, shortOp, shortSlot}
-use Rattle.tree_model.specs.Levels.{apply, Level, levelMove, Levels, stepLevel, stepWork, top, work}
-use Rattle.tree_model.specs.Node.{every, firstEmpty, isEmpty, keep, leastCount, low, lowest, opMove, pass, putBy, putMove, seek, slotAt, sumCounts, swapBy, swapMove, takeBy, takeMove, vacant}
-use Rattle.tree_model.specs.Promise.{Shape, start, treeQueue}
-use Rattle.tree_model.specs.Serve.{bareLevels, ruled, serve}
-use Rattle.tree_model.specs.Words.{levelsOf}
-use Rattle.tree_model.specs.declared.Move.{Move}
-use Rattle.tree_model.specs.declared.Op.{Op}
-use Rattle.tree_model.specs.declared.Op.the-variants.{Nothing, Put, Swap, Take}
-use Rattle.tree_model.specs.declared.Slot.{Slot}
-use Rattle.tree_model.specs.declared.Work.{Work}
+use Rattle.tree_model.specs.Prelude.{Level, Levels, Move, Nothing, Op, Put, Ruling, Shape, Slot, Swap, Take, Work, apply, bareLevels, called, every, firstEmpty, isEmpty, keep, leastCount, levelMove, levelsOf, low, lowest, opMove, pass, putBy, putMove, room, rule, ruled, ruling, seek, serve, shortLevel, shortLevels, shortNode, shortOp, shortSlot, slotAt, start, stepLevel, stepWork, sumCounts, swapBy, swapMove, takeBy, takeMove, top, treeQueue, vacant, work}
 
 -- ---- lists
 module _ {A B : Type 0} (f : A → B) where

@@ -1,20 +1,21 @@
-pub mod Nothing
-pub mod Choice
-pub mod Rules
-pub mod Many
-pub mod Acts
-pub mod Hang
-pub mod Path
-pub mod Words
-pub mod Serve
+mod Nothing
+mod Choice
+mod Rules
+mod Many
+mod Acts
+mod Hang
+mod Path
+mod Words
+mod Serve
 pub mod Exactly
 pub mod Promises
-pub mod Place
-pub mod Root
-pub mod Slice
-pub mod Agreement
-pub mod Unread
-pub mod Tags
-pub mod Cases
-pub mod Edge
-pub mod Lengths
+mod Place
+mod Root
+mod Slice
+mod Agreement
+mod Unread
+mod Tags
+mod Cases
+mod Edge
+mod Lengths
+pub mod Laws

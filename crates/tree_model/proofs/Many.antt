@@ -1,21 +1,9 @@
 -- How many elements of a tree pass a test; the sum of a sound node's counts; the lowest rank of a sound tree.
-use Prim.Native.Nat.{_*_, _+_, _<_, _≤_, suc, zero, ℕ}
-use native.Mathlib.Omega.{arith}
-use mathlib.Core.Bool.{Bool, false, true}
-use mathlib.Core.List.{[], _∷_}
-use mathlib.Core.Path.{_≡_, ap, refl, subst, sym}
-use lib.Dec.{ltb}
-use lib.ListN.{length, length-map, List·getD-map}
-use borrow.Author.Tests.{le-ltb, lt-ltb, ltb-true}
-use Rattle.laws.specs.Lists.{All, all-any, all-both, all-map, all-of-map, sum-le, sum-upper, sum-zero, sumOf}
-use Rattle.promise.specs.Served.{always, hit, lower}
-use Rattle.strip.specs.Answers.{key}
-use Rattle.strip.specs.declared.Element.{Element}
+use Rattle.laws.specs.Prelude.{All, Bool, Element, [], _*_, _+_, _<_, _∷_, _≡_, _≤_, all-any, all-both, all-map, all-of-map, ap, arith, false, key, le-ltb, length, length-map, lt-ltb, ltb, ltb-true, refl, subst, suc, sum-le, sum-upper, sum-zero, sumOf, sym, true, zero, ℕ}
+use lib.ListN.{List·getD-map}
+use Rattle.promise.specs.Prelude.{always, hit, lower}
 use Rattle.tree_model.proofs.Choice.{lowest-is, lowest-ranks}
-use Rattle.tree_model.specs.Damage.{room}
-use Rattle.tree_model.specs.Node.{low, slotAt, sumCounts, vacant}
-use Rattle.tree_model.specs.Tree.{at, bare, Fit, held, lowOf, many, nothing, own, ownBy, slots, something, Sound, Tree}
-use Rattle.tree_model.specs.declared.Slot.{Slot}
+use Rattle.tree_model.specs.Prelude.{Fit, Slot, Sound, Tree, at, bare, held, low, lowOf, many, nothing, own, ownBy, room, slotAt, slots, something, sumCounts, vacant}
 
 pub hit-le : (b : Bool) → hit b ≤ 1
 hit-le true = omega arith

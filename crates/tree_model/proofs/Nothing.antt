@@ -1,17 +1,8 @@
 -- No work changes nothing.
-use Prim.Native.Nat.{suc, zero, ℕ}
+use Rattle.laws.specs.Prelude.{List, [], _∙_, _≡_, ap, ap₂, false≢true, getD, refl, set, set-getD, suc, true, zero, ℕ}
 use native.Mathlib.Nat.{le-refl}
-use mathlib.Core.Bool.{false≢true, true}
-use mathlib.Core.List.{[], List}
-use mathlib.Core.Path.{_∙_, _≡_, ap, ap₂, refl}
-use lib.ListN.{getD, set}
-use lib.Seq.{set-getD, set-out}
-use Rattle.tree_model.specs.Levels.{apply, idle, Level, levelMove, Levels, stepLevel, stepWork, top, work}
-use Rattle.tree_model.specs.Node.{isNothing, opMove}
-use Rattle.tree_model.specs.declared.Op.{Op}
-use Rattle.tree_model.specs.declared.Op.the-variants.{Nothing, Put, Swap, Take}
-use Rattle.tree_model.specs.declared.Slot.{Slot}
-use Rattle.tree_model.specs.declared.Work.{Work}
+use lib.Seq.{set-out}
+use Rattle.tree_model.specs.Prelude.{Level, Levels, Nothing, Op, Put, Slot, Swap, Take, Work, apply, idle, isNothing, levelMove, opMove, stepLevel, stepWork, top, work}
 
 pub is-none : (o : Op) → isNothing o ≡ true → o ≡ Nothing
 unfolding isNothing

@@ -1,30 +1,12 @@
 -- In a sound store an operation that can be done finds its path in order.
-use Prim.Native.Nat.{_*_, _+_, _<_, pred, suc, zero, ℕ}
-use native.Mathlib.Nat.{not-suc-le-zero}
-use native.Mathlib.Omega.{arith}
-use mathlib.Core.Bool.{_||_, Bool, false, not, true}
-use mathlib.Core.List.{[], _∷_, List}
-use mathlib.Core.Path.{_∙_, _≡_, ap, refl, subst, sym}
-use lib.Dec.{eqb, leb, leb·zero, ltb}
-use lib.ListN.{getD, length}
-use borrow.Author.Tests.{eqb-true, le-leb, leb-false, lt-ltb, ne-eqb}
-use Rattle.laws.specs.Lists.{All, all-map, all-to-map}
-use Rattle.laws.specs.Tests.{and-left, and-right, and-true, not-so, or-right}
-use Rattle.strip.specs.Answers.{blank}
+use Rattle.laws.specs.Prelude.{All, Bool, List, [], _*_, _+_, _<_, _||_, _∙_, _∷_, _≡_, all-map, all-to-map, and-left, and-right, and-true, ap, arith, blank, eqb, eqb-true, false, getD, le-leb, leb, leb-false, length, lt-ltb, ltb, ne-eqb, not, not-so, not-suc-le-zero, or-right, pred, refl, subst, suc, sym, true, zero, ℕ}
+use lib.Dec.{leb·zero}
 use Rattle.tree_model.proofs.Acts.{rest-can, some-below, sub-sound}
 use Rattle.tree_model.proofs.Choice.{counts-lower, every-all}
 use Rattle.tree_model.proofs.Hang.{below-less, hang-at, Inside, inside, own-length, rest-inside, same-move, slots-hang}
 use Rattle.tree_model.proofs.Many.{held-room, length-slots, sum-counts}
 use Rattle.tree_model.proofs.Nothing.{work-none}
-use Rattle.tree_model.specs.Damage.{workOk, hasRoom, hasSome, isBlank, lifts, nodeOk, pathOk, readOk, room, slotOk, stepOk}
-use Rattle.tree_model.specs.Levels.{idle, Level, levelMove, Levels, Shaped, stepWork, top, work}
-use Rattle.tree_model.specs.Node.{every, isEmpty, isNothing, lowest, slotAt, sumCounts, vacant}
-use Rattle.tree_model.specs.Tree.{at, Can, Fit, held, many, nothing, slots, something, Sound, Tree, treeOf}
-use Rattle.tree_model.specs.declared.Move.{Move}
-use Rattle.tree_model.specs.declared.Op.{Op}
-use Rattle.tree_model.specs.declared.Op.the-variants.{Nothing, Put, Swap, Take}
-use Rattle.tree_model.specs.declared.Slot.{Slot}
-use Rattle.tree_model.specs.declared.Work.{Work}
+use Rattle.tree_model.specs.Prelude.{Can, Fit, Level, Levels, Move, Nothing, Op, Put, Shaped, Slot, Sound, Swap, Take, Tree, Work, at, every, hasRoom, hasSome, held, idle, isBlank, isEmpty, isNothing, levelMove, lifts, lowest, many, nodeOk, nothing, pathOk, readOk, room, slotAt, slotOk, slots, something, stepOk, stepWork, sumCounts, top, treeOf, vacant, work, workOk}
 
 pub all-every : (f : Slot → Bool) (ss : List Slot) → All (λ u. f u ≡ true) ss → every f ss ≡ true
 unfolding every

@@ -1,29 +1,12 @@
 -- The step of a level, by the words of its node and of the nodes below it.
-use Prim.Native.Nat.{_*_, _+_, _<_, _≤_, pred, suc, zero, ℕ}
-use native.Mathlib.Nat.{add-mul, not-suc-le-zero}
-use native.Mathlib.Omega.{arith}
-use mathlib.Core.Bool.{_&&_, _||_, Bool, false, false≢true, not, true, true≢false}
-use mathlib.Core.List.{[], List}
-use mathlib.Core.Path.{_∙_, _≡_, ap, refl, subst, sym}
-use lib.Dec.{eqb, leb, ltb}
-use lib.ListN.{getD, length}
-use borrow.Author.Tests.{eq-eqb, leb-false, leb-true, lt-leb, lt-ltb, not-true}
-use Rattle.laws.specs.Lists.{All, all-both, all-map}
-use Rattle.laws.specs.Tests.{and-left}
-use Rattle.strip.specs.declared.Element.{Element}
+use Rattle.laws.specs.Prelude.{All, Bool, Element, List, [], _&&_, _*_, _+_, _<_, _||_, _∙_, _≡_, _≤_, all-both, all-map, and-left, ap, arith, eq-eqb, eqb, false, false≢true, getD, leb, leb-false, leb-true, length, lt-leb, lt-ltb, ltb, not, not-suc-le-zero, not-true, pred, refl, subst, suc, sym, true, true≢false, zero, ℕ}
+use native.Mathlib.Nat.{add-mul}
 use Rattle.tree_model.proofs.Choice.{all-slotAt, every-all, least-le}
 use Rattle.tree_model.proofs.Exactly.{slot-limit}
 use Rattle.tree_model.proofs.Hang.{below-less, inside, move-ext}
 use Rattle.tree_model.proofs.Path.{all-every}
 use Rattle.tree_model.proofs.Words.{level-length, level-node, node-length, place-inside}
-use Rattle.tree_model.specs.Damage.{workOk, hasRoom, hasSome, lifts, nodeOk, readOk, room, slotOk, stepOk}
-use Rattle.tree_model.specs.Levels.{Level, levelMove, Levels, stepWork, top, work}
-use Rattle.tree_model.specs.Node.{every, isNothing, leastCount, low, lowest, opMove, slotAt}
-use Rattle.tree_model.specs.Words.{levelOf, levelsOf, nodeMove, nodeOf, restWords, stepWords, under, write}
-use Rattle.tree_model.specs.declared.Move.{Move}
-use Rattle.tree_model.specs.declared.Op.{Op}
-use Rattle.tree_model.specs.declared.Op.the-variants.{Nothing, Put, Swap, Take}
-use Rattle.tree_model.specs.declared.Slot.{Slot}
+use Rattle.tree_model.specs.Prelude.{Level, Levels, Move, Nothing, Op, Put, Slot, Swap, Take, every, hasRoom, hasSome, isNothing, leastCount, levelMove, levelOf, levelsOf, lifts, low, lowest, nodeMove, nodeOf, nodeOk, opMove, readOk, restWords, room, slotAt, slotOk, stepOk, stepWords, stepWork, top, under, work, workOk, write}
 
 pub room-deep : (m k : ℕ) → 0 < room m k → 1 ≤ k
 unfolding room

@@ -1,45 +1,19 @@
 -- The promises: from a cleared store, over any list of requests, the tree is sound, nothing is damaged, it holds exactly what went in and
 -- has not come out, and what comes out has the lowest rank. What the tree keeps between calls makes it a queue (`is-queue`); what follows is every queue's (`promise/proofs/Kept.antt`).
-use Prim.Native.Nat.{_*_, _+_, _<_, _≤_, suc, zero, ℕ}
-use native.Mathlib.Nat.{add-assoc, not-suc-le-zero, one-mul, zero-add, zero-mul}
-use native.Mathlib.Omega.{arith}
-use mathlib.Core.Bool.{Bool, true}
-use mathlib.Core.List.{[], _∷_, List}
-use mathlib.Core.Logic.{_⊎_, inl}
-use mathlib.Core.Path.{_∙_, _≡_, ap, ap₂, refl, subst, sym}
-use lib.ListN.{getD, length, replicate}
-use Rattle.laws.specs.Lists.{sumOf}
-use Rattle.laws.specs.Sums.{grid, sum-index, sumTo, to-add, to-append, to-ext, to-zero}
+use Rattle.laws.specs.Prelude.{Answer, Bool, Element, Idle, List, Pop, Push, Replace, Request, [], _*_, _+_, _<_, _∙_, _∷_, _≡_, _≤_, _⊎_, ap, ap₂, arith, countNumber, countOf, elementWords, getD, grid, inl, length, not-suc-le-zero, numberOf, refl, replicate, subst, suc, sum-index, sumOf, sumTo, sym, to-add, to-append, to-ext, to-zero, true, zero, zero-add, ℕ}
+use native.Mathlib.Nat.{add-assoc, one-mul, zero-mul}
 use Rattle.promise.proofs.Calls.{fits-least, last-each, last-fits}
 use Rattle.promise.proofs.Kept as queue
 use Rattle.promise.proofs.Kept.{IsQueue}
-use Rattle.promise.specs.Calls.{Fits, grants, lastTable}
-use Rattle.promise.specs.Queue.{answers, leaves}
-use Rattle.promise.specs.Refused.{Untagged}
-use Rattle.promise.specs.Served.{allBrought, allGiven, always, brought, given, hit, Holds, Least, lower, same, triple}
-use Rattle.promise.specs.Table.{Clear}
-use Rattle.promise.specs.Tagged.{Tagged}
-use Rattle.strip.specs.Answers.{blank, countNumber, countOf, numberOf}
-use Rattle.strip.specs.declared.Answer.{Answer}
-use Rattle.strip.specs.declared.Element.{Element}
-use Rattle.strip.specs.declared.Request.{Request}
-use Rattle.strip.specs.declared.Request.the-variants.{Idle, Pop, Push, Replace}
+use Rattle.promise.specs.Prelude.{Clear, Fits, Holds, Least, Tagged, Untagged, allBrought, allGiven, always, answers, brought, given, grants, hit, lastTable, leaves, lower, same, triple}
+use Rattle.strip.proofs.Words.{read-zeros}
 use Rattle.tree_model.proofs.Exactly.{called-either, called-fine, cleared-fine, is-shape, order-pos, root-limit, shape-is, tested}
 use Rattle.tree_model.proofs.Hang.{below-less}
 use Rattle.tree_model.proofs.Path.{node-ok, root-path}
 use Rattle.tree_model.proofs.Serve.{cleared-holds, cleared-store, op-served, root-least, root-low, root-slots, root-sum, Served}
 use Rattle.tree_model.proofs.Slice.{wiped}
 use Rattle.tree_model.proofs.Words.{apply-length, level-node, node-length, node-slot, size-room, slot-path, tab-ext, words-apply}
-use Rattle.tree_model.specs.Calls.{called, cleared, heldCount, opOf, Outcome, outcome, rootOf, rootOk, rule, Ruling, ruleAt, tree, wayOk}
-use Rattle.tree_model.specs.Damage.{nodeOk, room}
-use Rattle.tree_model.specs.Levels.{apply, Level, Levels, work}
-use Rattle.tree_model.specs.Node.{low, slotAt, sumCounts, vacant}
-use Rattle.tree_model.specs.Promise.{after, Damage, PopThenPush, Shape, start, storedCount, treeQueue, Zeroed}
-use Rattle.tree_model.specs.Serve.{bareLevels, holding, ruled, serve, Store}
-use Rattle.tree_model.specs.Tree.{Can, gain, hang, loss, lowOf, many, own, Sound, Tree, treeOf}
-use Rattle.tree_model.specs.Words.{applyWords, levelOf, levelsOf, nodeOf, size, slotOf, tabulate, wipe}
-use Rattle.tree_model.specs.declared.Op.the-variants.{Nothing}
-use Rattle.tree_model.specs.declared.Slot.{Slot}
+use Rattle.tree_model.specs.Prelude.{Can, Damage, Level, Levels, Nothing, Outcome, PopThenPush, Ruling, Shape, Slot, Sound, Store, Tree, Zeroed, after, apply, applyWords, bareLevels, called, cleared, gain, hang, heldCount, holding, levelOf, levelsOf, loss, low, lowOf, many, nodeOf, nodeOk, opOf, outcome, own, room, rootOf, rootOk, rule, ruleAt, ruled, serve, size, slotAt, slotOf, slotWords, start, storedCount, sumCounts, tabulate, tree, treeOf, treeQueue, vacant, wayOk, wipe, work}
 
 -- ---- the slots of a store and the elements of its trees
 hang-sum : (f : Element → Bool) (k : ℕ) (nd : List Slot) (g : ℕ → Tree k)
@@ -85,8 +59,8 @@ levels-sum f m (suc k) ws b c =
 
 -- ---- a cleared store
 wiped-slot : (n : ℕ) (ws : List ℕ) → 4 * n ≤ length ws → (i : ℕ) → i < n → slotOf (wipe n ws) i ≡ vacant
-unfolding slotOf vacant blank
-wiped-slot n ws fits i h = slot-path (z .zeros (4 * i) 0 (omega arith)) (z .zeros (4 * i + 1) 0 (omega arith)) (z .zeros (4 * i + 2) 0 (omega arith)) (z .zeros (4 * i + 3) 0 (omega arith))
+unfolding slotOf vacant
+wiped-slot n ws fits i h = slot-path (read-zeros (wipe n ws) (slotWords * i) (λ p l r. z .zeros p 0 (omega arith))) (z .zeros (slotWords * i + elementWords) 0 (omega arith))
   where
     z : Zeroed n ws (wipe n ws)
     z = wiped n ws fits

@@ -1,20 +1,9 @@
 -- At the root no operation finds every count at its limit, or an empty node: that cause of damage is one of the nodes below.
-use Prim.Native.Nat.{_*_, _<_, _≤_, pred, suc, zero, ℕ}
-use native.Mathlib.Nat.{mul-zero, not-suc-le-zero}
-use native.Mathlib.Omega.{arith}
-use mathlib.Core.List.{[], _∷_, List}
-use mathlib.Core.Path.{_∙_, _≡_, ap}
-use lib.ListN.{length}
-use Rattle.laws.specs.Lists.{All}
-use Rattle.strip.specs.declared.Request.{Request}
+use Rattle.laws.specs.Prelude.{All, List, Request, [], _*_, _<_, _∙_, _∷_, _≡_, _≤_, ap, arith, length, not-suc-le-zero, pred, suc, zero, ℕ}
+use native.Mathlib.Nat.{mul-zero}
 use Rattle.tree_model.proofs.Rules.{comes}
 use Rattle.tree_model.proofs.Words.{node-length}
-use Rattle.tree_model.specs.Calls.{rootOf, Ruling, ruleAt}
-use Rattle.tree_model.specs.Damage.{room}
-use Rattle.tree_model.specs.Node.{sumCounts}
-use Rattle.tree_model.specs.Promise.{Stuck}
-use Rattle.tree_model.specs.Rules.{Comes, empty, full, idles, lacks, no-tag, puts, swaps, takes}
-use Rattle.tree_model.specs.declared.Slot.{Slot}
+use Rattle.tree_model.specs.Prelude.{Comes, Ruling, Slot, Stuck, empty, full, idles, lacks, no-tag, puts, room, rootOf, ruleAt, sumCounts, swaps, takes}
 
 all-same : (c : ℕ) (nd : List Slot) → All (λ s. s .count ≡ c) nd → sumCounts nd ≡ length nd * c
 unfolding sumCounts

@@ -1,24 +1,9 @@
 -- The definitions are 01's rules, in 01's own words. What comes after goes by these laws.
-use Prim.Native.Nat.{_<_, _≤_, suc, zero, ℕ}
-use native.Mathlib.Nat.{le-of-suc-le-suc, not-suc-le-zero}
-use mathlib.Core.Bool.{_||_, Bool, cond, false, not, true}
-use mathlib.Core.List.{[], _∷_, List}
-use mathlib.Core.Logic.{inl, inr}
-use mathlib.Core.Path.{_≡_, refl}
-use lib.Dec.{eqb, leb, ltb}
-use lib.ListN.{getD, length}
-use borrow.Author.Tests.{eqb-false, leb-false, leb-true, ltb-false, ltb-true}
+use Rattle.laws.specs.Prelude.{Bool, Element, List, Request, [], _<_, _||_, _∷_, _≡_, _≤_, blank, cond, eqb, eqb-false, false, getD, inl, inr, key, le-of-suc-le-suc, leb, leb-false, leb-true, length, ltb, ltb-false, ltb-true, not, not-suc-le-zero, refl, suc, true, zero, ℕ}
 use Rattle.promise.proofs.Calls.{last-comes}
-use Rattle.strip.specs.Answers.{blank, key}
 use Rattle.strip.proofs.Order.{before-says, UpTo, upto-rank, upto-says, upto-tag}
-use Rattle.strip.specs.declared.Element.{Element}
-use Rattle.strip.specs.declared.Request.{Request}
 use Rattle.tree_model.proofs.Choice.{all-slotAt, empty-found, least-in, least-le, least-left, lowest-is, lowest-left}
-use Rattle.tree_model.specs.Calls.{opOf, rule}
-use Rattle.tree_model.specs.Node.{firstEmpty, isEmpty, seek, vacant, keep, leastCount, lowest, move, pass, putBy, putMove, slotAt, sumCounts, swapBy, swapMove, takeBy, takeMove, low}
-use Rattle.tree_model.specs.Rules.{clears, Comes, ends, exchanges, goes, IsFirst, IsLeast, IsLowest, passes, Puts, receives, stays, Swaps, Takes, LowerTag}
-use Rattle.tree_model.specs.declared.Op.the-variants.{Put}
-use Rattle.tree_model.specs.declared.Slot.{Slot}
+use Rattle.tree_model.specs.Prelude.{Comes, IsFirst, IsLeast, IsLowest, LowerTag, Put, Puts, Slot, Swaps, Takes, clears, ends, exchanges, firstEmpty, goes, isEmpty, keep, leastCount, low, lowest, move, opOf, pass, passes, putBy, putMove, receives, rule, seek, slotAt, stays, sumCounts, swapBy, swapMove, takeBy, takeMove, vacant}
 
 -- ---- the choices
 first-left : (nd : List Slot) (i : ℕ) → i < firstEmpty nd → slotAt nd i .count ≡ 0 → ⊥

@@ -1,22 +1,10 @@
 -- An operation that can be done leaves a sound store sound, holding what it takes in less what it gives out; what it gives has the lowest rank.
-use Prim.Native.Nat.{_*_, _+_, _<_, suc, zero, ℕ}
-use native.Mathlib.Omega.{arith}
-use mathlib.Core.Bool.{Bool}
-use mathlib.Core.List.{[], _∷_, List}
-use mathlib.Core.Path.{_∙_, _≡_, ap, refl, subst, sym}
-use lib.ListN.{getD, getD-replicate, length, length-replicate, replicate}
-use Rattle.laws.specs.Lists.{All, all-replicate, sum-zero}
-use Rattle.promise.specs.Served.{always, lower}
-use Rattle.strip.specs.declared.Element.{Element}
+use Rattle.laws.specs.Prelude.{All, Bool, Element, List, [], _*_, _+_, _<_, _∙_, _∷_, _≡_, all-replicate, ap, arith, getD, getD-replicate, length, length-replicate, refl, replicate, subst, suc, sum-zero, sym, zero, ℕ}
+use Rattle.promise.specs.Prelude.{always, lower}
 use Rattle.tree_model.proofs.Acts.{acts}
 use Rattle.tree_model.proofs.Hang.{apply-shaped, below-less, root-commutes, slots-hang}
 use Rattle.tree_model.proofs.Many.{low-least, sum-counts}
-use Rattle.tree_model.specs.Levels.{apply, Levels, Shaped, work}
-use Rattle.tree_model.specs.Node.{low, sumCounts, vacant}
-use Rattle.tree_model.specs.Serve.{bareLevels, holding, Store}
-use Rattle.tree_model.specs.Tree.{Can, gain, hang, held, loss, lowOf, many, nothing, slots, Sound, Tree, treeOf}
-use Rattle.tree_model.specs.declared.Op.{Op}
-use Rattle.tree_model.specs.declared.Slot.{Slot}
+use Rattle.tree_model.specs.Prelude.{Can, Levels, Op, Shaped, Slot, Sound, Store, Tree, apply, bareLevels, gain, hang, held, holding, loss, low, lowOf, many, nothing, slots, sumCounts, treeOf, vacant, work}
 
 module _ (m k : ℕ) (some : 0 < m) (ls : Levels (suc k)) (st : Store m k ls) where
   abbrev t : Tree (suc k)

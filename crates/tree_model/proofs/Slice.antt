@@ -1,24 +1,12 @@
 -- Where the words stand, in 01's numbers: the capacity, the place of each slot, what clear writes, and what held answers.
-use Prim.Native.Nat.{_*_, _+_, _-_, _<_, _^_, _≤_, suc, zero, ℕ}
-use native.Mathlib.Nat.{add-zero, mul-assoc, mul-one, not-suc-le-zero, one-mul, pow-succ', pow-zero, zero-add}
-use native.Mathlib.Omega.{arith}
-use mathlib.Core.List.{[], _++_, List}
-use mathlib.Core.Path.{_∙_, _≡_, ap, ap₂, refl, sym}
-use lib.ListN.{drop, getD, getD-replicate, length, length-append, length-drop, length-replicate, List·getD-append, replicate}
+use Rattle.laws.specs.Prelude.{Done, List, [], _*_, _++_, _+_, _-_, _<_, _^_, _∙_, _≡_, _≤_, add-zero, ap, ap₂, arith, countNumber, countOf, drop, getD, getD-replicate, length, length-append, length-drop, length-replicate, not-suc-le-zero, refl, replicate, suc, sumTo, sym, to-ext, zero, zero-add, ℕ}
+use native.Mathlib.Nat.{mul-assoc, mul-one, one-mul, pow-succ', pow-zero}
+use lib.ListN.{List·getD-append}
 use lib.Seq.{getD-append-add, getD-drop}
-use Rattle.laws.specs.Sums.{sumTo, to-ext}
-use Rattle.promise.specs.Refused.{zero-told}
-use Rattle.strip.specs.Answers.{countNumber, countOf}
-use Rattle.strip.specs.declared.Answer.the-variants.{Done}
+use Rattle.promise.specs.Prelude.{zero-told}
 use Rattle.tree_model.proofs.Exactly.{cleared-fine, counted-either, is-shape}
 use Rattle.tree_model.proofs.Words.{level-length, level-node, node-slot, size-room}
-use Rattle.tree_model.specs.Calls.{cleared, heldCount, Outcome, rootOf}
-use Rattle.tree_model.specs.Damage.{room}
-use Rattle.tree_model.specs.Levels.{Level}
-use Rattle.tree_model.specs.Node.{slotAt, sumCounts}
-use Rattle.tree_model.specs.Promise.{levelAt, Shape, fourWords, Zeroed}
-use Rattle.tree_model.specs.Words.{levelOf, levelsOf, nodeOf, size, slotOf, tabulate, wipe}
-use Rattle.tree_model.specs.declared.Slot.{Slot}
+use Rattle.tree_model.specs.Prelude.{Level, Outcome, Shape, Slot, Zeroed, cleared, fourWords, heldCount, levelAt, levelOf, levelsOf, nodeOf, room, rootOf, size, slotAt, slotOf, sumCounts, tabulate, wipe}
 
 -- ---- "Capacity is M + M² + … + M^L"
 powers : (m k a : ℕ) → sumTo k (λ i. a * m ^ suc i) ≡ a * room m k

@@ -1,18 +1,9 @@
 -- "equal ranks within one node .. leave by lower tag": what a pop and a replace answer. Of equal ranks in different nodes nothing is said.
-use Prim.Native.Nat.{ℕ}
-use mathlib.Core.List.{List}
-use mathlib.Core.Path.{_≡_, subst}
+use Rattle.laws.specs.Prelude.{Element, List, Out, Refused, Request, _≡_, subst, ℕ}
 use Rattle.promise.proofs.Calls.{comes-out, is-out}
-use Rattle.strip.specs.declared.Answer.the-variants.{Out, Refused}
-use Rattle.strip.specs.declared.Element.{Element}
-use Rattle.strip.specs.declared.Request.{Request}
 use Rattle.tree_model.proofs.Exactly.{called-either}
 use Rattle.tree_model.proofs.Rules.{comes, lower-tag}
-use Rattle.tree_model.specs.Calls.{called, rootOf, ruleAt}
-use Rattle.tree_model.specs.Damage.{room}
-use Rattle.tree_model.specs.Node.{low, sumCounts}
-use Rattle.tree_model.specs.Rules.{LowerTag}
-use Rattle.tree_model.specs.declared.Slot.{Slot}
+use Rattle.tree_model.specs.Prelude.{LowerTag, Slot, called, low, room, rootOf, ruleAt, sumCounts}
 
 -- ---- at the root, for any words
 module _ (m levels : ℕ) (ws : List ℕ) (e : Element) where

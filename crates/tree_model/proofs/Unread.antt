@@ -1,23 +1,11 @@
 -- "of a longer one the rest is never touched": not read either. Two stores that agree on the words of the shape are answered the same and left the
 -- same there, whatever stands behind.
-use Prim.Native.Nat.{_≤_, pred, suc, zero, ℕ}
-use native.Mathlib.Nat.{not-suc-le-zero}
-use native.Mathlib.Omega.{arith}
-use mathlib.Core.Bool.{true}
-use mathlib.Core.List.{List}
-use mathlib.Core.Path.{_∙_, _≡_, ap, ap₂, sym}
-use lib.ListN.{length}
+use Rattle.laws.specs.Prelude.{List, Request, _∙_, _≡_, _≤_, ap, ap₂, arith, length, not-suc-le-zero, pred, suc, sym, true, zero, ℕ}
 use Rattle.promise.proofs.Calls.{unread-by}
-use Rattle.strip.specs.declared.Request.{Request}
 use Rattle.tree_model.proofs.Exactly.{is-shape, order-pos}
 use Rattle.tree_model.proofs.Agreement.{levels-words, words-levels, words-node}
 use Rattle.tree_model.proofs.Words.{size-room, words-apply}
-use Rattle.tree_model.specs.Calls.{called, heldCount, rootOf, rootOk, rule, Ruling, ruleAt, tree, wayOk}
-use Rattle.tree_model.specs.Damage.{nodeOk, pathOk, room}
-use Rattle.tree_model.specs.Levels.{apply, Levels, work}
-use Rattle.tree_model.specs.Promise.{Agree, Shape}
-use Rattle.tree_model.specs.Words.{applyWords, levelsOf}
-use Rattle.tree_model.specs.declared.Op.{Op}
+use Rattle.tree_model.specs.Prelude.{Agree, Levels, Op, Ruling, Shape, apply, applyWords, called, heldCount, levelsOf, nodeOk, pathOk, room, rootOf, rootOk, rule, ruleAt, tree, wayOk, work}
 
 module _ (m levels : ℕ) (ws vs : List ℕ) (sh : Shape m levels (length ws)) (zh : Shape m levels (length vs)) (same : Agree (room m levels) ws vs) where
   pub same-levels : levelsOf m levels ws 0 1 ≡ levelsOf m levels vs 0 1

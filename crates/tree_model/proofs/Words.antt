@@ -1,35 +1,13 @@
 -- A slot written to the words is a slot written to its level, and no other level changes; so an operation on the words is the operation
 -- on the levels.
-use Prim.Native.Nat.{_*_, _+_, _<_, _≤_, suc, zero, ℕ}
-use native.Mathlib.Nat.{le-of-suc-le-suc, mul-assoc, mul-suc, mul-zero, not-suc-le-zero}
-use native.Mathlib.Omega.{arith}
-use mathlib.Core.Bool.{_&&_, Bool, cond, false, true, true≢false}
-use mathlib.Core.List.{[], _∷_, List}
-use mathlib.Core.Logic.{_≢_}
-use mathlib.Core.Path.{_∙_, _≡_, ap, ap₂, refl, subst, sym}
-use lib.Dec.{ltb}
-use lib.ListN.{getD, length, length-set, set}
-use lib.Seq.{getD-set-other, getD-set-same, set-comm}
-use borrow.Author.Tests.{ltb-true, not-true}
-use Rattle.laws.specs.Lists.{All}
-use Rattle.laws.specs.Tests.{and-left, and-right, cond-path}
-use Rattle.strip.specs.Answers.{element}
-use Rattle.strip.specs.declared.Element.{Element}
+use Rattle.laws.specs.Prelude.{All, Bool, Element, List, [], _&&_, _*_, _+_, _<_, _∙_, _∷_, _≡_, _≢_, _≤_, _⊎_, and-left, and-right, ap, ap₂, arith, cond, cond-path, elementWords, false, getD, getD-set-other, getD-set-same, inl, inr, le-of-suc-le-suc, length, length-set, ltb, ltb-false, ltb-true, not-suc-le-zero, not-true, refl, set, set-comm, subst, suc, sym, true, true≢false, writeElement, zero, ℕ}
+use native.Mathlib.Nat.{mul-assoc, mul-suc, mul-zero}
+use Rattle.strip.proofs.Words.{Apart, read-local, write-apart as element-apart, write-back, write-comm as element-comm, write-length as element-length, write-past}
 use Rattle.tree_model.proofs.Choice.{filled, least-in, lowest-is}
 use Rattle.tree_model.proofs.Hang.{below-less, digits}
 use Rattle.tree_model.proofs.Nothing.{is-none, step-none}
 use Rattle.tree_model.proofs.Rules.{put-rule, swap-rule, take-rule}
-use Rattle.tree_model.specs.Damage.{workOk, hasSome, nodeOk, pathOk, readOk, room, stepOk}
-use Rattle.tree_model.specs.Levels.{apply, Level, levelMove, Levels, stepLevel, stepWork, top}
-use Rattle.tree_model.specs.Node.{every, isEmpty, isNothing, opMove, slotAt, sumCounts, vacant}
-use Rattle.tree_model.specs.Rules.{clears, ends, exchanges, goes, passes, Puts, receives, stays, Swaps, Takes}
-use Rattle.tree_model.specs.Tree.{at}
-use Rattle.tree_model.specs.Words.{applyWords, levelOf, levelsOf, nodeOf, restWords, size, slotOf, stepWords, tabulate, under, slotWords, write}
-use Rattle.tree_model.specs.declared.Move.{Move}
-use Rattle.tree_model.specs.declared.Op.{Op}
-use Rattle.tree_model.specs.declared.Op.the-variants.{Nothing, Put, Swap, Take}
-use Rattle.tree_model.specs.declared.Slot.{Slot}
-use Rattle.tree_model.specs.declared.Work.{Work}
+use Rattle.tree_model.specs.Prelude.{Level, Levels, Move, Nothing, Op, Put, Puts, Slot, Swap, Swaps, Take, Takes, Work, apply, applyWords, at, clears, ends, every, exchanges, goes, hasSome, isEmpty, isNothing, levelMove, levelOf, levelsOf, nodeOf, nodeOk, opMove, passes, pathOk, readOk, receives, restWords, room, size, slotAt, slotOf, slotWords, stays, stepLevel, stepOk, stepWords, stepWork, sumCounts, tabulate, top, under, vacant, workOk, write}
 
 module _ {A : Type 0} where
   pub length-tab : (n : ℕ) (f : ℕ → A) → length (tabulate n f) ≡ n
@@ -65,78 +43,81 @@ module _ {A : Type 0} where
 -- ---- one slot
 pub write-length : (ws : List ℕ) (i : ℕ) (s : Slot) → length (write ws i s) ≡ length ws
 unfolding write
-write-length ws i s = simp length-set
+write-length ws i s = length-set (writeElement ws (slotWords * i) (s .element)) _ _ ∙ element-length ws (slotWords * i) (s .element)
 
--- a slot by its four words
-pub slot-path : {r r′ t t′ l l′ c c′ : ℕ} → r ≡ r′ → t ≡ t′ → l ≡ l′ → c ≡ c′
-    → _≡_ {A = Slot} (record { element = element r t l; count = c }) (record { element = element r′ t′ l′; count = c′ })
-slot-path p q u o = λ i. record { element = record { rank = record { 0 = p i }; tag = record { 0 = q i }; length = record { 0 = u i } }; count = o i }
+-- a slot by its element and its count
+pub slot-path : {e e′ : Element} {c c′ : ℕ} → e ≡ e′ → c ≡ c′ → _≡_ {A = Slot} (record { element = e; count = c }) (record { element = e′; count = c′ })
+slot-path p o = λ i. record { element = p i; count = o i }
 
 pub write-same : (ws : List ℕ) (i : ℕ) (s : Slot) → slotWords * i + slotWords ≤ length ws → slotOf (write ws i s) i ≡ s
 unfolding write slotOf
 write-same ws i s h =
-    let a : List ℕ = set ws (4 * i) (s .element .rank .0) in
-    let b : List ℕ = set a (4 * i + 1) (s .element .tag .0) in
-    let c : List ℕ = set b (4 * i + 2) (s .element .length .0) in
-    let la : length a ≡ length ws = length-set ws _ _ in
-    let lb : length b ≡ length a = length-set a _ _ in
-    let lc : length c ≡ length b = length-set b _ _ in
+    let o : ℕ = slotWords * i in
+    let v : List ℕ = writeElement ws o (s .element) in
     slot-path
-    (getD-set-other c (4 * i + 3) (4 * i) (s .count) 0 (omega arith) ∙ getD-set-other b (4 * i + 2) (4 * i) (s .element .length .0) 0 (omega arith)
-    ∙ getD-set-other a (4 * i + 1) (4 * i) (s .element .tag .0) 0 (omega arith) ∙ getD-set-same ws (4 * i) (s .element .rank .0) 0 (omega arith))
-    (getD-set-other c (4 * i + 3) (4 * i + 1) (s .count) 0 (omega arith) ∙ getD-set-other b (4 * i + 2) (4 * i + 1) (s .element .length .0) 0 (omega arith)
-    ∙ getD-set-same a (4 * i + 1) (s .element .tag .0) 0 (omega arith))
-    (getD-set-other c (4 * i + 3) (4 * i + 2) (s .count) 0 (omega arith) ∙ getD-set-same b (4 * i + 2) (s .element .length .0) 0 (omega arith))
-    (getD-set-same c (4 * i + 3) (s .count) 0 (omega arith))
+    (read-local v (set v (o + elementWords) (s .count)) o (λ p l r. getD-set-other v (o + elementWords) p (s .count) 0 (omega arith)) ∙ write-back ws o (s .element) (omega arith))
+    (getD-set-same v (o + elementWords) (s .count) 0 (omega (arith, element-length ws (slotWords * i) (s .element))))
+
+-- word p is none of slot i's
+abbrev Outside : ℕ → ℕ → Type 0
+Outside p i = (p < slotWords * i) ⊎ (slotWords * suc i ≤ p)
+
+-- .. where it is one of another slot's
+outside : (i i′ p : ℕ) → i′ ≢ i → slotWords * i′ ≤ p → p < slotWords * suc i′ → Outside p i
+outside i i′ p ne l r = go (ltb p (slotWords * i)) refl
+  where
+    go : (b : Bool) → ltb p (slotWords * i) ≡ b → Outside p i
+    go true e = inl (ltb-true p (slotWords * i) e)
+    go false e = inr (omega (arith, ltb-false p (slotWords * i) e, ne))
+
+off-element : (p i : ℕ) → Outside p i → Apart p (slotWords * i)
+off-element p i (inl h) = inl h
+off-element p i (inr h) = inr (omega arith)
+
+off-count : (p i : ℕ) → Outside p i → p ≢ slotWords * i + elementWords
+off-count p i (inl h) e = omega arith
+off-count p i (inr h) e = omega arith
 
 -- a word that is none of the slot's own stands
-write-apart : (ws : List ℕ) (i p : ℕ) (s : Slot) → p ≢ 4 * i → p ≢ 4 * i + 1 → p ≢ 4 * i + 2 → p ≢ 4 * i + 3 → getD (write ws i s) p 0 ≡ getD ws p 0
+write-apart : (ws : List ℕ) (i p : ℕ) (s : Slot) → Outside p i → getD (write ws i s) p 0 ≡ getD ws p 0
 unfolding write
-write-apart ws i p s ha hb hc hd =
-    let a : List ℕ = set ws (4 * i) (s .element .rank .0) in
-    let b : List ℕ = set a (4 * i + 1) (s .element .tag .0) in
-    let c : List ℕ = set b (4 * i + 2) (s .element .length .0) in
-    getD-set-other c (4 * i + 3) p (s .count) 0 hd ∙ getD-set-other b (4 * i + 2) p (s .element .length .0) 0 hc
-    ∙ getD-set-other a (4 * i + 1) p (s .element .tag .0) 0 hb ∙ getD-set-other ws (4 * i) p (s .element .rank .0) 0 ha
+write-apart ws i p s h =
+    getD-set-other (writeElement ws (slotWords * i) (s .element)) (slotWords * i + elementWords) p (s .count) 0 (off-count p i h)
+    ∙ element-apart ws (slotWords * i) p (s .element) (off-element p i h)
 
 pub write-other : (ws : List ℕ) (i i′ : ℕ) (s : Slot) → i′ ≢ i → slotOf (write ws i s) i′ ≡ slotOf ws i′
 unfolding slotOf
 write-other ws i i′ s h =
-    slot-path (write-apart ws i (4 * i′) s (omega arith) (omega arith) (omega arith) (omega arith))
-    (write-apart ws i (4 * i′ + 1) s (omega arith) (omega arith) (omega arith) (omega arith))
-    (write-apart ws i (4 * i′ + 2) s (omega arith) (omega arith) (omega arith) (omega arith))
-    (write-apart ws i (4 * i′ + 3) s (omega arith) (omega arith) (omega arith) (omega arith))
+    slot-path (read-local ws (write ws i s) (slotWords * i′) (λ p l r. write-apart ws i p s (outside i i′ p h l (omega arith))))
+    (write-apart ws i (slotWords * i′ + elementWords) s (outside i i′ (slotWords * i′ + elementWords) h (omega arith) (omega arith)))
 
--- writes of different slots commute: first one word past a slot's four, then four past four
-set-past : (ws : List ℕ) (i p v : ℕ) (s : Slot) → 4 * i ≢ p → 4 * i + 1 ≢ p → 4 * i + 2 ≢ p → 4 * i + 3 ≢ p → set (write ws i s) p v ≡ write (set ws p v) i s
-unfolding write
-set-past ws i p v s ha hb hc hd =
-    let r : ℕ = s .element .rank .0 in
-    let t : ℕ = s .element .tag .0 in
-    let l : ℕ = s .element .length .0 in
-    let n : ℕ = s .count in
-    set-comm (set (set (set ws (4 * i) r) (4 * i + 1) t) (4 * i + 2) l) (4 * i + 3) p n v hd
-    ∙ ap (λ (q : List ℕ). set q (4 * i + 3) n) (set-comm (set (set ws (4 * i) r) (4 * i + 1) t) (4 * i + 2) p l v hc)
-    ∙ ap (λ (q : List ℕ). set (set q (4 * i + 2) l) (4 * i + 3) n) (set-comm (set ws (4 * i) r) (4 * i + 1) p t v hb)
-    ∙ ap (λ (q : List ℕ). set (set (set q (4 * i + 1) t) (4 * i + 2) l) (4 * i + 3) n) (set-comm ws (4 * i) p r v ha)
-
+-- writes of different slots commute
 pub write-comm : (ws : List ℕ) (i j : ℕ) (s t : Slot) → i ≢ j → write (write ws i s) j t ≡ write (write ws j t) i s
 unfolding write
 write-comm ws i j s t h =
-    let r : ℕ = t .element .rank .0 in
-    let g : ℕ = t .element .tag .0 in
-    let l : ℕ = t .element .length .0 in
-    let n : ℕ = t .count in
-    let a : List ℕ = set ws (4 * j) r in
-    let b : List ℕ = set a (4 * j + 1) g in
-    ap (λ (q : List ℕ). set (set (set q (4 * j + 1) g) (4 * j + 2) l) (4 * j + 3) n) (set-past ws i (4 * j) r s (omega arith) (omega arith) (omega arith) (omega arith))
-    ∙ ap (λ (q : List ℕ). set (set q (4 * j + 2) l) (4 * j + 3) n) (set-past a i (4 * j + 1) g s (omega arith) (omega arith) (omega arith) (omega arith))
-    ∙ ap (λ (q : List ℕ). set q (4 * j + 3) n) (set-past b i (4 * j + 2) l s (omega arith) (omega arith) (omega arith) (omega arith))
-    ∙ set-past (set b (4 * j + 2) l) i (4 * j + 3) n s (omega arith) (omega arith) (omega arith) (omega arith)
+    let a : ℕ = slotWords * i in
+    let b : ℕ = slotWords * j in
+    let x : Element = s .element in
+    let y : Element = t .element in
+    let n : ℕ = s .count in
+    let c : ℕ = t .count in
+    let last-i : Apart (a + elementWords) b = off-element (slotWords * i + elementWords) j (outside j i (slotWords * i + elementWords) h (omega arith) (omega arith)) in
+    let last-j : Apart (b + elementWords) a = off-element (slotWords * j + elementWords) i (outside i j (slotWords * j + elementWords) (λ e. h (sym e)) (omega arith) (omega arith)) in
+    ap (λ (q : List ℕ). set q (b + elementWords) c) (sym (write-past (writeElement ws a x) b (a + elementWords) n y last-i))
+    ∙ set-comm (writeElement (writeElement ws a x) b y) (a + elementWords) (b + elementWords) n c (omega arith)
+    ∙ ap (λ (q : List ℕ). set (set q (b + elementWords) c) (a + elementWords) n) (element-comm ws a b x y (far h))
+    ∙ ap (λ (q : List ℕ). set q (a + elementWords) n) (write-past (writeElement ws b y) a (b + elementWords) c x last-j)
+  where
+    far : i ≢ j → (slotWords * i + elementWords ≤ slotWords * j) ⊎ (slotWords * j + elementWords ≤ slotWords * i)
+    far ne = go (ltb i j) refl
+      where
+        go : (b : Bool) → ltb i j ≡ b → (slotWords * i + elementWords ≤ slotWords * j) ⊎ (slotWords * j + elementWords ≤ slotWords * i)
+        go true e = inl (omega (arith, ltb-true i j e))
+        go false e = inr (omega (arith, ltb-false i j e, ne))
 
 -- a write changes its own slot's words alone: past that slot every word stands
-write-past : (ws : List ℕ) (i p : ℕ) (s : Slot) → slotWords * suc i ≤ p → getD (write ws i s) p 0 ≡ getD ws p 0
-write-past ws i p s h = write-apart ws i p s (λ q. omega arith) (λ q. omega arith) (λ q. omega arith) (λ q. omega arith)
+slot-past : (ws : List ℕ) (i p : ℕ) (s : Slot) → slotWords * suc i ≤ p → getD (write ws i s) p 0 ≡ getD ws p 0
+slot-past ws i p s h = write-apart ws i p s (inr h)
 
 -- ---- numbers
 pub size-room : (m k c : ℕ) → size m k c ≡ c * room m k
@@ -295,7 +276,7 @@ module _ (m : ℕ) where
       where
         go : (t : Bool) → isNothing (w .op) ≡ t → getD (cond t ws (write ws (b + w .node * m + v .place) (v .slot))) p 0 ≡ getD ws p 0
         go true e = refl
-        go false e = write-past ws (b + w .node * m + v .place) p (v .slot) (omega (arith, slot-in e))
+        go false e = slot-past ws (b + w .node * m + v .place) p (v .slot) (omega (arith, slot-in e))
 
   -- ---- an operation to its end
   apply-before : (k : ℕ) (w : Work) (b c : ℕ) (ws : List ℕ) (i : ℕ) → i < b → slotOf (applyWords m k w b c ws) i ≡ slotOf ws i

@@ -1,17 +1,7 @@
 -- The five calls of the one-at-a-time tree, each a total function of order, levels and words to an answer and the words afterwards: what the tree brings, to the calls that every queue has (`promise/specs/Calls.antt`).
-use Prim.Native.Nat.{ℕ, _*_, pred}
-use mathlib.Core.Bool.{Bool, _&&_, _||_}
-use mathlib.Core.List.{List}
-use lib.Dec.{leb, eqb}
-use lib.ListN.{length}
+use Rattle.laws.specs.Prelude.{Answer, BadShape, Bool, Count, Idle, List, Pop, Push, Replace, Request, _&&_, _*_, _||_, eqb, leb, length, pred, ℕ}
 use Rattle.promise.specs.Calls as calls
-use Rattle.promise.specs.Calls.{lastTable, Queue}
-use Rattle.promise.specs.Table.{ends, needs}
-use Rattle.strip.specs.declared.Refusal.the-variants.{BadShape}
-use Rattle.strip.specs.declared.Answer.{Answer}
-use Rattle.strip.specs.declared.Count.{Count}
-use Rattle.strip.specs.declared.Request.{Request}
-use Rattle.strip.specs.declared.Request.the-variants.{Idle, Push, Pop, Replace}
+use Rattle.promise.specs.Prelude.{Queue, ends, lastTable, needs}
 use Rattle.tree_model.specs.declared.Slot.{Slot}
 use Rattle.tree_model.specs.declared.Op.{Op}
 use Rattle.tree_model.specs.declared.Op.the-variants.{Nothing, Put, Take, Swap}

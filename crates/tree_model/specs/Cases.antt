@@ -1,13 +1,6 @@
 -- [9] "The strip's length travels with it", order 2, levels 2: store A with lengths, replace 4/7 and pop. And order 4 and 8, where a node has more empty slots than one.
-use Prim.Native.Nat.{_*_, ℕ}
-use mathlib.Core.List.{[], _++_, _∷_, List, map}
-use lib.ListN.{replicate}
-use Rattle.promise.specs.Queue.{answers}
-use Rattle.strip.specs.Answers.{element}
-use Rattle.strip.specs.declared.Answer.{Answer}
-use Rattle.strip.specs.declared.Answer.the-variants.{Done, Out}
-use Rattle.strip.specs.declared.Request.{Request}
-use Rattle.strip.specs.declared.Request.the-variants.{Pop, Push, Replace}
+use Rattle.laws.specs.Prelude.{Answer, Done, List, Out, Pop, Push, Replace, Request, [], _*_, _++_, _∷_, element, map, replicate, ℕ}
+use Rattle.promise.specs.Prelude.{answers}
 use Rattle.tree_model.specs.Promise.{after, start, treeQueue}
 
 abbrev pub lengthCalls : List Request

@@ -1,14 +1,5 @@
 -- The causes of refusal in 01's words, and what stands in a store.
-use Prim.Native.Nat.{_*_, _+_, _<_, _≤_, pred, suc, zero, ℕ}
-use mathlib.Core.Bool.{Bool}
-use mathlib.Core.List.{[], List}
-use mathlib.Core.Logic.{_⊎_}
-use mathlib.Core.Path.{_≡_}
-use lib.ListN.{getD, length}
-use Rattle.laws.specs.Fails.{Any}
-use Rattle.laws.specs.Lists.{All}
-use Rattle.laws.specs.Sums.{sumTo}
-use Rattle.strip.specs.declared.Element.{Element}
+use Rattle.laws.specs.Prelude.{All, Any, Bool, Element, List, Zeros, [], _*_, _+_, _<_, _≡_, _≤_, _⊎_, getD, length, pred, suc, sumTo, zero, ℕ}
 use Rattle.tree_model.specs.Damage.{room}
 use Rattle.tree_model.specs.Levels.{Level, Levels, stepWork, top}
 use Rattle.tree_model.specs.Node.{lowest, slotAt}
@@ -29,7 +20,7 @@ pub record Shape (m levels len : ℕ) : Type 0 where
 
 -- "a count above one plus the room below it, or a slot with count 0 and another word not 0"
 abbrev pub SlotDamaged : ℕ → Slot → Type 0
-SlotDamaged r s = (suc r < s .count) ⊎ ((s .count ≡ 0) × ((s .element .rank .0 ≡ 0) × (s .element .tag .0 ≡ 0) × (s .element .length .0 ≡ 0) → ⊥))
+SlotDamaged r s = (suc r < s .count) ⊎ ((s .count ≡ 0) × (Zeros (s .element) → ⊥))
 
 abbrev pub NodeDamaged : ℕ → List Slot → Type 0
 NodeDamaged r nd = Any (SlotDamaged r) nd

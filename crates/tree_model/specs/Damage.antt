@@ -1,10 +1,6 @@
 -- The tests for damage: of a slot, a node, a step, and of an operation's whole path.
-use Prim.Native.Nat.{ℕ, zero, suc, _+_, _*_, pred}
-use mathlib.Core.Bool.{Bool, true, false, not, _&&_, _||_}
-use mathlib.Core.List.{List, []}
-use lib.Dec.{ltb, leb, eqb}
-use lib.ListN.{length, getD}
-use Rattle.strip.specs.declared.Element.{Element}
+use Rattle.laws.specs.Prelude.{Bool, List, [], _&&_, _*_, _+_, _||_, eqb, false, getD, leb, length, ltb, not, pred, suc, true, zero, ℕ}
+unfoldable pub use Rattle.strip.specs.Words.{isBlank}
 use Rattle.tree_model.specs.declared.Slot.{Slot}
 use Rattle.tree_model.specs.declared.Op.{Op}
 use Rattle.tree_model.specs.declared.Op.the-variants.{Nothing, Put, Take, Swap}
@@ -16,10 +12,6 @@ use Rattle.tree_model.specs.Levels.{Level, Levels, top, stepWork}
 unfoldable pub room : ℕ → ℕ → ℕ
 room m zero = 0
 room m (suc k) = m * suc (room m k)
-
--- "the other words are 0"
-unfoldable pub isBlank : Element → Bool
-isBlank e = eqb (e .rank .0) 0 && (eqb (e .tag .0) 0 && eqb (e .length .0) 0)
 
 -- a slot over room for r: not "a count above one plus the room below it", nor "count 0 and another word not 0"
 unfoldable pub slotOk : ℕ → Slot → Bool

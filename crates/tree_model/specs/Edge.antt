@@ -1,9 +1,5 @@
 -- A shape at the edge of the limits, 01's worked case 9.
-use Prim.Native.Nat.{_*_, _≤_, ℕ}
-use mathlib.Core.List.{List}
-use mathlib.Core.Path.{_≡_}
-use lib.ListN.{length}
-use Rattle.strip.specs.Answers.{numberOf}
+use Rattle.laws.specs.Prelude.{List, _*_, _≡_, _≤_, length, numberOf, ℕ}
 use Rattle.tree_model.specs.Calls.{cleared}
 use Rattle.tree_model.specs.Damage.{room}
 use Rattle.tree_model.specs.Words.{slotWords}

@@ -1,7 +1,6 @@
 -- The same with every length 0: "a length in bytes" travels with its strip and decides nothing (02 [9]).
-use Prim.Native.Nat.{suc, zero, ℕ}
-use mathlib.Core.List.{List, map}
-use Rattle.promise.specs.Lengths.{short}
+use Rattle.laws.specs.Prelude.{List, map, suc, zero, ℕ}
+use Rattle.promise.specs.Prelude.{short}
 use Rattle.tree_model.specs.Levels.{Level, Levels}
 use Rattle.tree_model.specs.declared.Op.{Op}
 use Rattle.tree_model.specs.declared.Op.the-variants.{Nothing, Put, Swap, Take}

@@ -1,9 +1,5 @@
 -- The store as levels, and an operation done to its end.
-use Prim.Native.Nat.{ℕ, zero, suc, _+_, _*_}
-use mathlib.Core.Path.{_≡_}
-use mathlib.Core.List.{List, []}
-use lib.ListN.{length, getD, set}
-use Rattle.laws.specs.Lists.{All}
+use Rattle.laws.specs.Prelude.{All, List, [], _*_, _+_, _≡_, getD, length, set, suc, zero, ℕ}
 use Rattle.tree_model.specs.declared.Slot.{Slot}
 use Rattle.tree_model.specs.declared.Op.{Op}
 use Rattle.tree_model.specs.declared.Op.the-variants.{Nothing, Put, Take, Swap}

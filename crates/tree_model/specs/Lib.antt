@@ -11,3 +11,4 @@ pub mod Promise
 pub mod Cases
 pub mod Edge
 pub mod Lengths
+pub mod Prelude

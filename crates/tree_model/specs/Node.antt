@@ -1,11 +1,6 @@
 -- A node's slots, the choice of a slot, and the step of an operation at one node.
-use Prim.Native.Nat.{ℕ, suc, _+_, pred}
-use mathlib.Core.Bool.{Bool, true, false, cond, not, _&&_, _||_}
-use mathlib.Core.List.{List, [], _∷_}
-use lib.Dec.{ltb, leb, eqb}
-use lib.ListN.{length, getD}
-use Rattle.strip.specs.declared.Element.{Element}
-use Rattle.strip.specs.Answers.{blank, key, precedes}
+use Rattle.laws.specs.Prelude.{Bool, Element, List, [], _&&_, _+_, _||_, _∷_, blank, cond, eqb, false, getD, key, leb, length, ltb, not, precedes, pred, suc, true, ℕ}
+unfoldable pub use Rattle.strip.specs.Words.{keep, pass}
 use Rattle.tree_model.specs.declared.Slot.{Slot}
 use Rattle.tree_model.specs.declared.Op.{Op}
 use Rattle.tree_model.specs.declared.Op.the-variants.{Nothing, Put, Take, Swap}
@@ -57,13 +52,6 @@ sumCounts (s ∷ ss) = s .count + sumCounts ss
 -- ---- the steps
 abbrev pub move : ℕ → Element → ℕ → Op → Move
 move j e c o = record { place = j; slot = record { element = e; count = c }; rest = o }
-
--- "if x's rank is strictly lower, x and the slot's element change places": the one that stays in the slot, and the one left over
-unfoldable pub keep : Element → Element → Element
-keep x e = cond (ltb (key x) (key e)) x e
-
-unfoldable pub pass : Element → Element → Element
-pass x e = cond (ltb (key x) (key e)) e x
 
 -- Put x: is there an empty slot? Then "the first one becomes x with count 1, and that ends it. Otherwise the slot with the smallest count
 -- has its count raised by one; .. what is left over is put into the node below"

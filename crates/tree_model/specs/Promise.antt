@@ -1,19 +1,7 @@
 -- What is promised of the tree is said in these words: 01's tables of refusal, and what a list of requests leaves.
-use Prim.Native.Nat.{_*_, _+_, _<_, _≤_, pred, suc, zero, ℕ}
-use mathlib.Core.List.{[], List}
-use mathlib.Core.Logic.{_⊎_}
-use mathlib.Core.Path.{_≡_}
-use lib.ListN.{getD, length}
-use Rattle.laws.specs.Ladder.{fine, Ladder, rung, stop}
+use Rattle.laws.specs.Prelude.{Answer, BadShape, Damaged, Element, Ladder, List, NoTag, Refusal, Request, [], _*_, _+_, _<_, _≡_, _≤_, _⊎_, element, fine, getD, length, pred, rung, stop, suc, zero, ℕ}
 use Rattle.promise.specs.Calls as calls
-use Rattle.promise.specs.Queue.{leaves, Step}
-use Rattle.promise.specs.Refused.{limits, Untagged}
-use Rattle.strip.specs.Answers.{element}
-use Rattle.strip.specs.declared.Answer.{Answer}
-use Rattle.strip.specs.declared.Element.{Element}
-use Rattle.strip.specs.declared.Refusal.{Refusal}
-use Rattle.strip.specs.declared.Refusal.the-variants.{BadShape, Damaged, NoTag}
-use Rattle.strip.specs.declared.Request.{Request}
+use Rattle.promise.specs.Prelude.{Step, Untagged, leaves, limits}
 use Rattle.tree_model.specs.Calls.{called, cleared, rootOf, ruleAt}
 use Rattle.tree_model.specs.Damage.{room}
 use Rattle.tree_model.specs.Levels.{Level, Levels, work}

@@ -1,15 +1,8 @@
 -- 01's rules in 01's own words, over ranks and counts: what each step at a node does, and what a request comes to at the root. `proofs/Rules.antt`
 -- shows that the definitions are these.
-use Prim.Native.Nat.{_<_, _≤_, pred, suc, ℕ}
-use mathlib.Core.List.{List}
-use mathlib.Core.Logic.{_⊎_}
-use mathlib.Core.Path.{_≡_}
-use lib.ListN.{length}
+use Rattle.laws.specs.Prelude.{Element, List, Request, _<_, _≡_, _≤_, _⊎_, element, length, pred, suc, ℕ}
 use Rattle.promise.specs.Calls as calls
 pub use Rattle.promise.specs.Calls.{empty, full, idles, lacks, no-tag, puts, swaps, takes}
-use Rattle.strip.specs.Answers.{element}
-use Rattle.strip.specs.declared.Element.{Element}
-use Rattle.strip.specs.declared.Request.{Request}
 use Rattle.tree_model.specs.Calls.{Ruling}
 use Rattle.tree_model.specs.Node.{firstEmpty, leastCount, low, lowest, move, slotAt, sumCounts}
 use Rattle.tree_model.specs.declared.Move.{Move}

@@ -1,10 +1,5 @@
 -- A request served on levels, and what a store of levels has to be.
-use Prim.Native.Nat.{_*_, suc, zero, ℕ}
-use mathlib.Core.Bool.{Bool}
-use mathlib.Core.List.{[]}
-use lib.ListN.{getD, replicate}
-use Rattle.strip.specs.declared.Element.{Element}
-use Rattle.strip.specs.declared.Request.{Request}
+use Rattle.laws.specs.Prelude.{Bool, Element, Request, [], _*_, getD, replicate, suc, zero, ℕ}
 use Rattle.tree_model.specs.Calls.{rule, Ruling}
 use Rattle.tree_model.specs.Damage.{room}
 use Rattle.tree_model.specs.Levels.{apply, Levels, Shaped, work}

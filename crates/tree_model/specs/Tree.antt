@@ -1,13 +1,6 @@
 -- The tree that hangs at a node of a store, what it holds, and when it is sound.
-use Prim.Native.Nat.{ℕ, zero, suc, _+_, _*_, _<_}
-use mathlib.Core.Path.{_≡_}
-use mathlib.Core.Bool.{Bool}
-use mathlib.Core.List.{List, [], _∷_, map}
-use lib.ListN.{length, getD, set}
-use Rattle.strip.specs.declared.Element.{Element}
-use Rattle.strip.specs.Answers.{blank}
-use Rattle.laws.specs.Lists.{sumOf, All}
-use Rattle.promise.specs.Served.{always, hit, lower}
+use Rattle.laws.specs.Prelude.{All, Bool, Element, List, [], _*_, _+_, _<_, _∷_, _≡_, blank, getD, length, map, set, suc, sumOf, zero, ℕ}
+use Rattle.promise.specs.Prelude.{always, hit, lower}
 use Rattle.tree_model.specs.declared.Slot.{Slot}
 use Rattle.tree_model.specs.declared.Op.{Op}
 use Rattle.tree_model.specs.declared.Op.the-variants.{Nothing, Put, Take, Swap}

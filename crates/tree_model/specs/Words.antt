@@ -1,10 +1,6 @@
 -- The lent words: "Slots lie in one lent slice, level by level, node by node"; "A tree slot is then four words, with length before count" (02 [9]):
 -- rank, tag, length, count.
-use Prim.Native.Nat.{ℕ, zero, suc, _+_, _*_}
-use mathlib.Core.Bool.{cond}
-use mathlib.Core.List.{List, [], _∷_, _++_}
-use lib.ListN.{getD, set, drop, replicate}
-use Rattle.strip.specs.Answers.{element}
+use Rattle.laws.specs.Prelude.{List, [], _*_, _++_, _+_, _∷_, cond, drop, elementIn, elementWords, getD, replicate, set, suc, writeElement, zero, ℕ}
 use Rattle.tree_model.specs.declared.Slot.{Slot}
 use Rattle.tree_model.specs.declared.Op.{Op}
 use Rattle.tree_model.specs.declared.Move.{Move}
@@ -13,17 +9,16 @@ use Rattle.tree_model.specs.Node.{isNothing, opMove, low}
 use Rattle.tree_model.specs.Levels.{Level, Levels, top, levelMove, stepWork}
 
 -- ---- a slot's words
--- how many words a slot has
+-- how many words a slot has: its element's, and the count behind them
 abbrev pub slotWords : ℕ
-slotWords = 4
+slotWords = elementWords + 1
 
 -- slot i of the store
 unfoldable pub slotOf : List ℕ → ℕ → Slot
-slotOf ws i = record { element = element (getD ws (slotWords * i) 0) (getD ws (slotWords * i + 1) 0) (getD ws (slotWords * i + 2) 0); count = getD ws (slotWords * i + 3) 0 }
+slotOf ws i = record { element = elementIn ws (slotWords * i); count = getD ws (slotWords * i + elementWords) 0 }
 
 unfoldable pub write : List ℕ → ℕ → Slot → List ℕ
-write ws i s =
-    set (set (set (set ws (slotWords * i) (s .element .rank .0)) (slotWords * i + 1) (s .element .tag .0)) (slotWords * i + 2) (s .element .length .0)) (slotWords * i + 3) (s .count)
+write ws i s = set (writeElement ws (slotWords * i) (s .element)) (slotWords * i + elementWords) (s .count)
 
 -- "Clear writes zeros": the words of the first n slots
 unfoldable pub wipe : ℕ → List ℕ → List ℕ

@@ -130,7 +130,9 @@ fn of_source(text: &str) -> Result<Functions, String> {
             let (n, t) = name_and_type(&p)?;
             let words: Vec<&str> = t.trim_start_matches('&').split(' ').filter(|w| !w.starts_with('\'')).collect();
             let reference = if t.starts_with('&') { "&" } else { "" };
-            list.push(format!("{n}: {reference}{}", words.join(" ")));
+            // a struct of six numbers of 32 bits is so many words to the source
+            let of = words.join(" ").replace("[[u32; 6]]", "[ClusterRecord]");
+            list.push(format!("{n}: {reference}{of}"));
         }
         if found.insert(name.clone(), Function { parameters: list, answer }).is_some() {
             return Err(format!("{name} stands there twice"));

@@ -1,13 +1,10 @@
 -- `bucket::clear_laid` meets its contract.
-use mathlib.Core.Path.{_≡_, sym, _∙_}
-use mathlib.Core.Bool.{true}
-use borrow.Author.Tests.{not-true, not-false}
-use Rattle.bucket_model.specs.Calls.{isShaped}
-use Rattle.bucket_tests.specs.Stores.{Stands}
-use Rattle.bucket_model.proofs.Returns.{clear-bad, clear-done}
-use Rattle.bucket_tests.proofs.Read.{fits}
+use Rattle.laws.specs.Prelude.{_∙_, _≡_, needs, not-false, not-true, sym, true}
+use Rattle.bucket_model.specs.Prelude.{isShaped}
+use Rattle.bucket_step.specs.Tested.{Stands}
+use Rattle.bucket_model.proofs.Laws.{clear-bad, clear-done}
+use Rattle.bucket_step.proofs.Read.{fits}
 use Rattle.bucket.proofs.Steps.{stands}
-use borrow.Author.Needs.{needs}
 use Rattle.bucket.proofs.clear_laid.Statement.{statement}
 use Rattle.bucket.proofs.clear_laid.Tie as tie
 

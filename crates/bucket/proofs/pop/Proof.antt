@@ -1,15 +1,9 @@
 -- `bucket::pop` meets its contract.
-use mathlib.Core.Path.{_≡_, refl, ap, _∙_}
-use mathlib.Core.Logic.{⊎-elim}
-use mathlib.Core.List.{List}
-use Prim.Native.Nat.{ℕ, _+_, _-_, _≤_}
-use native.Mathlib.Omega.{arith}
-use lib.ListN.{length}
-use Rattle.bucket_model.specs.Layout.{queue, leastStoreys, mostStoreys}
-use Rattle.bucket_model.specs.Calls.{Outcome, outcome, popped}
-use Rattle.bucket_model.proofs.Returns.{pop-bad}
+use Rattle.laws.specs.Prelude.{List, _+_, _-_, _∙_, _≡_, _≤_, ap, arith, length, refl, ℕ, ⊎-elim}
+use Rattle.bucket_model.specs.Prelude.{Outcome, leastStoreys, mostStoreys, outcome, popped, queue}
+use Rattle.bucket_model.proofs.Laws.{pop-bad}
 use Rattle.bucket.proofs.Steps.{queue-placed}
-use Rattle.bucket_steps.proofs.Depths.{undeep, at-lay, Gone, none-gone, gone-here, gone-on, all-gone}
+use Rattle.bucket_step.proofs.Depths.{undeep, at-lay, Gone, none-gone, gone-here, gone-on, all-gone}
 use Rattle.bucket.proofs.pop.Statement.{statement}
 use Rattle.bucket.proofs.pop.Tie as tie
 

@@ -1,15 +1,10 @@
 -- `bucket::pop_laid` meets its contract.
-use mathlib.Core.Path.{_≡_, refl, sym, _∙_}
-use mathlib.Core.Bool.{true, not, _&&_}
-use borrow.Author.Tests.{not-true, not-false}
-use lib.Dec.{eqb}
-use Rattle.bucket_model.specs.Layout.{word}
-use Rattle.bucket_model.specs.Calls.{isShaped, isWhole, lowestOf}
-use Rattle.bucket_tests.specs.Stores.{Stands, Freeing}
-use Rattle.bucket_model.proofs.Returns.{pop-bad, pop-limit, pop-unfit, pop-out}
-use Rattle.bucket_steps.proofs.Steps.{freeing}
+use Rattle.laws.specs.Prelude.{_&&_, _∙_, _≡_, eqb, needs, not, not-false, not-true, refl, sym, true}
+use Rattle.bucket_model.specs.Prelude.{isShaped, isWhole, lowestOf, word}
+use Rattle.bucket_step.specs.Tested.{Stands, Freeing}
+use Rattle.bucket_model.proofs.Laws.{pop-bad, pop-limit, pop-out, pop-unfit}
+use Rattle.bucket_step.proofs.Steps.{freeing}
 use Rattle.bucket.proofs.Steps.{stands, whole-of, some-of}
-use borrow.Author.Needs.{needs}
 use Rattle.bucket.proofs.pop_laid.Statement.{statement}
 use Rattle.bucket.proofs.pop_laid.Tie as tie
 

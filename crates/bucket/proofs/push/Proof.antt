@@ -1,17 +1,10 @@
 -- `bucket::push` meets its contract.
-use mathlib.Core.Path.{_≡_, refl, ap, _∙_}
-use mathlib.Core.List.{List}
-use mathlib.Core.Logic.{⊎-elim}
-use Prim.Native.Nat.{ℕ, _+_, _-_, _≤_}
-use native.Mathlib.Omega.{arith}
-use lib.ListN.{length}
-use Rattle.strip.specs.declared.Element.{Element}
+use Rattle.laws.specs.Prelude.{Element, List, _+_, _-_, _∙_, _≡_, _≤_, ap, arith, length, refl, ℕ, ⊎-elim}
 use Rattle.bucket_model.specs.declared.Lay.{Lay}
-use Rattle.bucket_model.specs.Layout.{queue, leastStoreys, mostStoreys}
-use Rattle.bucket_model.specs.Calls.{Outcome, outcome, pushed}
-use Rattle.bucket_model.proofs.Returns.{push-bad}
+use Rattle.bucket_model.specs.Prelude.{Outcome, leastStoreys, mostStoreys, outcome, pushed, queue}
+use Rattle.bucket_model.proofs.Laws.{push-bad}
 use Rattle.bucket.proofs.Steps.{queue-placed}
-use Rattle.bucket_steps.proofs.Depths.{undeep, at-lay, Gone, none-gone, gone-here, gone-on, all-gone}
+use Rattle.bucket_step.proofs.Depths.{undeep, at-lay, Gone, none-gone, gone-here, gone-on, all-gone}
 use Rattle.bucket.proofs.push.Statement.{statement}
 use Rattle.bucket.proofs.push.Tie as tie
 

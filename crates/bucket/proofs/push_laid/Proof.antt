@@ -1,19 +1,11 @@
 -- `bucket::push_laid` meets its contract.
-use mathlib.Core.Path.{_≡_, refl, sym, subst, _∙_}
-use mathlib.Core.Bool.{true, false, not, _&&_}
-use Prim.Native.Nat.{ℕ, _<_}
-use borrow.Author.Tests.{not-true, not-false, ltb-true}
-use lib.Dec.{ltb, eqb}
-use Rattle.laws.specs.Tests.{and-left, and-right}
-use Rattle.strip.specs.Answers.{untagged}
-use Rattle.bucket_model.specs.Layout.{word}
-use Rattle.bucket_model.specs.Calls.{isShaped, isWhole, roomOf}
-use Rattle.bucket_tests.specs.Stores.{Stands, Roomy, FoundLinks, FoundRoom, joinOk}
-use Rattle.bucket_tests.proofs.Read.{fits, room-found}
-use Rattle.bucket_model.proofs.Returns.{push-bad, push-newcomer, push-limit, push-unfit, push-done}
-use Rattle.bucket_steps.proofs.Steps.{all-tall, within}
+use Rattle.laws.specs.Prelude.{_&&_, _<_, _∙_, _≡_, and-left, and-right, eqb, false, ltb, ltb-true, needs, not, not-false, not-true, refl, subst, sym, true, untagged, ℕ}
+use Rattle.bucket_model.specs.Prelude.{isShaped, isWhole, roomOf, word}
+use Rattle.bucket_step.specs.Tested.{Stands, Roomy, FoundLinks, FoundRoom, joinOk}
+use Rattle.bucket_step.proofs.Read.{fits, room-found}
+use Rattle.bucket_model.proofs.Laws.{push-bad, push-done, push-limit, push-newcomer, push-unfit}
+use Rattle.bucket_step.proofs.Steps.{all-tall, within}
 use Rattle.bucket.proofs.Steps.{stands, whole-of, room-of, roomy, joining}
-use borrow.Author.Needs.{needs}
 use Rattle.bucket.proofs.push_laid.Statement.{statement}
 use Rattle.bucket.proofs.push_laid.Tie as tie
 

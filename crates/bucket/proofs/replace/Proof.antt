@@ -1,12 +1,10 @@
 -- `bucket::replace` meets its contract.
-use mathlib.Core.Path.{sym, ap, _∙_}
-use borrow.Author.Tests.{not-true, not-false}
+use Rattle.laws.specs.Prelude.{_∙_, ap, needs, not-false, not-true, sym}
 use Rattle.bucket_model.specs.declared.Lay.{Lay}
-use Rattle.bucket_model.specs.Calls.{replaced}
-use Rattle.bucket_model.proofs.Returns.{replace-bad}
+use Rattle.bucket_model.specs.Prelude.{replaced}
+use Rattle.bucket_model.proofs.Laws.{replace-bad}
 use Rattle.bucket.proofs.Steps.{queue-placed}
-use Rattle.bucket_steps.proofs.Depths.{deep-of, undeep}
-use borrow.Author.Needs.{needs}
+use Rattle.bucket_step.proofs.Depths.{deep-of, undeep}
 use Rattle.bucket.proofs.replace.Statement.{statement}
 use Rattle.bucket.proofs.replace.Tie as tie
 

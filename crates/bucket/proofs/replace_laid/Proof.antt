@@ -1,19 +1,11 @@
 -- `bucket::replace_laid` meets its contract.
-use mathlib.Core.Path.{_≡_, refl, sym, _∙_}
-use mathlib.Core.Bool.{true, false, not, _&&_}
-use Prim.Native.Nat.{_<_}
-use borrow.Author.Tests.{not-true, not-false, ltb-true}
-use lib.Dec.{ltb, eqb}
-use Rattle.laws.specs.Tests.{and-left, and-right}
-use Rattle.strip.specs.Answers.{untagged}
-use Rattle.bucket_model.specs.Layout.{word}
-use Rattle.bucket_model.specs.Calls.{isShaped, isWhole, lowestOf, takenBits, takenWords, roomAfter}
-use Rattle.bucket_tests.specs.Stores.{Stands, Freeing, FoundRoom, roomFreed}
-use Rattle.bucket_tests.proofs.Read.{fits, freed-found}
-use Rattle.bucket_model.proofs.Returns.{replace-bad, replace-newcomer, replace-limit, replace-unfit, replace-shut, replace-out}
-use Rattle.bucket_steps.proofs.Steps.{all-tall, within, freeing, swapping, showing}
+use Rattle.laws.specs.Prelude.{_&&_, _<_, _∙_, _≡_, and-left, and-right, eqb, false, ltb, ltb-true, needs, not, not-false, not-true, refl, sym, true, untagged}
+use Rattle.bucket_model.specs.Prelude.{isShaped, isWhole, lowestOf, roomAfter, takenBits, takenWords, word}
+use Rattle.bucket_step.specs.Tested.{Stands, Freeing, FoundRoom, roomFreed}
+use Rattle.bucket_step.proofs.Read.{fits, freed-found}
+use Rattle.bucket_model.proofs.Laws.{replace-bad, replace-limit, replace-newcomer, replace-out, replace-shut, replace-unfit}
+use Rattle.bucket_step.proofs.Steps.{all-tall, within, freeing, swapping, showing}
 use Rattle.bucket.proofs.Steps.{stands, whole-of, some-of, after}
-use borrow.Author.Needs.{needs}
 use Rattle.bucket.proofs.replace_laid.Statement.{statement}
 use Rattle.bucket.proofs.replace_laid.Tie as tie
 

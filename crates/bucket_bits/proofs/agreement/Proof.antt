@@ -1,12 +1,7 @@
 -- `bucket_bits::agreement` meets its contract.
-use Prim.Native.Nat.{_-_, _<_}
-use native.Mathlib.Omega.{arith}
-use borrow.Author.Tests.{ltb-true}
-use lib.Dec.{ltb}
-use Rattle.laws.specs.Tests.{and-right}
+use Rattle.laws.specs.Prelude.{_-_, _<_, and-right, arith, ltb, ltb-true, needs}
 use Rattle.bucket_bits.specs.Climbs.{Climbable}
 use Rattle.bucket_bits.proofs.Up.{Climbing, climbing-start, climbing-room, climbing-step, climbing-end}
-use borrow.Author.Needs.{needs}
 use Rattle.bucket_bits.proofs.agreement.Statement.{statement}
 use Rattle.bucket_bits.proofs.agreement.Tie as tie
 

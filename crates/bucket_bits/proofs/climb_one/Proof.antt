@@ -1,6 +1,6 @@
 -- `bucket_bits::climb_one` meets its contract.
 use Rattle.bucket_bits.proofs.Up.{climbed-is}
-use borrow.Author.Needs.{needs}
+use Rattle.laws.specs.Prelude.{needs}
 use Rattle.bucket_bits.proofs.climb_one.Statement.{statement}
 use Rattle.bucket_bits.proofs.climb_one.Tie as tie
 

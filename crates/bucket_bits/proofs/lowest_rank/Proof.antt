@@ -1,13 +1,9 @@
 -- `bucket_bits::lowest_rank` meets its contract.
-use mathlib.Core.Bool.{true}
-use Prim.Native.Nat.{_-_, _^_, _≤_, _<_}
-use native.Mathlib.Omega.{arith}
-use borrow.Author.Tests.{not-true, not-false}
-use Rattle.bucket_model.specs.Layout.{wordsOf}
+use Rattle.laws.specs.Prelude.{_-_, _<_, _^_, _≤_, arith, needs, not-false, not-true, true}
+use Rattle.bucket_model.specs.Prelude.{wordsOf}
 use Rattle.bucket_bits.specs.Climbs.{Leads}
 use Rattle.bucket_bits.proofs.Numbers.{words-lt}
 use Rattle.bucket_bits.proofs.Down.{Down, down-start, down-in, down-some, down-step, down-none, down-end}
-use borrow.Author.Needs.{needs}
 use Rattle.bucket_bits.proofs.lowest_rank.Statement.{statement}
 use Rattle.bucket_bits.proofs.lowest_rank.Tie as tie
 

@@ -1,10 +1,7 @@
 -- `bucket_bits::wipe` meets its contract.
-use mathlib.Core.Path.{_≡_, refl, ap, _∙_}
-use Prim.Native.Nat.{ℕ, _-_, _≤_}
-use native.Mathlib.Omega.{arith}
-use lib.ListN.{length, length-set}
-use Rattle.bucket_model.specs.Calls.{fill}
-use Rattle.bucket_model.proofs.Fill.{fill-none, fill-step}
+use Rattle.laws.specs.Prelude.{_-_, _∙_, _≡_, _≤_, ap, arith, length, length-set, refl, ℕ}
+use Rattle.bucket_model.specs.Prelude.{fill}
+use Rattle.bucket_model.proofs.Laws.{fill-none, fill-step}
 use Rattle.bucket_bits.proofs.wipe.Statement.{statement}
 use Rattle.bucket_bits.proofs.wipe.Tie as tie
 

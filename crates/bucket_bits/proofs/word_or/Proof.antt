@@ -1,6 +1,6 @@
 -- `bucket_bits::word_or` meets its contract.
 use Rattle.bucket_bits.proofs.Up.{word-known, word-read}
-use borrow.Author.Needs.{needs}
+use Rattle.laws.specs.Prelude.{needs}
 use Rattle.bucket_bits.proofs.word_or.Statement.{statement}
 use Rattle.bucket_bits.proofs.word_or.Tie as tie
 

@@ -1,5 +1,5 @@
 -- `card::card_bucket_pop` meets its contract.
-use borrow.Author.Needs.{needs}
+use Rattle.laws.specs.Prelude.{needs}
 use Rattle.card.proofs.Calls.{bucket-short, bucket-told}
 use Rattle.card.proofs.card_bucket_pop.Statement.{statement}
 use Rattle.card.proofs.card_bucket_pop.Tie as tie

@@ -1,5 +1,5 @@
 -- `card::card_cluster_clear` meets its contract.
-use borrow.Author.Needs.{needs}
+use Rattle.laws.specs.Prelude.{needs}
 use Rattle.card.proofs.Cluster.{cluster-done}
 use Rattle.card.proofs.card_cluster_clear.Statement.{statement}
 use Rattle.card.proofs.card_cluster_clear.Tie as tie

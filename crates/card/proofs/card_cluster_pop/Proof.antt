@@ -1,5 +1,5 @@
 -- `card::card_cluster_pop` meets its contract.
-use borrow.Author.Needs.{needs}
+use Rattle.laws.specs.Prelude.{needs}
 use Rattle.card.proofs.Cluster.{cluster-short, cluster-told}
 use Rattle.card.proofs.card_cluster_pop.Statement.{statement}
 use Rattle.card.proofs.card_cluster_pop.Tie as tie

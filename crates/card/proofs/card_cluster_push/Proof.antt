@@ -1,5 +1,5 @@
 -- `card::card_cluster_push` meets its contract.
-use borrow.Author.Needs.{needs}
+use Rattle.laws.specs.Prelude.{needs}
 use Rattle.card.proofs.Cluster.{cluster-done}
 use Rattle.card.proofs.card_cluster_push.Statement.{statement}
 use Rattle.card.proofs.card_cluster_push.Tie as tie

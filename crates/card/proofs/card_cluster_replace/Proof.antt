@@ -1,5 +1,5 @@
 -- `card::card_cluster_replace` meets its contract.
-use borrow.Author.Needs.{needs}
+use Rattle.laws.specs.Prelude.{needs}
 use Rattle.card.proofs.Cluster.{cluster-short, cluster-told}
 use Rattle.card.proofs.card_cluster_replace.Statement.{statement}
 use Rattle.card.proofs.card_cluster_replace.Tie as tie

@@ -1,5 +1,5 @@
 -- `card::card_tree_replace` meets its contract.
-use borrow.Author.Needs.{needs}
+use Rattle.laws.specs.Prelude.{needs}
 use Rattle.card.proofs.Calls.{tree-short, tree-told}
 use Rattle.card.proofs.card_tree_replace.Statement.{statement}
 use Rattle.card.proofs.card_tree_replace.Tie as tie

@@ -1,8 +1,5 @@
 -- `cases::bucket_calls` meets its contract.
-use Prim.Native.Nat.{_-_, _≤_}
-use mathlib.Core.Path.{_≡_}
-use lib.ListN.{length}
-use borrow.Author.Needs.{needs}
+use Rattle.laws.specs.Prelude.{_-_, _≡_, _≤_, length, needs}
 use Rattle.cases.proofs.bucket_calls.Statement.{statement}
 use Rattle.cases.proofs.bucket_calls.Tie as tie
 

@@ -1,8 +1,5 @@
 -- `cases::cycles` meets its contract.
-use Prim.Native.Nat.{_-_, _≤_}
-use mathlib.Core.Path.{_≡_}
-use lib.ListN.{length}
-use borrow.Author.Needs.{needs}
+use Rattle.laws.specs.Prelude.{_-_, _≡_, _≤_, length, needs}
 use Rattle.cases.proofs.cycles.Statement.{statement}
 use Rattle.cases.proofs.cycles.Tie as tie
 

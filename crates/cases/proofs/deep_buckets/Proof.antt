@@ -1,8 +1,5 @@
 -- `cases::deep_buckets` meets its contract.
-use Prim.Native.Nat.{ℕ}
-use mathlib.Core.Path.{sym}
-use lib.ListN.{length-replicate}
-use borrow.Author.Needs.{needs}
+use Rattle.laws.specs.Prelude.{length-replicate, needs, sym, ℕ}
 use Rattle.cases.proofs.deep_buckets.Statement.{statement}
 use Rattle.cases.proofs.deep_buckets.Tie as tie
 

@@ -1,8 +1,6 @@
 -- `cases::say` meets its contract.
-use native.Mathlib.Omega.{arith}
-use mathlib.Core.Path.{sym}
+use Rattle.laws.specs.Prelude.{arith, needs, sym}
 use lib.Seq.{length-take-le}
-use borrow.Author.Needs.{needs}
 use Rattle.cases.proofs.say.Statement.{statement}
 use Rattle.cases.proofs.say.Tie as tie
 

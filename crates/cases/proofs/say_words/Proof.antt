@@ -1,7 +1,5 @@
 -- `cases::say_words` meets its contract.
-use Prim.Native.Nat.{_-_, _≤_}
-use lib.ListN.{length}
-use borrow.Author.Needs.{needs}
+use Rattle.laws.specs.Prelude.{_-_, _≤_, length, needs}
 use Rattle.cases.proofs.say_words.Statement.{statement}
 use Rattle.cases.proofs.say_words.Tie as tie
 

@@ -1,8 +1,5 @@
 -- `cases::shapes` meets its contract.
-use Prim.Native.Nat.{ℕ}
-use mathlib.Core.Path.{sym}
-use lib.ListN.{length-replicate}
-use borrow.Author.Needs.{needs}
+use Rattle.laws.specs.Prelude.{length-replicate, needs, sym, ℕ}
 use Rattle.cases.proofs.shapes.Statement.{statement}
 use Rattle.cases.proofs.shapes.Tie as tie
 

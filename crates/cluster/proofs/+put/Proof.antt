@@ -1,27 +1,22 @@
-use borrow.Author.Needs.{needs}
-use native.Mathlib.Omega.{arith}
-use mathlib.Core.Path.{_≡_, _∙_, refl}
-use lib.Dec.{ltb}
-use lib.ListN.{getD, length}
-use Rattle.cluster_nodes.specs.Leaf.{Lies, Under}
+use Rattle.laws.specs.Prelude.{_+_, _<_, _∙_, _≡_, _≤_, arith, getD, length, ltb, needs, refl, ℕ}
+use Rattle.cluster_node.specs.Leaf.{Lies, Under}
 use Rattle.cluster.proofs.Downs.{put-within, put-under, goes-ready, high-in, put-leaf, put-end, put-bad, put-full, put-stop, put-done, put-counts}
-use Prim.Native.Nat.{ℕ, _<_, _≤_, _+_}
 use borrow.Fn.Kinds.{In}
 use borrow.Fn.PlainCycle.{Measures, is, falls, and}
 use Rattle.cluster.proofs.put.Reads as put
 use Rattle.cluster.proofs.put.Kinds as put-kinds
 use Rattle.cluster.proofs.+put.Lts-put as put-lts
 use Rattle.cluster.proofs.put_end.Reads as put-end-reads
-use Rattle.cluster_nodes.proofs.choose.Reads as choose-reads
-use Rattle.cluster_nodes.proofs.choose_word.Reads as choose-word-reads
-use Rattle.cluster_nodes.proofs.elem_at.Reads as elem-at-reads
-use Rattle.cluster_nodes.proofs.high_lead.Reads as high-lead-reads
-use Rattle.cluster_nodes.proofs.keep_of.Reads as keep-of-reads
-use Rattle.cluster_nodes.proofs.pass_of.Reads as pass-of-reads
-use Rattle.cluster_nodes.proofs.raise.Reads as raise-reads
-use Rattle.cluster_nodes.proofs.room_under.Reads as room-under-reads
-use Rattle.cluster_nodes.proofs.set_place.Reads as set-place-reads
-use Rattle.cluster_nodes.proofs.wide.Reads as wide-reads
+use Rattle.cluster_node.proofs.choose.Reads as choose-reads
+use Rattle.cluster_node.proofs.choose_word.Reads as choose-word-reads
+use Rattle.cluster_node.proofs.elem_at.Reads as elem-at-reads
+use Rattle.cluster_node.proofs.high_lead.Reads as high-lead-reads
+use Rattle.strip.proofs.stays.Reads as stays-reads
+use Rattle.strip.proofs.goes_down.Reads as goes-down-reads
+use Rattle.cluster_node.proofs.raise.Reads as raise-reads
+use Rattle.cluster_node.proofs.room_under.Reads as room-under-reads
+use Rattle.cluster_node.proofs.set_place.Reads as set-place-reads
+use Rattle.cluster_node.proofs.wide.Reads as wide-reads
 use Rattle.cluster.proofs.+put.{statement}
 use Rattle.cluster.proofs.+put.Tie.{close}
 
@@ -35,7 +30,7 @@ abbrev put-below : ℕ → In 1 put-kinds.ps
 put-below t = and 1 put-kinds.ps (falls 1 put-kinds.ps _<_ μ-put t) put.Pre
 
 abbrev cs : ℕ → put-lts.Claims
-cs t = (put-end-reads.Asked, put-end-reads.Learnt, high-lead-reads.Asked, high-lead-reads.Learnt, choose-word-reads.Asked, choose-word-reads.Learnt, wide-reads.Asked, wide-reads.Learnt, choose-reads.Asked, choose-reads.Learnt, elem-at-reads.Asked, elem-at-reads.Learnt, keep-of-reads.Asked, keep-of-reads.Learnt, pass-of-reads.Asked, pass-of-reads.Learnt, room-under-reads.Asked, room-under-reads.Learnt, put-below t, put.Post, raise-reads.Asked, raise-reads.Learnt, set-place-reads.Asked, set-place-reads.Learnt)
+cs t = (put-end-reads.Asked, put-end-reads.Learnt, high-lead-reads.Asked, high-lead-reads.Learnt, choose-word-reads.Asked, choose-word-reads.Learnt, wide-reads.Asked, wide-reads.Learnt, choose-reads.Asked, choose-reads.Learnt, elem-at-reads.Asked, elem-at-reads.Learnt, stays-reads.Asked, stays-reads.Learnt, goes-down-reads.Asked, goes-down-reads.Learnt, room-under-reads.Asked, room-under-reads.Learnt, put-below t, put.Post, raise-reads.Asked, raise-reads.Learnt, set-place-reads.Asked, set-place-reads.Learnt)
 
 -- the node lies within the words
 lies : (t : ℕ) (c : put-lts.Start (cs t) (put-at t) put.Post) → Lies (c .args .k) (c .args .at) (length (c .args .s .now))
@@ -175,11 +170,11 @@ put-elem-at-requires t c κs =
     let at-17 = at-13 .before .before .before .before in
     omega (arith, lies t at-17, high t at-13)
 
-put-keep-of-requires : (t : ℕ) → put-lts.Need-keep-of-requires (cs t) (put-at t) put.Post
-put-keep-of-requires t c κs = search needs
+put-stays-requires : (t : ℕ) → put-lts.Need-stays-requires (cs t) (put-at t) put.Post
+put-stays-requires t c κs = search needs
 
-put-pass-of-requires : (t : ℕ) → put-lts.Need-pass-of-requires (cs t) (put-at t) put.Post
-put-pass-of-requires t c κs = search needs
+put-goes-down-requires : (t : ℕ) → put-lts.Need-goes-down-requires (cs t) (put-at t) put.Post
+put-goes-down-requires t c κs = search needs
 
 put-room-under-requires : (t : ℕ) → put-lts.Need-room-under-requires (cs t) (put-at t) put.Post
 put-room-under-requires t c κs = search needs
@@ -202,10 +197,10 @@ put-same-length-5 t c = c .before .before .before .put .kept .0
 
 put-returns-5 : (t : ℕ) → put-lts.Need-returns-5 (cs t) (put-at t) put.Post
 put-returns-5 t c =
-    let at-put = c .before .before .before in let at-room-under = at-put .before .before in let at-pass-of = at-room-under .before in
-    let at-keep-of = at-pass-of .before in let at-elem-at = at-keep-of .before in
+    let at-put = c .before .before .before in let at-room-under = at-put .before .before in let at-goes-down = at-room-under .before in
+    let at-stays = at-goes-down .before in let at-elem-at = at-stays .before in
     let at-choose = at-elem-at .before .before .before in let at-12 = at-choose .before in
-    let j = at-12 in λ m e. put-stop _ _ m _ _ _ _ e _ (j .before .before .before .before .before .before .before .before .before .before .high-lead .ensures) (j .before .before .before .before .before .before .before .before .if2 .left) (lies t (j .before .before .before .before .before .before .before .before .before .before .before .before .before .before) .some) _ (j .before .before .before .wide .ensures ∙ j .before .before .before .before .choose-word2 .ensures) (j .before .before .if3 .left) (j .before .before .before .before .before .before .before .before .before .before .before .before .if1 .left) _ (j .before .wide2 .ensures ∙ j .before .before .before .before .before .choose-word .ensures) (j .if4 .left) _ (at-choose .choose .ensures) _ (at-room-under .room-under .ensures) (λ i. omega (arith, j .before .before .before .before .before .before .before .before .before .before .before .before .before .slice-known .given i)) _ (at-elem-at .elem-at .ensures) _ _ (at-keep-of .keep-of .ensures) (at-pass-of .pass-of .ensures) _ _ (at-put .put .ensures) (c .if5 .taken)
+    let j = at-12 in λ m e. put-stop _ _ m _ _ _ _ e _ (j .before .before .before .before .before .before .before .before .before .before .high-lead .ensures) (j .before .before .before .before .before .before .before .before .if2 .left) (lies t (j .before .before .before .before .before .before .before .before .before .before .before .before .before .before) .some) _ (j .before .before .before .wide .ensures ∙ j .before .before .before .before .choose-word2 .ensures) (j .before .before .if3 .left) (j .before .before .before .before .before .before .before .before .before .before .before .before .if1 .left) _ (j .before .wide2 .ensures ∙ j .before .before .before .before .before .choose-word .ensures) (j .if4 .left) _ (at-choose .choose .ensures) _ (at-room-under .room-under .ensures) (λ i. omega (arith, j .before .before .before .before .before .before .before .before .before .before .before .before .before .slice-known .given i)) _ (at-elem-at .elem-at .ensures) _ _ (at-stays .stays .ensures) (at-goes-down .goes-down .ensures) _ _ (at-put .put .ensures) (c .if5 .taken)
 
 put-raise-requires : (t : ℕ) → put-lts.Need-raise-requires (cs t) (put-at t) put.Post
 put-raise-requires t c κs =
@@ -231,9 +226,9 @@ put-returns-6 : (t : ℕ) → put-lts.Need-returns-6 (cs t) (put-at t) put.Post
 put-returns-6 t c =
     let at-raise = c .before .before .before .before .before .before in let else5 = at-raise .before .before in
     let at-put = else5 .before .before .before in let at-room-under = at-put .before .before in
-    let at-pass-of = at-room-under .before in let at-keep-of = at-pass-of .before in let at-elem-at = at-keep-of .before in
+    let at-goes-down = at-room-under .before in let at-stays = at-goes-down .before in let at-elem-at = at-stays .before in
     let at-choose = at-elem-at .before .before .before in let at-20 = at-choose .before in
-    let j = at-20 in λ m e. put-done _ _ m _ _ _ _ e _ (j .before .before .before .before .before .before .before .before .before .before .high-lead .ensures) (j .before .before .before .before .before .before .before .before .if2 .left) (lies t (j .before .before .before .before .before .before .before .before .before .before .before .before .before .before) .some) _ (j .before .before .before .wide .ensures ∙ j .before .before .before .before .choose-word2 .ensures) (j .before .before .if3 .left) (j .before .before .before .before .before .before .before .before .before .before .before .before .if1 .left) _ (j .before .wide2 .ensures ∙ j .before .before .before .before .before .choose-word .ensures) (j .if4 .left) _ (at-choose .choose .ensures) _ (at-room-under .room-under .ensures) (λ i. omega (arith, j .before .before .before .before .before .before .before .before .before .before .before .before .before .slice-known .given i)) _ (at-elem-at .elem-at .ensures) _ _ (at-keep-of .keep-of .ensures) (at-pass-of .pass-of .ensures) _ _ (at-put .put .ensures) (else5 .if5 .left) _ _ (at-raise .raise .ensures) (c .before .before .set-place .ensures)
+    let j = at-20 in λ m e. put-done _ _ m _ _ _ _ e _ (j .before .before .before .before .before .before .before .before .before .before .high-lead .ensures) (j .before .before .before .before .before .before .before .before .if2 .left) (lies t (j .before .before .before .before .before .before .before .before .before .before .before .before .before .before) .some) _ (j .before .before .before .wide .ensures ∙ j .before .before .before .before .choose-word2 .ensures) (j .before .before .if3 .left) (j .before .before .before .before .before .before .before .before .before .before .before .before .if1 .left) _ (j .before .wide2 .ensures ∙ j .before .before .before .before .before .choose-word .ensures) (j .if4 .left) _ (at-choose .choose .ensures) _ (at-room-under .room-under .ensures) (λ i. omega (arith, j .before .before .before .before .before .before .before .before .before .before .before .before .before .slice-known .given i)) _ (at-elem-at .elem-at .ensures) _ _ (at-stays .stays .ensures) (at-goes-down .goes-down .ensures) _ _ (at-put .put .ensures) (else5 .if5 .left) _ _ (at-raise .raise .ensures) (c .before .before .set-place .ensures)
 
 pub +put-spec : {M : Type 1} → statement M
 +put-spec = close μ-put λ t. put-lts.spec (cs t)
@@ -270,8 +265,8 @@ pub +put-spec : {M : Type 1} → statement M
     (put-mul-i t)
     (put-add-i-2 t)
     (put-elem-at-requires t)
-    (put-keep-of-requires t)
-    (put-pass-of-requires t)
+    (put-stays-requires t)
+    (put-goes-down-requires t)
     (put-room-under-requires t)
     (put-sub-put t)
     (put-put-requires t)

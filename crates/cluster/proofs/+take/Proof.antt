@@ -1,26 +1,20 @@
-use borrow.Author.Needs.{needs}
-use native.Mathlib.Omega.{arith}
-use mathlib.Core.Path.{_≡_, _∙_, refl}
-use mathlib.Core.Bool.{true}
-use mathlib.Core.Logic.{⊎-elim}
-use lib.ListN.{length}
-use Rattle.cluster_nodes.specs.Leaf.{ChoiceFrom, Lies, Under}
+use Rattle.laws.specs.Prelude.{_<_, _∙_, _≡_, arith, length, needs, refl, true, ℕ, ⊎-elim}
+use Rattle.cluster_node.specs.Leaf.{ChoiceFrom, Lies, Under}
 use Rattle.cluster.proofs.Downs.{take-within, take-under, child-ready, scanned, choice-four, choice-none, choice-any, choice-first, take-zero, take-bare, take-bad, take-stop, take-done}
-use Prim.Native.Nat.{ℕ, _<_}
 use borrow.Fn.Kinds.{In}
 use borrow.Fn.PlainCycle.{Measures, is, falls, and}
 use Rattle.cluster.proofs.take.Reads as take
 use Rattle.cluster.proofs.take.Kinds as take-kinds
 use Rattle.cluster.proofs.+take.Lts-take as take-lts
-use Rattle.cluster_nodes.proofs.bare_at.Reads as bare-at-reads
-use Rattle.cluster_nodes.proofs.choice.Reads as choice-reads
-use Rattle.cluster_nodes.proofs.choice_full.Reads as choice-full-reads
-use Rattle.cluster_nodes.proofs.clear_place.Reads as clear-place-reads
-use Rattle.cluster_nodes.proofs.low_four.Reads as low-four-reads
-use Rattle.cluster_nodes.proofs.no_choice.Reads as no-choice-reads
-use Rattle.cluster_nodes.proofs.room_under.Reads as room-under-reads
-use Rattle.cluster_nodes.proofs.set_place.Reads as set-place-reads
-use Rattle.cluster_nodes.proofs.sink.Reads as sink-reads
+use Rattle.cluster_node.proofs.bare_at.Reads as bare-at-reads
+use Rattle.cluster_node.proofs.choice.Reads as choice-reads
+use Rattle.cluster_node.proofs.choice_full.Reads as choice-full-reads
+use Rattle.cluster_node.proofs.clear_place.Reads as clear-place-reads
+use Rattle.cluster_node.proofs.low_four.Reads as low-four-reads
+use Rattle.cluster_node.proofs.no_choice.Reads as no-choice-reads
+use Rattle.cluster_node.proofs.room_under.Reads as room-under-reads
+use Rattle.cluster_node.proofs.set_place.Reads as set-place-reads
+use Rattle.cluster_node.proofs.sink.Reads as sink-reads
 use Rattle.cluster.proofs.+take.{statement}
 use Rattle.cluster.proofs.+take.Tie.{close}
 

@@ -1,5 +1,5 @@
 -- `cluster::bar` meets its contract.
-use borrow.Author.Needs.{needs}
+use Rattle.laws.specs.Prelude.{needs}
 use Rattle.cluster.proofs.Barred.{bar-refused, bar-tag}
 use Rattle.cluster.proofs.bar.Statement.{statement}
 use Rattle.cluster.proofs.bar.Tie as tie

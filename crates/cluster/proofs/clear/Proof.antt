@@ -1,8 +1,6 @@
 use Rattle.cluster.proofs.Opened.{clear-shape, clear-fits, clear-done}
 use Rattle.cluster.proofs.Shapes.{nodes-counted, shape-here}
-use native.Mathlib.Omega.{arith}
-use borrow.Author.Needs.{needs}
-use borrow.Author.Needs.{needs}
+use Rattle.laws.specs.Prelude.{arith, needs}
 use Rattle.cluster.proofs.clear.Statement.{statement}
 use Rattle.cluster.proofs.clear.Tie as tie
 

@@ -1,10 +1,7 @@
 use Rattle.cluster.proofs.Called.{held-eq}
 use Rattle.cluster.proofs.Opened.{held-shape, held-root, root-here, look-count, held-small, held-done}
 use Rattle.cluster.proofs.Shapes.{shape-here, nodes-less}
-use native.Mathlib.Omega.{arith}
-use mathlib.Core.Path.{_∙_}
-use borrow.Author.Needs.{needs}
-use borrow.Author.Needs.{needs}
+use Rattle.laws.specs.Prelude.{_∙_, arith, needs}
 use Rattle.cluster.proofs.held.Statement.{statement}
 use Rattle.cluster.proofs.held.Tie as tie
 

@@ -1,6 +1,5 @@
-use native.Mathlib.Omega.{arith}
+use Rattle.laws.specs.Prelude.{arith, needs}
 use Rattle.cluster.proofs.Shapes.{shift-is, nodes-shift, nodes-many}
-use borrow.Author.Needs.{needs}
 use Rattle.cluster.proofs.nodes.Statement.{statement}
 use Rattle.cluster.proofs.nodes.Tie as tie
 

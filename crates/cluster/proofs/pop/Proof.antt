@@ -2,10 +2,7 @@ use Rattle.cluster.proofs.Called.{pop-eq}
 use Rattle.cluster.proofs.Opened.{bad-shape, bad-root, root-here, look-count, look-low, take-ready, pop-empty, pop-stop, pop-done}
 use Rattle.cluster.proofs.Shapes.{shape-here, nodes-less}
 use Rattle.cluster.specs.Coded.{popDown}
-use native.Mathlib.Omega.{arith}
-use mathlib.Core.Path.{_∙_}
-use borrow.Author.Needs.{needs}
-use borrow.Author.Needs.{needs}
+use Rattle.laws.specs.Prelude.{_∙_, arith, needs}
 use Rattle.cluster.proofs.pop.Statement.{statement}
 use Rattle.cluster.proofs.pop.Tie as tie
 

@@ -1,6 +1,5 @@
 -- `cluster::push` meets its contract.
-use mathlib.Core.Path.{_∙_, sym}
-use borrow.Author.Needs.{needs}
+use Rattle.laws.specs.Prelude.{_∙_, needs, sym}
 use Rattle.cluster.proofs.Called.{push-eq}
 use Rattle.cluster.proofs.push.Statement.{statement}
 use Rattle.cluster.proofs.push.Tie as tie

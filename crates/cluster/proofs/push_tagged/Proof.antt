@@ -1,9 +1,4 @@
-use Prim.Native.Nat.{ℕ}
-use native.Mathlib.Omega.{arith}
-use mathlib.Core.Path.{_∙_, sym}
-use mathlib.Core.List.{List}
-use lib.ListN.{length}
-use borrow.Author.Needs.{needs}
+use Rattle.laws.specs.Prelude.{List, _∙_, arith, length, needs, sym, ℕ}
 use Rattle.cluster.specs.Coded.{pushDown}
 use Rattle.cluster.proofs.Opened.{bad-shape, put-ready}
 use Rattle.cluster.proofs.Pushed.{push-done, push-root, push-over, push-below}

@@ -1,5 +1,5 @@
 use Rattle.cluster.proofs.Downs.{end-bad, end-room, end-none}
-use borrow.Author.Needs.{needs}
+use Rattle.laws.specs.Prelude.{needs}
 use Rattle.cluster.proofs.put_end.Statement.{statement}
 use Rattle.cluster.proofs.put_end.Tie as tie
 

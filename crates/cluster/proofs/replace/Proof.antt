@@ -1,6 +1,5 @@
 -- `cluster::replace` meets its contract.
-use mathlib.Core.Path.{_∙_, sym}
-use borrow.Author.Needs.{needs}
+use Rattle.laws.specs.Prelude.{_∙_, needs, sym}
 use Rattle.cluster.proofs.Called.{replace-eq}
 use Rattle.cluster.proofs.replace.Statement.{statement}
 use Rattle.cluster.proofs.replace.Tie as tie

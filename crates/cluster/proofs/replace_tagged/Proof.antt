@@ -1,8 +1,7 @@
 use Rattle.cluster.proofs.Opened.{bad-shape, bad-root, root-here, look-count, look-low, take-ready, replace-empty, replace-stop, replace-done}
 use Rattle.cluster.proofs.Shapes.{shape-here, nodes-less}
 use Rattle.cluster.specs.Coded.{replaceDown}
-use native.Mathlib.Omega.{arith}
-use borrow.Author.Needs.{needs}
+use Rattle.laws.specs.Prelude.{arith, needs}
 use Rattle.cluster.proofs.replace_tagged.Statement.{statement}
 use Rattle.cluster.proofs.replace_tagged.Tie as tie
 

@@ -1,6 +1,5 @@
 -- `cluster::root_elem` meets its contract.
-use mathlib.Core.Path.{_∙_}
-use borrow.Author.Needs.{needs}
+use Rattle.laws.specs.Prelude.{_∙_, needs}
 use Rattle.cluster.proofs.Root.{root-has}
 use Rattle.cluster.proofs.root_elem.Statement.{statement}
 use Rattle.cluster.proofs.root_elem.Tie as tie

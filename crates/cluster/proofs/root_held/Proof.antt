@@ -1,6 +1,5 @@
 -- `cluster::root_held` meets its contract.
-use native.Mathlib.Omega.{arith}
-use borrow.Author.Needs.{needs}
+use Rattle.laws.specs.Prelude.{arith, needs}
 use Rattle.cluster.proofs.Root.{root-counts}
 use Rattle.cluster.proofs.root_held.Statement.{statement}
 use Rattle.cluster.proofs.root_held.Tie as tie

@@ -1,7 +1,6 @@
 -- `cluster::root_look` meets its contract.
-use mathlib.Core.Path.{_∙_, ap}
-use Rattle.cluster_nodes.specs.Seeing.{lowOnly}
-use borrow.Author.Needs.{needs}
+use Rattle.laws.specs.Prelude.{_∙_, ap, needs}
+use Rattle.cluster_node.specs.Seeing.{lowOnly}
 use Rattle.cluster.proofs.Root.{root-seen}
 use Rattle.cluster.proofs.root_look.Statement.{statement}
 use Rattle.cluster.proofs.root_look.Tie as tie

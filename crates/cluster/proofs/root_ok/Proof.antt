@@ -1,6 +1,5 @@
 -- `cluster::root_ok` meets its contract.
-use mathlib.Core.Path.{_∙_}
-use borrow.Author.Needs.{needs}
+use Rattle.laws.specs.Prelude.{_∙_, needs}
 use Rattle.cluster.proofs.Root.{root-tested}
 use Rattle.cluster.proofs.root_ok.Statement.{statement}
 use Rattle.cluster.proofs.root_ok.Tie as tie

@@ -1,7 +1,5 @@
 use Rattle.cluster.proofs.Shapes.{nodes-counted, shape-low, shape-high, shape-none, shape-above, shape-rest}
-use native.Mathlib.Omega.{arith}
-use native.Mathlib.Nat.{mul-le-mul-right}
-use borrow.Author.Needs.{needs}
+use Rattle.laws.specs.Prelude.{arith, mul-le-mul-right, needs}
 use Rattle.cluster.proofs.shape_ok.Statement.{statement}
 use Rattle.cluster.proofs.shape_ok.Tie as tie
 

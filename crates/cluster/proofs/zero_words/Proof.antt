@@ -1,10 +1,5 @@
-use Prim.Native.Nat.{_-_, _≤_}
-use native.Mathlib.Omega.{arith}
-use mathlib.Core.List.{_++_}
-use mathlib.Core.Path.{_≡_, refl}
-use lib.ListN.{drop, length, length-set, replicate}
+use Rattle.laws.specs.Prelude.{_++_, _-_, _≡_, _≤_, arith, drop, length, length-set, needs, refl, replicate}
 use borrow.Author.Fill.{fill-more, fill-none}
-use borrow.Author.Needs.{needs}
 use Rattle.cluster.proofs.zero_words.Statement.{statement}
 use Rattle.cluster.proofs.zero_words.Tie as tie
 

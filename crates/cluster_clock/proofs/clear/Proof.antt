@@ -1,5 +1,5 @@
 use Rattle.cluster_clock.proofs.Public.{bad-clear, good-clear}
-use borrow.Author.Needs.{needs}
+use Rattle.laws.specs.Prelude.{needs}
 use Rattle.cluster_clock.proofs.clear.Statement.{statement}
 use Rattle.cluster_clock.proofs.clear.Tie as tie
 

@@ -1,7 +1,6 @@
 use Rattle.cluster_clock.proofs.Public.{bad-cycle, good-cycle, good-shape}
 use Rattle.cluster.proofs.Shapes.{nodes-less, shape-here}
-use native.Mathlib.Omega.{arith}
-use borrow.Author.Needs.{needs}
+use Rattle.laws.specs.Prelude.{arith, needs}
 use Rattle.cluster_clock.proofs.cycle.Statement.{statement}
 use Rattle.cluster_clock.proofs.cycle.Tie as tie
 

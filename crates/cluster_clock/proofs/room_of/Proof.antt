@@ -1,7 +1,5 @@
 use Rattle.cluster.proofs.Shapes.{capacity-is, nodes-counted}
-use native.Mathlib.Omega.{arith}
-use native.Mathlib.Nat.{mul-le-mul-right}
-use borrow.Author.Needs.{needs}
+use Rattle.laws.specs.Prelude.{arith, mul-le-mul-right, needs}
 use Rattle.cluster_clock.proofs.room_of.Statement.{statement}
 use Rattle.cluster_clock.proofs.room_of.Tie as tie
 

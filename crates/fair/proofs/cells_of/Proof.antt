@@ -1,6 +1,5 @@
 -- `fair::cells_of` meets its contract.
-use mathlib.Core.Path.{refl}
-use borrow.Author.Needs.{needs}
+use Rattle.laws.specs.Prelude.{needs, refl}
 use Rattle.fair_model.specs.Ranks.{cells}
 use Rattle.fair.proofs.cells_of.Statement.{statement}
 use Rattle.fair.proofs.cells_of.Tie as tie

@@ -1,6 +1,5 @@
 -- `fair::finish_of` meets its contract.
-use native.Mathlib.Omega.{arith}
-use borrow.Author.Needs.{needs}
+use Rattle.laws.specs.Prelude.{arith, needs}
 use Rattle.fair.proofs.Notes.{cost-fits, finish-clock, finish-last}
 use Rattle.fair.proofs.finish_of.Statement.{statement}
 use Rattle.fair.proofs.finish_of.Tie as tie

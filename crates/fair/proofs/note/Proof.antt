@@ -1,5 +1,5 @@
 -- `fair::note` meets its contract.
-use borrow.Author.Needs.{needs}
+use Rattle.laws.specs.Prelude.{needs}
 use Rattle.fair.proofs.Notes.{note-done, note-out, note-refused}
 use Rattle.fair.proofs.note.Statement.{statement}
 use Rattle.fair.proofs.note.Tie as tie

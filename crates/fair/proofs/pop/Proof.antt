@@ -1,5 +1,5 @@
 -- `fair::pop` meets its contract.
-use borrow.Author.Needs.{needs}
+use Rattle.laws.specs.Prelude.{needs}
 use Rattle.fair.proofs.Notes.{pop-gone, pop-short}
 use Rattle.fair.proofs.pop.Statement.{statement}
 use Rattle.fair.proofs.pop.Tie as tie

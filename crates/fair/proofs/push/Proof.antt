@@ -1,6 +1,5 @@
 -- `fair::push` meets its contract.
-use native.Mathlib.Omega.{arith}
-use borrow.Author.Needs.{needs}
+use Rattle.laws.specs.Prelude.{arith, needs}
 use Rattle.fair.proofs.Notes.{good-strip, push-bad, push-short, push-spent, push-taken}
 use Rattle.fair.proofs.push.Statement.{statement}
 use Rattle.fair.proofs.push.Tie as tie

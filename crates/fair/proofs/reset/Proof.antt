@@ -1,5 +1,5 @@
 -- `fair::reset` meets its contract.
-use borrow.Author.Needs.{needs}
+use Rattle.laws.specs.Prelude.{needs}
 use Rattle.fair.proofs.Notes.{reset-done, reset-held, reset-refused, reset-short}
 use Rattle.fair.proofs.reset.Statement.{statement}
 use Rattle.fair.proofs.reset.Tie as tie

@@ -1,5 +1,5 @@
 -- `fair::set_clock` meets its contract.
-use borrow.Author.Needs.{needs}
+use Rattle.laws.specs.Prelude.{needs}
 use Rattle.fair.proofs.Notes.{clock-out, clock-refused}
 use Rattle.fair.proofs.set_clock.Statement.{statement}
 use Rattle.fair.proofs.set_clock.Tie as tie

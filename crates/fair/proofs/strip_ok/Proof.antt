@@ -1,5 +1,5 @@
 -- `fair::strip_ok` meets its contract.
-use mathlib.Core.Path.{refl}
+use Rattle.laws.specs.Prelude.{refl}
 use Rattle.fair_model.specs.Calls.{stripOk}
 use Rattle.fair.proofs.strip_ok.Statement.{statement}
 use Rattle.fair.proofs.strip_ok.Tie as tie

@@ -1,6 +1,6 @@
 -- `fair_table::step_of` meets its contract. The code's array is held, entry by entry, to the table in plain numbers, and that to the quotient rule.
-use borrow.Author.Needs.{needs}
-use Rattle.fair_model.proofs.Steps.{steps-right}
+use Rattle.laws.specs.Prelude.{needs}
+use Rattle.fair_model.proofs.Laws.{steps-right}
 use Rattle.fair_model.specs.Steps.{stepTable}
 use Rattle.fair_table.proofs.step_of.Statement.{statement}
 use Rattle.fair_table.proofs.step_of.Tie as tie

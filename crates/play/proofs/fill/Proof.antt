@@ -1,10 +1,6 @@
 -- `play::fill` meets its contract.
-use Prim.Native.Nat.{_-_, _≤_, ℕ}
-use mathlib.Core.List.{List}
-use mathlib.Core.Path.{_≡_, sym}
-use lib.ListN.{length}
+use Rattle.laws.specs.Prelude.{List, _-_, _≡_, _≤_, length, needs, sym, ℕ}
 use lib.Seq.{length-take-le}
-use borrow.Author.Needs.{needs}
 use Rattle.io.specs.Counts.{Counts}
 use Rattle.play.proofs.fill.Statement.{statement}
 use Rattle.play.proofs.fill.Tie as tie

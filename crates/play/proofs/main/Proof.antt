@@ -1,9 +1,5 @@
 -- `play::main` meets its contract.
-use Prim.Native.Nat.{_-_, _<_, ℕ}
-use native.Mathlib.Omega.{arith}
-use mathlib.Core.Path.{_∙_, _≡_, sym}
-use lib.ListN.{length, length-replicate, replicate}
-use borrow.Author.Needs.{needs}
+use Rattle.laws.specs.Prelude.{_-_, _<_, _∙_, _≡_, arith, length, length-replicate, needs, replicate, sym, ℕ}
 use Rattle.trace_model.specs.Play.{outBytes, pieceBytes, programLots}
 use Rattle.play.proofs.main.Statement.{statement}
 use Rattle.play.proofs.main.Tie as tie

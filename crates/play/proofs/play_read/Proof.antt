@@ -1,13 +1,6 @@
 -- `play::play_read` meets its contract.
-use Prim.Native.Nat.{_≤_, ℕ}
-use native.Mathlib.Omega.{arith}
-use mathlib.Core.Bool.{Bool}
-use mathlib.Core.List.{List}
-use mathlib.Core.Path.{_∙_, _≡_, ap, subst}
-use lib.Dec.{ltb}
-use lib.ListN.{length}
-use borrow.Author.Needs.{needs}
-use Rattle.trace_model.proofs.Pieces.{room-enough}
+use Rattle.laws.specs.Prelude.{Bool, List, _∙_, _≡_, _≤_, ap, arith, length, ltb, needs, subst, ℕ}
+use Rattle.trace_model.proofs.Laws.{room-enough}
 use Rattle.trace_model.specs.Play.{Makes, outBytes, pieceBytes, pieceOf, pieceRun, programLots, Run}
 use Rattle.trace_model.specs.declared.Piece.{Piece}
 use Rattle.trace_model.specs.declared.Playing.{Playing}

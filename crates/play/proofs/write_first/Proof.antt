@@ -1,7 +1,6 @@
 -- `play::write_first` meets its contract.
-use mathlib.Core.Path.{sym}
+use Rattle.laws.specs.Prelude.{needs, sym}
 use lib.Seq.{length-take-le}
-use borrow.Author.Needs.{needs}
 use Rattle.play.proofs.write_first.Statement.{statement}
 use Rattle.play.proofs.write_first.Tie as tie
 

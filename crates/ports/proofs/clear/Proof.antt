@@ -1,15 +1,9 @@
 -- `ports::clear` meets its contract.
-use mathlib.Core.Path.{_≡_, sym, subst, _∙_}
-use mathlib.Core.Bool.{true}
-use Prim.Native.Nat.{ℕ, _≤_}
-use lib.ListN.{length}
-use borrow.Author.Tests.{not-true, not-false}
-use Rattle.ports_model.specs.Checks.{isShaped, limitsOk}
-use Rattle.ports_model.specs.Causes.{Shaped}
-use Rattle.ports_model.proofs.Facts.{shape-means}
+use Rattle.laws.specs.Prelude.{_∙_, _≡_, _≤_, length, needs, not-false, not-true, subst, sym, true, ℕ}
+use Rattle.ports_model.specs.Prelude.{Shaped, isShaped, limitsOk}
+use Rattle.ports_model.proofs.Laws.{shape-means}
 use Rattle.ports.proofs.Blanks.{first-numbers, first-long, first-wiping}
 use Rattle.ports.proofs.Returns.{clear-bad, clear-unfair, clear-done}
-use borrow.Author.Needs.{needs}
 use Rattle.ports.proofs.clear.Statement.{statement}
 use Rattle.ports.proofs.clear.Tie as tie
 

@@ -1,11 +1,9 @@
 -- `ports::held` meets its contract.
-use mathlib.Core.Path.{sym, _∙_}
-use borrow.Author.Tests.{not-true, not-false}
-use Rattle.bucket_tests.specs.Stores.{Stands}
-use Rattle.bucket_tests.proofs.Read.{fits}
+use Rattle.laws.specs.Prelude.{_∙_, needs, not-false, not-true, sym}
+use Rattle.bucket_step.specs.Tested.{Stands}
+use Rattle.bucket_step.proofs.Read.{fits}
 use Rattle.ports.proofs.Pool.{Known, numbers, port<, stands, all-there}
 use Rattle.ports.proofs.Returns.{held-unknown, held-torn, held-told}
-use borrow.Author.Needs.{needs}
 use Rattle.ports.proofs.held.Statement.{statement}
 use Rattle.ports.proofs.held.Tie as tie
 

@@ -1,15 +1,11 @@
 -- `ports::pop_at` meets its contract.
-use mathlib.Core.Path.{_≡_, sym, _∙_}
-use mathlib.Core.Bool.{true, not, _&&_}
-use borrow.Author.Tests.{not-true, not-false}
-use lib.Dec.{eqb}
-use Rattle.bucket_model.specs.Layout.{word}
-use Rattle.bucket_tests.specs.Stores.{Stands, Freeing}
-use Rattle.bucket_steps.proofs.Steps.{freeing}
-use Rattle.ports_tests.specs.Sums.{wholeBy}
+use Rattle.laws.specs.Prelude.{_&&_, _∙_, _≡_, eqb, needs, not, not-false, not-true, sym, true}
+use Rattle.bucket_model.specs.Prelude.{word}
+use Rattle.bucket_step.specs.Tested.{Stands, Freeing}
+use Rattle.bucket_step.proofs.Steps.{freeing}
+use Rattle.ports_step.specs.Sums.{wholeBy}
 use Rattle.ports.proofs.Pool.{Known, numbers, port<, stands, all-there}
 use Rattle.ports.proofs.Returns.{give-some, pop-unknown, pop-limit, pop-unfit, pop-out}
-use borrow.Author.Needs.{needs}
 use Rattle.ports.proofs.pop_at.Statement.{statement}
 use Rattle.ports.proofs.pop_at.Tie as tie
 

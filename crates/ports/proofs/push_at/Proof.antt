@@ -1,20 +1,12 @@
 -- `ports::push_at` meets its contract.
-use mathlib.Core.Path.{_≡_, sym, _∙_}
-use mathlib.Core.Bool.{true, not, _&&_}
-use Prim.Native.Nat.{_<_}
-use native.Mathlib.Omega.{arith}
-use borrow.Author.Tests.{not-true, not-false, ltb-true}
-use lib.Dec.{ltb}
-use Rattle.laws.specs.Tests.{and-left}
-use Rattle.strip.specs.Answers.{untagged}
-use Rattle.bucket_tests.specs.Stores.{Stands, FoundRoom}
-use Rattle.bucket_tests.proofs.Read.{fits, room-found}
-use Rattle.bucket_steps.proofs.Steps.{all-tall, within}
-use Rattle.ports_tests.specs.Sums.{wholeBy, roomBy}
-use Rattle.bucket_model.specs.Calls.{roomWith}
+use Rattle.laws.specs.Prelude.{_&&_, _<_, _∙_, _≡_, and-left, arith, ltb, ltb-true, needs, not, not-false, not-true, sym, true, untagged}
+use Rattle.bucket_step.specs.Tested.{Stands, FoundRoom}
+use Rattle.bucket_step.proofs.Read.{fits, room-found}
+use Rattle.bucket_step.proofs.Steps.{all-tall, within}
+use Rattle.ports_step.specs.Sums.{wholeBy, roomBy}
+use Rattle.bucket_model.specs.Prelude.{roomWith}
 use Rattle.ports.proofs.Pool.{Known, numbers, port<, stands, all-there, limits-there, used-fits, roomy, joining}
 use Rattle.ports.proofs.Returns.{push-unknown, push-newcomer, push-limit, push-unfit, push-done}
-use borrow.Author.Needs.{needs}
 use Rattle.ports.proofs.push_at.Statement.{statement}
 use Rattle.ports.proofs.push_at.Tie as tie
 

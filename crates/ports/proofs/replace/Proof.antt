@@ -1,20 +1,12 @@
 -- `ports::replace` meets its contract.
-use mathlib.Core.Path.{_≡_, sym, _∙_}
-use mathlib.Core.Bool.{true, not, _&&_}
-use Prim.Native.Nat.{_<_}
-use borrow.Author.Tests.{not-true, not-false, ltb-true}
-use lib.Dec.{ltb, eqb}
-use Rattle.laws.specs.Tests.{and-left}
-use Rattle.strip.specs.Answers.{untagged}
-use Rattle.bucket_model.specs.Layout.{word}
-use Rattle.bucket_model.specs.Calls.{takenBits, takenWords}
-use Rattle.bucket_tests.specs.Stores.{Stands, Freeing, FoundRoom, roomFreed}
-use Rattle.bucket_tests.proofs.Read.{fits, freed-found}
-use Rattle.bucket_steps.proofs.Steps.{all-tall, within, freeing, swapping, showing}
-use Rattle.ports_tests.specs.Sums.{wholeBy}
+use Rattle.laws.specs.Prelude.{_&&_, _<_, _∙_, _≡_, and-left, eqb, ltb, ltb-true, needs, not, not-false, not-true, sym, true, untagged}
+use Rattle.bucket_model.specs.Prelude.{takenBits, takenWords, word}
+use Rattle.bucket_step.specs.Tested.{Stands, Freeing, FoundRoom, roomFreed}
+use Rattle.bucket_step.proofs.Read.{fits, freed-found}
+use Rattle.bucket_step.proofs.Steps.{all-tall, within, freeing, swapping, showing}
+use Rattle.ports_step.specs.Sums.{wholeBy}
 use Rattle.ports.proofs.Pool.{Known, numbers, port<, stands, all-there}
 use Rattle.ports.proofs.Returns.{give-some, replace-unknown, replace-newcomer, replace-limit, replace-unfit, replace-shut, replace-out}
-use borrow.Author.Needs.{needs}
 use Rattle.ports.proofs.replace.Statement.{statement}
 use Rattle.ports.proofs.replace.Tie as tie
 

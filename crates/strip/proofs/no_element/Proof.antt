@@ -9,4 +9,4 @@ unfolding blank
 returns c = search needs
 
 pub no-element-spec : {M : Type 1} → statement M
-no-element-spec = tie.close (tie.spec returns)
+no-element-spec = tie.close (tie.spec (λ c κs. search needs) returns)

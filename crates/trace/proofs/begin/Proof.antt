@@ -1,6 +1,6 @@
 -- `trace::begin` meets its contract.
-use borrow.Author.Needs.{needs}
-use Rattle.trace_model.proofs.Runs.{begun-none, begun-shape, begun-wrong}
+use Rattle.laws.specs.Prelude.{needs}
+use Rattle.trace_model.proofs.Laws.{begun-none, begun-shape, begun-wrong}
 use Rattle.trace.proofs.begin.Statement.{statement}
 use Rattle.trace.proofs.begin.Tie as tie
 

@@ -1,7 +1,6 @@
 -- `trace::closed` meets its contract.
-use mathlib.Core.Path.{refl}
-use borrow.Author.Needs.{needs}
-use Rattle.trace_model.proofs.Runs.{closed-made}
+use Rattle.laws.specs.Prelude.{needs, refl}
+use Rattle.trace_model.proofs.Laws.{closed-made}
 use Rattle.trace.proofs.closed.Statement.{statement}
 use Rattle.trace.proofs.closed.Tie as tie
 

@@ -1,8 +1,7 @@
 -- `trace::opened` meets its contract.
-use mathlib.Core.Path.{refl}
-use borrow.Author.Needs.{needs}
-use Rattle.trace_model.proofs.Runs.{opened-made}
-use Rattle.clocked.proofs.Public.{clear-machine}
+use Rattle.laws.specs.Prelude.{needs, refl}
+use Rattle.trace_model.proofs.Laws.{opened-made}
+use Rattle.tree_clock.proofs.Public.{clear-machine}
 use Rattle.trace.proofs.opened.Statement.{statement}
 use Rattle.trace.proofs.opened.Tie as tie
 

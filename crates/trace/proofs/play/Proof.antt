@@ -1,10 +1,6 @@
 -- `trace::play` meets its contract.
-use native.Mathlib.Omega.{arith}
-use mathlib.Core.Path.{refl}
-use lib.ListN.{length}
-use borrow.Author.Needs.{needs}
-use Rattle.trace_model.proofs.Runs.{piece-made, piece-none}
-use Rattle.trace_model.proofs.Sizes.{lines-room, size-some}
+use Rattle.laws.specs.Prelude.{arith, length, needs, refl}
+use Rattle.trace_model.proofs.Laws.{lines-room, piece-made, piece-none, size-some}
 use Rattle.trace.proofs.play.Statement.{statement}
 use Rattle.trace.proofs.play.Tie as tie
 

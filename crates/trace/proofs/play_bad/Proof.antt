@@ -1,6 +1,5 @@
 -- `trace::play_bad` meets its contract.
-use mathlib.Core.Path.{ap}
-use borrow.Author.Needs.{needs}
+use Rattle.laws.specs.Prelude.{ap, needs}
 use Rattle.text.proofs.Laws.{laid-then, laid-to}
 use Rattle.trace_model.specs.Format.{badLine}
 use Rattle.trace.proofs.play_bad.Statement.{statement}

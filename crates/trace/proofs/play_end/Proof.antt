@@ -1,6 +1,6 @@
 -- `trace::play_end` meets its contract.
-use borrow.Author.Needs.{needs}
-use Rattle.trace_model.proofs.Runs.{end-made}
+use Rattle.laws.specs.Prelude.{needs}
+use Rattle.trace_model.proofs.Laws.{end-made}
 use Rattle.trace.proofs.play_end.Statement.{statement}
 use Rattle.trace.proofs.play_end.Tie as tie
 

@@ -1,6 +1,6 @@
 -- `trace::play_good` meets its contract.
-use borrow.Author.Needs.{needs}
-use Rattle.trace_model.proofs.Runs.{good-made}
+use Rattle.laws.specs.Prelude.{needs}
+use Rattle.trace_model.proofs.Laws.{good-made}
 use Rattle.trace.proofs.play_good.Statement.{statement}
 use Rattle.trace.proofs.play_good.Tie as tie
 

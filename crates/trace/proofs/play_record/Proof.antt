@@ -1,6 +1,6 @@
 -- `trace::play_record` meets its contract.
-use borrow.Author.Needs.{needs}
-use Rattle.trace_model.proofs.Runs.{record-bad, record-ended, record-good}
+use Rattle.laws.specs.Prelude.{needs}
+use Rattle.trace_model.proofs.Laws.{record-bad, record-ended, record-good}
 use Rattle.trace.proofs.play_record.Statement.{statement}
 use Rattle.trace.proofs.play_record.Tie as tie
 

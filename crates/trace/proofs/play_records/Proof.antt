@@ -1,11 +1,6 @@
 -- `trace::play_records` meets its contract.
-use Prim.Native.Nat.{_*_, _+_, _/_, _≤_}
-use native.Mathlib.Omega.{arith}
-use mathlib.Core.Path.{_∙_, _≡_, refl}
-use lib.ListN.{length}
-use borrow.Author.Needs.{needs}
-use Rattle.trace_model.proofs.Runs.{At, at-end, at-next, at-start, written-next}
-use Rattle.trace_model.proofs.Sizes.{next-fits, records-left, records-start, size-some}
+use Rattle.laws.specs.Prelude.{_*_, _+_, _/_, _∙_, _≡_, _≤_, arith, length, needs, refl}
+use Rattle.trace_model.proofs.Laws.{At, at-end, at-next, at-start, next-fits, records-left, records-start, size-some, written-next}
 use Rattle.trace_model.specs.Format.{longestLine, recordBytes}
 use Rattle.trace.proofs.play_records.Statement.{statement}
 use Rattle.trace.proofs.play_records.Tie as tie

@@ -1,6 +1,6 @@
 -- `trace::play_rest` meets its contract.
-use borrow.Author.Needs.{needs}
-use Rattle.trace_model.proofs.Runs.{rest-cut, rest-ended, rest-last, rest-more}
+use Rattle.laws.specs.Prelude.{needs}
+use Rattle.trace_model.proofs.Laws.{rest-cut, rest-ended, rest-last, rest-more}
 use Rattle.trace.proofs.play_rest.Statement.{statement}
 use Rattle.trace.proofs.play_rest.Tie as tie
 

@@ -1,7 +1,6 @@
 -- `traces::write_first` meets its contract.
-use mathlib.Core.Path.{sym}
+use Rattle.laws.specs.Prelude.{needs, sym}
 use lib.Seq.{length-take-le}
-use borrow.Author.Needs.{needs}
 use Rattle.traces.proofs.write_first.Statement.{statement}
 use Rattle.traces.proofs.write_first.Tie as tie
 

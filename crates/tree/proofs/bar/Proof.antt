@@ -1,5 +1,5 @@
 -- `tree::bar` meets its contract.
-use borrow.Author.Needs.{needs}
+use Rattle.laws.specs.Prelude.{needs}
 use Rattle.tree.proofs.Calls.{bar-refused, bar-tag}
 use Rattle.tree.proofs.bar.Statement.{statement}
 use Rattle.tree.proofs.bar.Tie as tie

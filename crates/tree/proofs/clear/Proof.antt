@@ -1,6 +1,5 @@
 -- `tree::clear` meets its contract.
-use native.Mathlib.Omega.{arith}
-use borrow.Author.Needs.{needs}
+use Rattle.laws.specs.Prelude.{arith, needs}
 use Rattle.tree.proofs.Calls.{clear-done, clear-fits, clear-shape, shape-few}
 use Rattle.tree.proofs.clear.Statement.{statement}
 use Rattle.tree.proofs.clear.Tie as tie

@@ -1,8 +1,7 @@
 -- `tree::held` meets its contract.
-use native.Mathlib.Omega.{arith}
-use borrow.Author.Needs.{needs}
+use Rattle.laws.specs.Prelude.{arith, needs}
 use Rattle.tree.proofs.Calls.{counted-root, counted-shape, counted-sum, Fit, fit, root-stands, shape-few, shape-here}
-use Rattle.tree_paths.proofs.Once.{look-in}
+use Rattle.tree_path.proofs.Once.{look-in}
 use Rattle.tree.proofs.held.Statement.{statement}
 use Rattle.tree.proofs.held.Tie as tie
 

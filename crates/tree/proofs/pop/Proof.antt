@@ -1,8 +1,7 @@
 -- `tree::pop` meets its contract.
-use native.Mathlib.Omega.{arith}
-use borrow.Author.Needs.{needs}
+use Rattle.laws.specs.Prelude.{arith, needs}
 use Rattle.tree.proofs.Calls.{called-damaged, called-shape, Fit, fit, Opened, opened, pop-broken, pop-done, pop-none, root-stands, shape-few, shape-here}
-use Rattle.tree_paths.proofs.Once.{look-in, numbers}
+use Rattle.tree_path.proofs.Once.{look-in, numbers}
 use Rattle.tree.proofs.pop.Statement.{statement}
 use Rattle.tree.proofs.pop.Tie as tie
 

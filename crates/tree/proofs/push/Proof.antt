@@ -1,9 +1,5 @@
 -- `tree::push` meets its contract.
-use native.Mathlib.Omega.{arith}
-use mathlib.Core.Bool.{false}
-use mathlib.Core.Path.{_∙_, _≡_, sym}
-use borrow.Author.Needs.{needs}
-use Rattle.strip.specs.Answers.{untagged}
+use Rattle.laws.specs.Prelude.{_∙_, _≡_, arith, false, needs, sym, untagged}
 use Rattle.tree.proofs.Calls.{called-shape, Fit, fit, push-below, push-done, push-over, push-root, root-stands, shape-few, shape-here}
 use Rattle.tree.proofs.push.Statement.{statement}
 use Rattle.tree.proofs.push.Tie as tie

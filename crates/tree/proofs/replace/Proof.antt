@@ -1,11 +1,7 @@
 -- `tree::replace` meets its contract.
-use native.Mathlib.Omega.{arith}
-use mathlib.Core.Bool.{false}
-use mathlib.Core.Path.{_∙_, _≡_, sym}
-use borrow.Author.Needs.{needs}
-use Rattle.strip.specs.Answers.{untagged}
+use Rattle.laws.specs.Prelude.{_∙_, _≡_, arith, false, needs, sym, untagged}
 use Rattle.tree.proofs.Calls.{called-damaged, called-shape, Fit, fit, Opened, opened, replace-broken, replace-done, replace-none, root-stands, shape-few, shape-here}
-use Rattle.tree_paths.proofs.Once.{look-in, numbers}
+use Rattle.tree_path.proofs.Once.{look-in, numbers}
 use Rattle.tree.proofs.replace.Statement.{statement}
 use Rattle.tree.proofs.replace.Tie as tie
 

@@ -1,19 +1,15 @@
 -- `card::clock::clear_told` meets its contract.
 use Rattle.card.proofs.Clocked.{clear-done, clear-refused, clear-unmarked}
-use mathlib.Core.Bool.{false}
-use mathlib.Core.Path.{_∙_, ap}
-use Rattle.clocked_model.specs.Calls.{fresh}
-use Rattle.clocked_model.specs.declared.State.{State}
-use Rattle.lent_steps.specs.Steps.{turned}
-use Rattle.strip.specs.declared.Answer.the-variants.{Refused}
-use Rattle.strip.specs.declared.Refusal.the-variants.{BadShape}
-use borrow.Author.Needs.{needs}
+use Rattle.laws.specs.Prelude.{BadShape, Refused, _∙_, ap, false, needs}
+use Rattle.tree_clock_model.specs.Prelude.{fresh}
+use Rattle.tree_clock_model.specs.declared.State.{State}
+use Rattle.tree_records.specs.Steps.{ended}
 use Rattle.card.proofs.clock.clear_told.Statement.{statement}
 use Rattle.card.proofs.clock.clear_told.Tie as tie
 
 returns : tie.Need-returns
 unfolding fresh
-returns c = clear-unmarked _ _ _ _ _ (c .before .before .if1 .taken) _ (c .refused .ensures ∙ ap (λ (s : State). turned (Refused BadShape) 0 false s 0) (c .before .fresh-state .ensures))
+returns c = clear-unmarked _ _ _ _ _ (c .before .before .if1 .taken) _ (c .refused .ensures ∙ ap (λ (s : State). ended (Refused BadShape) 0 false s 0) (c .before .fresh-state .ensures))
 
 returns-2 : tie.Need-returns-2
 returns-2 c =

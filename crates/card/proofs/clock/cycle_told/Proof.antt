@@ -1,17 +1,17 @@
 -- `card::clock::cycle_told` meets its contract.
 use Rattle.card.proofs.Clocked.{cycle-done, cycle-refused, cycle-short}
-use Rattle.card_out.proofs.Asked.{asked-some}
-use borrow.Author.Needs.{needs}
+use Rattle.card_words.proofs.Asked.{asked-some}
+use Rattle.laws.specs.Prelude.{needs}
 use Rattle.card.proofs.clock.cycle_told.Statement.{statement}
 use Rattle.card.proofs.clock.cycle_told.Tie as tie
 
 returns : tie.Need-returns
 returns c =
     let at-refuse = c .before .before .before in let then1 = at-refuse .before .before in let at-is-asked = then1 .before in
-    cycle-refused _ _ _ _ _ _ _ _ _ _ _ _ (at-is-asked .is-asked .ensures) (then1 .if1 .taken) _ (at-refuse .refuse .ensures) _ (c .none-turned .ensures)
+    cycle-refused _ _ _ _ _ _ _ _ _ _ _ _ (at-is-asked .is-asked .ensures) (then1 .if1 .taken) _ (at-refuse .refuse .ensures) _ (c .none-ended .ensures)
 
 returns-2 : tie.Need-returns-2
-returns-2 c = cycle-short _ _ _ _ _ _ _ _ _ _ _ (c .before .if2 .taken) _ (c .none-turned2 .ensures)
+returns-2 c = cycle-short _ _ _ _ _ _ _ _ _ _ _ (c .before .if2 .taken) _ (c .none-ended2 .ensures)
 
 slice-read-on : tie.Need-slice-read-on
 slice-read-on c =

@@ -1,20 +1,18 @@
 -- `card::clock::drain_told` meets its contract.
-use Prim.Native.Nat.{_≤_}
-use native.Mathlib.Omega.{arith}
+use Rattle.laws.specs.Prelude.{_≤_, arith, needs}
 use Rattle.card.proofs.Clocked.{drain-done, drain-few, drain-refused, drain-short}
-use Rattle.card_out.proofs.Asked.{marked-some}
-use borrow.Author.Needs.{needs}
+use Rattle.card_words.proofs.Asked.{marked-some}
 use Rattle.card.proofs.clock.drain_told.Statement.{statement}
 use Rattle.card.proofs.clock.drain_told.Tie as tie
 
 returns : tie.Need-returns
-returns c = drain-short _ _ _ _ _ _ _ _ (c .before .if1 .taken) _ (c .none-turned .ensures)
+returns c = drain-short _ _ _ _ _ _ _ _ (c .before .if1 .taken) _ (c .none-ended .ensures)
 
 returns-2 : tie.Need-returns-2
 returns-2 c =
     let at-tell-drain = c .before .before .before in let then2 = at-tell-drain .before .before in let at-is-marked = then2 .before in
     let else1 = at-is-marked .before .before in
-    drain-refused _ _ _ _ _ _ _ _ (else1 .if1 .left) _ (at-is-marked .is-marked .ensures) (then2 .if2 .taken) _ (at-tell-drain .tell-drain .ensures) _ (c .none-turned2 .ensures)
+    drain-refused _ _ _ _ _ _ _ _ (else1 .if1 .left) _ (at-is-marked .is-marked .ensures) (then2 .if2 .taken) _ (at-tell-drain .tell-drain .ensures) _ (c .none-ended2 .ensures)
 
 slice-read-on : tie.Need-slice-read-on
 slice-read-on c = marked-some (c .before .before .before .before .before .before .before .before .args .mark .now) _ (c .before .before .is-marked .ensures) (c .before .if2 .left)

@@ -1,10 +1,9 @@
 -- `card::pool::card_ports_bits` meets its contract.
-use mathlib.Core.Path.{_≡_, _∙_, ap}
-use Rattle.ports_model.specs.Layout.{bitWords}
-use Rattle.ports_tests.specs.Sums.{numbersOk}
+use Rattle.laws.specs.Prelude.{_∙_, _≡_, ap, needs}
+use Rattle.ports_model.specs.Prelude.{bitWords}
+use Rattle.ports_step.specs.Sums.{numbersOk}
 use Rattle.card.specs.Ports.{shape}
 use Rattle.card.proofs.Ports.{numbered, bits-none, bits-some}
-use borrow.Author.Needs.{needs}
 use Rattle.card.proofs.pool.card_ports_bits.Statement.{statement}
 use Rattle.card.proofs.pool.card_ports_bits.Tie as tie
 

@@ -1,9 +1,9 @@
 -- `card::pool::card_ports_clear` meets its contract.
 use Rattle.ports_model.specs.declared.Shape.{Shape}
-use Rattle.ports_model.specs.Calls.{cleared}
+use Rattle.ports_model.specs.Prelude.{cleared}
 use Rattle.card.proofs.Calls.{bucket-done}
 use Rattle.card.proofs.Ports.{at-shape}
-use borrow.Author.Needs.{needs}
+use Rattle.laws.specs.Prelude.{needs}
 use Rattle.card.proofs.pool.card_ports_clear.Statement.{statement}
 use Rattle.card.proofs.pool.card_ports_clear.Tie as tie
 

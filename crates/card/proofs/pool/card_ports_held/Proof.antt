@@ -1,9 +1,8 @@
 -- `card::pool::card_ports_held` meets its contract.
-use mathlib.Core.Path.{_∙_, ap}
+use Rattle.laws.specs.Prelude.{_∙_, ap, needs}
 use Rattle.ports_model.specs.declared.Shape.{Shape}
-use Rattle.ports_model.specs.Calls.{heldCount}
-use Rattle.card_out.proofs.Out.{count-short, count-told}
-use borrow.Author.Needs.{needs}
+use Rattle.ports_model.specs.Prelude.{heldCount}
+use Rattle.card_words.proofs.Out.{count-short, count-told}
 use Rattle.card.proofs.pool.card_ports_held.Statement.{statement}
 use Rattle.card.proofs.pool.card_ports_held.Tie as tie
 

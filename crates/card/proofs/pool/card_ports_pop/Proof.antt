@@ -1,9 +1,9 @@
 -- `card::pool::card_ports_pop` meets its contract.
 use Rattle.ports_model.specs.declared.Shape.{Shape}
-use Rattle.ports_model.specs.Calls.{popped}
+use Rattle.ports_model.specs.Prelude.{popped}
 use Rattle.card.proofs.Calls.{bucket-short, bucket-told}
 use Rattle.card.proofs.Ports.{at-shape}
-use borrow.Author.Needs.{needs}
+use Rattle.laws.specs.Prelude.{needs}
 use Rattle.card.proofs.pool.card_ports_pop.Statement.{statement}
 use Rattle.card.proofs.pool.card_ports_pop.Tie as tie
 

@@ -1,10 +1,9 @@
 -- `card::pool::card_ports_replace` meets its contract.
 use Rattle.ports_model.specs.declared.Shape.{Shape}
-use Rattle.strip.specs.Answers.{element}
-use Rattle.ports_model.specs.Calls.{replaced}
+use Rattle.laws.specs.Prelude.{element, needs}
+use Rattle.ports_model.specs.Prelude.{replaced}
 use Rattle.card.proofs.Calls.{bucket-short, bucket-told}
 use Rattle.card.proofs.Ports.{at-shape}
-use borrow.Author.Needs.{needs}
 use Rattle.card.proofs.pool.card_ports_replace.Statement.{statement}
 use Rattle.card.proofs.pool.card_ports_replace.Tie as tie
 

@@ -1,10 +1,9 @@
 -- `card::pool::card_ports_words` meets its contract.
-use mathlib.Core.Path.{_≡_, _∙_, ap}
-use Rattle.ports_model.specs.Layout.{storeWords}
-use Rattle.ports_tests.specs.Sums.{numbersOk}
+use Rattle.laws.specs.Prelude.{_∙_, _≡_, ap, needs}
+use Rattle.ports_model.specs.Prelude.{storeWords}
+use Rattle.ports_step.specs.Sums.{numbersOk}
 use Rattle.card.specs.Ports.{shape}
 use Rattle.card.proofs.Ports.{numbered, words-none, words-some}
-use borrow.Author.Needs.{needs}
 use Rattle.card.proofs.pool.card_ports_words.Statement.{statement}
 use Rattle.card.proofs.pool.card_ports_words.Tie as tie
 

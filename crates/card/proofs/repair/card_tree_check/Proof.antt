@@ -1,6 +1,6 @@
 -- `card::repair::card_tree_check` meets its contract.
 use Rattle.card.proofs.Mend.{check-short, check-told}
-use borrow.Author.Needs.{needs}
+use Rattle.laws.specs.Prelude.{needs}
 use Rattle.card.proofs.repair.card_tree_check.Statement.{statement}
 use Rattle.card.proofs.repair.card_tree_check.Tie as tie
 

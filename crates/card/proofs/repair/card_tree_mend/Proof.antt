@@ -1,6 +1,6 @@
 -- `card::repair::card_tree_mend` meets its contract.
 use Rattle.card.proofs.Mend.{mend-short, mend-told}
-use borrow.Author.Needs.{needs}
+use Rattle.laws.specs.Prelude.{needs}
 use Rattle.card.proofs.repair.card_tree_mend.Statement.{statement}
 use Rattle.card.proofs.repair.card_tree_mend.Tie as tie
 

@@ -1,5 +1,5 @@
 -- `card::repair::tell_check` meets its contract.
-use borrow.Author.Needs.{needs}
+use Rattle.laws.specs.Prelude.{needs}
 use Rattle.card.proofs.repair.tell_check.Statement.{statement}
 use Rattle.card.proofs.repair.tell_check.Tie as tie
 

@@ -1,5 +1,5 @@
 -- `card::repair::tell_mend` meets its contract.
-use borrow.Author.Needs.{needs}
+use Rattle.laws.specs.Prelude.{needs}
 use Rattle.card.proofs.repair.tell_mend.Statement.{statement}
 use Rattle.card.proofs.repair.tell_mend.Tie as tie
 

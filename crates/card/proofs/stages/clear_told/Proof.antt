@@ -1,6 +1,6 @@
 -- `card::stages::clear_told` meets its contract.
 use Rattle.card.proofs.ClockedCluster.{clear-told}
-use borrow.Author.Needs.{needs}
+use Rattle.laws.specs.Prelude.{needs}
 use Rattle.card.proofs.stages.clear_told.Statement.{statement}
 use Rattle.card.proofs.stages.clear_told.Tie as tie
 

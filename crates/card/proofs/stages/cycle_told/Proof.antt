@@ -1,16 +1,16 @@
 -- `card::stages::cycle_told` meets its contract.
 use Rattle.card.proofs.ClockedCluster.{cycle-done, cycle-refused, cycle-short}
-use borrow.Author.Needs.{needs}
+use Rattle.laws.specs.Prelude.{needs}
 use Rattle.card.proofs.stages.cycle_told.Statement.{statement}
 use Rattle.card.proofs.stages.cycle_told.Tie as tie
 
 returns : tie.Need-returns
 returns c =
     let at-refuse = c .before .before .before in let then1 = at-refuse .before .before in
-    cycle-refused _ _ _ _ _ _ _ _ _ _ (then1 .if1 .taken) _ (at-refuse .refuse .ensures) _ (c .none-turned .ensures)
+    cycle-refused _ _ _ _ _ _ _ _ _ _ (then1 .if1 .taken) _ (at-refuse .refuse .ensures) _ (c .none-ended .ensures)
 
 returns-2 : tie.Need-returns-2
-returns-2 c = cycle-short _ _ _ _ _ _ _ _ _ _ (c .before .if2 .taken) _ (c .none-turned2 .ensures)
+returns-2 c = cycle-short _ _ _ _ _ _ _ _ _ _ (c .before .if2 .taken) _ (c .none-ended2 .ensures)
 
 returns-3 : tie.Need-returns-3
 returns-3 c =

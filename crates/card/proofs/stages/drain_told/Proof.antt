@@ -1,13 +1,11 @@
 -- `card::stages::drain_told` meets its contract.
-use Prim.Native.Nat.{_≤_}
-use native.Mathlib.Omega.{arith}
+use Rattle.laws.specs.Prelude.{_≤_, arith, needs}
 use Rattle.card.proofs.ClockedCluster.{drain-done, drain-few, drain-short}
-use borrow.Author.Needs.{needs}
 use Rattle.card.proofs.stages.drain_told.Statement.{statement}
 use Rattle.card.proofs.stages.drain_told.Tie as tie
 
 returns : tie.Need-returns
-returns c = drain-short _ _ _ _ _ _ _ (c .before .if1 .taken) _ (c .none-turned .ensures)
+returns c = drain-short _ _ _ _ _ _ _ (c .before .if1 .taken) _ (c .none-ended .ensures)
 
 cast-tell-drain : tie.Need-cast-tell-drain
 cast-tell-drain c =

@@ -1,6 +1,6 @@
 -- `card::weights::card_fair_held` meets its contract.
-use Rattle.card_out.proofs.Out.{count-short, count-told}
-use borrow.Author.Needs.{needs}
+use Rattle.card_words.proofs.Out.{count-short, count-told}
+use Rattle.laws.specs.Prelude.{needs}
 use Rattle.card.proofs.weights.card_fair_held.Statement.{statement}
 use Rattle.card.proofs.weights.card_fair_held.Tie as tie
 

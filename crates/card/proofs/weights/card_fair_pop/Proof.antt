@@ -1,6 +1,6 @@
 -- `card::weights::card_fair_pop` meets its contract.
 use Rattle.card.proofs.Fair.{fair-short, fair-told}
-use borrow.Author.Needs.{needs}
+use Rattle.laws.specs.Prelude.{needs}
 use Rattle.card.proofs.weights.card_fair_pop.Statement.{statement}
 use Rattle.card.proofs.weights.card_fair_pop.Tie as tie
 

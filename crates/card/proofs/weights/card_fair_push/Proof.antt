@@ -1,6 +1,6 @@
 -- `card::weights::card_fair_push` meets its contract.
 use Rattle.card.proofs.Fair.{fair-done}
-use borrow.Author.Needs.{needs}
+use Rattle.laws.specs.Prelude.{needs}
 use Rattle.card.proofs.weights.card_fair_push.Statement.{statement}
 use Rattle.card.proofs.weights.card_fair_push.Tie as tie
 

@@ -1,6 +1,6 @@
 -- `card::weights::card_fair_reset` meets its contract.
 use Rattle.card.proofs.Fair.{fair-done}
-use borrow.Author.Needs.{needs}
+use Rattle.laws.specs.Prelude.{needs}
 use Rattle.card.proofs.weights.card_fair_reset.Statement.{statement}
 use Rattle.card.proofs.weights.card_fair_reset.Tie as tie
 

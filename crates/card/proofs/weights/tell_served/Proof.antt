@@ -1,7 +1,5 @@
 -- `card::weights::tell_served` meets its contract.
-use native.Mathlib.Omega.{arith}
-use lib.ListN.{length-set}
-use borrow.Author.Needs.{needs}
+use Rattle.laws.specs.Prelude.{arith, length-set, needs}
 use Rattle.card.proofs.weights.tell_served.Statement.{statement}
 use Rattle.card.proofs.weights.tell_served.Tie as tie
 

@@ -1,0 +1,19 @@
+-- `bucket_step::show` meets its contract.
+use Rattle.bucket_step.proofs.Steps.{joined-is}
+use Rattle.laws.specs.Prelude.{needs}
+use Rattle.bucket_step.proofs.show.Statement.{statement}
+use Rattle.bucket_step.proofs.show.Tie as tie
+
+mark-requires : tie.Need-mark-requires
+mark-requires c κs =
+    let start = c .before .before .before .before in
+    (start .pre .tall, (start .pre .rank<, start .pre .marks))
+
+returns : tie.Need-returns
+returns c =
+    let start = c .before .before .before .before .before .before .before in
+    joined-is (start .args .k) (start .args .bits .now) _ (start .args .e) (start .args .to) (c .before .before .mark .ensures)
+
+pub show-spec : {M : Type 1} → statement M
+show-spec = tie.close
+    (tie.spec mark-requires (λ c. search needs) returns)

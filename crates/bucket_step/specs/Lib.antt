@@ -1,0 +1,3 @@
+-- What the functions ask for.
+pub mod Stores
+pub mod Tested

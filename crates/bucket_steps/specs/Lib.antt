@@ -1,2 +1,0 @@
--- What the functions ask for.
-pub mod Stores

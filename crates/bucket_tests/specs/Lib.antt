@@ -1,2 +1,0 @@
--- What the functions ask for and what they promise.
-pub mod Stores

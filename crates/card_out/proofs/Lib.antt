@@ -1,4 +1,0 @@
-pub mod Out
-pub mod Asked
-pub mod Heard
-pub mod Numbers

@@ -1,3 +1,0 @@
-pub mod Out
-pub mod Asked
-pub mod Heard

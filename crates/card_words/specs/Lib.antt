@@ -1,0 +1,4 @@
+pub mod Out
+pub mod Asked
+pub mod Heard
+pub mod Sizes

@@ -1,7 +1,0 @@
-pub mod Cycle
-pub mod Records
-pub mod Settle
-pub mod Calls
-pub mod Promise
-pub mod Lost
-pub mod Cases

@@ -1,0 +1,9 @@
+pub mod Frame
+pub mod Tested
+pub mod Rounds
+pub mod Settling
+pub mod Beginning
+pub mod Testing
+pub mod Roots
+pub mod Turns
+pub mod Drains

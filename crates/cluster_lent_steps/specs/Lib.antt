@@ -1,3 +1,0 @@
-pub mod Lent
-pub mod Steps
-pub mod Refusals

@@ -1,0 +1,4 @@
+pub mod History
+pub mod Lent
+pub mod Refusals
+pub mod Steps

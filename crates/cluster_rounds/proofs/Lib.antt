@@ -1,3 +1,0 @@
-pub mod Frame
-pub mod Tested
-pub mod Rounds

@@ -1,3 +1,0 @@
-pub mod Roots
-pub mod Turns
-pub mod Drains

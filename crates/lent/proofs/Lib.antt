@@ -1,2 +1,0 @@
--- What the walks of a cycle's faces share.
-pub mod Faces

@@ -1,4 +1,0 @@
--- What the walks share.
-pub mod Recs
-pub mod Shared
-pub mod Works

@@ -1,5 +1,0 @@
-pub mod Shapes
-pub mod Steps
-pub mod Walk
-pub mod Descent
-pub mod Mends

@@ -1,4 +1,0 @@
-pub mod Under
-pub mod Steps
-pub mod Rulings
-pub mod Shapes

@@ -1,0 +1,12 @@
+-- `strip::is_blank` meets its contract.
+use mathlib.Core.Path.{refl}
+use Rattle.strip.specs.Words.{isBlank}
+use Rattle.strip.proofs.is_blank.Statement.{statement}
+use Rattle.strip.proofs.is_blank.Tie as tie
+
+returns : tie.Need-returns
+unfolding isBlank
+returns c = refl
+
+pub is-blank-spec : {M : Type 1} → statement M
+is-blank-spec = tie.close (tie.spec returns)

@@ -1,0 +1,5 @@
+pub mod Works
+pub mod Rounds
+pub mod Roots
+pub mod Cycles
+pub mod Drains

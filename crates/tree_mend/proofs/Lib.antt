@@ -1,0 +1,7 @@
+pub mod Shapes
+pub mod Steps
+pub mod Walk
+pub mod Descent
+pub mod Mends
+pub mod Settles
+pub mod Turns

@@ -1,0 +1,2 @@
+pub mod Lie
+pub mod Settle

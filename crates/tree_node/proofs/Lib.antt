@@ -1,0 +1,7 @@
+pub mod Under
+pub mod Steps
+pub mod Rulings
+pub mod Shapes
+pub mod Scans
+pub mod Looks
+pub mod Leads
