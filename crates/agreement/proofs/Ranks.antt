@@ -1,7 +1,7 @@
 -- Where a queue takes every request of a list, its ranks are those of the plain list: for any queue that holds what went in and has not come out,
 -- gives the least, and answers a replace as a pop.
 use Rattle.laws.specs.Prelude.{Answer, Bool, Done, Element, Idle, List, Out, Pop, Push, Refused, Replace, Request, [], _+_, _<_, _∙_, _∷_, _≡_, _≤_, ap, ap₂, arith, blank, cond, elementOf, false, le-ltb, length, lt-ltb, ltb, ltb-false, ltb-true, map, not-suc-le-zero, numberOf, rankOf, refl, subst, suc, sym, true, zero, ℕ}
-use Rattle.agreement.specs.Plain.{insert, numbered, numberFor, plain, plainly, Taken}
+use Rattle.agreement.specs.Plain.{insert, numbered, numberFor, plain, plainly, plainlyBy, Taken}
 use Rattle.promise.specs.Prelude.{Kind, Least, Step, always, answers, brought, given, hit, lower, unrefused}
 
 -- ---- a list in rank order: how many of its ranks are below q
@@ -167,8 +167,8 @@ module _ {S : Type 0} (queue : Request → S → Step Answer S) (Kept : S → Ty
       let f = follow s kept r l m (t .0) in
       ap₂ (λ (a : ℕ) (l : List ℕ). a ∷ l) (f .rank) (ranks-plain rs (queue r s .next) (plain r l .next) (keep r s kept) (f .same) (t .1))
 
-  -- ---- with its refusals: a queue that has room for c, and refuses as the list does
-  module _ (c : ℕ) (number : (r : Request) (s : S) → Kept s → numberOf (queue r s .said) ≡ numberFor c r (held s always)) where
+  -- ---- with its refusals: a queue that refuses as the list does, by a number for each request and how many are held
+  module _ (for : Request → ℕ → ℕ) (number : (r : Request) (s : S) → Kept s → numberOf (queue r s .said) ≡ for r (held s always)) where
     -- the list has as many ranks as are held
     pub record Whole (s : S) (l : List ℕ) : Type 0 where
       same : Same s l
@@ -197,9 +197,15 @@ module _ {S : Type 0} (queue : Request → S → Step Answer S) (Kept : S → Ty
         let stays : (f : Element → Bool) → held (queue r s .next) f ≡ held s f = λ f. omega (arith, sum r s kept f, refused-still r (queue r s .said) n e f .0, refused-still r (queue r s .said) n e f .1) in
         ((λ i. (e i, rank i)), record { same = record { ranks = λ q. stays (lower q) ∙ w .same .ranks q; sorted = w .same .sorted }; count = stays always ∙ w .count })
 
-    pub ranks-plainly : (rs : List Request) (s : S) (l : List ℕ) → Kept s → Whole s l → map (λ a. (numberOf a, rankOf a)) (answers queue rs s) ≡ answers (plainly c) rs l
-    unfolding answers plainly
-    ranks-plainly [] s l kept w = refl
-    ranks-plainly (r ∷ rs) s l kept w =
-        let g = goes-by (numberFor c r (length l)) r s l kept w (number r s kept ∙ ap (numberFor c r) (w .count)) in
-        ap₂ (λ (a : ℕ × ℕ) (l : List (ℕ × ℕ)). a ∷ l) (g .0) (ranks-plainly rs (queue r s .next) (plainly c r l .next) (keep r s kept) (g .1))
+    pub ranks-by : (rs : List Request) (s : S) (l : List ℕ) → Kept s → Whole s l → map (λ a. (numberOf a, rankOf a)) (answers queue rs s) ≡ answers (plainlyBy for) rs l
+    unfolding answers plainlyBy
+    ranks-by [] s l kept w = refl
+    ranks-by (r ∷ rs) s l kept w =
+        let g = goes-by (for r (length l)) r s l kept w (number r s kept ∙ ap (for r) (w .count)) in
+        ap₂ (λ (a : ℕ × ℕ) (l : List (ℕ × ℕ)). a ∷ l) (g .0) (ranks-by rs (queue r s .next) (plainlyBy for r l .next) (keep r s kept) (g .1))
+
+  -- .. of one that has room for c
+  pub ranks-plainly : (c : ℕ) (number : (r : Request) (s : S) → Kept s → numberOf (queue r s .said) ≡ numberFor c r (held s always)) (rs : List Request) (s : S) (l : List ℕ) → Kept s → Whole (numberFor c) number s l
+      → map (λ a. (numberOf a, rankOf a)) (answers queue rs s) ≡ answers (plainly c) rs l
+  unfolding plainly plainlyBy
+  ranks-plainly c number rs s l kept w = ranks-by (numberFor c) number rs s l kept w

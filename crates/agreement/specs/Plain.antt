@@ -32,7 +32,11 @@ abbrev pub numbered : ℕ → Request → List ℕ → Step (ℕ × ℕ) (List �
 numbered zero r l = step (0, plain r l .said) (plain r l .next)
 numbered (suc n) r l = step (suc n, 0) l
 
--- number and rank, of a list with room for c
+-- number and rank, of a list that refuses by a number for each request, by how many are held
+unfoldable pub plainlyBy : (Request → ℕ → ℕ) → Request → List ℕ → Step (ℕ × ℕ) (List ℕ)
+plainlyBy number r l = numbered (number r (length l)) r l
+
+-- .. of one with room for c
 unfoldable pub plainly : ℕ → Request → List ℕ → Step (ℕ × ℕ) (List ℕ)
 plainly c r l = numbered (numberFor c r (length l)) r l
 

@@ -6,7 +6,7 @@ use Rattle.bucket_model.specs.Layout.{Lay}
 use Rattle.bucket_model.specs.Calls.{Lowest}
 
 -- a bit that is clear: "bit is set" answers no
-clear-means : (x : ℕ) → x < 2 → Means (not (eqb x 1)) (x ≡ 0)
+pub clear-means : (x : ℕ) → x < 2 → Means (not (eqb x 1)) (x ≡ 0)
 clear-means x h = means-by (means-not (means-eqb x 1)) (λ n. omega arith) (λ e p. omega arith)
 
 module _ (k : Lay) (b w : List ℕ) where

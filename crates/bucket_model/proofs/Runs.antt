@@ -139,7 +139,7 @@ module _ (k : Lay) (laid : Laid k) where
         unfolding roomAfter
         room-same = let t = whole-means k B W .holds (whole k laid B W l′ (p .after)) in simp t
 
-        swap-is : untagged e ≡ false → Pushed k (alone k laid) 0 B W l′ (p .after) e r< (word W (k .held)) → replaced k b w e ≡ outcome (Out x) (joinedBits k B e (roomOf k B W (e .rank .0))) (joinedWords k W e (roomOf k B W (e .rank .0)))
+        pub swap-is : untagged e ≡ false → Pushed k (alone k laid) 0 B W l′ (p .after) e r< (word W (k .held)) → replaced k b w e ≡ outcome (Out x) (joinedBits k B e (roomOf k B W (e .rank .0))) (joinedWords k W e (roomOf k B W (e .rank .0)))
         swap-is t u =
             let to = roomAfter k B W (e .rank .0) in
             sym (told.replace-out k b w e shape-ok r< t whole-ok some (lowestOf k b w) refl good to refl _ _ _ _ _ (room-means k B W (e .rank .0) .holds (whole k laid B W l′ (p .after), u .fit)) refl refl refl refl refl)

@@ -11,7 +11,7 @@ rank-nil : (r : ℕ) → ofRank r [] ≡ []
 unfolding ofRank
 rank-nil r = refl
 
-rank-append : (r : ℕ) (xs ys : List Element) → ofRank r (xs ++ ys) ≡ ofRank r xs ++ ofRank r ys
+pub rank-append : (r : ℕ) (xs ys : List Element) → ofRank r (xs ++ ys) ≡ ofRank r xs ++ ofRank r ys
 unfolding ofRank
 rank-append r [] ys = refl
 rank-append r (x ∷ xs) ys = go (eqb (x .rank .0) r) (rank-append r xs ys)
@@ -27,7 +27,7 @@ rank-none r (x ∷ l) h = rw (ne-eqb (x .rank .0) r (λ e. omega (arith, h .0)))
 
 -- ---- a newcomer
 
-insert-all : (P : Element → Type 0) (e : Element) (l : List Element) → P e → All P l → All P (insert e l)
+pub insert-all : (P : Element → Type 0) (e : Element) (l : List Element) → P e → All P l → All P (insert e l)
 insert-all P e [] p h = (p, tt)
 insert-all P e (x ∷ l) p h = go (ltb (e .rank .0) (x .rank .0)) (insert-all P e l p (h .1))
   where
@@ -63,7 +63,7 @@ front-rank r e l h = rank-append r (e ∷ []) l ∙ elim (ℕ-discrete (e .rank 
     other q = let z : ofRank r (e ∷ []) ≡ [] = unfold ofRank in rw (ne-eqb (e .rank .0) r q) in rw z (sym (append-nil (ofRank r l)))
 
 -- behind all of its rank
-insert-rank : (r : ℕ) (e : Element) (l : List Element) → Sorted l → ofRank r (insert e l) ≡ ofRank r l ++ ofRank r (e ∷ [])
+pub insert-rank : (r : ℕ) (e : Element) (l : List Element) → Sorted l → ofRank r (insert e l) ≡ ofRank r l ++ ofRank r (e ∷ [])
 insert-rank r e [] s = sym (ap (λ (l : List Element). l ++ ofRank r (e ∷ [])) (rank-nil r))
 insert-rank r e (x ∷ l) s = elim (decLt (e .rank .0) (x .rank .0)) [
   | yes h ↦ rw (lt-ltb (e .rank .0) (x .rank .0) h) (front h)

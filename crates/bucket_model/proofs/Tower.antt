@@ -31,7 +31,7 @@ abbrev pub Bits : List Storey → ℕ → Type 0
 Bits [] j = Unit {0}
 Bits (p ∷ ps) j = j < 64 * p .words
 
-tower-ext : (b : List ℕ) (ps : List Storey) (f f′ : ℕ → ℕ) → ((j : ℕ) → Bits ps j → f′ j ≡ f j) → Tower b ps f → Tower b ps f′
+pub tower-ext : (b : List ℕ) (ps : List Storey) (f f′ : ℕ → ℕ) → ((j : ℕ) → Bits ps j → f′ j ≡ f j) → Tower b ps f → Tower b ps f′
 tower-ext b [] f f′ h z = tt
 tower-ext b (p ∷ ps) f f′ h z = (storey-ext b (p .base) (p .words) f f′ h (z .0), z .1)
 
@@ -344,7 +344,7 @@ same-bits (suc m) w v a c h =
     let e : w % 2 ≡ v % 2 = sym (bit-zero w) ∙ h 0 (omega arith) ∙ bit-zero v in
     omega arith
 
-tells-same : (b c : List ℕ) (base m : ℕ) (f : ℕ → ℕ) → Tells b base m f → Tells c base m f → (i : ℕ) → i < m → word b (base + i) ≡ word c (base + i)
+pub tells-same : (b c : List ℕ) (base m : ℕ) (f : ℕ → ℕ) → Tells b base m f → Tells c base m f → (i : ℕ) → i < m → word b (base + i) ≡ word c (base + i)
 tells-same b c base m f z y i h = same-bits 64 (word b (base + i)) (word c (base + i)) (z .fits i h) (y .fits i h) at
   where
     at : (j : ℕ) → j < 64 → bitAt (word b (base + i)) j ≡ bitAt (word c (base + i)) j

@@ -1,0 +1,3 @@
+-- Worked cases, on the words.
+pub mod Stages
+pub mod Front

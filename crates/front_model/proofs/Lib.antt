@@ -1,0 +1,12 @@
+pub mod Counts
+pub mod Cycle
+pub mod Promises
+pub mod Cases
+pub mod Ranks
+pub mod Drain
+pub mod Places
+pub mod Handed
+pub mod Faces
+pub mod Damage
+pub mod Clock
+pub mod Shown
