@@ -14,6 +14,7 @@
  *   9 bad strip     fair ranks: a flow, weight or length outside the limits
  *  10 clock spent   fair ranks: a finish above 4294967295
  *  11 not empty     fair ranks: a reset while something is held
+ *  12 no such heap  packed heap: the heap's number is not below the number of heaps
  *
  * A slice is a pointer and then its length in words, that of records in records. The pointer must
  * really have so many, aligned as usual; it may be NULL where the length is 0. The slices of one call must not overlap.
@@ -58,6 +59,7 @@ uint32_t card_version(void);
 #define CARD_BAD_STRIP 9u
 #define CARD_CLOCK_SPENT 10u
 #define CARD_NOT_EMPTY 11u
+#define CARD_NO_HEAP 12u
 
 #define CARD_IDLE 0u
 #define CARD_PUSH 1u
@@ -66,9 +68,9 @@ uint32_t card_version(void);
 
 /* The name of a number that a call answered. */
 static inline const char *card_name(uint32_t number) {
-    static const char *const names[12] = {"ok",    "bad shape", "damaged",      "too soon",  "bad rank",    "full",
-                                          "empty", "no tag",    "no such port", "bad strip", "clock spent", "not empty"};
-    return number < 12 ? names[number] : "no such number";
+    static const char *const names[13] = {"ok",     "bad shape",    "damaged",   "too soon",    "bad rank",  "full",        "empty",
+                                          "no tag", "no such port", "bad strip", "clock spent", "not empty", "no such heap"};
+    return number < 13 ? names[number] : "no such number";
 }
 
 /*

@@ -7,3 +7,4 @@ pub mod Updates
 pub mod Means
 pub mod Ladder
 pub mod Prelude
+pub mod Zeros

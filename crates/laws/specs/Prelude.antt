@@ -1,6 +1,6 @@
 -- What nearly every file takes in, passed on: numbers, lists, truth values, equations and their laws, what answers a need; then what queues take in and answer.
 unfoldable pub use Prim.Native.Nat.{pred}
-pub use Prim.Native.Nat.{_%_, _*_, _+_, _-_, _/_, _<_, _^_, _≤_, max, suc, zero, ℕ}
+pub use Prim.Native.Nat.{_%_, _*_, _+_, _-_, _/_, _<_, _^_, _≤_, max, min, suc, zero, ℕ}
 pub use native.Mathlib.Decide.{decLt, ℕ-discrete}
 pub use native.Mathlib.Nat.{add-suc, add-zero, eq-or-lt-of-le, le-of-suc-le-suc, mul-le-mul-right, not-suc-le-zero, pow-suc, suc-add, suc-mul, zero-add}
 pub use native.Mathlib.Numerals.{add-one}

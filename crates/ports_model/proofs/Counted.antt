@@ -1,11 +1,12 @@
 -- What goes in and out at a port, in the words in which every queue's promises are said: by number, rank, tag and length, over any list of requests at any ports. To a port a request at another one is an idle one.
 use Rattle.laws.specs.Prelude.{Answer, Bool, Element, Idle, List, [], _+_, _<_, _∙_, _∷_, _≡_, _≤_, ap, arith, cond, decLt, eq-eqb, eqb, false, is-upd, map, ne-eqb, refl, subst, sym, true, untagged, ℕ, ℕ-discrete}
-use Rattle.promise.proofs.Forest.{At, seen-sum, seenBy}
 use Rattle.promise.specs.Prelude.{Barred, Step, Tagged, answers, leaves, none-brought, step}
 use Rattle.promise.specs.Served as said
 use Rattle.bucket_model.specs.Prelude.{Said, Store, answered, ask, plainWith, store, times}
 use Rattle.bucket_model.proofs.Laws.{answerOf, sums}
 use Rattle.ports_model.specs.Prelude.{Ask, Fair, Lists, Shape, Shaped, accepts, asked, at, called, none, ranksOf, served, start, storedAt}
+use Rattle.promise.proofs.Forest.{seen-barred, seen-none, seen-sum}
+use Rattle.promise.specs.Forest.{At, seenBy}
 use Rattle.ports_model.proofs.Clear.{deep}
 use Rattle.ports_model.proofs.Kind.{barred}
 use Rattle.ports_model.proofs.Promises.{start-holds}
@@ -17,17 +18,8 @@ abbrev pub portsQueue : Shape → At → Store → Step Answer Store
 portsQueue s c x = let o = asked s (c .queue) (c .asks) x in step (o .answer) (store (o .bits) (o .words))
 
 -- what comes in at port j has a tag
-seen-barred : (s : Shape) (j : ℕ) (c : At) (x : Store) → Barred (seenBy j c) (portsQueue s c x .said)
-seen-barred s j c x = go (eqb (c .queue) j)
-  where
-    go : (t : Bool) → Barred (cond t (c .asks) Idle) (portsQueue s c x .said)
-    go true = barred s (c .queue) (c .asks) x
-    go false = λ u e. u
-
 none-came : (s : Shape) (j : ℕ) (cs : List At) (x : Store) → said.allBrought (map (seenBy j) cs) (answers (portsQueue s) cs x) untagged ≡ 0
-unfolding answers said.allBrought
-none-came s j [] x = refl
-none-came s j (c ∷ cs) x = omega (arith, none-brought (seenBy j c) (portsQueue s c x .said) (seen-barred s j c x), none-came s j cs (portsQueue s c x .next))
+none-came s j cs x = seen-none (portsQueue s) (seenBy j) (λ c y. seen-barred j c (portsQueue s c y .said) (barred s (c .queue) (c .asks) y)) cs x
 
 module _ (s : Shape) (lim b w : List ℕ) (shaped : Shaped s b w) (fair : Fair s lim) where
   abbrev D : 1 ≤ s .storeys

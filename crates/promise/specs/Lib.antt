@@ -11,3 +11,4 @@ pub mod Clock
 pub mod Promised
 pub mod Ticked
 pub mod Prelude
+pub mod Forest

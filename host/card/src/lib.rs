@@ -149,6 +149,8 @@ pub enum Refusal {
     ClockSpent = 10,
     /// Fair ranks: a reset while something is held. Everything stands.
     NotEmpty = 11,
+    /// Packed heap: no such heap. Everything stands.
+    NoHeap = 12,
 }
 
 impl Refusal {
@@ -174,6 +176,7 @@ impl Refusal {
             9 => Refusal::BadStrip,
             10 => Refusal::ClockSpent,
             11 => Refusal::NotEmpty,
+            12 => Refusal::NoHeap,
             _ => return None,
         })
     }
@@ -198,6 +201,7 @@ impl Refusal {
             Refusal::BadStrip => "bad strip",
             Refusal::ClockSpent => "clock spent",
             Refusal::NotEmpty => "not empty",
+            Refusal::NoHeap => "no such heap",
         }
     }
 }

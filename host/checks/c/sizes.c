@@ -18,8 +18,8 @@ static uint64_t bits[CARD_BUCKET_BITS(2)], deep_bits[CARD_BUCKET_BITS(3)];
 static uint32_t words[CARD_BUCKET_WORDS(2, 4096)], deep_words[CARD_BUCKET_WORDS(3, 65536)];
 
 int main(void) {
-    static const char *const names[12] = {"ok",    "bad shape", "damaged",      "too soon",  "bad rank",    "full",
-                                          "empty", "no tag",    "no such port", "bad strip", "clock spent", "not empty"};
+    static const char *const names[13] = {"ok",     "bad shape",    "damaged",   "too soon",    "bad rank",  "full",        "empty",
+                                          "no tag", "no such port", "bad strip", "clock spent", "not empty", "no such heap"};
     uint32_t mark[CARD_MARK_WORDS], out[CARD_OUT_WORDS], order, levels, storeys, nodes;
     same("version", card_version(), CARD_VERSION);
     same("bits of a length", 8 * sizeof(card_len), 64);
@@ -69,7 +69,7 @@ int main(void) {
          card_clocked_clear(deepest, CARD_TREE_WORDS(2, 15), 2, 15, records, CARD_RECORDS(15) - 1, mark, CARD_MARK_WORDS),
          CARD_BAD_SHAPE);
 
-    for (order = 0; order < 12; order++) same(names[order], (unsigned long)strcmp(card_name(order), names[order]), 0);
-    same("a number that there is not", (unsigned long)strcmp(card_name(12), "no such number"), 0);
+    for (order = 0; order < 13; order++) same(names[order], (unsigned long)strcmp(card_name(order), names[order]), 0);
+    same("a number that there is not", (unsigned long)strcmp(card_name(13), "no such number"), 0);
     return failed;
 }

@@ -2,7 +2,7 @@
 //!
 //! Each queue is modelled word by word: which words of a lent store a call writes, what it
 //! answers, and which refusal it gives. `list` is the plain sorted list that the queues' answers
-//! are held to, `mend` the check of a tree's store and its mending, `cluster_clock` the cluster heap by clock cycles, `fair` the ranks from weights above the tree, `ports` several ports on one pool of the bucket queue, `flight` the account of a clocked machine in the middle of its work, `trace` the
+//! are held to, `mend` the check of a tree's store and its mending, `cluster_clock` the cluster heap by clock cycles, `packed` the packed heap, `fair` the ranks from weights above the tree, `ports` several ports on one pool of the bucket queue, `flight` the account of a clocked machine in the middle of its work, `trace` the
 //! trace program, and `boundary` the same calls as the C library offers them (slices of numbers in,
 //! a refusal number out); `call` is such a call as data, and `rng` makes the random numbers of the
 //! comparisons.
@@ -17,6 +17,7 @@ pub mod fair;
 pub mod flight;
 pub mod list;
 pub mod mend;
+pub mod packed;
 pub mod ports;
 pub mod rng;
 pub mod trace;
@@ -55,6 +56,7 @@ pub enum No {
     BadStrip,
     ClockSpent,
     NotEmpty,
+    NoHeap,
 }
 
 impl No {
@@ -72,6 +74,7 @@ impl No {
             No::BadStrip => 9,
             No::ClockSpent => 10,
             No::NotEmpty => 11,
+            No::NoHeap => 12,
         }
     }
 }

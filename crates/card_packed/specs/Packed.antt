@@ -1,0 +1,50 @@
+-- The calls of the packed heap as C sees them: total functions of all numbers and words handed in, to the number returned and all words afterwards.
+use Rattle.laws.specs.Prelude.{List, Pop, Push, Replace, cond, element, leb, length, numberOf, ℕ}
+use Rattle.card_words.specs.Out.{answerOut, answerWords, badShape, CountAfter, countAnswered}
+use Rattle.packed_model.specs.Calls.{called, cleared, heldCount, Outcome, shapeOk}
+use Rattle.packed_model.specs.Words.{extent}
+
+-- the number returned, and the store afterwards
+pub record StoreAfter : Type 0 where
+  pub number : ℕ
+  pub store : List ℕ
+
+abbrev pub storeAfter : ℕ → List ℕ → StoreAfter
+storeAfter n ws = record { number = n; store = ws }
+
+-- .. and `out`
+pub record StoreAfterOut : Type 0 where
+  pub number : ℕ
+  pub store : List ℕ
+  pub out : List ℕ
+
+abbrev pub storeAfterOut : ℕ → List ℕ → List ℕ → StoreAfterOut
+storeAfterOut n ws out = record { number = n; store = ws; out = out }
+
+abbrev pub storeDone : Outcome → StoreAfter
+storeDone o = storeAfter (numberOf (o .answer)) (o .words)
+
+-- rank, tag and length of the answer; an `out` that has no room for them is refused, and nothing is changed
+unfoldable pub storeAnswered : Outcome → List ℕ → List ℕ → StoreAfterOut
+storeAnswered o ws out = cond (leb answerWords (length out)) (storeAfterOut (numberOf (o .answer)) (o .words) (answerOut (o .answer) out)) (storeAfterOut badShape ws out)
+
+-- ---- the calls
+abbrev pub packedClear : ℕ → ℕ → List ℕ → StoreAfter
+packedClear H levels ws = storeDone (cleared H levels ws)
+
+module _ (H levels h : ℕ) (ws : List ℕ) where
+  abbrev pub packedPush : ℕ → ℕ → ℕ → StoreAfter
+  packedPush rank tag bytes = storeDone (called H levels h (Push (element rank tag bytes)) ws)
+
+  abbrev pub packedPop : List ℕ → StoreAfterOut
+  packedPop out = storeAnswered (called H levels h Pop ws) ws out
+
+  abbrev pub packedReplace : ℕ → ℕ → ℕ → List ℕ → StoreAfterOut
+  packedReplace rank tag bytes out = storeAnswered (called H levels h (Replace (element rank tag bytes)) ws) ws out
+
+  abbrev pub packedHeld : List ℕ → CountAfter
+  packedHeld out = countAnswered (heldCount H levels h ws) out
+
+-- how many words a store of this shape has; 0 where there is none
+unfoldable pub packedWords : ℕ → ℕ → ℕ
+packedWords H levels = cond (shapeOk H levels 393469) (extent H levels) 0

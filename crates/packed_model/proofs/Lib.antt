@@ -1,0 +1,16 @@
+pub mod Tests
+pub mod Heap
+pub mod Sink
+pub mod Cut
+pub mod Numbers
+pub mod Words
+pub mod Ways
+pub mod Serve
+pub mod Exactly
+pub mod Promises
+pub mod Slice
+pub mod Places
+pub mod Cases
+pub mod Alone
+pub mod Rules
+pub mod Edge

@@ -1,0 +1,9 @@
+pub mod Node
+pub mod Heap
+pub mod Words
+pub mod Causes
+pub mod Calls
+pub mod Promise
+pub mod Rules
+pub mod Edge
+pub mod Cases
