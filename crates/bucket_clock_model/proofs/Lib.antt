@@ -23,3 +23,4 @@ pub mod Places
 pub mod OneStep
 pub mod Fifo
 pub mod Later
+pub mod Unread

@@ -40,15 +40,16 @@ module _ (k : Lay) where
   pub but-held : (w v : List ℕ) (x : ℕ) → But k w v → But k w (set v (k .held) x)
   but-held w v x c = record { long = c .long ∙ sym (length-set v (k .held) x); words = λ a n. c .words a n ∙ sym (other v (k .held) x a n) }
 
-  module _ (laid : Laid k) (w v : List ℕ) (c : But k w v) where
+  -- words that are the same before held: all that a stage reads stands there
+  module _ (laid : Laid k) (w v : List ℕ) (c : (a : ℕ) → a < k .held → word w a ≡ word v a) where
     free-same : word w (k .free) ≡ word v (k .free)
-    free-same = c .words (k .free) (λ e. omega (arith, laid .held))
+    free-same = c (k .free) (laid .held)
 
-    head-same : (r : ℕ) → r < k .ranks → word w (headAt k r) ≡ word v (headAt k r)
-    head-same r h = c .words (headAt k r) (λ e. omega (arith, laid .lists, laid .pool, laid .held))
+    pub head-same : (r : ℕ) → r < k .ranks → word w (headAt k r) ≡ word v (headAt k r)
+    head-same r h = c (headAt k r) (omega (arith, laid .lists, laid .pool, laid .held))
 
     tail-same : (r : ℕ) → r < k .ranks → word w (tailAt k r) ≡ word v (tailAt k r)
-    tail-same r h = c .words (tailAt k r) (λ e. omega (arith, laid .lists, laid .pool, laid .held))
+    tail-same r h = c (tailAt k r) (omega (arith, laid .lists, laid .pool, laid .held))
 
     next-same : (l : ℕ) → nextOf k w l ≡ nextOf k v l
     unfolding nextOf
@@ -57,15 +58,15 @@ module _ (k : Lay) where
         go : (a b : Bool) → ltb (k .nodes) l ≡ b → cond a 0 (cond b 0 (word w (nextAt k l))) ≡ cond a 0 (cond b 0 (word v (nextAt k l)))
         go true b e = refl
         go false true e = refl
-        go false false e = let m : l ≤ k .nodes = ltb-false (k .nodes) l e in c .words (nextAt k l) (λ q. omega (arith, laid .pool, laid .held))
+        go false false e = let m : l ≤ k .nodes = ltb-false (k .nodes) l e in c (nextAt k l) (omega (arith, laid .pool, laid .held))
 
     -- what a stage reads is what one at a time reads
-    take-same : (r : ℕ) → r < k .ranks → takeWrites k w r ≡ takeWrites k v r
+    pub take-same : (r : ℕ) → r < k .ranks → takeWrites k w r ≡ takeWrites k v r
     take-same r h =
         let n : nextOf k w (word w (headAt k r)) ≡ nextOf k v (word v (headAt k r)) = ap (nextOf k w) (head-same r h) ∙ next-same (word v (headAt k r)) in
         rw (n, tail-same r h, head-same r h, free-same)
 
-    put-same : (e : Element) → e .rank .0 < k .ranks → putWrites k w e ≡ putWrites k v e
+    pub put-same : (e : Element) → e .rank .0 < k .ranks → putWrites k w e ≡ putWrites k v e
     put-same e h =
         let n : nextOf k w (word w (k .free)) ≡ nextOf k v (word v (k .free)) = ap (nextOf k w) free-same ∙ next-same (word v (k .free)) in
         rw (n, tail-same (e .rank .0) h, free-same)
@@ -73,9 +74,9 @@ module _ (k : Lay) where
     next-at : (a : ℕ) → word w a ≡ word v a → nextOf k w (word w a) ≡ nextOf k v (word v a)
     next-at a e = ap (nextOf k w) e ∙ next-same (word v a)
 
-    -- the tests of the stage do not read the held count
-    pub take-fit-but : (r : ℕ) → BucketTakeFit k r v → BucketTakeFit k r w
-    take-fit-but r f =
+    -- the tests
+    pub take-fit-low : (r : ℕ) → BucketTakeFit k r v → BucketTakeFit k r w
+    take-fit-low r f =
         let h : word w (headAt k r) ≡ word v (headAt k r) = head-same r (f .within) in
         let t : word w (tailAt k r) ≡ word v (tailAt k r) = tail-same r (f .within) in
         let n : nextOf k w (word w (headAt k r)) ≡ nextOf k v (word v (headAt k r)) = next-at (headAt k r) h in
@@ -92,8 +93,8 @@ module _ (k : Lay) where
           ends = record { to = λ e. h ∙ f .ends .to (sym n ∙ e) ∙ sym t; from = λ e. n ∙ f .ends .from (sym h ∙ e ∙ t) };
         }
 
-    pub put-fit-but : (r : ℕ) → BucketPutFit k r v → BucketPutFit k r w
-    put-fit-but r f =
+    pub put-fit-low : (r : ℕ) → BucketPutFit k r v → BucketPutFit k r w
+    put-fit-low r f =
         let h : word w (headAt k r) ≡ word v (headAt k r) = head-same r (f .within) in
         let t : word w (tailAt k r) ≡ word v (tailAt k r) = tail-same r (f .within) in
         let n : nextOf k w (word w (k .free)) ≡ nextOf k v (word v (k .free)) = next-at (k .free) free-same in
@@ -110,14 +111,25 @@ module _ (k : Lay) where
           other = λ e. f .other (sym free-same ∙ e ∙ t);
         }
 
+  low-words : (w v : List ℕ) → But k w v → (a : ℕ) → a < k .held → word w a ≡ word v a
+  low-words w v c a h = c .words a (λ e. omega arith)
+
+  module _ (laid : Laid k) (w v : List ℕ) (c : But k w v) where
+    -- the tests of the stage do not read the held count
+    pub take-fit-but : (r : ℕ) → BucketTakeFit k r v → BucketTakeFit k r w
+    take-fit-but = take-fit-low laid w v (low-words w v c)
+
+    pub put-fit-but : (r : ℕ) → BucketPutFit k r v → BucketPutFit k r w
+    put-fit-but = put-fit-low laid w v (low-words w v c)
+
     -- BUCKETS: the stage leaves what one at a time leaves, but for the held count
     pub take-but : (r : ℕ) → r < k .ranks → But k (bucketTake k r w) (takenWords k v (lowestIn k v r))
     unfolding bucketTake takenWords
-    take-but r h = but-held (write w (takeWrites k w r)) (write v (takeWrites k v r)) _ (subst (λ (ps : List (ℕ × ℕ)). But k (write w ps) (write v (takeWrites k v r))) (sym (take-same r h)) (but-write (takeWrites k v r) w v c))
+    take-but r h = but-held (write w (takeWrites k w r)) (write v (takeWrites k v r)) _ (subst (λ (ps : List (ℕ × ℕ)). But k (write w ps) (write v (takeWrites k v r))) (sym (take-same laid w v (low-words w v c) r h)) (but-write (takeWrites k v r) w v c))
 
     pub put-but : (b : List ℕ) (e : Element) → e .rank .0 < k .ranks → But k (bucketPut k e w) (joinedWords k v e (roomOf k b v (e .rank .0)))
     unfolding bucketPut joinedWords roomWith
-    put-but b e h = but-held (write w (putWrites k w e)) (write v (putWrites k v e)) _ (subst (λ (ps : List (ℕ × ℕ)). But k (write w ps) (write v (putWrites k v e))) (sym (put-same e h)) (but-write (putWrites k v e) w v c))
+    put-but b e h = but-held (write w (putWrites k w e)) (write v (putWrites k v e)) _ (subst (λ (ps : List (ℕ × ℕ)). But k (write w ps) (write v (putWrites k v e))) (sym (put-same laid w v (low-words w v c) e h)) (but-write (putWrites k v e) w v c))
 
 -- ---- the held count stands, and so does what is behind it
 

@@ -11,7 +11,7 @@ use Rattle.bucket_clock_model.specs.declared.Maybe.{Maybe}
 use Rattle.bucket_clock_model.specs.declared.Maybe.the-variants.{None, Some}
 use Rattle.bucket_clock_model.specs.declared.Waiting.{Waiting}
 use Rattle.bucket_clock_model.specs.Desk.{countWords, Desk, deskOk, floorOf, handed, heldWords, ruleNow, stageDone, stages, turnDone, turned, turnOk, TurnOutcome, turnRun, turnStill, waiting, workAt}
-use Rattle.bucket_clock_model.specs.Links.{bucketStage}
+use Rattle.bucket_clock_model.specs.Links.{bucketLeaves, bucketStage}
 use Rattle.bucket_clock_model.specs.Lists.{newcomer, takes}
 use Rattle.bucket_clock_model.specs.Pipe.{lead}
 use Rattle.bucket_clock_model.specs.Promise.{Rest, Steps}
@@ -125,7 +125,7 @@ module _ (p : Storey) (s : Floor) (m : ℕ) (h : m < 64 * p .words) where
   put-stood = record { bits = on-stood (word (s .counts) (countAt p m)); counts = count-stood (suc (word (s .counts) (countAt p m))) }
 
 -- words of 64 bits: the way leads into the storey
-way-in : (n : ℕ) (p : Storey) (w : ℕ) (s : Floor) → ((i : ℕ) → word (s .bits) i < 2 ^ 64) → TakesFit n p true w s → wayBelow p (s .bits) w < 64 * p .words
+pub way-in : (n : ℕ) (p : Storey) (w : ℕ) (s : Floor) → ((i : ℕ) → word (s .bits) i < 2 ^ 64) → TakesFit n p true w s → wayBelow p (s .bits) w < 64 * p .words
 way-in n p w s wide f =
     let l = word64.lowest 64 (word (s .bits) (p .base + w)) (omega (arith, f .word≢)) (wide (p .base + w)) in
     omega (arith, l .within, f .within)
@@ -133,6 +133,25 @@ way-in n p w s wide f =
 takes-stood : (n : ℕ) (p : Storey) (t : Bool) (w : ℕ) (s : Floor) → ((i : ℕ) → word (s .bits) i < 2 ^ 64) → TakesFit n p t w s → Stood p s (takeIf p t w s)
 takes-stood n p true w s wide f = take-stood p s (wayBelow p (s .bits) w) (way-in n p w s wide f)
 takes-stood n p false w s wide f = record { bits = λ i o. refl; counts = λ i o. refl }
+
+-- ---- what leaves
+
+module _ (k : Lay) where
+  -- what leaves does not depend on what stage 1 is handed
+  stages-said : (d e : ℕ) (g : Waiting) (m : Desk) → stages k e (suc d) g m .said ≡ bucketLeaves k (takes (workAt (m .records) (e + d) .does)) (workAt (m .records) (e + d) .way) (m .words)
+  unfolding stages
+  stages-said zero e g m = let a : e ≡ e + 0 = omega arith in ap (λ (i : ℕ). bucketLeaves k (takes (workAt (m .records) i .does)) (workAt (m .records) i .way) (m .words)) a
+  stages-said (suc d) e g m =
+      let a : suc e + d ≡ e + suc d = omega arith in
+      stages-said d (suc e) (workAt (m .records) e) (stageDone k e (suc d) g m)
+      ∙ ap (λ (u : Waiting). bucketLeaves k (takes (u .does)) (u .way) (m .words)) (work-other (m .records) e (suc e + d) (handed (storey (k .bits) e) g (m .bits)) (λ q. omega arith))
+      ∙ ap (λ (i : ℕ). bucketLeaves k (takes (workAt (m .records) i .does)) (workAt (m .records) i .way) (m .words)) a
+
+  pub leaving-is : (S : ℕ) (u : Request) (m : Desk) → 1 ≤ S → stages k 0 S (waiting u 0) m .said ≡ bucketLeaves k (takes (workAt (m .records) (pred S) .does)) (workAt (m .records) (pred S) .way) (m .words)
+  leaving-is zero u m h = absurd (omega arith)
+  leaving-is (suc d) u m h =
+      let a : 0 + d ≡ d = omega arith in
+      stages-said d 0 (waiting u 0) m ∙ ap (λ (i : ℕ). bucketLeaves k (takes (workAt (m .records) i .does)) (workAt (m .records) i .way) (m .words)) a
 
 -- ---- all stages
 
@@ -228,6 +247,13 @@ module _ (k : Lay) (laid : Laid k) where
     -- each stage, by what stood at the cycle's start
     pub one-step : Steps k 0 (k .storeys) (waiting q 0) m (stages k 0 (k .storeys) (waiting q 0) m .next)
     one-step = whole .steps
+
+    -- words of bits before the queue's stand
+    pub bits-low : (i : ℕ) → i < k .bits → word (stages k 0 (k .storeys) (waiting q 0) m .next .bits) i ≡ word (m .bits) i
+    bits-low i h = whole .bits i (inl (omega arith))
+
+    pub counts-low : (i : ℕ) → i < 64 * k .bits → word (stages k 0 (k .storeys) (waiting q 0) m .next .counts) i ≡ word (m .counts) i
+    counts-low i h = whole .counts i (inl (omega arith))
 
     -- bits, counts and records past the shape stand
     pub bits-rest : (i : ℕ) → bitWords k ≤ i → word (turnRun k q m .next .bits) i ≡ word (m .bits) i

@@ -151,3 +151,18 @@ pub record Rest (k : Lay) (m o : Desk) : Type 0 where
   pub counts : (i : ℕ) → countWords k ≤ i → word (o .counts) i ≡ word (m .counts) i
   pub words : (i : ℕ) → storeWords k ≤ i → word (o .words) i ≡ word (m .words) i
   pub records : (i : ℕ) → k .storeys ≤ i → workAt (o .records) i ≡ workAt (m .records) i
+
+-- ---- what is not read
+
+-- the same words within the shape, and the same records up to S
+pub record Near (k : Lay) (m n : Desk) : Type 0 where
+  pub bits : (i : ℕ) → i < bitWords k → word (m .bits) i ≡ word (n .bits) i
+  pub counts : (i : ℕ) → i < countWords k → word (m .counts) i ≡ word (n .counts) i
+  pub words : (i : ℕ) → i < storeWords k → word (m .words) i ≡ word (n .words) i
+  pub records : (i : ℕ) → i < k .storeys → workAt (m .records) i ≡ workAt (n .records) i
+
+-- two cycles alike: what is past the shape, and records past S, are not read
+pub record Alike (k : Lay) (o p : TurnOutcome) : Type 0 where
+  pub answer : o .answer ≡ p .answer
+  pub leaves : o .leaves ≡ p .leaves
+  pub desk : Near k (o .desk) (p .desk)

@@ -1,6 +1,5 @@
 -- What every cycle keeps.
-use Rattle.laws.specs.Prelude.{Bool, Element, List, Request, [], _+_, _<_, _∙_, _∷_, _≡_, _≤_, ap, arith, decLt, false, length, lt-ltb, ltb, ltb-false, ltb-true, refl, suc, true, ℕ, ℕ-discrete}
-use Prim.Native.Nat.{min}
+use Rattle.laws.specs.Prelude.{Bool, Element, List, Request, [], _+_, _<_, _∙_, _∷_, _≡_, _≤_, ap, arith, decLt, false, length, lt-ltb, ltb, ltb-false, ltb-true, min, refl, suc, true, ℕ, ℕ-discrete}
 use Rattle.bucket_model.specs.Prelude.{Sorted}
 use Rattle.promise.specs.Prelude.{always, hit, lower}
 use Rattle.bucket_clock_model.specs.declared.Maybe.{Maybe}

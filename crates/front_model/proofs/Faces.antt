@@ -4,6 +4,7 @@ use Rattle.bucket_clock_model.proofs.Clock.{Same, same-at}
 use Rattle.bucket_clock_model.proofs.Counts.{hit-le, many-always, placed-many}
 use Rattle.bucket_clock_model.proofs.Kept.{Kept as QueueKept, rule-sent, turn-good, turn-kept, turn-leaves}
 use Rattle.bucket_clock_model.proofs.Last.{afterStore}
+use Rattle.bucket_clock_model.proofs.OneStep.{leaving-is}
 use Rattle.bucket_clock_model.specs.Clock.{numberAt, outOf}
 use Rattle.bucket_clock_model.specs.Damage.{StagesFit}
 use Rattle.bucket_clock_model.specs.declared.Maybe.{Maybe}
@@ -19,7 +20,7 @@ use Rattle.front_model.specs.Desk.{allHeld, behindCount, faced, FrontDes
 use Rattle.front_model.specs.Front.{held, Kept, leakIf, State, state, turned}
 use Rattle.front_model.specs.Handed.{asks, handed, leaked, stays}
 use Rattle.front_model.proofs.Cycle.{turned-kept, turned-sum}
-use Rattle.front_model.proofs.Handed.{ahead-at, arrives-any, asks-hit, asks-left, asks-taken, coming-is, coming-le, handed-fine, leaving-is, many-le, newcomer-handed, RankedOne, RoomFor, takes-handed}
+use Rattle.front_model.proofs.Handed.{ahead-at, arrives-any, asks-hit, asks-left, asks-taken, coming-is, coming-le, handed-fine, many-le, newcomer-handed, RankedOne, RoomFor, takes-handed}
 use Rattle.front_model.proofs.Places.{front-count, front-in, front-long, front-place, past-end, places-length}
 
 -- ---- a leak, as a list and what is handed on

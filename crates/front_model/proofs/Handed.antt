@@ -2,17 +2,15 @@
 use Rattle.laws.specs.Prelude.{Bool, Element, List, Request, [], _++_, _+_, _<_, _∙_, _∷_, _≡_, _≤_, ap, arith, false, length, lt-ltb, ne-eqb, pred, refl, suc, true, untagged, zero, ℕ}
 use Rattle.bucket_clock_model.proofs.Counts.{coming-end, hit-le}
 use Rattle.bucket_clock_model.proofs.Pipe.{moved-end}
-use Rattle.bucket_clock_model.proofs.Worked.{Stands, work-other}
+use Rattle.bucket_clock_model.proofs.Worked.{Stands}
 use Rattle.bucket_clock_model.specs.Clock.{numberAt}
 use Rattle.bucket_clock_model.specs.declared.Maybe.{Maybe}
 use Rattle.bucket_clock_model.specs.declared.Maybe.the-variants.{None, Some}
 use Rattle.bucket_clock_model.specs.declared.Waiting.{Waiting}
-use Rattle.bucket_clock_model.specs.Desk.{Desk, handed as handedOn, stageDone, stages, waiting, workAt}
-use Rattle.bucket_clock_model.specs.Links.{bucketLeaves}
+use Rattle.bucket_clock_model.specs.Desk.{Desk}
 use Rattle.bucket_clock_model.specs.Lists.{arrives, at, coming, left, many, moved, newcomer, taken, takes}
 use Rattle.bucket_clock_model.specs.Pipe.{Fit, Pipe, Shows}
 use Rattle.bucket_model.specs.declared.Lay.{Lay}
-use Rattle.bucket_model.specs.Prelude.{storey}
 use Rattle.promise.specs.Prelude.{always, hit}
 use Rattle.front_model.specs.Desk.{onWay}
 use Rattle.front_model.specs.Handed.{asks, handed}
@@ -124,19 +122,3 @@ module _ (k : Lay) where
   pub ahead-at : (S : ℕ) (m : Desk) (P : Pipe S) (ago : ℕ → List Element) (v : List Maybe) (z : Maybe) → 1 ≤ S → Stands k 0 S m P → Shows S P ago v → coming always (moved v z) ≡ at always z + onWay (pred S) (m .records) 0
   ahead-at zero m P ago v z h st s = absurd (omega arith)
   ahead-at (suc d) m P ago v z h st s = ahead-is 0 d m P ago v z st s
-
-  -- what leaves does not depend on what stage 1 is handed
-  stages-said : (d e : ℕ) (g : Waiting) (m : Desk) → stages k e (suc d) g m .said ≡ bucketLeaves k (takes (workAt (m .records) (e + d) .does)) (workAt (m .records) (e + d) .way) (m .words)
-  unfolding stages
-  stages-said zero e g m = let a : e ≡ e + 0 = omega arith in ap (λ (i : ℕ). bucketLeaves k (takes (workAt (m .records) i .does)) (workAt (m .records) i .way) (m .words)) a
-  stages-said (suc d) e g m =
-      let a : suc e + d ≡ e + suc d = omega arith in
-      stages-said d (suc e) (workAt (m .records) e) (stageDone k e (suc d) g m)
-      ∙ ap (λ (u : Waiting). bucketLeaves k (takes (u .does)) (u .way) (m .words)) (work-other (m .records) e (suc e + d) (handedOn (storey (k .bits) e) g (m .bits)) (λ q. omega arith))
-      ∙ ap (λ (i : ℕ). bucketLeaves k (takes (workAt (m .records) i .does)) (workAt (m .records) i .way) (m .words)) a
-
-  pub leaving-is : (S : ℕ) (u : Request) (m : Desk) → 1 ≤ S → stages k 0 S (waiting u 0) m .said ≡ bucketLeaves k (takes (workAt (m .records) (pred S) .does)) (workAt (m .records) (pred S) .way) (m .words)
-  leaving-is zero u m h = absurd (omega arith)
-  leaving-is (suc d) u m h =
-      let a : 0 + d ≡ d = omega arith in
-      stages-said d 0 (waiting u 0) m ∙ ap (λ (i : ℕ). bucketLeaves k (takes (workAt (m .records) i .does)) (workAt (m .records) i .way) (m .words)) a

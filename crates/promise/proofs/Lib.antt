@@ -8,3 +8,4 @@ pub mod InFlight
 pub mod Forest
 pub mod Promised
 pub mod Ticked
+pub mod FirstIn

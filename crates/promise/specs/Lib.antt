@@ -12,3 +12,4 @@ pub mod Promised
 pub mod Ticked
 pub mod Prelude
 pub mod Forest
+pub mod FirstIn

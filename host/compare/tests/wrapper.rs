@@ -258,7 +258,8 @@ fn every_refusal_has_its_number_and_name() {
         let refusal = Refusal::of(i as u32 + 1).unwrap();
         assert_eq!((refusal.number(), refusal.name(), refusal.to_string()), (i as u32 + 1, *name, name.to_string()));
     }
-    assert_eq!((Refusal::of(0), Refusal::of(12), Refusal::of(u32::MAX)), (None, None, None));
+    assert_eq!(Refusal::of(12).map(|no_heap| (no_heap.number(), no_heap.name())), Some((12, "no such heap")));
+    assert_eq!((Refusal::of(0), Refusal::of(13), Refusal::of(u32::MAX)), (None, None, None));
     let error: Box<dyn std::error::Error> = Box::new(Refusal::Full);
     assert_eq!(
         (error.to_string(), (element(1, 2, 3).tag, element(1, 2, 3).length)),

@@ -1,0 +1,17 @@
+pub mod Row
+pub mod Which
+pub mod Keeps
+pub mod Order
+pub mod Tests
+pub mod Acts
+pub mod Start
+pub mod Serve
+pub mod Promises
+pub mod First
+pub mod Full
+pub mod Ticks
+pub mod Clocked
+pub mod Cases
+pub mod Swaps
+pub mod Edge
+pub mod Ranks

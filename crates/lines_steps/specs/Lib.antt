@@ -1,0 +1,3 @@
+pub mod Shift
+pub mod Work
+pub mod Sizes
