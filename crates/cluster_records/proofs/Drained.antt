@@ -1,4 +1,4 @@
--- A lent drain is so many lent idle cycles, record for record, and gives each refusal exactly for its cause. A cycle's and a clear's tables are in `cluster_lent_steps`.
+-- A lent drain is so many lent idle cycles, record for record, and gives each refusal exactly for its cause. A cycle's and a clear's tables are in `Exactly.antt`.
 use Rattle.laws.specs.Prelude.{BadShape, Bool, Exactly, Idle, List, Refusal, Refused, Request, [], _-_, _<_, _∙_, _∷_, _≡_, _≤_, ap, arith, cond, ext-getD, false, getD, hasRun, length, lt-ltb, ltb, ltb-false, ltb-true, not, numberOf, refl, replicate, subst, suc, sym, true, zero, ℕ}
 use Rattle.promise.specs.Prelude.{isBadShape, leaves, zero-ran}
 use Rattle.cluster_clock_model.proofs.Drain as model

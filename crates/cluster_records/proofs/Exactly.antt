@@ -1,4 +1,4 @@
--- Every refusal of a lent cycle and clear is given exactly for its cause, and leaves words and records as its table says. A drain's are in `cluster_lent`.
+-- Every refusal of a lent cycle and clear is given exactly for its cause, and leaves words and records as its table says. A drain's are in `Drained.antt`.
 use Rattle.laws.specs.Prelude.{Answer, BadShape, Bool, Done, Exactly, Idle, List, Means, Refusal, Refused, Request, _-_, _<_, _≡_, _≤_, and-left, and-right, and-true, ap, arith, climb, climb-fine, cond, eq-or-lt-of-le, false, false≢true, fine, getD, hasRun, le-leb, le-of-suc-le-suc, leb, leb-true, left-behind, length, means-and, means-by, means-leb, not-suc-le-zero, numberOf, refl, refusalNumber, rung, runsIdle, subst, suc, sym, true, zero, ℕ, ⊎-elim}
 use Rattle.cluster_clock_model.proofs.Exactly as cycles
 use Rattle.cluster_clock_model.proofs.Laws.{damage-fails, sound, ticks}

@@ -1,4 +1,4 @@
--- The tables of refusals of the lent calls, and what each refusal leaves behind: words and records. A drain's is in `cluster_lent`, beside the list of calls.
+-- The tables of refusals of the lent calls, and what each refusal leaves behind: words and records. A drain's is in `History.antt`, beside the list of calls.
 use Rattle.laws.specs.Prelude.{BadShape, Idle, Ladder, List, Refusal, Refused, Request, _-_, _<_, _≤_, cond, fine, getD, length, rung, runsIdle, ℕ}
 use Rattle.cluster_clock_model.specs.Prelude.{cycleRefusals, drainRefusals}
 use Rattle.cluster_records.specs.Lent.{ClusterRecord, kindIn, lentOutcome, LentOutcome, lentCycled, noRecord, stagesRead}

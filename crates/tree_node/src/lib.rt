@@ -1,5 +1,5 @@
-// What is known of a tree by its order and levels: its capacity, its shape, the room below a slot. A node's slots and scans stand below,
-// and are passed on.
+// What is known of a tree by its order and levels: its capacity, its shape, the room below a slot. A node's slots and scans are
+// modules of their own.
 ghost use mathlib.Core.Path.{_≡_};
 ghost use Prim.Native.Nat.{_<_, _≤_};
 ghost use Rattle.tree_model.specs.Calls.{orderOk, shapeOk};
