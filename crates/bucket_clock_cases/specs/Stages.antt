@@ -6,14 +6,14 @@ use Rattle.promise.specs.Prelude.{leaves}
 use Rattle.bucket_clock_model.specs.declared.Maybe.{Maybe}
 use Rattle.bucket_clock_model.specs.declared.Maybe.the-variants.{None, Some}
 use Rattle.bucket_clock_model.specs.declared.Waiting.{Waiting}
-use Rattle.bucket_clock_model.specs.Desk.{clockCleared, Desk, desk, Heard, noWork, turning, waiting}
+use Rattle.bucket_clock_model.specs.Desk.{clockCleared, Desk, desk, Heard, noWork, cycling, waiting}
 
 -- two storeys, N = 3, on slices of nines, each one word longer than it need be
 abbrev pub caseStart : Desk
 caseStart = clockCleared (queue 2 3) (desk (replicate 66 9) (replicate 4161 9) (replicate 8204 9) (replicate 3 (waiting Pop 9))) .desk
 
 abbrev pub caseAfter : List Request → Desk
-caseAfter qs = leaves (turning (queue 2 3)) qs caseStart
+caseAfter qs = leaves (cycling (queue 2 3)) qs caseStart
 
 -- rank/tag/length: 7/1/64, 7/2/1500, 70/3/40 pushed and settled; then pop, replace 70/4/9000, pop, idle, idle
 abbrev pub caseBefore : List Request

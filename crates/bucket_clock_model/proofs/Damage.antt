@@ -4,11 +4,11 @@ use Rattle.bitmap.specs.Bits.{bit-lt}
 use Rattle.bucket_model.proofs.Laws.{clear-means, shape-means}
 use Rattle.bucket_model.specs.Prelude.{Storey, bitNo, bitOf, headAt, nextOf, popOk, storey, tailAt, word, wordOf}
 use Rattle.bucket_model.specs.declared.Lay.{Lay}
-use Rattle.bucket_clock_model.specs.Damage.{BucketFit, BucketNewFit, BucketPutFit, BucketTakeFit, BucketTakesFit, DeskShaped, HeldFit, NewFit, PutFit, StagesFit, StoreyFit, TakeFit, TakesFit, TurnFit}
+use Rattle.bucket_clock_model.specs.Damage.{BucketFit, BucketNewFit, BucketPutFit, BucketTakeFit, BucketTakesFit, DeskShaped, HeldFit, NewFit, PutFit, StagesFit, StoreyFit, TakeFit, TakesFit, CycleFit}
 use Rattle.bucket_clock_model.specs.declared.Maybe.{Maybe}
 use Rattle.bucket_clock_model.specs.declared.Maybe.the-variants.{None, Some}
 use Rattle.bucket_clock_model.specs.declared.Waiting.{Waiting}
-use Rattle.bucket_clock_model.specs.Desk.{countWords, Desk, deskOk, floorOf, heldOk, ruleNow, stagesOk, turnOk, waiting, workAt}
+use Rattle.bucket_clock_model.specs.Desk.{countWords, Desk, deskOk, floorOf, heldOk, ruleNow, stagesOk, cycleOk, waiting, workAt}
 use Rattle.bucket_clock_model.specs.Links.{bucketOk, bucketPutIfOk, bucketPutOk, bucketTakeIf, bucketTakeIfOk, bucketTakeOk}
 use Rattle.bucket_clock_model.specs.Lists.{newcomer, takes}
 use Rattle.bucket_clock_model.specs.Pipe.{lead}
@@ -19,7 +19,7 @@ always-so = record { says = λ e. tt; holds = λ u. refl }
 
 -- ---- a storey
 
-take-means : (n : ℕ) (p : Storey) (w : ℕ) (s : Floor) → Means (takeOk n p w s) (TakeFit n p w s)
+pub take-means : (n : ℕ) (p : Storey) (w : ℕ) (s : Floor) → Means (takeOk n p w s) (TakeFit n p w s)
 unfolding takeOk
 take-means n p w s =
     let c = word (s .counts) (countAt p (wayBelow p (s .bits) w)) in
@@ -28,7 +28,7 @@ take-means n p w s =
     (λ x. record { within = x .0 .0 .0; word≢ = x .0 .0 .1; counted = x .0 .1; most = x .1 })
     (λ h. (((h .within, h .word≢), h .counted), h .most))
 
-put-means : (n : ℕ) (p : Storey) (j : ℕ) (s : Floor) → Means (putOk n p j s) (PutFit n p j s)
+pub put-means : (n : ℕ) (p : Storey) (j : ℕ) (s : Floor) → Means (putOk n p j s) (PutFit n p j s)
 unfolding putOk
 put-means n p j s =
     let c = word (s .counts) (countAt p j) in
@@ -45,14 +45,14 @@ new-means : (k : Lay) (p : Storey) (d : ℕ) (x : Maybe) (s : Floor) → Means (
 new-means k p d None s = always-so
 new-means k p d (Some x) s = means-and (means-ltb (x .rank .0) (k .ranks)) (put-means (k .nodes) p (lead d (x .rank .0)) s)
 
-storey-means : (k : Lay) (p : Storey) (d : ℕ) (q : Request) (w : ℕ) (s : Floor) → Means (storeyOk k p d q w s) (StoreyFit k p d q w s)
+pub storey-means : (k : Lay) (p : Storey) (d : ℕ) (q : Request) (w : ℕ) (s : Floor) → Means (storeyOk k p d q w s) (StoreyFit k p d q w s)
 unfolding storeyOk
 storey-means k p d q w s = means-and (takes-means (k .nodes) p (takes q) w s) (new-means k p d (newcomer q) (takeIf p (takes q) w s))
 
 -- ---- the buckets
 
 module _ (k : Lay) where
-  bucket-take-means : (r : ℕ) (w : List ℕ) → Means (bucketTakeOk k r w) (BucketTakeFit k r w)
+  pub bucket-take-means : (r : ℕ) (w : List ℕ) → Means (bucketTakeOk k r w) (BucketTakeFit k r w)
   unfolding bucketTakeOk popOk
   bucket-take-means r w =
       let n = k .nodes in
@@ -66,7 +66,7 @@ module _ (k : Lay) where
       (λ x. let y = x .1 in record { within = x .0 .0; free≤ = x .0 .1; head≢ = y .0 .0 .0 .0 .0 .0; tail≢ = y .0 .0 .0 .0 .0 .1; head≤ = y .0 .0 .0 .0 .1; tail≤ = y .0 .0 .0 .1; next≤ = y .0 .0 .1; behind0 = y .0 .1; ends = y .1 })
       (λ h. ((h .within, h .free≤), ((((((h .head≢, h .tail≢), h .head≤), h .tail≤), h .next≤), h .behind0), h .ends)))
 
-  bucket-put-means : (r : ℕ) (w : List ℕ) → Means (bucketPutOk k r w) (BucketPutFit k r w)
+  pub bucket-put-means : (r : ℕ) (w : List ℕ) → Means (bucketPutOk k r w) (BucketPutFit k r w)
   unfolding bucketPutOk
   bucket-put-means r w =
       let n = k .nodes in
@@ -104,9 +104,9 @@ module _ (k : Lay) where
   held-means Pop w = means-leb (word w (k .held)) (k .nodes)
   held-means (Replace x) w = means-leb (word w (k .held)) (k .nodes)
 
-  pub turn-means : (q : Request) (m : Desk) → Means (turnOk k q m) (TurnFit k q m)
-  unfolding turnOk
-  turn-means q m = means-and (held-means q (m .words)) (stages-means 0 (k .storeys) (waiting (ruleNow k q m .op) 0) m)
+  pub cycle-means : (q : Request) (m : Desk) → Means (cycleOk k q m) (CycleFit k q m)
+  unfolding cycleOk
+  cycle-means q m = means-and (held-means q (m .words)) (stages-means 0 (k .storeys) (waiting (ruleNow k q m .op) 0) m)
 
   pub desk-means : (m : Desk) → Means (deskOk k m) (DeskShaped k m)
   unfolding deskOk

@@ -7,12 +7,12 @@ use Rattle.promise.proofs.Tabled as tabled
 use Rattle.promise.proofs.Tabled.{Goes, Passed}
 use Rattle.promise.specs.Prelude.{Barred, Each, IsPush, Ruling, Table, Told, Untagged, bars, decided, ends, ladder, needs, ruling, stops}
 use Rattle.bucket_clock_model.specs.Clock.{lateTable}
-use Rattle.bucket_clock_model.specs.Damage.{HeldFit, StagesFit, TurnFit}
-use Rattle.bucket_clock_model.specs.Desk.{clockCleared, clockHeld, Desk, deskOk, ruleNow, turnDone, turned, turnOk, turnOutcome, TurnOutcome, turnStill, waiting}
-use Rattle.bucket_clock_model.specs.Promise.{countTable, turnLeft, turnTable, wipeTable}
-use Rattle.bucket_clock_model.proofs.Damage.{desk-means, turn-means}
+use Rattle.bucket_clock_model.specs.Damage.{HeldFit, StagesFit, CycleFit}
+use Rattle.bucket_clock_model.specs.Desk.{clockCleared, clockHeld, Desk, deskOk, ruleNow, cycleDone, cycled, cycleOk, cycleOutcome, CycleOutcome, cycleStill, waiting}
+use Rattle.bucket_clock_model.specs.Promise.{countTable, cycleLeft, cycleTable, wipeTable}
+use Rattle.bucket_clock_model.proofs.Damage.{desk-means, cycle-means}
 
-abbrev pub said : TurnOutcome → ℕ
+abbrev pub said : CycleOutcome → ℕ
 said o = numberOf (o .answer)
 
 -- two outcomes by one table are the same where each of its refusals is, and what no test refuses
@@ -52,55 +52,55 @@ module _ (k : Lay) where
   idle-fit zero q m f = (tt, tt)
   idle-fit (suc d) q m f = ((tt, tt), f .1)
 
-  pub calm : (q : Request) (m : Desk) → TurnFit k q m → TurnFit k Idle m
+  pub calm : (q : Request) (m : Desk) → CycleFit k q m → CycleFit k Idle m
   calm q m f = (tt, idle-fit (k .storeys) (ruleNow k q m .op) m (f .1))
 
-  idle-runs : (q : Request) (m : Desk) → deskOk k m ≡ true → turnOk k q m ≡ true → turned k Idle m ≡ turnDone k (ruling Done Idle) m
-  unfolding turned
-  idle-runs q m e f = rw (e, turn-means k Idle m .holds (calm q m (turn-means k q m .says f))) refl
+  idle-runs : (q : Request) (m : Desk) → deskOk k m ≡ true → cycleOk k q m ≡ true → cycled k Idle m ≡ cycleDone k (ruling Done Idle) m
+  unfolding cycled
+  idle-runs q m e f = rw (e, cycle-means k Idle m .holds (calm q m (cycle-means k q m .says f))) refl
 
   module _ (q : Request) (m : Desk) where
-    abbrev done : TurnOutcome
-    done = turnDone k (ruling Done q) m
+    abbrev done : CycleOutcome
+    done = cycleDone k (ruling Done q) m
 
     -- a cycle is what its table decides
-    decides : turned k q m ≡ decided (turnLeft k m) (turnTable k q m) done
-    unfolding turned
-    decides = go (deskOk k m) (turnOk k q m) refl refl
+    decides : cycled k q m ≡ decided (cycleLeft k m) (cycleTable k q m) done
+    unfolding cycled
+    decides = go (deskOk k m) (cycleOk k q m) refl refl
       where
         late : Table
         late = lateTable (k .ranks) (k .nodes) q (word (m .words) (k .held))
 
-        go : (a b : Bool) → deskOk k m ≡ a → turnOk k q m ≡ b
-            → cond a (cond b (turnDone k (ruleNow k q m) m) (turnStill m Damaged)) (turnStill m BadShape) ≡ cond a (cond b (decided (turnLeft k m) late done) (turnStill m Damaged)) (turnStill m BadShape)
+        go : (a b : Bool) → deskOk k m ≡ a → cycleOk k q m ≡ b
+            → cond a (cond b (cycleDone k (ruleNow k q m) m) (cycleStill m Damaged)) (cycleStill m BadShape) ≡ cond a (cond b (decided (cycleLeft k m) late done) (cycleStill m Damaged)) (cycleStill m BadShape)
         go true true e f =
-            same-each (λ (g : Ruling Request). turnDone k g m) (λ (o : TurnOutcome). o) (λ n. ruling (Refused n) Idle) (turnLeft k m) late (ruling Done q) done
-            (late-each (λ n. turnDone k (ruling (Refused n) Idle) m ≡ turnLeft k m n) (λ n i. rw i (ap (λ (o : TurnOutcome). turnOutcome (Refused n) (o .leaves) (o .desk)) (sym (idle-runs q m e f)))) (k .ranks) (k .nodes) q (word (m .words) (k .held))) refl
+            same-each (λ (g : Ruling Request). cycleDone k g m) (λ (o : CycleOutcome). o) (λ n. ruling (Refused n) Idle) (cycleLeft k m) late (ruling Done q) done
+            (late-each (λ n. cycleDone k (ruling (Refused n) Idle) m ≡ cycleLeft k m n) (λ n i. rw i (ap (λ (o : CycleOutcome). cycleOutcome (Refused n) (o .leaves) (o .desk)) (sym (idle-runs q m e f)))) (k .ranks) (k .nodes) q (word (m .words) (k .held))) refl
         go true false e f = refl
         go false b e f = refl
 
-    pub goes : Goes said (turnLeft k m) (turnTable k q m) done (turned k q m)
+    pub goes : Goes said (cycleLeft k m) (cycleTable k q m) done (cycled k q m)
     goes =
         record {
-          told = (desk-means k m, λ _. (turn-means k q m, λ f. late-told (k .ranks) (k .nodes) q (word (m .words) (k .held)) (push-held q m (f .0))));
+          told = (desk-means k m, λ _. (cycle-means k q m, λ f. late-told (k .ranks) (k .nodes) q (word (m .words) (k .held)) (push-held q m (f .0))));
           is = decides;
           done = refl;
           number = left-number;
         }
       where
-        left-number : (n : Refusal) → said (turnLeft k m n) ≡ numberOf (Refused n)
-        left-number n = cond-path said (runsIdle n) (turnOutcome (Refused n) (turned k Idle m .leaves) (turned k Idle m .desk)) (turnStill m n) (numberOf (Refused n)) refl refl
+        left-number : (n : Refusal) → said (cycleLeft k m n) ≡ numberOf (Refused n)
+        left-number n = cond-path said (runsIdle n) (cycleOutcome (Refused n) (cycled k Idle m .leaves) (cycled k Idle m .desk)) (cycleStill m n) (numberOf (Refused n)) refl refl
 
     -- EXACTLY: each refusal of a cycle is given for its cause and for that cause only, and leaves behind what the rules say
-    pub exactly-turn : Exactly said (turnLeft k m) (turned k q m) (ladder (turnTable k q m) fine)
-    exactly-turn = tabled.exactly goes
+    pub exactly-cycle : Exactly said (cycleLeft k m) (cycled k q m) (ladder (cycleTable k q m) fine)
+    exactly-cycle = tabled.exactly goes
 
     -- KIND: a cycle that is not refused answers that it is done
-    pub kind : said (turned k q m) ≡ 0 → turned k q m .answer ≡ Done
+    pub kind : said (cycled k q m) ≡ 0 → cycled k q m .answer ≡ Done
     kind = tabled.keeps goes (λ o. o .answer ≡ Done) refl
 
     -- BARRED: an element without a tag is never let in
-    pub barred : Barred q (turned k q m .answer)
+    pub barred : Barred q (cycled k q m .answer)
     barred u e = no-tag q u (tabled.granted goes e .1 .1)
       where
         no-tag : (q : Request) → Untagged q → Passed (lateTable (k .ranks) (k .nodes) q (word (m .words) (k .held))) → ⊥
@@ -111,7 +111,7 @@ module _ (k : Lay) where
 
   -- clear and held, whatever stands in the machine
   module _ (m : Desk) where
-    pub exactly-clear : Exactly said (turnStill m) (clockCleared k m) (ladder (wipeTable k m) fine)
+    pub exactly-clear : Exactly said (cycleStill m) (clockCleared k m) (ladder (wipeTable k m) fine)
     unfolding clockCleared
     exactly-clear = tabled.exactly {a = wipeTable k m} (record { told = (desk-means k m, λ _. tt); is = refl; done = refl; number = λ n. refl })
 

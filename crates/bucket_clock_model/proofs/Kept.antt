@@ -5,11 +5,11 @@ use Rattle.bucket_model.specs.declared.Lay.{Lay}
 use Rattle.bucket_model.specs.Prelude.{Laid, Store, Storey, ask, called, plain, saidNumber, storey, word}
 use Rattle.promise.specs.Prelude.{Ruling, decided-either, decided-same, each-any, ruling}
 use Rattle.bucket_clock_model.specs.Clock.{clocked, heldAfter, lateTable, Machine, numberAt, outOf, sent}
-use Rattle.bucket_clock_model.specs.Damage.{BucketFit, DeskShaped, HeldFit, StagesFit, TurnFit}
+use Rattle.bucket_clock_model.specs.Damage.{BucketFit, DeskShaped, HeldFit, StagesFit, CycleFit}
 use Rattle.bucket_clock_model.specs.declared.Maybe.{Maybe}
 use Rattle.bucket_clock_model.specs.declared.Maybe.the-variants.{None, Some}
 use Rattle.bucket_clock_model.specs.declared.Waiting.{Waiting}
-use Rattle.bucket_clock_model.specs.Desk.{Desk, floorOf, handed, heldWords, ruleNow, stageDone, stages, turnRun, waiting, workAt}
+use Rattle.bucket_clock_model.specs.Desk.{Desk, floorOf, handed, heldWords, ruleNow, stageDone, stages, cycleRun, waiting, workAt}
 use Rattle.bucket_clock_model.specs.Links.{bucketLeaves, bucketStage}
 use Rattle.bucket_clock_model.specs.Lists.{arrives, done, heeded, left, moved, newcomer, takes}
 use Rattle.bucket_clock_model.specs.Pipe.{after, Pipe, piped, Shows}
@@ -73,9 +73,9 @@ held-long k (Push x) w = length-set w (k .held) _
 held-long k Pop w = length-set w (k .held) _
 held-long k (Replace x) w = refl
 
-pub turn-long : (k : Lay) (q : Request) (m : Desk) → Long m (turnRun k q m .next)
-unfolding turnRun
-turn-long k q m =
+pub cycle-long : (k : Lay) (q : Request) (m : Desk) → Long m (cycleRun k q m .next)
+unfolding cycleRun
+cycle-long k q m =
     let x = stages-long k 0 (k .storeys) (waiting q 0) m in
     record { bits = x .bits; counts = x .counts; words = held-long k q (stages k 0 (k .storeys) (waiting q 0) m .next .words) ∙ x .words; records = x .records }
 
@@ -197,16 +197,16 @@ module _ (k : Lay) (laid : Laid k) where
     held-good (Replace y) = omega (arith, x .held, x .vault .runs .held, holds-few (was 0 .bits) (was 0 .words) (ago 0) (x .vault .holds 0))
 
     -- UNDAMAGED: all tests hold
-    pub turn-good : TurnFit k q m
-    turn-good = (held-good q, subst (λ (v : Request). StagesFit k 0 S (waiting v 0) m) (sym (rule-sent k q m (M .held) (x .held))) stages-good)
+    pub cycle-good : CycleFit k q m
+    cycle-good = (held-good q, subst (λ (v : Request). StagesFit k 0 S (waiting v 0) m) (sym (rule-sent k q m (M .held) (x .held))) stages-good)
 
     -- NUMBERS: that of one at a time
-    pub turn-number : numberOf (ruleNow k q m .answer) ≡ saidNumber (plain k (ask q) (ago 0) .said)
-    turn-number = rule-number k q m (M .held) (x .held) ∙ fit-at .number
+    pub cycle-number : numberOf (ruleNow k q m .answer) ≡ saidNumber (plain k (ask q) (ago 0) .said)
+    cycle-number = rule-number k q m (M .held) (x .held) ∙ fit-at .number
 
     -- LEAVES: what the list of one at a time gives out, when it has come through all stages
-    run-leaves : turnRun k u m .said ≡ arrives later (outOf (plain k (ask q) (ago 0) .said))
-    unfolding turnRun clocked
+    run-leaves : cycleRun k u m .said ≡ arrives later (outOf (plain k (ask q) (ago 0) .said))
+    unfolding cycleRun clocked
     run-leaves = does .leaves ∙ last-gives S g (M .pipe) was ago later (m .words) u 0 (laid .deep) (x .vault .runs .shows) (x .vault .holds) (x .vault .but) ∙ cycles k laid q M ago later (x .vault .runs) .leaves
 
     abbrev now : Store
@@ -219,16 +219,16 @@ module _ (k : Lay) (laid : Laid k) where
     words-held =
         held-is k u w1 (omega (arith, stage-long k (last .does) (last .way) (m .words), x .shaped .store .words)) ∙ ap (heldAfter u) (stage-held k laid (last .does) (last .way) (m .words) last-good ∙ x .held)
 
-    run-kept : Kept (turnRun k u m .next) (afterStore (called k (ask q) (was 0) .next) was) (after (plain k (ask q) (ago 0) .next) ago) (moved later (outOf (plain k (ask q) (ago 0) .said)))
-    unfolding turnRun clocked
+    run-kept : Kept (cycleRun k u m .next) (afterStore (called k (ask q) (was 0) .next) was) (after (plain k (ask q) (ago 0) .next) ago) (moved later (outOf (plain k (ask q) (ago 0) .said)))
+    unfolding cycleRun clocked
     run-kept =
         let r = stages k 0 S g m in
         let v = vaults k laid q g M (m .words) was ago later (x .vault) in
-        let long = turn-long k u m in
+        let long = cycle-long k u m in
         record {
           machine = clocked k q M .next;
           held = ap (λ (w : List ℕ). word (heldWords k u w) (k .held)) (does .words) ∙ words-held;
-          stands = stands-off k 0 S (r .next) (turnRun k u m .next) (piped S u 0 (M .pipe) .next) (λ n f l t. t) (λ n l. refl) (does .stands);
+          stands = stands-off k 0 S (r .next) (cycleRun k u m .next) (piped S u 0 (M .pipe) .next) (λ n f l t. t) (λ n l. refl) (does .stands);
           shaped = record { store = shaped-after k (m .bits) (m .words) _ _ (long .bits) (long .words) (x .shaped .store); counts = omega (arith, long .counts, x .shaped .counts) };
           long = omega (arith, long .records, x .long);
           vault = record {
@@ -245,9 +245,9 @@ module _ (k : Lay) (laid : Laid k) where
         near-next (suc i) = x .near i
 
     -- the same of what the cycle rules
-    pub turn-leaves : turnRun k (ruleNow k q m .op) m .said ≡ arrives later (outOf (plain k (ask q) (ago 0) .said))
-    turn-leaves = subst (λ (v : Request). turnRun k v m .said ≡ arrives later (outOf (plain k (ask q) (ago 0) .said))) (sym (rule-sent k q m (M .held) (x .held))) run-leaves
+    pub cycle-leaves : cycleRun k (ruleNow k q m .op) m .said ≡ arrives later (outOf (plain k (ask q) (ago 0) .said))
+    cycle-leaves = subst (λ (v : Request). cycleRun k v m .said ≡ arrives later (outOf (plain k (ask q) (ago 0) .said))) (sym (rule-sent k q m (M .held) (x .held))) run-leaves
 
-    pub turn-kept : Kept (turnRun k (ruleNow k q m .op) m .next) (afterStore (called k (ask q) (was 0) .next) was) (after (plain k (ask q) (ago 0) .next) ago) (moved later (outOf (plain k (ask q) (ago 0) .said)))
-    turn-kept =
-        subst (λ (v : Request). Kept (turnRun k v m .next) (afterStore (called k (ask q) (was 0) .next) was) (after (plain k (ask q) (ago 0) .next) ago) (moved later (outOf (plain k (ask q) (ago 0) .said)))) (sym (rule-sent k q m (M .held) (x .held))) run-kept
+    pub cycle-kept : Kept (cycleRun k (ruleNow k q m .op) m .next) (afterStore (called k (ask q) (was 0) .next) was) (after (plain k (ask q) (ago 0) .next) ago) (moved later (outOf (plain k (ask q) (ago 0) .said)))
+    cycle-kept =
+        subst (λ (v : Request). Kept (cycleRun k v m .next) (afterStore (called k (ask q) (was 0) .next) was) (after (plain k (ask q) (ago 0) .next) ago) (moved later (outOf (plain k (ask q) (ago 0) .said)))) (sym (rule-sent k q m (M .held) (x .held))) run-kept

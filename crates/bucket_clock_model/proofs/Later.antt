@@ -7,7 +7,7 @@ use Rattle.bucket_clock_model.specs.Clock.{outOf}
 use Rattle.bucket_clock_model.specs.Damage.{DeskShaped}
 use Rattle.bucket_clock_model.specs.declared.Maybe.{Maybe}
 use Rattle.bucket_clock_model.specs.declared.Maybe.the-variants.{None}
-use Rattle.bucket_clock_model.specs.Desk.{clockCleared, Desk, turned, turning}
+use Rattle.bucket_clock_model.specs.Desk.{clockCleared, Desk, cycled, cycling}
 use Rattle.bucket_clock_model.specs.Promise.{leavesOf, oneSays}
 use Rattle.bucket_clock_model.proofs.Promises.{answers-are}
 
@@ -25,10 +25,10 @@ at-none zero ys t h = absurd (not-suc-le-zero h)
 at-none (suc n) ys zero h = refl
 at-none (suc n) ys (suc t) h = at-none n ys t (omega arith)
 
-heard-long : (k : Lay) (qs : List Request) (m : Desk) → length (map (λ h. h .leaves) (answers (turning k) qs m)) ≡ length qs
+heard-long : (k : Lay) (qs : List Request) (m : Desk) → length (map (λ h. h .leaves) (answers (cycling k) qs m)) ≡ length qs
 unfolding answers
 heard-long k [] m = refl
-heard-long k (q ∷ qs) m = ap suc (heard-long k qs (turned k q m .desk))
+heard-long k (q ∷ qs) m = ap suc (heard-long k qs (cycled k q m .desk))
 
 module _ (k : Lay) (laid : Laid k) (m : Desk) (h : DeskShaped k m) (qs : List Request) where
   -- "what leaves in cycle t + S is its answer to the request of cycle t"

@@ -42,16 +42,16 @@ module _ (k : Lay) where
 
   -- words that are the same before held: all that a stage reads stands there
   module _ (laid : Laid k) (w v : List ℕ) (c : (a : ℕ) → a < k .held → word w a ≡ word v a) where
-    free-same : word w (k .free) ≡ word v (k .free)
+    pub free-same : word w (k .free) ≡ word v (k .free)
     free-same = c (k .free) (laid .held)
 
     pub head-same : (r : ℕ) → r < k .ranks → word w (headAt k r) ≡ word v (headAt k r)
     head-same r h = c (headAt k r) (omega (arith, laid .lists, laid .pool, laid .held))
 
-    tail-same : (r : ℕ) → r < k .ranks → word w (tailAt k r) ≡ word v (tailAt k r)
+    pub tail-same : (r : ℕ) → r < k .ranks → word w (tailAt k r) ≡ word v (tailAt k r)
     tail-same r h = c (tailAt k r) (omega (arith, laid .lists, laid .pool, laid .held))
 
-    next-same : (l : ℕ) → nextOf k w l ≡ nextOf k v l
+    pub next-same : (l : ℕ) → nextOf k w l ≡ nextOf k v l
     unfolding nextOf
     next-same l = go (eqb l 0) (ltb (k .nodes) l) refl
       where
@@ -111,7 +111,7 @@ module _ (k : Lay) where
           other = λ e. f .other (sym free-same ∙ e ∙ t);
         }
 
-  low-words : (w v : List ℕ) → But k w v → (a : ℕ) → a < k .held → word w a ≡ word v a
+  pub low-words : (w v : List ℕ) → But k w v → (a : ℕ) → a < k .held → word w a ≡ word v a
   low-words w v c a h = c .words a (λ e. omega arith)
 
   module _ (laid : Laid k) (w v : List ℕ) (c : But k w v) where

@@ -10,22 +10,22 @@ use Rattle.bucket_clock_model.specs.Damage.{NewFit, StagesFit, StoreyFit
 use Rattle.bucket_clock_model.specs.declared.Maybe.{Maybe}
 use Rattle.bucket_clock_model.specs.declared.Maybe.the-variants.{None, Some}
 use Rattle.bucket_clock_model.specs.declared.Waiting.{Waiting}
-use Rattle.bucket_clock_model.specs.Desk.{countWords, Desk, deskOk, floorOf, handed, heldWords, ruleNow, stageDone, stages, turnDone, turned, turnOk, TurnOutcome, turnRun, turnStill, waiting, workAt}
+use Rattle.bucket_clock_model.specs.Desk.{countWords, Desk, deskOk, floorOf, handed, heldWords, ruleNow, stageDone, stages, cycleDone, cycled, cycleOk, CycleOutcome, cycleRun, cycleStill, waiting, workAt}
 use Rattle.bucket_clock_model.specs.Links.{bucketLeaves, bucketStage}
 use Rattle.bucket_clock_model.specs.Lists.{newcomer, takes}
 use Rattle.bucket_clock_model.specs.Pipe.{lead}
 use Rattle.bucket_clock_model.specs.Promise.{Rest, Steps}
 use Rattle.bucket_clock_model.specs.Words.{bitOff, bitOn, countAt, Floor, putIf, staged, storeyPut, storeyTake, takeIf, wayBelow, wayIf}
-use Rattle.bucket_clock_model.proofs.Damage.{turn-means}
+use Rattle.bucket_clock_model.proofs.Damage.{cycle-means}
 use Rattle.bucket_clock_model.proofs.Kept.{Broad, staged-broad}
 use Rattle.bucket_clock_model.proofs.Links.{set-both, stage-past}
 use Rattle.bucket_clock_model.proofs.Worked.{rank-inside, words-le, work-other, work-same}
 
 -- ---- the same words from a on
 
-record From (a : ℕ) (b c : List ℕ) : Type 0 where
-  long : length b ≡ length c
-  at : (i : ℕ) → a ≤ i → word b i ≡ word c i
+pub record From (a : ℕ) (b c : List ℕ) : Type 0 where
+  pub long : length b ≡ length c
+  pub at : (i : ℕ) → a ≤ i → word b i ≡ word c i
 
 from-set : (a : ℕ) (b c : List ℕ) (y v u : ℕ) → v ≡ u → From a b c → From a (set b y v) (set c y u)
 from-set a b c y v u e f = record { long = length-set b y v ∙ f .long ∙ sym (length-set c y u); at = there }
@@ -37,14 +37,14 @@ from-set a b c y v u e f = record { long = length-set b y v ∙ f .long ∙ sym 
     ]
 
 -- of a storey's bits and counts, from its own first word on
-record Onward (p : Storey) (s u : Floor) : Type 0 where
-  bits : From (p .base) (s .bits) (u .bits)
-  counts : From (64 * p .base) (s .counts) (u .counts)
+pub record Onward (p : Storey) (s u : Floor) : Type 0 where
+  pub bits : From (p .base) (s .bits) (u .bits)
+  pub counts : From (64 * p .base) (s .counts) (u .counts)
 
 -- ---- a stage's words: what it does goes by its own words, and it writes no others
 
 -- outside so many words from a on
-abbrev Outside : ℕ → ℕ → ℕ → Type 0
+abbrev pub Outside : ℕ → ℕ → ℕ → Type 0
 Outside a n i = (i < a) ⊎ (a + n ≤ i)
 
 out-ne : (a n i y : ℕ) → Outside a n i → a ≤ y → y < a + n → i ≡ y → ⊥
@@ -52,10 +52,10 @@ out-ne a n i y (inl h) l m e = omega arith
 out-ne a n i y (inr h) l m e = omega arith
 
 module _ (p : Storey) (s u : Floor) (o : Onward p s u) where
-  count-same : (m : ℕ) → word (s .counts) (countAt p m) ≡ word (u .counts) (countAt p m)
+  pub count-same : (m : ℕ) → word (s .counts) (countAt p m) ≡ word (u .counts) (countAt p m)
   count-same m = o .counts .at (countAt p m) (omega arith)
 
-  bit-same : (m : ℕ) → word (s .bits) (p .base + m) ≡ word (u .bits) (p .base + m)
+  pub bit-same : (m : ℕ) → word (s .bits) (p .base + m) ≡ word (u .bits) (p .base + m)
   bit-same m = o .bits .at (p .base + m) (omega arith)
 
   off-same : (m n : ℕ) → From (p .base) (bitOff p m n (s .bits)) (bitOff p m n (u .bits))
@@ -82,13 +82,13 @@ module _ (p : Storey) (s u : Floor) (o : Onward p s u) where
         counts = from-set (64 * p .base) (s .counts) (u .counts) (countAt p m) _ _ (ap suc (count-same m)) (o .counts);
       }
 
-  takes-same : (t : Bool) (w : ℕ) → Onward p (takeIf p t w s) (takeIf p t w u)
+  pub takes-same : (t : Bool) (w : ℕ) → Onward p (takeIf p t w s) (takeIf p t w u)
   takes-same true w =
       subst (λ (x : ℕ). Onward p (storeyTake p (wayBelow p (s .bits) w) s) (storeyTake p x u)) (ap (λ (x : ℕ). 64 * w + trailingZeros 64 x) (bit-same w)) (take-same (wayBelow p (s .bits) w))
   takes-same false w = o
 
   -- the way, too
-  way-same : (w : ℕ) → wayBelow p (s .bits) w ≡ wayBelow p (u .bits) w
+  pub way-same : (w : ℕ) → wayBelow p (s .bits) w ≡ wayBelow p (u .bits) w
   way-same w = ap (λ (x : ℕ). 64 * w + trailingZeros 64 x) (bit-same w)
 
 staged-same : (p : Storey) (d : ℕ) (q : Request) (w : ℕ) (s u : Floor) → Onward p s u → Onward p (staged p d q w s) (staged p d q w u)
@@ -100,9 +100,9 @@ staged-same p d q w s u o = go (newcomer q)
 
 -- ---- what is written
 
-record Stood (p : Storey) (s u : Floor) : Type 0 where
-  bits : (i : ℕ) → Outside (p .base) (p .words) i → word (u .bits) i ≡ word (s .bits) i
-  counts : (i : ℕ) → Outside (64 * p .base) (64 * p .words) i → word (u .counts) i ≡ word (s .counts) i
+pub record Stood (p : Storey) (s u : Floor) : Type 0 where
+  pub bits : (i : ℕ) → Outside (p .base) (p .words) i → word (u .bits) i ≡ word (s .bits) i
+  pub counts : (i : ℕ) → Outside (64 * p .base) (64 * p .words) i → word (u .counts) i ≡ word (s .counts) i
 
 module _ (p : Storey) (s : Floor) (m : ℕ) (h : m < 64 * p .words) where
   off-stood : (n i : ℕ) → Outside (p .base) (p .words) i → word (bitOff p m n (s .bits)) i ≡ word (s .bits) i
@@ -116,11 +116,11 @@ module _ (p : Storey) (s : Floor) (m : ℕ) (h : m < 64 * p .words) where
   count-stood : (v i : ℕ) → Outside (64 * p .base) (64 * p .words) i → word (set (s .counts) (countAt p m) v) i ≡ word (s .counts) i
   count-stood v i o = other (s .counts) (countAt p m) v i (out-ne (64 * p .base) (64 * p .words) i (countAt p m) o (omega arith) (omega arith))
 
-  take-stood : Stood p s (storeyTake p m s)
+  pub take-stood : Stood p s (storeyTake p m s)
   unfolding storeyTake
   take-stood = record { bits = off-stood (pred (word (s .counts) (countAt p m))); counts = count-stood (pred (word (s .counts) (countAt p m))) }
 
-  put-stood : Stood p s (storeyPut p m s)
+  pub put-stood : Stood p s (storeyPut p m s)
   unfolding storeyPut
   put-stood = record { bits = on-stood (word (s .counts) (countAt p m)); counts = count-stood (suc (word (s .counts) (countAt p m))) }
 
@@ -256,16 +256,16 @@ module _ (k : Lay) (laid : Laid k) where
     counts-low i h = whole .counts i (inl (omega arith))
 
     -- bits, counts and records past the shape stand
-    pub bits-rest : (i : ℕ) → bitWords k ≤ i → word (turnRun k q m .next .bits) i ≡ word (m .bits) i
-    unfolding turnRun
+    pub bits-rest : (i : ℕ) → bitWords k ≤ i → word (cycleRun k q m .next .bits) i ≡ word (m .bits) i
+    unfolding cycleRun
     bits-rest i h = whole .bits i (inr (omega (arith, laid .tower)))
 
-    pub counts-rest : (i : ℕ) → countWords k ≤ i → word (turnRun k q m .next .counts) i ≡ word (m .counts) i
-    unfolding turnRun
+    pub counts-rest : (i : ℕ) → countWords k ≤ i → word (cycleRun k q m .next .counts) i ≡ word (m .counts) i
+    unfolding cycleRun
     counts-rest i h = whole .counts i (inr (omega (arith, laid .tower)))
 
-    pub records-rest : (i : ℕ) → k .storeys ≤ i → workAt (turnRun k q m .next .records) i ≡ workAt (m .records) i
-    unfolding turnRun
+    pub records-rest : (i : ℕ) → k .storeys ≤ i → workAt (cycleRun k q m .next .records) i ≡ workAt (m .records) i
+    unfolding cycleRun
     records-rest i h = whole .records i (inr h)
 
     -- heads, tails, nodes, free link and held alone are written of the words
@@ -273,8 +273,8 @@ module _ (k : Lay) (laid : Laid k) where
     last-fit zero e g f w s i h = ap (λ (x : List ℕ). word x i) s ∙ stage-past k laid i h (g .does) (g .way) (m .words) f
     last-fit (suc d) e g f w s i h = last-fit d (suc e) (workAt (m .records) e) (f .1) w (s .1) i h
 
-    pub words-rest : (i : ℕ) → storeWords k ≤ i → word (turnRun k q m .next .words) i ≡ word (m .words) i
-    unfolding turnRun
+    pub words-rest : (i : ℕ) → storeWords k ≤ i → word (cycleRun k q m .next .words) i ≡ word (m .words) i
+    unfolding cycleRun
     words-rest i h = held-past q (stages k 0 (k .storeys) (waiting q 0) m .next .words) ∙ last-fit (k .storeys) 0 (waiting q 0) fit (m .words) one-step i (omega arith)
       where
         held-past : (q : Request) (w : List ℕ) → word (heldWords k q w) i ≡ word w i
@@ -283,13 +283,13 @@ module _ (k : Lay) (laid : Laid k) where
         held-past Pop w = other w (k .held) _ i (λ e. omega arith)
         held-past (Replace x) w = refl
 
-    pub run-rest : Rest k m (turnRun k q m .next)
+    pub run-rest : Rest k m (cycleRun k q m .next)
     run-rest = record { bits = bits-rest; counts = counts-rest; words = words-rest; records = records-rest }
 
   -- REST: whatever is asked and whatever stands in the machine, words past the shape and records past S are left alone
-  pub rest : (q : Request) (m : Desk) → k .storeys ≤ length (m .records) → ((i : ℕ) → word (m .bits) i < 2 ^ 64) → Rest k m (turned k q m .desk)
-  unfolding turned
+  pub rest : (q : Request) (m : Desk) → k .storeys ≤ length (m .records) → ((i : ℕ) → word (m .bits) i < 2 ^ 64) → Rest k m (cycled k q m .desk)
+  unfolding cycled
   rest q m long wide =
       let still : Rest k m m = record { bits = λ i h. refl; counts = λ i h. refl; words = λ i h. refl; records = λ i h. refl } in
-      cond-both (λ (o : TurnOutcome). Rest k m (o .desk)) (deskOk k m) (cond (turnOk k q m) (turnDone k (ruleNow k q m) m) (turnStill m Damaged)) (turnStill m BadShape)
-      (λ _. cond-both (λ (o : TurnOutcome). Rest k m (o .desk)) (turnOk k q m) (turnDone k (ruleNow k q m) m) (turnStill m Damaged) (λ e. run-rest (ruleNow k q m .op) m long wide (turn-means k q m .says e .1)) (λ _. still)) (λ _. still)
+      cond-both (λ (o : CycleOutcome). Rest k m (o .desk)) (deskOk k m) (cond (cycleOk k q m) (cycleDone k (ruleNow k q m) m) (cycleStill m Damaged)) (cycleStill m BadShape)
+      (λ _. cond-both (λ (o : CycleOutcome). Rest k m (o .desk)) (cycleOk k q m) (cycleDone k (ruleNow k q m) m) (cycleStill m Damaged) (λ e. run-rest (ruleNow k q m .op) m long wide (cycle-means k q m .says e .1)) (λ _. still)) (λ _. still)

@@ -11,13 +11,13 @@ use Rattle.bucket_clock_model.specs.Clock.{history, outOf}
 use Rattle.bucket_clock_model.specs.Damage.{DeskShaped}
 use Rattle.bucket_clock_model.specs.declared.Maybe.{Maybe}
 use Rattle.bucket_clock_model.specs.declared.Maybe.the-variants.{None}
-use Rattle.bucket_clock_model.specs.Desk.{clockCleared, clockHeld, Desk, floorOf, noWork, turned, turning, workAt}
+use Rattle.bucket_clock_model.specs.Desk.{clockCleared, clockHeld, Desk, floorOf, noWork, cycled, cycling, workAt}
 use Rattle.bucket_clock_model.specs.Pipe.{below, countsAt, Pipe}
 use Rattle.bucket_clock_model.specs.Promise.{Answers, BucketsAre, HeldExact, oneStore, ran, rested, Settled, StoreyIs, Undamaged}
 use Rattle.bucket_clock_model.proofs.Clear.{cleared-kept}
 use Rattle.bucket_clock_model.proofs.Clock.{idles}
 use Rattle.bucket_clock_model.proofs.Damage.{desk-means}
-use Rattle.bucket_clock_model.proofs.Kept.{Kept, turn-good}
+use Rattle.bucket_clock_model.proofs.Kept.{Kept, cycle-good}
 use Rattle.bucket_clock_model.proofs.Last.{afterStore}
 use Rattle.bucket_clock_model.proofs.Pipe.{counts-at}
 use Rattle.bucket_clock_model.proofs.Quiet.{idles-quiet}
@@ -83,10 +83,10 @@ module _ (k : Lay) (laid : Laid k) where
     | no l ↦ let e : length (replicate n Idle) + 1 ≡ i = omega (arith, idles n) in (rw e at (store-ago k laid (replicate n Idle) (afterStore (was 0) was) 1))
   ]
 
-  leaves-append : (as′ bs : List Request) (m : Desk) → leaves (turning k) (as′ ++ bs) m ≡ leaves (turning k) bs (leaves (turning k) as′ m)
+  leaves-append : (as′ bs : List Request) (m : Desk) → leaves (cycling k) (as′ ++ bs) m ≡ leaves (cycling k) bs (leaves (cycling k) as′ m)
   unfolding leaves
   leaves-append [] bs m = refl
-  leaves-append (a ∷ as′) bs m = leaves-append as′ bs (turned k a m .desk)
+  leaves-append (a ∷ as′) bs m = leaves-append as′ bs (cycled k a m .desk)
 
   -- a word of the bits is one of a storey
   in-storey : (S a : ℕ) → a < wordsOf S → (n : ℕ) × (n < S) × (wordsOf n ≤ a) × (a < wordsOf n + 64 ^ n)
@@ -181,4 +181,4 @@ module _ (k : Lay) (laid : Laid k) where
 
     -- (5)
     pub undamaged : (qs : List Request) → Undamaged k m qs
-    undamaged qs = record { shaped = kept qs .shaped; fit = λ q. turn-good k laid q (ran k m qs) _ _ _ (kept qs) }
+    undamaged qs = record { shaped = kept qs .shaped; fit = λ q. cycle-good k laid q (ran k m qs) _ _ _ (kept qs) }

@@ -5,11 +5,11 @@ use Rattle.bucket_model.specs.Prelude.{Laid, Store, Storey, storey}
 use Rattle.promise.specs.Prelude.{leaves}
 use Rattle.bucket_clock_model.specs.declared.Maybe.{Maybe}
 use Rattle.bucket_clock_model.specs.declared.Waiting.{Waiting}
-use Rattle.bucket_clock_model.specs.Desk.{Desk, handed, noWork, stageDone, stages, turned, turning, TurnOutcome, turnRun, waiting, workAt}
+use Rattle.bucket_clock_model.specs.Desk.{Desk, handed, noWork, stageDone, stages, cycled, cycling, CycleOutcome, cycleRun, waiting, workAt}
 use Rattle.bucket_clock_model.specs.Lists.{takes}
 use Rattle.bucket_clock_model.specs.Words.{wayBelow, wayIf}
 use Rattle.bucket_clock_model.proofs.Kept.{Kept}
-use Rattle.bucket_clock_model.proofs.Runs.{cycled, turn-is}
+use Rattle.bucket_clock_model.proofs.Runs.{goes-on, cycle-is}
 use Rattle.bucket_clock_model.proofs.Worked.{work-other, work-same}
 
 -- the records above storey e stand
@@ -45,14 +45,14 @@ module _ (k : Lay) (laid : Laid k) where
   abbrev pub Quiet : ℕ → Desk → Type 0
   Quiet n m = (i : ℕ) → i < n → i < k .storeys → workAt (m .records) i ≡ noWork
 
-  idle-quiet : (n : ℕ) (m : Desk) (was : ℕ → Store) (ago : ℕ → List Element) (v : List Maybe) → Kept k laid m was ago v → Quiet n m → Quiet (suc n) (turned k Idle m .desk)
-  unfolding turnRun
+  idle-quiet : (n : ℕ) (m : Desk) (was : ℕ → Store) (ago : ℕ → List Element) (v : List Maybe) → Kept k laid m was ago v → Quiet n m → Quiet (suc n) (cycled k Idle m .desk)
+  unfolding cycleRun
   idle-quiet n m was ago v x q i a b =
-      ap (λ (o : TurnOutcome). workAt (o .desk .records) i) (turn-is k laid Idle m was ago v x)
+      ap (λ (o : CycleOutcome). workAt (o .desk .records) i) (cycle-is k laid Idle m was ago v x)
       ∙ quiet-stages k (k .storeys) 0 (waiting Idle 0) m (omega (arith, x .long)) refl n (λ j c d e. ap (λ (u : Waiting). u .does) (q j (omega arith) (omega arith))) i (omega arith) (omega arith) (omega arith)
 
-  pub idles-quiet : (n j : ℕ) (m : Desk) (was : ℕ → Store) (ago : ℕ → List Element) (v : List Maybe) → Kept k laid m was ago v → Quiet j m → Quiet (j + n) (leaves (turning k) (replicate n Idle) m)
+  pub idles-quiet : (n j : ℕ) (m : Desk) (was : ℕ → Store) (ago : ℕ → List Element) (v : List Maybe) → Kept k laid m was ago v → Quiet j m → Quiet (j + n) (leaves (cycling k) (replicate n Idle) m)
   unfolding leaves
   idles-quiet zero j m was ago v x q i a b = q i (omega arith) b
   idles-quiet (suc n) j m was ago v x q i a b =
-      idles-quiet n (suc j) (turned k Idle m .desk) _ _ _ (cycled k laid Idle m was ago v x .kept) (idle-quiet j m was ago v x q) i (omega arith) b
+      idles-quiet n (suc j) (cycled k Idle m .desk) _ _ _ (goes-on k laid Idle m was ago v x .kept) (idle-quiet j m was ago v x q) i (omega arith) b

@@ -7,17 +7,17 @@ use Rattle.bucket_model.specs.Prelude.{Laid, Load, Storey, bitNo, bitWords, cel
 use Rattle.bucket_model.specs.declared.Lay.{Lay}
 use Rattle.promise.specs.Prelude.{Ruling, decided, ruling}
 use Rattle.bucket_clock_model.specs.Clock.{lateTable}
-use Rattle.bucket_clock_model.specs.Damage.{BucketFit, BucketNewFit, BucketTakesFit, DeskShaped, HeldFit, NewFit, StagesFit, StoreyFit, TakesFit, TurnFit}
+use Rattle.bucket_clock_model.specs.Damage.{BucketFit, BucketNewFit, BucketTakesFit, DeskShaped, HeldFit, NewFit, StagesFit, StoreyFit, TakesFit, CycleFit}
 use Rattle.bucket_clock_model.specs.declared.Maybe.{Maybe}
 use Rattle.bucket_clock_model.specs.declared.Maybe.the-variants.{None, Some}
 use Rattle.bucket_clock_model.specs.declared.Waiting.{Waiting}
-use Rattle.bucket_clock_model.specs.Desk.{countWords, Desk, floorOf, heldWords, ruleNow, stages, turnDone, turned, turnOk, turnRun, turnStill, waiting, workAt}
+use Rattle.bucket_clock_model.specs.Desk.{countWords, Desk, floorOf, heldWords, ruleNow, stages, cycleDone, cycled, cycleOk, cycleRun, cycleStill, waiting, workAt}
 use Rattle.bucket_clock_model.specs.Links.{bucketLeaves, bucketPut, bucketPutIf, bucketStage, bucketTake, bucketTakeIf, putWrites, takeWrites}
 use Rattle.bucket_clock_model.specs.Lists.{newcomer, takes}
 use Rattle.bucket_clock_model.specs.Pipe.{lead}
 use Rattle.bucket_clock_model.specs.Promise.{Alike, Near, Steps}
 use Rattle.bucket_clock_model.specs.Words.{bitOff, bitOn, countAt, Floor, putIf, staged, storeyPut, storeyTake, takeIf, wayBelow, wayIf}
-use Rattle.bucket_clock_model.proofs.Damage.{desk-means, turn-means}
+use Rattle.bucket_clock_model.proofs.Damage.{desk-means, cycle-means}
 use Rattle.bucket_clock_model.proofs.Links.{head-same, put-fit-low, put-same, take-fit-low, take-same}
 use Rattle.bucket_clock_model.proofs.OneStep.{bits-low, counts-low, leaving-is, one-step, way-in}
 use Rattle.bucket_clock_model.proofs.Worked.{rank-inside, words-le}
@@ -221,8 +221,8 @@ module _ (k : Lay) (laid : Laid k) where
     pre-lt zero h = absurd (omega arith)
     pre-lt (suc d) h = omega arith
 
-    said-same : (q : Request) → StagesFit k 0 (k .storeys) (waiting q 0) m → turnRun k q m .said ≡ turnRun k q n .said
-    unfolding turnRun
+    said-same : (q : Request) → StagesFit k 0 (k .storeys) (waiting q 0) m → cycleRun k q m .said ≡ cycleRun k q n .said
+    unfolding cycleRun
     said-same q f =
         let r = pred (k .storeys) in
         leaving-is k (k .storeys) q m (laid .deep)
@@ -236,8 +236,8 @@ module _ (k : Lay) (laid : Laid k) where
     held-under Pop w v U = under-set (storeWords k) w v (k .held) _ _ (ap pred (U .at (k .held) (omega arith))) U
     held-under (Replace x) w v U = U
 
-    run-near : (q : Request) → k .storeys ≤ length (m .records) → k .storeys ≤ length (n .records) → ((i : ℕ) → word (n .bits) i < 2 ^ 64) → StagesFit k 0 (k .storeys) (waiting q 0) m → Near k (turnRun k q m .next) (turnRun k q n .next)
-    unfolding turnRun
+    run-near : (q : Request) → k .storeys ≤ length (m .records) → k .storeys ≤ length (n .records) → ((i : ℕ) → word (n .bits) i < 2 ^ 64) → StagesFit k 0 (k .storeys) (waiting q 0) m → Near k (cycleRun k q m .next) (cycleRun k q n .next)
+    unfolding cycleRun
     run-near q lm ln wide′ f =
         let f′ = stages-fit (k .storeys) 0 (omega arith) (waiting q 0) f in
         let o = stages k 0 (k .storeys) (waiting q 0) m .next in
@@ -270,8 +270,8 @@ module _ (k : Lay) (laid : Laid k) where
     held-fit Pop m n T f = omega (arith, T .words .at (k .held) (omega arith))
     held-fit (Replace x) m n T f = omega (arith, T .words .at (k .held) (omega arith))
 
-    turn-fit : (m n : Desk) → Twin m n → ((i : ℕ) → word (m .bits) i < 2 ^ 64) → TurnFit k q m → TurnFit k q n
-    turn-fit m n T wide f =
+    cycle-fit : (m n : Desk) → Twin m n → ((i : ℕ) → word (m .bits) i < 2 ^ 64) → CycleFit k q m → CycleFit k q n
+    cycle-fit m n T wide f =
         (held-fit q m n T (f .0), subst (λ (g : Ruling Request). StagesFit k 0 (k .storeys) (waiting (g .op) 0) n) (rule-same m n T) (stages-fit m n T wide (k .storeys) 0 (omega arith) (waiting (ruleNow k q m .op) 0) (f .1)))
 
     near-back : (m n : Desk) → Near k m n → Near k n m
@@ -279,25 +279,25 @@ module _ (k : Lay) (laid : Laid k) where
 
     -- UNREAD
     pub unread : (m n : Desk) → DeskShaped k m → DeskShaped k n → k .storeys ≤ length (m .records) → k .storeys ≤ length (n .records) → ((i : ℕ) → word (m .bits) i < 2 ^ 64) → ((i : ℕ) → word (n .bits) i < 2 ^ 64) → Near k m n
-        → Alike k (turned k q m) (turned k q n)
-    unfolding turned
-    unread m n a b lm ln wm wn N = rw (desk-means k m .holds a, desk-means k n .holds b) (go (turnOk k q m) (turnOk k q n) refl refl)
+        → Alike k (cycled k q m) (cycled k q n)
+    unfolding cycled
+    unread m n a b lm ln wm wn N = rw (desk-means k m .holds a, desk-means k n .holds b) (go (cycleOk k q m) (cycleOk k q n) refl refl)
       where
         T : Twin m n
         T = twin-of m n a b N
 
-        over : TurnFit k q m → TurnFit k q n
-        over = turn-fit m n (twin-of m n a b N) wm
+        over : CycleFit k q m → CycleFit k q n
+        over = cycle-fit m n (twin-of m n a b N) wm
 
-        under : TurnFit k q n → TurnFit k q m
-        under = turn-fit n m (twin-of n m b a (near-back m n N)) wn
+        under : CycleFit k q n → CycleFit k q m
+        under = cycle-fit n m (twin-of n m b a (near-back m n N)) wn
 
-        go : (x y : Bool) → turnOk k q m ≡ x → turnOk k q n ≡ y → Alike k (cond x (turnDone k (ruleNow k q m) m) (turnStill m Damaged)) (cond y (turnDone k (ruleNow k q n) n) (turnStill n Damaged))
+        go : (x y : Bool) → cycleOk k q m ≡ x → cycleOk k q n ≡ y → Alike k (cond x (cycleDone k (ruleNow k q m) m) (cycleStill m Damaged)) (cond y (cycleDone k (ruleNow k q n) n) (cycleStill n Damaged))
         go true true e f =
             let T1 : Twin m n = twin-of m n a b N in
-            let fit = turn-means k q m .says e .1 in
-            subst (λ (g : Ruling Request). Alike k (turnDone k (ruleNow k q m) m) (turnDone k g n)) (rule-same m n T1)
+            let fit = cycle-means k q m .says e .1 in
+            subst (λ (g : Ruling Request). Alike k (cycleDone k (ruleNow k q m) m) (cycleDone k g n)) (rule-same m n T1)
             (record { answer = refl; leaves = said-same m n T1 wm (ruleNow k q m .op) fit; desk = run-near m n T1 wm (ruleNow k q m .op) lm ln wn fit })
-        go true false e f = absurd (means-no (turn-means k q n) f (over (turn-means k q m .says e)))
-        go false true e f = absurd (means-no (turn-means k q m) e (under (turn-means k q n .says f)))
+        go true false e f = absurd (means-no (cycle-means k q n) f (over (cycle-means k q m .says e)))
+        go false true e f = absurd (means-no (cycle-means k q m) e (under (cycle-means k q n .says f)))
         go false false e f = record { answer = refl; leaves = refl; desk = N }

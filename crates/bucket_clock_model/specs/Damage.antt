@@ -90,5 +90,5 @@ HeldFit k Pop w = word w (k .held) ≤ k .nodes
 HeldFit k (Replace x) w = word w (k .held) ≤ k .nodes
 
 -- a cycle finds all in order
-abbrev pub TurnFit : Lay → Request → Desk → Type 0
-TurnFit k q m = HeldFit k q (m .words) × StagesFit k 0 (k .storeys) (waiting (ruleNow k q m .op) 0) m
+abbrev pub CycleFit : Lay → Request → Desk → Type 0
+CycleFit k q m = HeldFit k q (m .words) × StagesFit k 0 (k .storeys) (waiting (ruleNow k q m .op) 0) m

@@ -76,8 +76,8 @@ heldWords k Pop w = set w (k .held) (pred (word w (k .held)))
 heldWords k (Replace x) w = w
 
 -- "stage 1 the request, each other stage its record's"
-unfoldable pub turnRun : Lay → Request → Desk → Step Maybe Desk
-turnRun k q m =
+unfoldable pub cycleRun : Lay → Request → Desk → Step Maybe Desk
+cycleRun k q m =
     let r = stages k 0 (k .storeys) (waiting q 0) m in
     step (r .said) (desk (r .next .bits) (r .next .counts) (heldWords k q (r .next .words)) (r .next .records))
 
@@ -100,8 +100,8 @@ abbrev pub ruleNow : Lay → Request → Desk → Ruling Request
 ruleNow k q m = decided (λ n. ruling (Refused n) Idle) (lateTable (k .ranks) (k .nodes) q (word (m .words) (k .held))) (ruling Done q)
 
 -- "2 of what is pending and of held, 4, 7, then 5 .. or 6 .., then 2 of stage 1": stage 1 tests what it is handed, and that is nothing after 4 to 7
-unfoldable pub turnOk : Lay → Request → Desk → Bool
-turnOk k q m = heldOk k q (m .words) && stagesOk k 0 (k .storeys) (waiting (ruleNow k q m .op) 0) m
+unfoldable pub cycleOk : Lay → Request → Desk → Bool
+cycleOk k q m = heldOk k q (m .words) && stagesOk k 0 (k .storeys) (waiting (ruleNow k q m .op) 0) m
 
 -- ---- the calls
 
@@ -114,32 +114,32 @@ unfoldable pub deskOk : Lay → Desk → Bool
 deskOk k m = shapeOk k (length (m .bits)) (length (m .words)) && leb (countWords k) (length (m .counts))
 
 -- "An answer has two parts: the number of this cycle's request, and what leaves in this cycle, if anything"
-pub record TurnOutcome : Type 0 where
+pub record CycleOutcome : Type 0 where
   pub answer : Answer
   pub leaves : Maybe
   pub desk : Desk
 
-abbrev pub turnOutcome : Answer → Maybe → Desk → TurnOutcome
-turnOutcome a x m = record { answer = a; leaves = x; desk = m }
+abbrev pub cycleOutcome : Answer → Maybe → Desk → CycleOutcome
+cycleOutcome a x m = record { answer = a; leaves = x; desk = m }
 
 -- "after 1 and 2 nothing moves and nothing leaves"
-abbrev pub turnStill : Desk → Refusal → TurnOutcome
-turnStill m n = turnOutcome (Refused n) None m
+abbrev pub cycleStill : Desk → Refusal → CycleOutcome
+cycleStill m n = cycleOutcome (Refused n) None m
 
 -- what is ruled is done
-abbrev pub turnDone : Lay → Ruling Request → Desk → TurnOutcome
-turnDone k g m = let r = turnRun k (g .op) m in turnOutcome (g .answer) (r .said) (r .next)
+abbrev pub cycleDone : Lay → Ruling Request → Desk → CycleOutcome
+cycleDone k g m = let r = cycleRun k (g .op) m in cycleOutcome (g .answer) (r .said) (r .next)
 
 -- a cycle with a request, or idle. "Push, pop and replace are cycle with that request"
-unfoldable pub turned : Lay → Request → Desk → TurnOutcome
-turned k q m = cond (deskOk k m) (cond (turnOk k q m) (turnDone k (ruleNow k q m) m) (turnStill m Damaged)) (turnStill m BadShape)
+unfoldable pub cycled : Lay → Request → Desk → CycleOutcome
+cycled k q m = cond (deskOk k m) (cond (cycleOk k q m) (cycleDone k (ruleNow k q m) m) (cycleStill m Damaged)) (cycleStill m BadShape)
 
 -- "Clear clears store, counts and records"
 abbrev pub wiped : Lay → Desk → Desk
 wiped k m = desk (fill (λ j. 0) (bitWords k) (m .bits)) (fill (λ j. 0) (countWords k) (m .counts)) (fill (blankWord k) (storeWords k) (m .words)) fresh
 
-unfoldable pub clockCleared : Lay → Desk → TurnOutcome
-clockCleared k m = cond (deskOk k m) (turnOutcome Done None (wiped k m)) (turnStill m BadShape)
+unfoldable pub clockCleared : Lay → Desk → CycleOutcome
+clockCleared k m = cond (deskOk k m) (cycleOutcome Done None (wiped k m)) (cycleStill m BadShape)
 
 -- "Held is the held word, exact in the middle of any work; it tests that word alone"
 unfoldable pub clockHeld : Lay → Desk → Count
@@ -150,5 +150,5 @@ pub record Heard : Type 0 where
   pub number : Answer
   pub leaves : Maybe
 
-abbrev pub turning : Lay → Request → Desk → Step Heard Desk
-turning k q m = let o = turned k q m in step (record { number = o .answer; leaves = o .leaves }) (o .desk)
+abbrev pub cycling : Lay → Request → Desk → Step Heard Desk
+cycling k q m = let o = cycled k q m in step (record { number = o .answer; leaves = o .leaves }) (o .desk)

@@ -7,11 +7,11 @@ use Rattle.bucket_model.specs.declared.Lay.{Lay}
 use Rattle.bucket_model.specs.Plain as stores
 use Rattle.promise.specs.Prelude.{Table, answers, ends, leaves, needs}
 use Rattle.bucket_clock_model.specs.Clock.{lateTable, outOf}
-use Rattle.bucket_clock_model.specs.Damage.{DeskShaped, TurnFit}
+use Rattle.bucket_clock_model.specs.Damage.{DeskShaped, CycleFit}
 use Rattle.bucket_clock_model.specs.declared.Maybe.{Maybe}
 use Rattle.bucket_clock_model.specs.declared.Maybe.the-variants.{None, Some}
 use Rattle.bucket_clock_model.specs.declared.Waiting.{Waiting}
-use Rattle.bucket_clock_model.specs.Desk.{clockCleared, clockHeld, countWords, Desk, deskOk, floorOf, fresh, handed, noWork, turned, turning, turnOk, turnOutcome, TurnOutcome, turnStill, workAt}
+use Rattle.bucket_clock_model.specs.Desk.{clockCleared, clockHeld, countWords, Desk, deskOk, floorOf, fresh, handed, noWork, cycled, cycling, cycleOk, cycleOutcome, CycleOutcome, cycleStill, workAt}
 use Rattle.bucket_clock_model.specs.Links.{bucketStage}
 use Rattle.bucket_clock_model.specs.Lists.{at, newcomer}
 use Rattle.bucket_clock_model.specs.Pipe.{below, lead}
@@ -20,12 +20,12 @@ use Rattle.bucket_clock_model.specs.Words.{countAt, staged}
 -- ---- refusals
 
 -- "After 4, 5, 6 and 7 the cycle runs as an idle one, and what leaves, leaves; after 1 and 2 nothing moves and nothing leaves"
-abbrev pub turnLeft : Lay → Desk → Refusal → TurnOutcome
-turnLeft k m n = let o = turned k Idle m in cond (runsIdle n) (turnOutcome (Refused n) (o .leaves) (o .desk)) (turnStill m n)
+abbrev pub cycleLeft : Lay → Desk → Refusal → CycleOutcome
+cycleLeft k m n = let o = cycled k Idle m in cond (runsIdle n) (cycleOutcome (Refused n) (o .leaves) (o .desk)) (cycleStill m n)
 
 -- "Refusals in this order: 1, 2 .., 4, 7, then 5 (push, held is N) or 6 (pop and replace, held is 0)"
-abbrev pub turnTable : Lay → Request → Desk → Table
-turnTable k q m = needs BadShape (deskOk k m) (DeskShaped k m) (needs Damaged (turnOk k q m) (TurnFit k q m) (lateTable (k .ranks) (k .nodes) q (word (m .words) (k .held))))
+abbrev pub cycleTable : Lay → Request → Desk → Table
+cycleTable k q m = needs BadShape (deskOk k m) (DeskShaped k m) (needs Damaged (cycleOk k q m) (CycleFit k q m) (lateTable (k .ranks) (k .nodes) q (word (m .words) (k .held))))
 
 abbrev pub wipeTable : Lay → Desk → Table
 wipeTable k m = needs BadShape (deskOk k m) (DeskShaped k m) ends
@@ -45,13 +45,13 @@ pub record Settled (k : Lay) (m : Desk) (s : Store) : Type 0 where
 module _ (k : Lay) (m : Desk) where
   -- any list of cycles from a machine cleared on slices long enough, whatever was in them
   abbrev pub ran : List Request → Desk
-  ran qs = leaves (turning k) qs (clockCleared k m .desk)
+  ran qs = leaves (cycling k) qs (clockCleared k m .desk)
 
   abbrev pub numbersOf : List Request → List ℕ
-  numbersOf qs = map (λ h. numberOf (h .number)) (answers (turning k) qs (clockCleared k m .desk))
+  numbersOf qs = map (λ h. numberOf (h .number)) (answers (cycling k) qs (clockCleared k m .desk))
 
   abbrev pub leavesOf : List Request → List Maybe
-  leavesOf qs = map (λ h. h .leaves) (answers (turning k) qs (clockCleared k m .desk))
+  leavesOf qs = map (λ h. h .leaves) (answers (cycling k) qs (clockCleared k m .desk))
 
   -- the bucket queue of one operation at a time, on the same slices: what it says, its store
   abbrev pub oneSays : List Request → List stores.Said
@@ -90,7 +90,7 @@ module _ (k : Lay) (m : Desk) where
   -- (5): never 1, never 2, whatever is asked next; so never too soon either, by (1)
   pub record Undamaged (qs : List Request) : Type 0 where
     pub shaped : DeskShaped k (ran qs)
-    pub fit : (q : Request) → TurnFit k q (ran qs)
+    pub fit : (q : Request) → CycleFit k q (ran qs)
 
 -- ---- first in, first out
 
@@ -162,7 +162,7 @@ pub record Near (k : Lay) (m n : Desk) : Type 0 where
   pub records : (i : ℕ) → i < k .storeys → workAt (m .records) i ≡ workAt (n .records) i
 
 -- two cycles alike: what is past the shape, and records past S, are not read
-pub record Alike (k : Lay) (o p : TurnOutcome) : Type 0 where
+pub record Alike (k : Lay) (o p : CycleOutcome) : Type 0 where
   pub answer : o .answer ≡ p .answer
   pub leaves : o .leaves ≡ p .leaves
   pub desk : Near k (o .desk) (p .desk)

@@ -19,7 +19,7 @@ pub struct Waiting {
 }
 
 // What a cycle answers: done or a refusal; what leaves in it; and the records that it leaves, that behind the top storey first.
-pub struct BucketTurned {
+pub struct BucketCycled {
     pub answer: Answer,
     pub leaves: Maybe,
     pub records: [Waiting; RECORDS],

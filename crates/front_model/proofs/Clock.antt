@@ -1,17 +1,18 @@
 -- The front is a clock: its tests stand for their causes, a machine that has come through any list of cycles passes them, nothing is lost, and every pop
 -- gives the lowest.
 use Rattle.laws.specs.Prelude.{All, Answer, Bool, Element, Idle, List, Pop, Push, Refused, Replace, Request, [], _+_, _<_, _∙_, _∷_, _≡_, _≤_, and-true, ap, arith, blank, eqb-false, false, le-ltb, length, ltb, ltb-true, not, not-suc-le-zero, refl, replicate, runsIdle, subst, suc, sym, true, untagged, zero, ℕ}
+use Rattle.strip.proofs.Words.{blank-zeros}
 use Rattle.bucket_clock_model.proofs.Clear.{clear-kept}
 use Rattle.bucket_clock_model.proofs.Counts.{first-high}
 use Rattle.bucket_clock_model.proofs.Damage.{means-fails}
 use Rattle.bucket_clock_model.proofs.Exactly.{late-each, late-told}
 use Rattle.bucket_clock_model.proofs.Flow.{in-machine}
-use Rattle.bucket_clock_model.proofs.Kept.{Long, turn-long}
+use Rattle.bucket_clock_model.proofs.Kept.{Long, cycle-long}
 use Rattle.bucket_clock_model.proofs.Quiet.{quiet-stages}
 use Rattle.bucket_clock_model.specs.Clock.{lateTable}
 use Rattle.bucket_clock_model.specs.declared.Maybe.the-variants.{None, Some}
 use Rattle.bucket_clock_model.specs.declared.Waiting.{Waiting}
-use Rattle.bucket_clock_model.specs.Desk.{deskOk, turnRun, waiting, workAt}
+use Rattle.bucket_clock_model.specs.Desk.{deskOk, cycleRun, waiting, workAt}
 use Rattle.bucket_clock_model.specs.Lists.{at, coming, first, many, newcomer, taken, takes}
 use Rattle.bucket_model.proofs.Laws.{fill-length}
 use Rattle.bucket_model.specs.declared.Lay.{Lay}
@@ -22,9 +23,9 @@ use Rattle.promise.proofs.InFlight.{Bag, idle-kept, IsClock, Lowest, next-kept}
 use Rattle.promise.specs.Prelude.{Clear, Least, Ruling, Step, Table, Untagged, always, brought, cycling, decided-either, each-any, given, grants, hit, leaves, lower, rested, ruling}
 use Rattle.front_model.specs.Damage.{Ascends, FrontFit, FrontShaped, PlacesFit, SomeFit}
 use Rattle.front_model.specs.Desk.{allHeld, faced, FrontDesk, frontIn, frontOf, frontRule, frontRun, frontShapeOk, frontWiped, frontWord, frontWords, placeAt, placeCount}
-use Rattle.front_model.specs.Front.{fresh, held, Kept, State, state, turned}
+use Rattle.front_model.specs.Front.{fresh, held, Kept, State, state, cycled}
 use Rattle.front_model.specs.Promise.{frontClock, frontPending, frontStored, isIdle, quiet}
-use Rattle.front_model.proofs.Cycle.{front-low, some-front, turned-sum}
+use Rattle.front_model.proofs.Cycle.{front-low, some-front, cycled-sum}
 use Rattle.front_model.proofs.Damage.{calm, front-means, idle-hands, places-means, shape-means}
 use Rattle.front_model.proofs.Faces.{all-held, Decent, Faces, faces-next, front-size, Good, hands-fit, state-is, stateOf, T, way-is}
 use Rattle.front_model.proofs.Handed.{coming-le, many-le}
@@ -47,10 +48,6 @@ all-ranked R (x ∷ l) h = go (ltb (x .rank .0) R) refl (all-ranked R l)
     go true e ih = (ltb-true (x .rank .0) R e, ih (omega (arith, h, ap hit e)))
     go false e ih = absurd (omega (arith, h, ap hit e, many-le (lower R) l))
 
-blank-zero : {e : Element} → e ≡ blank → (e .rank .0 ≡ 0) × (e .tag .0 ≡ 0) × (e .length .0 ≡ 0)
-unfolding blank
-blank-zero p = (ap (λ (e : Element). e .rank .0) p, ap (λ (e : Element). e .tag .0) p, ap (λ (e : Element). e .length .0) p)
-
 -- ---- the tests
 
 module _ (k : Lay) (deep : 1 ≤ k .storeys) where
@@ -60,7 +57,7 @@ module _ (k : Lay) (deep : 1 ≤ k .storeys) where
   stays-shaped : (q : Request) (m : FrontDesk) → frontShapeOk k (frontRun k q m) ≡ frontShapeOk k m
   unfolding frontShapeOk frontRun frontOf deskOk
   stays-shaped q m =
-      let l : Long (m .behind) (turnRun k (faced k q m .hands) (m .behind) .next) = turn-long k (faced k q m .hands) (m .behind) in
+      let l : Long (m .behind) (cycleRun k (faced k q m .hands) (m .behind) .next) = cycle-long k (faced k q m .hands) (m .behind) in
       rw (l .bits, l .counts, l .words, fill-length (frontWord (faced k q m .front)) (frontWords k) (m .front)) refl
 
   pub ticks : Ticks (frontClock k) (cycling (frontClock k))
@@ -103,20 +100,20 @@ module _ (k : Lay) (laid : Laid k) where
 
     -- a request that is let in is good, and so is an idle one
     good-in : (q : Request) → Clear (lateTable (k .ranks) (k .nodes) q (allHeld k m)) → Good k laid q t
-    good-in Idle c = record { ranked = tt; tagged = refl; room = omega (arith, turned-sum (placeCount k) always Idle t, x .decent .room) }
+    good-in Idle c = record { ranked = tt; tagged = refl; room = omega (arith, cycled-sum (placeCount k) always Idle t, x .decent .room) }
     good-in (Push y) c =
         record {
           ranked = ltb-true (y .rank .0) (k .ranks) (c .0);
           tagged = tag-off y (c .1 .0);
-          room = omega (arith, turned-sum (placeCount k) always (Push y) t, ltb-true (allHeld k m) (k .nodes) (c .1 .1 .0), all-held k laid m x);
+          room = omega (arith, cycled-sum (placeCount k) always (Push y) t, ltb-true (allHeld k m) (k .nodes) (c .1 .1 .0), all-held k laid m x);
         }
-    good-in Pop c = record { ranked = tt; tagged = refl; room = omega (arith, turned-sum (placeCount k) always Pop t, x .decent .room) }
+    good-in Pop c = record { ranked = tt; tagged = refl; room = omega (arith, cycled-sum (placeCount k) always Pop t, x .decent .room) }
     good-in (Replace y) c =
         let e = first-some (frontIn (m .front)) (some-place (eqb-false (allHeld k m) 0 (c .1 .1 .0))) in
         record {
           ranked = ltb-true (y .rank .0) (k .ranks) (c .0);
           tagged = tag-off y (c .1 .0);
-          room = omega (arith, turned-sum (placeCount k) always (Replace y) t, e, x .decent .room);
+          room = omega (arith, cycled-sum (placeCount k) always (Replace y) t, e, x .decent .room);
         }
       where
         first-some : (l : List Element) → 1 ≤ length l → at always (first l) ≡ 1
@@ -130,7 +127,7 @@ module _ (k : Lay) (laid : Laid k) where
           room = omega (arith, all-held k laid m x, x .decent .room);
           order = sorted-ascends (frontIn (m .front)) (x .kept .sorted);
           ranks = all-ranked (k .ranks) (frontIn (m .front)) (omega (arith, x .decent .ranked, behind-le, way-le));
-          blank = λ h. blank-parts (x .blanks (word (m .front) 0) (omega arith) h);
+          blank = λ h. blank-zeros _ (x .blanks (word (m .front) 0) (omega arith) h);
         }
       where
         behind-le : many (lower (k .ranks)) (x .ago 0) ≤ many always (x .ago 0)
@@ -138,9 +135,6 @@ module _ (k : Lay) (laid : Laid k) where
 
         way-le : coming (lower (k .ranks)) (x .later) ≤ coming always (x .later)
         way-le = coming-le (lower (k .ranks)) (x .later)
-
-        blank-parts : {e : Element} → e ≡ blank → (e .rank .0 ≡ 0) × (e .tag .0 ≡ 0) × (e .length .0 ≡ 0)
-        blank-parts p = blank-zero p
 
     -- what the rule lets through is good, and the front has a place where one is taken
     ruled-good : (q : Request) → Good k laid (frontRule k q m .op) t × SomeFit (takes (frontRule k q m .op)) (word (m .front) 0)
@@ -184,8 +178,8 @@ module _ (k : Lay) (laid : Laid k) where
         → frontStored (frontRun k q m) k f + given q (grants q (placeAt (m .front) 0)) f ≡ frontStored m k f + brought q (grants q (placeAt (m .front) 0)) f
     sum q c f =
         let y = faces-next k laid m x q (good-in m x q c) in
-        let s : held f (T k laid (frontRun k q m) (faces-next k laid m x q (good-in m x q c))) ≡ held f (turned (placeCount k) q (T k laid m x)) = ap (held f) (state-is k laid m x q (good-in m x q c)) in
-        omega (arith, stored-is (frontRun k q m) (faces-next k laid m x q (good-in m x q c)) f, stored-is m x f, turned-sum (placeCount k) f q (T k laid m x), s, flows q c)
+        let s : held f (T k laid (frontRun k q m) (faces-next k laid m x q (good-in m x q c))) ≡ held f (cycled (placeCount k) q (T k laid m x)) = ap (held f) (state-is k laid m x q (good-in m x q c)) in
+        omega (arith, stored-is (frontRun k q m) (faces-next k laid m x q (good-in m x q c)) f, stored-is m x f, cycled-sum (placeCount k) f q (T k laid m x), s, flows q c)
       where
         -- what is given is what is taken out, and what is brought the newcomer
         flows : (q : Request) → Clear (lateTable (k .ranks) (k .nodes) q (allHeld k m))
@@ -254,9 +248,9 @@ module _ (k : Lay) (laid : Laid k) where
   Quiet n m = (i : ℕ) → i < n → i < k .storeys → workAt (m .behind .records) i .does ≡ Idle
 
   idle-quiet : (n : ℕ) (m : FrontDesk) → Faces k laid m → Quiet n m → Quiet (suc n) (frontRun k Idle m)
-  unfolding frontRun turnRun
+  unfolding frontRun cycleRun
   idle-quiet n m x q i a b =
-      ap (λ (u : Request). workAt (turnRun k u (m .behind) .next .records) i .does) (idle-hands k m (laid .deep) (places-fit m x .places))
+      ap (λ (u : Request). workAt (cycleRun k u (m .behind) .next .records) i .does) (idle-hands k m (laid .deep) (places-fit m x .places))
       ∙ ap (λ (g : Waiting). g .does) (quiet-stages k (k .storeys) 0 (waiting Idle 0) (m .behind) (omega (arith, x .behind .long)) refl n (λ j c d e. q j (omega arith) (omega arith)) i (omega arith) (omega arith) (omega arith))
 
   idles-quiet : (n j : ℕ) (m : FrontDesk) → Faces k laid m → Quiet j m → Quiet (j + n) (rested (frontClock k) (cycling (frontClock k)) n m)

@@ -5,7 +5,7 @@ use Rattle.promise.specs.Prelude.{always, hit, lower}
 use Rattle.bucket_clock_model.specs.declared.Maybe.{Maybe}
 use Rattle.bucket_clock_model.specs.declared.Maybe.the-variants.{None, Some}
 use Rattle.bucket_clock_model.specs.Lists.{arrives, at, butLast, coming, first, last, left, many, newcomer, placed, taken, takes}
-use Rattle.front_model.specs.Front.{due, held, Kept, leakIf, Soon, State, turned, worked}
+use Rattle.front_model.specs.Front.{due, held, Kept, leakIf, Soon, State, cycled, worked}
 use Rattle.bucket_clock_model.proofs.Counts.{at-le, coming-le, first-high, last-low, last-many, last-sorted, left-many, left-sorted, many-always, moved-coming, moved-length, placed-many, placed-sorted}
 use Rattle.front_model.proofs.Counts.{due-end, moved-due, moved-last}
 
@@ -21,9 +21,9 @@ pub leak-sum : (f : Element → Bool) (b : Bool) (s : State) → held f (leakIf 
 leak-sum f true s = omega (arith, last-many f (s .front), placed-many f (last (s .front)) (s .behind))
 leak-sum f false s = refl
 
-pub turned-sum : (k : ℕ) (f : Element → Bool) (q : Request) (s : State) → held f (turned k q s) + at f (taken (takes q) (s .front)) ≡ held f s + at f (newcomer q)
-unfolding turned
-turned-sum k f q s =
+pub cycled-sum : (k : ℕ) (f : Element → Bool) (q : Request) (s : State) → held f (cycled k q s) + at f (taken (takes q) (s .front)) ≡ held f s + at f (newcomer q)
+unfolding cycled
+cycled-sum k f q s =
     let v : State = worked (takes q) (newcomer q) s in
     omega (arith, leak-sum f (ltb k (length (v .front) + coming always (v .way))) v, worked-sum f (takes q) (newcomer q) s)
 
@@ -154,6 +154,6 @@ module _ (p c : ℕ) (s : State) (kept : Kept p c s) where
         }
 
   -- CYCLE-KEEPS: whatever is asked
-  pub turned-kept : 1 ≤ c → (q : Request) → Kept p c (turned (p + p + c) q s)
-  unfolding turned
-  turned-kept h q = leak-kept (takes q) (newcomer q) h (ltb (p + p + c) (length (v (takes q) (newcomer q) .front) + coming always (v (takes q) (newcomer q) .way))) refl
+  pub cycled-kept : 1 ≤ c → (q : Request) → Kept p c (cycled (p + p + c) q s)
+  unfolding cycled
+  cycled-kept h q = leak-kept (takes q) (newcomer q) h (ltb (p + p + c) (length (v (takes q) (newcomer q) .front) + coming always (v (takes q) (newcomer q) .way))) refl

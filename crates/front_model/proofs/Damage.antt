@@ -1,5 +1,6 @@
 -- Each test of the front stands for its fact; an idle cycle hands nothing on.
-use Rattle.laws.specs.Prelude.{All, Bool, Element, Idle, List, Means, Request, [], _+_, _<_, _∙_, _∷_, _≡_, _≤_, ap, arith, false, le-ltb, length, ltb, means-and, means-by, means-eqb, means-leb, means-ltb, means-not, pred, refl, subst, suc, sym, true, true≢false, zero, ℕ}
+use Rattle.laws.specs.Prelude.{All, Bool, Element, Idle, List, Means, Request, Zeros, [], _+_, _<_, _∙_, _∷_, _≡_, _≤_, ap, arith, false, isBlank, le-ltb, length, ltb, means-and, means-by, means-eqb, means-leb, means-ltb, means-not, pred, refl, subst, suc, sym, true, true≢false, zero, ℕ}
+use Rattle.strip.proofs.Words.{blank-holds, blank-says}
 use Rattle.bucket_clock_model.proofs.Damage.{desk-means, stages-means}
 use Rattle.bucket_clock_model.specs.Damage.{StagesFit}
 use Rattle.bucket_clock_model.specs.declared.Maybe.{Maybe}
@@ -26,13 +27,11 @@ within-means : (r : ℕ) (l : List Element) → Means (within r l) (All (λ x. x
 within-means r [] = record { says = λ e. tt; holds = λ u. refl }
 within-means r (x ∷ l) = means-and (means-ltb (x .rank .0) r) (within-means r l)
 
-blank-means : (f k : ℕ) (e : Element) → Means (blankOk (ltb f k) e) (f < k → (e .rank .0 ≡ 0) × (e .tag .0 ≡ 0) × (e .length .0 ≡ 0))
+blank-means : (f k : ℕ) (e : Element) → Means (blankOk (ltb f k) e) (f < k → Zeros e)
 blank-means f k e = go (ltb f k) (means-ltb f k)
   where
-    go : (b : Bool) → Means b (f < k) → Means (blankOk b e) (f < k → (e .rank .0 ≡ 0) × (e .tag .0 ≡ 0) × (e .length .0 ≡ 0))
-    go true m =
-        means-by (means-and (means-and (means-eqb (e .rank .0) 0) (means-eqb (e .tag .0) 0)) (means-eqb (e .length .0) 0)) (λ x h. (x .0 .0, x .0 .1, x .1))
-        (λ g. let x = g (m .says refl) in ((x .0, x .1), x .2))
+    go : (b : Bool) → Means b (f < k) → Means (blankOk b e) (f < k → Zeros e)
+    go true m = record { says = λ p h. blank-says e p; holds = λ g. blank-holds e (g (m .says refl)) }
     go false m = record { says = λ e h. absurd (true≢false (sym (m .holds h))); holds = λ g. refl }
 
 some-means : (b : Bool) (f : ℕ) → Means (someOk b f) (SomeFit b f)

@@ -5,11 +5,11 @@ use Rattle.bucket_clock_model.specs.declared.Maybe.{Maybe}
 use Rattle.bucket_clock_model.specs.declared.Maybe.the-variants.{None}
 use Rattle.bucket_clock_model.specs.Lists.{coming, moved}
 use Rattle.promise.specs.Prelude.{always, leaves}
-use Rattle.front_model.specs.Front.{fresh, fronted, leakIf, State, turned, worked}
+use Rattle.front_model.specs.Front.{fresh, fronted, leakIf, State, cycled, worked}
 use Rattle.front_model.proofs.Promises.{leaves-kept, none-way}
 
 idle-way : (k n : ℕ) (s : State) → fronted k n Idle s .next .way ≡ moved (s .way) None
-unfolding fronted turned
+unfolding fronted cycled
 idle-way k n s = go (ltb k (length (worked false None s .front) + coming always (worked false None s .way)))
   where
     go : (b : Bool) → leakIf b (worked false None s) .way ≡ moved (s .way) None

@@ -2,14 +2,14 @@
 use Rattle.laws.specs.Prelude.{Bool, Element, Idle, List, Request, _+_, _<_, _∙_, _≡_, _≤_, ap, ap₂, arith, blank, eqb, eqb-false, false, length, lt-ltb, ltb, ltb-true, not, pred, refl, subst, sym, true, true≢false, untagged, ℕ}
 use Rattle.bucket_clock_model.proofs.Clock.{Same, same-at}
 use Rattle.bucket_clock_model.proofs.Counts.{hit-le, many-always, placed-many}
-use Rattle.bucket_clock_model.proofs.Kept.{Kept as QueueKept, rule-sent, turn-good, turn-kept, turn-leaves}
+use Rattle.bucket_clock_model.proofs.Kept.{Kept as QueueKept, rule-sent, cycle-good, cycle-kept, cycle-leaves}
 use Rattle.bucket_clock_model.proofs.Last.{afterStore}
 use Rattle.bucket_clock_model.proofs.OneStep.{leaving-is}
 use Rattle.bucket_clock_model.specs.Clock.{numberAt, outOf}
 use Rattle.bucket_clock_model.specs.Damage.{StagesFit}
 use Rattle.bucket_clock_model.specs.declared.Maybe.{Maybe}
 use Rattle.bucket_clock_model.specs.declared.Maybe.the-variants.{None, Some}
-use Rattle.bucket_clock_model.specs.Desk.{ruleNow, turnRun, waiting}
+use Rattle.bucket_clock_model.specs.Desk.{ruleNow, cycleRun, waiting}
 use Rattle.bucket_clock_model.specs.Lists.{arrives, at, coming, heeded, left, many, moved, newcomer, placed, taken, takes}
 use Rattle.bucket_clock_model.specs.Pipe.{after}
 use Rattle.bucket_model.specs.declared.Lay.{Lay}
@@ -17,9 +17,9 @@ use Rattle.bucket_model.specs.Prelude.{Laid, Store, ask, called, plain, plainWi
 use Rattle.promise.specs.Prelude.{always, hit, lower}
 use Rattle.front_model.specs.Damage.{FrontShaped}
 use Rattle.front_model.specs.Desk.{allHeld, behindCount, faced, FrontDesk, frontIn, frontOf, frontRun, leavingNow, onWay, placeAt, placeCount}
-use Rattle.front_model.specs.Front.{held, Kept, leakIf, State, state, turned}
+use Rattle.front_model.specs.Front.{held, Kept, leakIf, State, state, cycled}
 use Rattle.front_model.specs.Handed.{asks, handed, leaked, stays}
-use Rattle.front_model.proofs.Cycle.{turned-kept, turned-sum}
+use Rattle.front_model.proofs.Cycle.{cycled-kept, cycled-sum}
 use Rattle.front_model.proofs.Handed.{ahead-at, arrives-any, asks-hit, asks-left, asks-taken, coming-is, coming-le, handed-fine, many-le, newcomer-handed, RankedOne, RoomFor, takes-handed}
 use Rattle.front_model.proofs.Places.{front-count, front-in, front-long, front-place, past-end, places-length}
 
@@ -83,7 +83,7 @@ module _ (k : Lay) (laid : Laid k) where
   pub record Good (q : Request) (t : State) : Type 0 where
     pub ranked : RankedOne (k .ranks) (newcomer q)
     pub tagged : at untagged (newcomer q) ≡ 0
-    pub room : held always (turned (placeCount k) q t) ≤ k .nodes
+    pub room : held always (cycled (placeCount k) q t) ≤ k .nodes
 
   module _ (m : FrontDesk) (x : Faces m) where
     abbrev S : ℕ
@@ -117,9 +117,9 @@ module _ (k : Lay) (laid : Laid k) where
 
     -- what leaves the bucket stage is what arrives
     y-is : (z : Maybe) → leavingNow k (m .behind) ≡ arrives (x .later) z
-    unfolding leavingNow turnRun plainWith
+    unfolding leavingNow cycleRun plainWith
     y-is z =
-        sym (leaving-is k S Idle (m .behind) (laid .deep)) ∙ turn-leaves k laid Idle (m .behind) (x .was) (x .ago) v (x .behind)
+        sym (leaving-is k S Idle (m .behind) (laid .deep)) ∙ cycle-leaves k laid Idle (m .behind) (x .was) (x .ago) v (x .behind)
         ∙ arrives-any v None z (omega (arith, x .kept .long, laid .deep))
 
     module _ (q : Request) (good : Good q T) where
@@ -149,23 +149,23 @@ module _ (k : Lay) (laid : Laid k) where
       abbrev T1 : State
       T1 = state (stays b f) (moved (x .later) z) (placed (leaked b f) (left (takes q) (x .ago 0)))
 
-      turned-is : turned (placeCount k) q T ≡ T1
-      unfolding turned
-      turned-is =
+      cycled-is : cycled (placeCount k) q T ≡ T1
+      unfolding cycled
+      cycled-is =
           let f1 : List Element = placed (newcomer q) (placed (arrives v z) (left (takes q) F)) in
           let fe : f1 ≡ f = ap (λ (y : Maybe). placed (newcomer q) (placed y (left (takes q) F))) (sym (y-is z)) in
           let be : ltb K (length f1 + coming always (moved v z)) ≡ b = ap₂ (λ (g : List Element) (n : ℕ). ltb K (length g + n)) fe (sym count-is) in
           ap₂ (λ (g : List Element) (c : Bool). leakIf c (state g (moved v z) (left (takes q) L))) fe be ∙ leak-is b f (moved v z) (left (takes q) L)
 
       kept-next : Kept S 1 T1
-      kept-next = subst (Kept S 1) turned-is (turned-kept S 1 T (x .kept) (omega arith) q)
+      kept-next = subst (Kept S 1) cycled-is (cycled-kept S 1 T (x .kept) (omega arith) q)
 
       decent-next : Decent T1
       decent-next =
-          let s0 = turned-sum K always q T in
-          let s1 = turned-sum K (lower (k .ranks)) q T in
-          let s2 = turned-sum K untagged q T in
-          subst Decent turned-is
+          let s0 = cycled-sum K always q T in
+          let s1 = cycled-sum K (lower (k .ranks)) q T in
+          let s2 = cycled-sum K untagged q T in
+          subst Decent cycled-is
           (record {
             ranked = omega (arith, s0, s1, at-low (k .ranks) (newcomer q) (good .ranked), at-most (lower (k .ranks)) (taken (takes q) F), x .decent .ranked);
             tagged = omega (arith, s2, good .tagged, x .decent .tagged);
@@ -226,7 +226,7 @@ module _ (k : Lay) (laid : Laid k) where
       -- the stages pass their tests
       pub hands-fit : StagesFit k 0 (k .storeys) (waiting (faced k q m .hands) 0) (m .behind)
       unfolding faced
-      hands-fit = subst (λ (r : Request). StagesFit k 0 S (waiting r 0) (m .behind)) u-sent (turn-good k laid u (m .behind) (x .was) (x .ago) v (x .behind) .1)
+      hands-fit = subst (λ (r : Request). StagesFit k 0 S (waiting r 0) (m .behind)) u-sent (cycle-good k laid u (m .behind) (x .was) (x .ago) v (x .behind) .1)
 
       abbrev m1 : FrontDesk
       m1 = frontRun k q m
@@ -245,10 +245,10 @@ module _ (k : Lay) (laid : Laid k) where
       pub faces-next : Faces (frontRun k q m)
       unfolding frontRun faced
       faces-next =
-          let queue : QueueKept k laid (turnRun k u (m .behind) .next) (afterStore (called k (ask u) (x .was 0) .next) (x .was)) ago1 (moved v z) =
-          subst (λ (w : List Maybe). QueueKept k laid (turnRun k u (m .behind) .next) (afterStore (called k (ask u) (x .was 0) .next) (x .was)) ago1 w) way-next
-          (subst (λ (r : Request). QueueKept k laid (turnRun k r (m .behind) .next) (afterStore (called k (ask u) (x .was 0) .next) (x .was)) ago1 (moved v (outOf (plain k (ask u) L .said)))) u-sent
-          (turn-kept k laid u (m .behind) (x .was) (x .ago) v (x .behind))) in
+          let queue : QueueKept k laid (cycleRun k u (m .behind) .next) (afterStore (called k (ask u) (x .was 0) .next) (x .was)) ago1 (moved v z) =
+          subst (λ (w : List Maybe). QueueKept k laid (cycleRun k u (m .behind) .next) (afterStore (called k (ask u) (x .was 0) .next) (x .was)) ago1 w) way-next
+          (subst (λ (r : Request). QueueKept k laid (cycleRun k r (m .behind) .next) (afterStore (called k (ask u) (x .was 0) .next) (x .was)) ago1 (moved v (outOf (plain k (ask u) L .said)))) u-sent
+          (cycle-kept k laid u (m .behind) (x .was) (x .ago) v (x .behind))) in
           record {
             was = afterStore (called k (ask u) (x .was 0) .next) (x .was);
             ago = ago1;
@@ -261,6 +261,6 @@ module _ (k : Lay) (laid : Laid k) where
           }
 
       -- .. and its state is that of the lists
-      pub state-is : stateOf (frontRun k q m) (faces-next .ago) (faces-next .later) ≡ turned (placeCount k) q T
+      pub state-is : stateOf (frontRun k q m) (faces-next .ago) (faces-next .later) ≡ cycled (placeCount k) q T
       unfolding faces-next frontRun faced
-      state-is = state-next ∙ sym turned-is
+      state-is = state-next ∙ sym cycled-is

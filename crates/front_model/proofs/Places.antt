@@ -1,9 +1,10 @@
 -- The front's words and its list: what is written is read again.
-use Rattle.laws.specs.Prelude.{Element, List, [], _%_, _*_, _+_, _/_, _<_, _∙_, _∷_, _≡_, _≤_, ap, ap₂, arith, blank, element, getD, length, not-suc-le-zero, refl, suc, zero, ℕ}
+use Rattle.laws.specs.Prelude.{Element, List, [], _%_, _*_, _+_, _/_, _<_, _∙_, _∷_, _≡_, _≤_, ap, ap₂, arith, blank, elementNumbers, elementWords, getD, length, not-suc-le-zero, refl, suc, zero, ℕ}
+use Rattle.strip.proofs.Words.{read-numbers}
 use Rattle.bucket_model.proofs.Laws.{fill-at, fill-length}
 use Rattle.bucket_model.specs.declared.Lay.{Lay}
 use Rattle.bucket_model.specs.Prelude.{word}
-use Rattle.front_model.specs.Desk.{frontIn, frontOf, frontWord, frontWords, part, placeAt, placeCount, placesFrom}
+use Rattle.front_model.specs.Desk.{frontIn, frontOf, frontWord, frontWords, placeAt, placeCount, placesFrom}
 
 pub places-length : (w : List ℕ) (i n : ℕ) → length (placesFrom w i n) ≡ n
 unfolding placesFrom
@@ -31,10 +32,10 @@ past-end (x ∷ l) zero h = absurd (not-suc-le-zero h)
 past-end (x ∷ l) (suc i) h = past-end l i (omega arith)
 
 module _ (k : Lay) (l : List Element) (w : List ℕ) (long : frontWords k ≤ length w) where
-  cell-is : (j i n a : ℕ) → j < frontWords k → j ≡ suc a → a / 3 ≡ i → a % 3 ≡ n → word (frontOf k l w) j ≡ part (getD l i blank) n
+  cell-is : (j i n a : ℕ) → j < frontWords k → j ≡ suc a → a / 3 ≡ i → a % 3 ≡ n → word (frontOf k l w) j ≡ getD (elementNumbers (getD l i blank)) n 0
   unfolding frontOf
   cell-is j i n a h e d r =
-      fill-at (frontWord l) (frontWords k) w j h long ∙ ap (frontWord l) e ∙ ap₂ (λ (x y : ℕ). part (getD l x blank) y) d r
+      fill-at (frontWord l) (frontWords k) w j h long ∙ ap (frontWord l) e ∙ ap₂ (λ (x y : ℕ). getD (elementNumbers (getD l x blank)) y 0) d r
 
   pub front-count : word (frontOf k l w) 0 ≡ length l
   unfolding frontOf
@@ -42,10 +43,7 @@ module _ (k : Lay) (l : List Element) (w : List ℕ) (long : frontWords k ≤ le
 
   pub front-place : (i : ℕ) → i < placeCount k → placeAt (frontOf k l w) i ≡ getD l i blank
   front-place i h =
-      let a : word (frontOf k l w) (1 + 3 * i) ≡ getD l i blank .rank .0 = cell-is (1 + 3 * i) i 0 (3 * i) (omega arith) (omega arith) (omega arith) (omega arith) in
-      let b : word (frontOf k l w) (2 + 3 * i) ≡ getD l i blank .tag .0 = cell-is (2 + 3 * i) i 1 (3 * i + 1) (omega arith) (omega arith) (omega arith) (omega arith) in
-      let c : word (frontOf k l w) (3 + 3 * i) ≡ getD l i blank .length .0 = cell-is (3 + 3 * i) i 2 (3 * i + 2) (omega arith) (omega arith) (omega arith) (omega arith) in
-      λ j. element (a j) (b j) (c j)
+      read-numbers (frontOf k l w) (1 + 3 * i) (getD l i blank) (λ j b. cell-is (1 + 3 * i + j) i j (3 * i + j) (omega arith) (omega arith) (omega arith) (omega arith))
 
   -- READ AGAIN
   pub front-in : length l ≤ placeCount k → frontIn (frontOf k l w) ≡ l

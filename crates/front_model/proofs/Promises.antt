@@ -5,9 +5,9 @@ use Rattle.promise.specs.Prelude.{Holds, IsOut, Kind, Least, all-sum, always, a
 use Rattle.bucket_clock_model.specs.declared.Maybe.{Maybe}
 use Rattle.bucket_clock_model.specs.declared.Maybe.the-variants.{None, Some}
 use Rattle.bucket_clock_model.specs.Lists.{at, coming, first, heeded, many}
-use Rattle.front_model.specs.Front.{fresh, fronted, heard, held, Kept, outOf, State, turned}
+use Rattle.front_model.specs.Front.{fresh, fronted, heard, held, Kept, outOf, State, cycled}
 use Rattle.bucket_clock_model.proofs.Counts.{first-high}
-use Rattle.front_model.proofs.Cycle.{front-low, some-first, some-front, turned-kept, turned-sum}
+use Rattle.front_model.proofs.Cycle.{front-low, some-first, some-front, cycled-kept, cycled-sum}
 
 -- ---- at the start
 
@@ -51,30 +51,30 @@ module _ (p c n : ℕ) (some-place : 1 ≤ c) where
 
   pub called-kept : (q : Request) (s : State) → Kept p c s → Kept p c (fronted k n q s .next)
   unfolding fronted
-  called-kept q s kept = turned-kept p c s kept some-place (heeded (numberOf (heard n q s)) q)
+  called-kept q s kept = cycled-kept p c s kept some-place (heeded (numberOf (heard n q s)) q)
 
   module _ (s : State) where
     -- what an answer to a request comes to, for every test
     abbrev Sums : (Element → Bool) → Request → Answer → Type 0
-    Sums f q a = held f (turned k (heeded (numberOf a) q) s) + given q a f ≡ held f s + brought q a f
+    Sums f q a = held f (cycled k (heeded (numberOf a) q) s) + given q a f ≡ held f s + brought q a f
 
-    sum-none : (f : Element → Bool) → held f (turned k Idle s) + 0 ≡ held f s + 0
-    sum-none f = turned-sum k f Idle s
+    sum-none : (f : Element → Bool) → held f (cycled k Idle s) + 0 ≡ held f s + 0
+    sum-none f = cycled-sum k f Idle s
 
     sum-out : (f : Element → Bool) (m : Maybe) → first (s .front) ≡ m → Sums f Pop (outOf m)
     sum-out f None e = sum-none f
-    sum-out f (Some x) e = omega (arith, turned-sum k f Pop s, ap (at f) e)
+    sum-out f (Some x) e = omega (arith, cycled-sum k f Pop s, ap (at f) e)
 
     sum-swap : (f : Element → Bool) (x : Element) (m : Maybe) → first (s .front) ≡ m → Sums f (Replace x) (outOf m)
     sum-swap f x None e = sum-none f
-    sum-swap f x (Some y) e = omega (arith, turned-sum k f (Replace x) s, ap (at f) e)
+    sum-swap f x (Some y) e = omega (arith, cycled-sum k f (Replace x) s, ap (at f) e)
 
     -- CALL-SUM: nothing is lost and nothing made
     sums : (f : Element → Bool) (q : Request) → Sums f q (heard n q s)
     sums f Idle = sum-none f
     sums f (Push x) =
         cond-both (Sums f (Push x)) (untagged x) (Refused NoTag) (cond (ltb (held always s) n) Done (Refused Full)) (λ _. sum-none f)
-        (λ _. cond-both (Sums f (Push x)) (ltb (held always s) n) Done (Refused Full) (λ _. turned-sum k f (Push x) s) (λ _. sum-none f))
+        (λ _. cond-both (Sums f (Push x)) (ltb (held always s) n) Done (Refused Full) (λ _. cycled-sum k f (Push x) s) (λ _. sum-none f))
     sums f Pop = cond-both (Sums f Pop) (eqb (held always s) 0) (Refused Empty) (outOf (first (s .front))) (λ _. sum-none f) (λ _. sum-out f (first (s .front)) refl)
     sums f (Replace x) =
         cond-both (Sums f (Replace x)) (untagged x) (Refused NoTag) (cond (eqb (held always s) 0) (Refused Empty) (outOf (first (s .front)))) (λ _. sum-none f)

@@ -14,7 +14,7 @@ use Rattle.promise.proofs.InFlight.{cycle-least, cycle-sum, next-kept}
 use Rattle.promise.proofs.Ticked.{cycle-answers, nothing-lost-so, running}
 use Rattle.promise.specs.Prelude.{Call, CycleAnswers, Kind, NothingLost, Outcome, Ruling, Running, Step, always, answers, clearedTo, comes, cycled, cycling, drainedBy, heldIn, left, outcome, ruling}
 use Rattle.front_model.specs.Damage.{FrontShaped}
-use Rattle.front_model.specs.Desk.{allHeld, faced, frontCleared, FrontDesk, frontHeld, frontOf, frontOk, frontRule, frontRun, frontShapeOk, frontTurned, frontWiped, frontWord, frontWords, placeAt}
+use Rattle.front_model.specs.Desk.{allHeld, faced, frontCleared, FrontDesk, frontHeld, frontOf, frontOk, frontRule, frontRun, frontShapeOk, frontCycled, frontWiped, frontWord, frontWords, placeAt}
 use Rattle.front_model.specs.Promise.{frontClock, frontDrained, FrontLies, frontQueue, FrontRest, frontStored, rankNumber}
 use Rattle.front_model.proofs.Clock.{bag, cleared-bare, cleared-faces, is-clock, lowest, no-tag, settles, stored-is, ticks}
 use Rattle.front_model.proofs.Damage.{front-means}
@@ -23,9 +23,9 @@ use Rattle.front_model.proofs.Faces.{all-held, Faces}
 -- ---- the calls are the clock's
 
 module _ (k : Lay) where
-  pub turned-as : (q : Request) (m : FrontDesk) → frontTurned k q m ≡ cycled (frontClock k) q m
-  unfolding frontTurned
-  turned-as q m = refl
+  pub cycled-as : (q : Request) (m : FrontDesk) → frontCycled k q m ≡ cycled (frontClock k) q m
+  unfolding frontCycled
+  cycled-as q m = refl
 
   pub cleared-as : (m : FrontDesk) → frontCleared k m ≡ clearedTo (frontClock k) m
   unfolding frontCleared
@@ -36,7 +36,7 @@ module _ (k : Lay) where
   held-as m = refl
 
   pub drained-as : (b : ℕ) (m : FrontDesk) → frontDrained k b m ≡ drainedBy (frontClock k) (cycling (frontClock k)) b m
-  unfolding frontDrained frontTurned
+  unfolding frontDrained frontCycled
   drained-as b m = refl
 
 -- ANSWERS: each refusal of a cycle, a drain, clear and held is given exactly for its cause and leaves behind what the rules say, and no element without
@@ -106,7 +106,7 @@ module _ (k : Lay) (laid : Laid k) where
 
   -- RANKS: cycle by cycle the front answers the number and the rank that a plain list in rank order answers, of so many ranks and with room for N
   pub front-ranks : (m : FrontDesk) → FrontShaped k m → (qs : List Request) → map numberRank (answers (frontQueue k) qs (frontWiped k m)) ≡ answers (plainlyBy (rankNumber (k .ranks) (k .nodes))) qs []
-  unfolding frontTurned
+  unfolding frontCycled
   front-ranks m h qs =
       ranks-by queue (Faces k laid) (next-kept (is-clock k laid)) (λ m f. frontStored m k f) (cycle-sum (is-clock k laid) (bag k laid)) (cycle-least (is-clock k laid) (lowest k laid)) as-pop kind (rankNumber (k .ranks) (k .nodes)) number
       qs (frontWiped k m) [] (cleared-faces k laid m h)
@@ -122,8 +122,8 @@ front-lies n =
       words-three = refl;
       place = λ w i.
           let a : 1 + 3 * i ≡ 3 * i + 1 = omega arith in
-          let b : 2 + 3 * i ≡ 3 * i + 2 = omega arith in
-          let c : 3 + 3 * i ≡ 3 * i + 3 = omega arith in
+          let b : 1 + 3 * i + 1 ≡ 3 * i + 2 = omega arith in
+          let c : 1 + 3 * i + 2 ≡ 3 * i + 3 = omega arith in
           λ j. element (word w (a j)) (word w (b j)) (word w (c j));
     }
 
@@ -137,8 +137,8 @@ module _ (k : Lay) (laid : Laid k) where
         behind = run-rest k laid (faced k u m .hands) (m .behind) long wide f;
       }
 
-  pub front-rest : (q : Request) (m : FrontDesk) → k .storeys ≤ length (m .behind .records) → ((i : ℕ) → word (m .behind .bits) i < 2 ^ 64) → FrontRest k m (frontTurned k q m .words)
-  unfolding frontTurned
+  pub front-rest : (q : Request) (m : FrontDesk) → k .storeys ≤ length (m .behind .records) → ((i : ℕ) → word (m .behind .bits) i < 2 ^ 64) → FrontRest k m (frontCycled k q m .words)
+  unfolding frontCycled
   front-rest q m long wide =
       let still : FrontRest k m m = record { front = λ i h. refl; behind = record { bits = λ i h. refl; counts = λ i h. refl; words = λ i h. refl; records = λ i h. refl } } in
       let g = frontRule k q m in

@@ -1,5 +1,5 @@
 -- What the front's tests ask, in facts. These are definitions.
-use Rattle.laws.specs.Prelude.{All, Bool, Element, List, Request, [], _+_, _<_, _∷_, _≡_, _≤_, false, length, true, ℕ}
+use Rattle.laws.specs.Prelude.{All, Bool, Element, List, Request, Zeros, [], _+_, _<_, _∷_, _≡_, _≤_, false, length, true, ℕ}
 use Rattle.bucket_clock_model.specs.Damage.{DeskShaped, StagesFit}
 use Rattle.bucket_clock_model.specs.Desk.{waiting}
 use Rattle.bucket_clock_model.specs.Lists.{takes}
@@ -25,7 +25,7 @@ pub record PlacesFit (k : Lay) (m : FrontDesk) : Type 0 where
   pub order : Ascends (frontIn (m .front))
   pub ranks : All (λ x. x .rank .0 < k .ranks) (frontIn (m .front))
   pub blank : word (m .front) 0 < placeCount k
-      → (placeAt (m .front) (word (m .front) 0) .rank .0 ≡ 0) × (placeAt (m .front) (word (m .front) 0) .tag .0 ≡ 0) × (placeAt (m .front) (word (m .front) 0) .length .0 ≡ 0)
+      → Zeros (placeAt (m .front) (word (m .front) 0))
 
 -- "f is 0 and a pop or replace is accepted"
 abbrev pub SomeFit : Bool → ℕ → Type 0

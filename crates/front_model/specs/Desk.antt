@@ -1,12 +1,12 @@
 -- The front on its words, before the clocked bucket queue: its calls as functions of every word that they are lent to what they answer and every word
 -- that they leave.
 -- These are definitions, and the contracts cite them.
-use Rattle.laws.specs.Prelude.{BadShape, Bool, Count, Damaged, Done, Element, Held, Idle, List, Refused, Request, Unknown, [], _%_, _&&_, _*_, _+_, _/_, _∷_, blank, cond, element, eqb, false, getD, leb, length, ltb, not, pred, suc, true, zero, ℕ}
+use Rattle.laws.specs.Prelude.{BadShape, Bool, Count, Damaged, Done, Element, Held, Idle, List, Refused, Request, Unknown, [], _%_, _&&_, _*_, _+_, _/_, _∷_, blank, cond, elementIn, elementNumbers, eqb, false, getD, isBlank, leb, length, ltb, not, pred, suc, true, zero, ℕ}
 use Rattle.bucket_clock_model.specs.Clock.{lateTable}
 use Rattle.bucket_clock_model.specs.declared.Maybe.{Maybe}
 use Rattle.bucket_clock_model.specs.declared.Waiting.{Waiting}
 use Rattle.bucket_clock_model.specs.Desk as clock
-use Rattle.bucket_clock_model.specs.Desk.{Desk, deskOk, stagesOk, turnRun, waiting, workAt}
+use Rattle.bucket_clock_model.specs.Desk.{Desk, deskOk, stagesOk, cycleRun, waiting, workAt}
 use Rattle.bucket_clock_model.specs.Links.{bucketLeaves}
 use Rattle.bucket_clock_model.specs.Lists.{left, newcomer, placed, takes}
 use Rattle.bucket_model.specs.Prelude.{fill, word}
@@ -33,7 +33,7 @@ abbrev pub frontWords : Lay → ℕ
 frontWords k = 1 + 3 * placeCount k
 
 abbrev pub placeAt : List ℕ → ℕ → Element
-placeAt w i = element (word w (1 + 3 * i)) (word w (2 + 3 * i)) (word w (3 + 3 * i))
+placeAt w i = elementIn w (1 + 3 * i)
 
 -- n places from place i on
 unfoldable pub placesFrom : List ℕ → ℕ → ℕ → List Element
@@ -45,14 +45,9 @@ abbrev pub frontIn : List ℕ → List Element
 frontIn w = placesFrom w 0 (word w 0)
 
 -- word j of a front that holds l: the count; rank, tag and length of each place, "all others 0, 0, 0"
-abbrev pub part : Element → ℕ → ℕ
-part e zero = e .rank .0
-part e (suc zero) = e .tag .0
-part e (suc (suc i)) = e .length .0
-
 abbrev pub frontWord : List Element → ℕ → ℕ
 frontWord l zero = length l
-frontWord l (suc j) = part (getD l (j / 3) blank) (j % 3)
+frontWord l (suc j) = getD (elementNumbers (getD l (j / 3) blank)) (j % 3) 0
 
 -- "Longer slices are taken; the rest is never touched"
 unfoldable pub frontOf : Lay → List Element → List ℕ → List ℕ
@@ -98,7 +93,7 @@ faced k q m =
     record { front = stays b f; hands = handed a (leaked b f) }
 
 unfoldable pub frontRun : Lay → Request → FrontDesk → FrontDesk
-frontRun k q m = let x = faced k q m in frontDesk (frontOf k (x .front) (m .front)) (turnRun k (x .hands) (m .behind) .next)
+frontRun k q m = let x = faced k q m in frontDesk (frontOf k (x .front) (m .front)) (cycleRun k (x .hands) (m .behind) .next)
 
 -- "4, 7, then 5 (push, held is N) or 6 (held is 0)"; a pop and a replace answer place 0 "as it stands at the cycle's start"
 abbrev pub frontRule : Lay → Request → FrontDesk → Ruling Request
@@ -117,9 +112,6 @@ within r [] = true
 within r (x ∷ l) = ltb (x .rank .0) r && within r l
 
 -- "place f, where f is below k, is not 0, 0, 0"
-abbrev pub isBlank : Element → Bool
-isBlank e = eqb (e .rank .0) 0 && eqb (e .tag .0) 0 && eqb (e .length .0) 0
-
 abbrev pub blankOk : Bool → Element → Bool
 blankOk true e = isBlank e
 blankOk false e = true
@@ -148,8 +140,8 @@ unfoldable pub frontShapeOk : Lay → FrontDesk → Bool
 frontShapeOk k m = deskOk k (m .behind) && leb (frontWords k) (length (m .front))
 
 -- "1, 2, 4, 7, then 5 .. or 6 .., then 2 of stage 1; after 4 to 7 as idle"
-unfoldable pub frontTurned : Lay → Request → FrontDesk → Outcome FrontDesk
-frontTurned k q m =
+unfoldable pub frontCycled : Lay → Request → FrontDesk → Outcome FrontDesk
+frontCycled k q m =
     cond (frontShapeOk k m) (cond (frontOk k q m) (let g = frontRule k q m in outcome (g .answer) (frontRun k (g .op) m)) (stood m Damaged)) (stood m BadShape)
 
 -- nothing in the front, and the queue behind cleared

@@ -43,8 +43,8 @@ worked t x s =
     let z = taken t (s .behind) in
     state (placed x (placed (arrives (s .way) z) (left t (s .front)))) (moved (s .way) z) (left t (s .behind))
 
-unfoldable pub turned : ℕ → Request → State → State
-turned k q s = leak k (worked (takes q) (newcomer q) s)
+unfoldable pub cycled : ℕ → Request → State → State
+cycled k q s = leak k (worked (takes q) (newcomer q) s)
 
 -- ---- the call: k places, and n elements at most
 
@@ -60,7 +60,7 @@ heard n Pop s = cond (eqb (held always s) 0) (Refused Empty) (outOf (first (s .f
 heard n (Replace x) s = cond (untagged x) (Refused NoTag) (cond (eqb (held always s) 0) (Refused Empty) (outOf (first (s .front))))
 
 unfoldable pub fronted : ℕ → ℕ → Request → State → Step Answer State
-fronted k n q s = step (heard n q s) (turned k (heeded (numberOf (heard n q s)) q) s)
+fronted k n q s = step (heard n q s) (cycled k (heeded (numberOf (heard n q s)) q) s)
 
 -- nothing held, and p cycles of way
 abbrev pub fresh : ℕ → State

@@ -10,7 +10,7 @@ use Rattle.bucket_model.specs.declared.Lay.{Lay}
 use Rattle.bucket_model.specs.Prelude.{queue, word}
 use Rattle.promise.specs.Prelude.{Clock, Drained, Step, drainsBy, grants, step}
 use Rattle.front_model.specs.Damage.{FrontFit, FrontShaped, PlacesFit}
-use Rattle.front_model.specs.Desk.{allHeld, FrontDesk, frontIn, frontOk, frontRun, frontShapeOk, frontTurned, frontWiped, frontWords, placeAt, placeCount, placesOk}
+use Rattle.front_model.specs.Desk.{allHeld, FrontDesk, frontIn, frontOk, frontRun, frontShapeOk, frontCycled, frontWiped, frontWords, placeAt, placeCount, placesOk}
 
 -- ---- pending work
 
@@ -50,7 +50,7 @@ frontClock k =
 
 -- the calls as steps; "Drain is the clocked tree's"
 abbrev pub frontQueue : Lay → Request → FrontDesk → Step Answer FrontDesk
-frontQueue k q m = let o = frontTurned k q m in step (o .answer) (o .words)
+frontQueue k q m = let o = frontCycled k q m in step (o .answer) (o .words)
 
 unfoldable pub frontDrained : Lay → ℕ → FrontDesk → Drained FrontDesk
 frontDrained k b m = drainsBy (frontQueue k) (frontPending k) (frontShapeOk k m) b m

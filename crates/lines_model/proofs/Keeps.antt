@@ -1,8 +1,9 @@
 -- Every line stays sorted and neat: what is to be done at a line does to its list what it says, and leaves the others.
-use Rattle.laws.specs.Prelude.{All, Element, List, Upd, [], _*_, _++_, _+_, _-_, _<_, _∙_, _∷_, _≡_, _≤_, ap, arith, blank, decLt, inl, inr, is-upd, length, length-append, length-set, mul-le-mul-right, set, subst, suc, sym, upd, ℕ, ℕ-discrete, ⊎-elim}
-use Rattle.lines_model.proofs.Row.{Off, other, place-here, row-ext, row-past, row-split, same, set-here, set-length, set-other, set-snoc}
+use Rattle.laws.specs.Prelude.{All, Element, List, Upd, [], _*_, _++_, _+_, _-_, _<_, _∙_, _∷_, _≡_, _≤_, ap, arith, blank, decLt, elementIn, inl, inr, is-upd, length, length-append, length-set, mul-le-mul-right, set, subst, suc, sym, upd, ℕ, ℕ-discrete, ⊎-elim}
+use Rattle.strip.proofs.Words.{blank-words, write-back}
+use Rattle.lines_model.proofs.Row.{Off, other, row-ext, row-past, row-split, same, set-here, set-length, set-other, set-snoc}
 use Rattle.lines_model.specs.Causes.{Own, Shaped}
-use Rattle.lines_model.specs.Layout.{moved, placeIn, putIn, rowAt, rowIn, Rows, rowSet, storeWords, without, word}
+use Rattle.lines_model.specs.Layout.{moved, putIn, rowAt, rowIn, Rows, rowSet, storeWords, without, word}
 use Rattle.lines_model.specs.Promise.{Sound}
 use Rattle.lines_model.specs.Rules.{counted, Put, Take, worked}
 use Rattle.promise.proofs.FirstIn.{insert-all, insert-length, insert-sorted}
@@ -121,8 +122,8 @@ module _ (k : Rows) (w : List ℕ) (m : ℕ → List Element) (s : Sound k w m) 
         let n : length (xs ++ blank ∷ []) ≡ length xs + 1 = length-append xs (blank ∷ []) in
         let long : length Z ≡ length w = length-set w l (word w l - 1) in
         let fit : length (m l) ≤ k .places = s .fit l h in
-        let at : placeIn (rowSet Z a (xs ++ blank ∷ [])) (a + 3 * length xs) ≡ blank =
-        ap (λ (v : List ℕ). placeIn v (a + 3 * length xs)) (set-snoc Z a xs blank) ∙ place-here (rowSet Z a xs) (a + 3 * length xs) blank (omega (arith, set-length Z a xs, full, row-within k l h, long-is)) in
+        let at : elementIn (rowSet Z a (xs ++ blank ∷ [])) (a + 3 * length xs) ≡ blank =
+        ap (λ (v : List ℕ). elementIn v (a + 3 * length xs)) (set-snoc Z a xs blank) ∙ write-back (rowSet Z a xs) (a + 3 * length xs) blank (omega (arith, set-length Z a xs, full, row-within k l h, long-is)) in
         record {
           long = set-length Z a (xs ++ blank ∷ []) ∙ long;
           count = set-other Z a (xs ++ blank ∷ []) l (inl (omega arith)) ∙ same w l (word w l - 1) (omega (arith, full)) ∙ omega (arith, s .count l h, long-is);
@@ -136,14 +137,8 @@ module _ (k : Rows) (w : List ℕ) (m : ℕ → List Element) (s : Sound k w m) 
         }
       where
         zeros : (i : ℕ) → rowAt k l + 3 * length xs ≤ i → i < rowAt k l + 3 * length xs + 3
-            → placeIn (rowSet Z (rowAt k l) (xs ++ blank ∷ [])) (rowAt k l + 3 * length xs) ≡ blank → word (rowSet Z (rowAt k l) (xs ++ blank ∷ [])) i ≡ 0
-        zeros i p q z = elim (ℕ-discrete i (rowAt k l + 3 * length xs)) [
-          | yes d ↦ ap (word (rowSet Z (rowAt k l) (xs ++ blank ∷ []))) d ∙ ap (λ (y : Element). y .rank .0) z
-          | no d ↦ elim (ℕ-discrete i (rowAt k l + 3 * length xs + 1)) [
-            | yes f ↦ ap (word (rowSet Z (rowAt k l) (xs ++ blank ∷ []))) f ∙ ap (λ (y : Element). y .tag .0) z
-            | no f ↦ ap (word (rowSet Z (rowAt k l) (xs ++ blank ∷ []))) (omega arith) ∙ ap (λ (y : Element). y .length .0) z
-          ]
-        ]
+            → elementIn (rowSet Z (rowAt k l) (xs ++ blank ∷ [])) (rowAt k l + 3 * length xs) ≡ blank → word (rowSet Z (rowAt k l) (xs ++ blank ∷ [])) i ≡ 0
+        zeros i p q z = blank-words (rowSet Z (rowAt k l) (xs ++ blank ∷ [])) (rowAt k l + 3 * length xs) i z p q
 
     pub take-keeps : Sound k (worked k (Take l) (counted k (Take l) w)) (upd m l xs)
     take-keeps =

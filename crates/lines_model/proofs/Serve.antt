@@ -1,12 +1,12 @@
 -- What a store holds, by counting for every test; and that the line that gives has the lowest rank of all that is held.
-use Rattle.laws.specs.Prelude.{All, Bool, Element, List, [], _+_, _<_, _∙_, _∷_, _≡_, _≤_, all-map, ap, arith, decLt, eq-eqb, le-ltb, length, ltb, ltb-false, ne-eqb, refl, subst, suc, sym, zero, ℕ, ℕ-discrete}
+use Rattle.laws.specs.Prelude.{All, Bool, Element, List, [], _+_, _<_, _∙_, _∷_, _≡_, _≤_, all-map, ap, arith, decLt, elementIn, eq-eqb, le-ltb, length, ltb, ltb-false, ne-eqb, refl, subst, suc, sym, zero, ℕ, ℕ-discrete}
 use Rattle.lines_model.proofs.Acts.{giver-fits, put, taken, uncons}
 use Rattle.lines_model.proofs.Order.{order-all, order-else, order-length, order-times}
 use Rattle.lines_model.proofs.Start.{line-is}
 use Rattle.lines_model.proofs.Which.{line-mono, lowest-least, sought, spans}
 use Rattle.lines_model.specs.Calls.{heads}
 use Rattle.lines_model.specs.Causes.{Own}
-use Rattle.lines_model.specs.Layout.{behind, placeIn, rowAt, rowIn, Rows, word}
+use Rattle.lines_model.specs.Layout.{behind, rowAt, rowIn, Rows, word}
 use Rattle.lines_model.specs.Promise.{inOrder, lineIn, Sound, stored, storedBy}
 use Rattle.lines_model.specs.Rules.{giver, lowest, seek, total}
 use Rattle.promise.proofs.FirstIn.{times-all, times-insert}
@@ -19,7 +19,7 @@ pub stored-is : (k : Rows) (w : List ℕ) (m : ℕ → List Element) → Sound k
 unfolding stored
 stored-is k w m s = order-else m (lineIn k w) 0 (k .lines) (λ j a b. line-is k w m s j (omega arith))
 
-head-of : (w : List ℕ) (a n : ℕ) (t : Element) (ts : List Element) → rowIn w a n ≡ t ∷ ts → placeIn w a ≡ t
+head-of : (w : List ℕ) (a n : ℕ) (t : Element) (ts : List Element) → rowIn w a n ≡ t ∷ ts → elementIn w a ≡ t
 unfolding rowIn
 head-of w a zero t ts e = let z : _≡_ {A = ℕ} 0 1 = cc in absurd (omega arith)
 head-of w a (suc n) t ts e = cc

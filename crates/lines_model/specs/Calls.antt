@@ -1,9 +1,9 @@
 -- The lines as a queue that does one operation at a time: what they bring to the calls that every queue has (`promise/specs/Calls.antt`). These are definitions.
-use Rattle.laws.specs.Prelude.{Answer, BadShape, Bool, Count, Element, List, Request, [], _∷_, length, suc, zero, ℕ}
+use Rattle.laws.specs.Prelude.{Answer, BadShape, Bool, Count, Element, List, Request, [], _∷_, elementIn, length, suc, zero, ℕ}
 use Rattle.promise.specs.Calls as calls
 use Rattle.promise.specs.Prelude.{Queue, Step, ends, needs}
 use Rattle.lines_model.specs.Causes.{CountsFit, Shaped}
-use Rattle.lines_model.specs.Layout.{placeIn, rowAt, Rows, shapeOk, storeWords, word}
+use Rattle.lines_model.specs.Layout.{rowAt, Rows, shapeOk, storeWords, word}
 use Rattle.lines_model.specs.Promise.{storedBy}
 use Rattle.lines_model.specs.Rules.{askTable, Choice, choose, counted, countsBelow, Due, dueOf, giver, lateTable, LinesFit, linesOk, total, worked}
 
@@ -24,7 +24,7 @@ countsOk k w = countsBelow (k .places) (word w) (k .lines)
 
 -- the lines' first places
 abbrev pub heads : Rows → List ℕ → ℕ → Element
-heads k w l = placeIn w (rowAt k l)
+heads k w l = elementIn w (rowAt k l)
 
 -- the counts of what is to be done, and then its lines
 abbrev pub done : Rows → Due → List ℕ → List ℕ

@@ -1,5 +1,5 @@
 -- Where the words of the lines stand, and one line as a list of elements. These are definitions.
-use Rattle.laws.specs.Prelude.{Bool, Element, List, [], _&&_, _*_, _++_, _+_, _/_, _||_, _∷_, blank, cond, element, eqb, getD, leb, ltb, set, suc, zero, ℕ}
+use Rattle.laws.specs.Prelude.{Bool, Element, List, [], _&&_, _*_, _++_, _+_, _/_, _||_, _∷_, blank, cond, elementIn, eqb, getD, leb, ltb, suc, writeElement, zero, ℕ}
 use Rattle.promise.specs.FirstIn.{insert}
 pub use Rattle.lines_model.specs.declared.Rows.{Rows}
 
@@ -31,22 +31,15 @@ lineOf k r = r / (65536 / k .lines)
 
 -- ---- a line as a list
 
--- the element at a place
-abbrev pub placeIn : List ℕ → ℕ → Element
-placeIn w a = element (word w a) (word w (a + 1)) (word w (a + 2))
-
--- n places from word a on
+-- n places from word a on; a place is an element's words
 unfoldable pub rowIn : List ℕ → ℕ → ℕ → List Element
 rowIn w a zero = []
-rowIn w a (suc n) = placeIn w a ∷ rowIn w (a + 3) n
+rowIn w a (suc n) = elementIn w a ∷ rowIn w (a + 3) n
 
--- an element written at a place, and elements from word a on
-abbrev pub placeSet : List ℕ → ℕ → Element → List ℕ
-placeSet w a x = set (set (set w a (x .rank .0)) (a + 1) (x .tag .0)) (a + 2) (x .length .0)
-
+-- elements written from word a on
 unfoldable pub rowSet : List ℕ → ℕ → List Element → List ℕ
 rowSet w a [] = w
-rowSet w a (x ∷ xs) = rowSet (placeSet w a x) (a + 3) xs
+rowSet w a (x ∷ xs) = rowSet (writeElement w a x) (a + 3) xs
 
 -- "place 0 leaves, places 1 to c − 1 move one place forward"
 abbrev pub behind : List Element → List Element

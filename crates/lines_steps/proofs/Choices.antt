@@ -1,9 +1,9 @@
 -- Which line, and whether a line passes, as the code reads them.
-use Rattle.laws.specs.Prelude.{Bool, Element, List, [], _&&_, _*_, _+_, _-_, _<_, _||_, _∙_, _∷_, _≡_, _≤_, _⊎_, add-one, and-assoc, and-left, and-right, and-true, and-unit, ap, ap₂, arith, cond, eq-eqb, eqb, eqb-true, false, false≢true, inl, inr, le-leb, le-ltb, leb, leb-true, length, lt-ltb, ltb, ltb-true, ne-eqb, not, refl, suc, sym, true, zero, ℕ, ℕ-discrete}
+use Rattle.laws.specs.Prelude.{Bool, Element, List, [], _&&_, _*_, _+_, _-_, _<_, _||_, _∙_, _∷_, _≡_, _≤_, _⊎_, add-one, and-assoc, and-left, and-right, and-true, and-unit, ap, ap₂, arith, cond, elementIn, eq-eqb, eqb, eqb-true, false, false≢true, inl, inr, le-leb, le-ltb, leb, leb-true, length, lt-ltb, ltb, ltb-true, ne-eqb, not, refl, suc, sym, true, zero, ℕ, ℕ-discrete}
 use Rattle.lines_model.proofs.Keeps.{row-within}
 use Rattle.lines_model.proofs.Which.{line-mono, lowest-lt, spans}
 use Rattle.lines_model.specs.Calls.{heads}
-use Rattle.lines_model.specs.Layout.{lineOf, placeIn, powerOfTwo, rowAt, rowIn, shapeOk, word}
+use Rattle.lines_model.specs.Layout.{lineOf, powerOfTwo, rowAt, rowIn, shapeOk, word}
 use Rattle.lines_model.specs.Rules.{ascends, giver, goal, isBlank, leads, lineOk, lowest, owned, ownRank, seek, taker}
 use Rattle.lines_model.specs.declared.Rows.{Rows}
 use Rattle.lines_steps.proofs.Finds.{room, small}
@@ -137,7 +137,7 @@ unfolding rowIn atMost
 scan-next w a c r ok spot last b zero here more h s e p = absurd (omega arith)
 scan-next w a c r ok spot last b (suc n) here more h s e p =
     let z : suc n - 1 ≡ n = omega arith in
-    let x = placeIn w b in
+    let x = elementIn w b in
     rw (z, e, p ∙ ap (λ (v : ℕ). oneMore spot (leb v r)) e) (
       and-assoc ok (leb last (word w b)) (up (word w b) (rowIn w (b + 3) n)) ∙ ap (λ (t : Bool). ok && (leb last (word w b) && t)) (sym (up-next x (rowIn w (b + 3) n))) ∙ s .0,
       tally (leb (word w b) r) (s .1),

@@ -1,10 +1,10 @@
 -- What a request comes to, and its counts, from what the steps have read.
-use Rattle.laws.specs.Prelude.{Bool, Done, Element, Empty, Full, Idle, List, Out, Pop, Push, Replace, Request, _+_, _-_, _<_, _∙_, _≡_, _≤_, ap, ap₂, arith, eq-eqb, false, le-ltb, length, lt-ltb, ltb, ne-eqb, not, not-false, not-true, refl, set, subst, sym, true, untagged, ℕ, ℕ-discrete}
+use Rattle.laws.specs.Prelude.{Bool, Done, Element, Empty, Full, Idle, List, Out, Pop, Push, Replace, Request, _+_, _-_, _<_, _∙_, _≡_, _≤_, ap, ap₂, arith, elementIn, eq-eqb, false, le-ltb, length, lt-ltb, ltb, ne-eqb, not, not-false, not-true, refl, set, subst, sym, true, untagged, ℕ, ℕ-discrete}
 use Rattle.lines_model.proofs.Acts.{giver-fits, goal-lt}
 use Rattle.lines_model.proofs.Row.{other, same}
 use Rattle.lines_model.proofs.Tests.{shape-means}
 use Rattle.lines_model.specs.Calls.{heads}
-use Rattle.lines_model.specs.Layout.{placeIn, rowAt, shapeOk, word}
+use Rattle.lines_model.specs.Layout.{rowAt, shapeOk, word}
 use Rattle.lines_model.specs.Rules.{choice, comeTo, counted, denied, dueOf, giver, goal, hasRoom, inRange, rankFit, roomAfter, taker, total}
 use Rattle.lines_model.specs.declared.Choice.{Choice}
 use Rattle.lines_model.specs.declared.Due.{Due}
@@ -42,9 +42,9 @@ module _ (k : Rows) (w : List ℕ) where
     pub giver-in : shapeOk k (length w) ≡ true → (held ≡ 0 → ⊥) → (l : ℕ) → l ≡ giver k (word w) (heads k w) → l < k .lines
     giver-in s n l e = rw e (giver-fits k (length w) (shape-means k (length w) .says s) (word w) (heads k w) (some-held n) .0)
 
-    module _ (n : held ≡ 0 → ⊥) (l a : ℕ) (y : Element) (e : l ≡ giver k (word w) (heads k w)) (f : a ≡ rowAt k l) (g : y ≡ placeIn w a) where
+    module _ (n : held ≡ 0 → ⊥) (l a : ℕ) (y : Element) (e : l ≡ giver k (word w) (heads k w)) (f : a ≡ rowAt k l) (g : y ≡ elementIn w a) where
       front-is : y ≡ heads k w (giver k (word w) (heads k w))
-      front-is = g ∙ ap (placeIn w) (f ∙ ap (rowAt k) e)
+      front-is = g ∙ ap (elementIn w) (f ∙ ap (rowAt k) e)
 
       pub come-take : choice (Out y) (Take l) ≡ comeTo k (word w) (heads k w) Pop
       unfolding comeTo dueOf

@@ -4,20 +4,19 @@ use lines_model::Due;
 use lines_model::Rows;
 use strip::Answer;
 use strip::Element;
-use strip::Length;
-use strip::Rank;
 use strip::Refusal;
 use strip::Request;
-use strip::Tag;
+use strip::element_at;
 use strip::is_untagged;
 use strip::no_element;
+use strip::write_element;
 ghost use mathlib.Core.Bool.{true};
 ghost use mathlib.Core.Path.{_≡_};
 ghost use Prim.Native.Nat.{_*_, _+_, _≤_, _<_};
 ghost use lib.Dec.{ltb};
 ghost use lib.ListN.{length};
 ghost use Rattle.lines_model.specs.Calls.{heads, wipe};
-ghost use Rattle.lines_model.specs.Layout.{lineOf, placeIn, placeSet, powerOfTwo, putIn, rowAt, rowIn, shapeOk, without, word};
+ghost use Rattle.lines_model.specs.Layout.{lineOf, powerOfTwo, putIn, rowAt, rowIn, shapeOk, without, word};
 ghost use Rattle.lines_model.specs.Rules as rules;
 ghost use Rattle.lines_model.specs.Rules.{comeTo, counted, giver, goal, hasRoom, inRange, lowest, ownRank, rankFit, roomAfter, seek, taker, total};
 ghost use Rattle.lines_steps.specs.Shift.{down, up};
@@ -48,33 +47,6 @@ pub struct Look {
 pub struct Sizes {
     pub gives: usize,
     pub takes: usize,
-}
-
-// ---- a place
-
-// The element at word a.
-fn place_at(s: &[u32], a: usize) -> Element
-    requires { ⌜ a + 3 ≤ length (now s) ⌝ }
-    ensures { λ r. ⌜ r ≡ placeIn (now (s .entry)) a ⌝ }
-{
-    let rank = s[a];
-    let tag = s[a + 1];
-    let length = s[a + 2];
-    Element {
-        rank: Rank(rank),
-        tag: Tag(tag),
-        length: Length(length),
-    }
-}
-
-// The place at word a becomes x.
-fn set_place(s: &mut [u32], a: usize, x: Element)
-    requires { ⌜ a + 3 ≤ length (now s) ⌝ }
-    ensures { λ _. ⌜ now (s .exit) ≡ placeSet (now (s .entry)) a x ⌝ }
-{
-    s[a] = x.rank.0;
-    s[a + 1] = x.tag.0;
-    s[a + 2] = x.length.0;
 }
 
 // ---- a line's places move by their words, in loops that are a copy and nothing else
@@ -116,7 +88,7 @@ fn put_at(s: &mut [u32], a: usize, c: usize, spot: usize, x: Element)
     let b = a + PLACE * spot;
     let n = PLACE * (c - spot);
     shift_up(s, b, n);
-    set_place(s, b, x);
+    write_element(s, b, x);
 }
 
 // The line of c elements that begins at word a gives its first place away.
@@ -128,7 +100,7 @@ fn take_out(s: &mut [u32], a: usize, c: usize)
     shift_down(s, a, n);
     let b = a + n;
     let none = no_element();
-    set_place(s, b, none);
+    write_element(s, b, none);
 }
 
 // Both in one line: only the places before x's own move.
@@ -140,7 +112,7 @@ fn swap_at(s: &mut [u32], a: usize, c: usize, spot: usize, x: Element)
     let n = PLACE * place;
     shift_down(s, a, n);
     let b = a + n;
-    set_place(s, b, x);
+    write_element(s, b, x);
 }
 
 // The work at one line of c elements that begins at word a: its first place leaves, x comes in, or both.
@@ -565,7 +537,7 @@ fn come_pop(s: &[u32], k: Rows, held: usize) -> Choice
     }
     let l = giver_of(s, k);
     let a = row_at(k, l);
-    let y = place_at(s, a);
+    let y = element_at(s, a);
     Choice {
         answer: Answer::Out(y),
         due: Due::Take(l),
@@ -587,7 +559,7 @@ fn come_replace(s: &[u32], k: Rows, x: Element, held: usize) -> Choice
         return denied(Refusal::Full);
     }
     let a = row_at(k, l);
-    let y = place_at(s, a);
+    let y = element_at(s, a);
     Choice {
         answer: Answer::Out(y),
         due: Due::Swap(l, x),

@@ -1,16 +1,16 @@
 -- An element in its words: what is written is read back, and no other word changes. Whoever lays elements out goes by these laws, and not by the numbers of words.
-use Prim.Native.Nat.{_+_, _<_, _≤_, suc, zero, ℕ}
+use Prim.Native.Nat.{_+_, _-_, _<_, _≤_, suc, zero, ℕ}
 use native.Mathlib.Omega.{arith}
 use mathlib.Core.Bool.{_&&_, Bool, true, true≢false, false}
 use mathlib.Core.List.{[], _∷_, List}
 use mathlib.Core.Logic.{_⊎_, inl, inr, ⊎-elim}
-use mathlib.Core.Path.{_∙_, _≡_, ap, refl, sym}
+use mathlib.Core.Path.{_∙_, _≡_, ap, refl, subst, sym}
 use lib.Dec.{eqb}
 use lib.ListN.{getD, length, length-set, set}
-use lib.Seq.{getD-set-other, getD-set-same, set-comm}
+use lib.Seq.{getD-set-other, getD-set-same, set-comm, set-set}
 use borrow.Author.Tests.{eq-eqb, eqb-true, le-ltb, lt-ltb}
 use Rattle.strip.specs.Answers.{blank, element, key}
-use Rattle.strip.specs.Words.{elementIn, elementWords, isBlank, keep, pass, writeElement, Zeros}
+use Rattle.strip.specs.Words.{elementIn, elementNumbers, elementWords, isBlank, keep, pass, writeElement, Zeros}
 use Rattle.strip.specs.declared.Element.{Element}
 
 -- an element by its numbers
@@ -33,6 +33,11 @@ read-same ws ws′ o o′ h =
     let at : (n : ℕ) → n ≡ n + 0 = λ n. omega arith in
     element-path (ap (λ (n : ℕ). getD ws′ n 0) (at o′) ∙ h 0 (omega arith) ∙ ap (λ (n : ℕ). getD ws n 0) (sym (at o))) (h 1 (omega arith)) (h 2 (omega arith))
 
+pub read-numbers : (ws : List ℕ) (o : ℕ) (e : Element) → ((j : ℕ) → j < elementWords → getD ws (o + j) 0 ≡ getD (elementNumbers e) j 0) → elementIn ws o ≡ e
+read-numbers ws o e h =
+    let at : o ≡ o + 0 = omega arith in
+    element-path (ap (λ (n : ℕ). getD ws n 0) at ∙ h 0 (omega arith)) (h 1 (omega arith)) (h 2 (omega arith))
+
 pub read-local : (ws ws′ : List ℕ) (o : ℕ) → ((i : ℕ) → o ≤ i → i < o + elementWords → getD ws′ i 0 ≡ getD ws i 0) → elementIn ws′ o ≡ elementIn ws o
 read-local ws ws′ o h = element-path (h o (omega arith) (omega arith)) (h (o + 1) (omega arith) (omega arith)) (h (o + 2) (omega arith) (omega arith))
 
@@ -42,6 +47,17 @@ same-words ws vs o zero h e = let at : o + 0 ≡ o = omega arith in rw at (ap (�
 same-words ws vs o (suc zero) h e = ap (λ (x : Element). x .tag .0) e
 same-words ws vs o (suc (suc zero)) h e = ap (λ (x : Element). x .length .0) e
 same-words ws vs o (suc (suc (suc j))) h e = absurd (omega arith)
+
+-- no element's words are zeros
+pub blank-words : (ws : List ℕ) (o i : ℕ) → elementIn ws o ≡ blank → o ≤ i → i < o + elementWords → getD ws i 0 ≡ 0
+unfolding blank
+blank-words ws o i e p q = let at : o + (i - o) ≡ i = omega arith in subst (λ (n : ℕ). getD ws n 0 ≡ 0) at (go (i - o) (omega arith))
+  where
+    go : (j : ℕ) → j < elementWords → getD ws (o + j) 0 ≡ 0
+    go zero h = let at : o + 0 ≡ o = omega arith in rw at (ap (λ (x : Element). x .rank .0) e)
+    go (suc zero) h = ap (λ (x : Element). x .tag .0) e
+    go (suc (suc zero)) h = ap (λ (x : Element). x .length .0) e
+    go (suc (suc (suc j))) h = absurd (omega arith)
 
 -- zeros are no element
 pub read-zeros : (ws : List ℕ) (o : ℕ) → ((i : ℕ) → o ≤ i → i < o + elementWords → getD ws i 0 ≡ 0) → elementIn ws o ≡ blank
@@ -95,6 +111,19 @@ write-comm ws o p e x h =
     ∙ ap (λ (q : List ℕ). set q (p + 2) l) (write-past (set ws p r) o (p + 1) t e second)
     ∙ write-past (set (set ws p r) (p + 1) t) o (p + 2) l e third
 
+-- .. and an element written over another is as if it alone were written
+pub write-over : (ws : List ℕ) (o : ℕ) (e x : Element) → writeElement (writeElement ws o e) o x ≡ writeElement ws o x
+write-over ws o e x =
+    let a : List ℕ = set ws o (x .rank .0) in
+    ap (λ (v : List ℕ). set (set v (o + 1) (x .tag .0)) (o + 2) (x .length .0))
+    (set-comm (set (set ws o (e .rank .0)) (o + 1) (e .tag .0)) (o + 2) o (e .length .0) (x .rank .0) (λ p. omega arith)
+    ∙ ap (λ (v : List ℕ). set v (o + 2) (e .length .0)) (set-comm (set ws o (e .rank .0)) (o + 1) o (e .tag .0) (x .rank .0) (λ p. omega arith)
+    ∙ ap (λ (v : List ℕ). set v (o + 1) (e .tag .0)) (set-set ws o (e .rank .0) (x .rank .0))))
+    ∙ ap (λ (v : List ℕ). set v (o + 2) (x .length .0))
+    (set-comm (set a (o + 1) (e .tag .0)) (o + 2) (o + 1) (e .length .0) (x .tag .0) (λ p. omega arith)
+    ∙ ap (λ (v : List ℕ). set v (o + 2) (e .length .0)) (set-set a (o + 1) (e .tag .0) (x .tag .0)))
+    ∙ set-set (set a (o + 1) (x .tag .0)) (o + 2) (e .length .0) (x .length .0)
+
 -- .. and so two slices: what every word set in both keeps between them, an element written in both does
 pub write-both : (R : List ℕ → List ℕ → Type 0) (o : ℕ) → ((us vs : List ℕ) (i v : ℕ) → o ≤ i → i < o + elementWords → R us vs → R (set us i v) (set vs i v))
     → (us vs : List ℕ) (e : Element) → R us vs → R (writeElement us o e) (writeElement vs o e)
@@ -132,6 +161,10 @@ blank-holds e h = rw (eq-eqb (e .rank .0) 0 (h .0), eq-eqb (e .tag .0) 0 (h .1),
 pub blank-none : isBlank blank ≡ true
 unfolding isBlank blank
 blank-none = refl
+
+pub blank-zeros : (e : Element) → e ≡ blank → Zeros e
+unfolding blank
+blank-zeros e p = (ap (λ (x : Element). x .rank .0) p, ap (λ (x : Element). x .tag .0) p, ap (λ (x : Element). x .length .0) p)
 
 pub blank-is : (e : Element) → Zeros e → e ≡ blank
 unfolding blank

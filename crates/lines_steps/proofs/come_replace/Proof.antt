@@ -20,13 +20,13 @@ returns-2 c = come-barred (c .before .before .before .before .before .before .be
 row-at-requires : tie.Need-row-at-requires
 row-at-requires c κs = let z = small (c .before .before .before .before .before .before .args .k) (length (c .before .before .before .before .before .before .args .s .now)) (c .before .before .before .before .before .before .pre .0) in (z .lines, z .high, giver-in (c .before .before .before .before .before .before .args .k) (c .before .before .before .before .before .before .args .s .now) (c .before .before .before .before .before .before .args .held) (c .before .before .before .before .before .before .pre .1 .0) (c .before .before .before .before .before .before .pre .0) (c .before .before .before .before .if1 .left) _ (c .before .before .before .giver-of .ensures))
 
-place-at-requires : tie.Need-place-at-requires
-place-at-requires c κs = let l = giver-in (c .before .before .before .before .before .before .before .args .k) (c .before .before .before .before .before .before .before .args .s .now) (c .before .before .before .before .before .before .before .args .held) (c .before .before .before .before .before .before .before .pre .1 .0) (c .before .before .before .before .before .before .before .pre .0) (c .before .before .before .before .before .if1 .left) _ (c .before .before .before .before .giver-of .ensures) in omega (arith, at-line (c .before .before .before .before .before .before .before .args .k) (length (c .before .before .before .before .before .before .before .args .s .now)) (c .before .before .before .before .before .before .before .pre .0) (c .before .before .before .before .giver-of .result) l .row, at-line (c .before .before .before .before .before .before .before .args .k) (length (c .before .before .before .before .before .before .before .args .s .now)) (c .before .before .before .before .before .before .before .pre .0) (c .before .before .before .before .giver-of .result) l .low, c .row-at .ensures)
+element-at-requires : tie.Need-element-at-requires
+element-at-requires c κs = let l = giver-in (c .before .before .before .before .before .before .before .args .k) (c .before .before .before .before .before .before .before .args .s .now) (c .before .before .before .before .before .before .before .args .held) (c .before .before .before .before .before .before .before .pre .1 .0) (c .before .before .before .before .before .before .before .pre .0) (c .before .before .before .before .before .if1 .left) _ (c .before .before .before .before .giver-of .ensures) in omega (arith, at-line (c .before .before .before .before .before .before .before .args .k) (length (c .before .before .before .before .before .before .before .args .s .now)) (c .before .before .before .before .before .before .before .pre .0) (c .before .before .before .before .giver-of .result) l .row, at-line (c .before .before .before .before .before .before .before .args .k) (length (c .before .before .before .before .before .before .before .args .s .now)) (c .before .before .before .before .before .before .before .pre .0) (c .before .before .before .before .giver-of .result) l .low, c .row-at .ensures)
 
 returns-3 : tie.Need-returns-3
-returns-3 c = come-swap (c .before .before .before .before .before .before .before .before .args .k) (c .before .before .before .before .before .before .before .before .args .s .now) (c .before .before .before .before .before .before .before .before .args .held) (c .before .before .before .before .before .before .before .before .pre .1 .0) (c .before .before .before .before .before .before .if1 .left) _ _ _ (c .before .before .before .before .before .giver-of .ensures) (c .before .row-at .ensures) (c .place-at .ensures) (c .before .before .before .before .before .before .before .before .args .x) _ _ (c .before .before .before .before .goal-of .ensures) (c .before .before .before .room-after .ensures) (c .before .before .if2 .left)
+returns-3 c = come-swap (c .before .before .before .before .before .before .before .before .args .k) (c .before .before .before .before .before .before .before .before .args .s .now) (c .before .before .before .before .before .before .before .before .args .held) (c .before .before .before .before .before .before .before .before .pre .1 .0) (c .before .before .before .before .before .before .if1 .left) _ _ _ (c .before .before .before .before .before .giver-of .ensures) (c .before .row-at .ensures) (c .element-at .ensures) (c .before .before .before .before .before .before .before .before .args .x) _ _ (c .before .before .before .before .goal-of .ensures) (c .before .before .before .room-after .ensures) (c .before .before .if2 .left)
 
 pub come-replace-spec : {M : Type 1} → statement M
 come-replace-spec = tie.close
     (tie.spec (λ c κs. search needs) returns (λ c κs. search needs) goal-of-requires room-after-requires (λ c κs. search needs) returns-2
-    row-at-requires place-at-requires returns-3)
+    row-at-requires element-at-requires returns-3)
