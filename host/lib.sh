@@ -10,10 +10,12 @@
 # TARGET is x86_64-linux, aarch64-linux, riscv64-linux, armv7-linux, thumbv7em-none (Cortex-M4) or riscv32-none. -Oz is for little code; the
 # library is then that of TARGET-Oz, and a target may be named so too.
 #
-# x86_64-linux is the archive of `rt staticlib card` itself. While that is proved and built, the module is kept that the prover's compiler
-# hands to its back end; every other library is that module, compiled by the same compiler for another processor. So it is the code that is
-# proved, and what is trusted is another back end; --check holds what it makes to the lines that all libraries must write, under an emulator
-# where the processor is another one. Compilers and emulators that a check lacks are installed from Debian's packages (as root).
+# The library is made of the boundary crates, those with a function that host/card.h declares: a crate is in it once one of its functions is
+# declared there. Each is proved and built by `rt staticlib`. x86_64-linux has the objects of those archives themselves. While a crate is
+# built, the module is kept that the prover's compiler hands to its back end; every other library is these modules, compiled by the same
+# compiler for another processor. So it is the code that is proved, and what is trusted is another back end; --check holds what it makes to
+# the lines that all libraries must write, under an emulator where the processor is another one. Compilers and emulators that a check lacks
+# are installed from Debian's packages (as root).
 set -u
 cd "$(dirname "$0")/.." || exit 2
 . host/tools.sh
@@ -125,22 +127,65 @@ compiled() {
     rm -f "$3.x86.ll" "$3.sed" "$3.ll"
 }
 
+# The boundary crates: those with a function for C that the header declares.
+boundary() {
+    find crates -path '*/src/*' -name '*.rt' -exec grep -l '^#\[no_mangle\]' {} + | LC_ALL=C sort | xargs awk '
+        FILENAME == "host/card.h" { if (sub(/^(uint32_t|card_len) /, "") && sub(/\(.*/, "")) declared[$0] = 1; next }
+        /^pub extern "C" fn / { split($5, name, /[(<]/); split(FILENAME, path, "/"); if (name[1] in declared && !seen[path[2]]++) print path[2] }' host/card.h
+}
+
+# What a crate is made of: a sum over its files and those of every crate below it, edits that must fail apart.
+sum_of() {
+    awk -v crate="$1" '
+        function below(name, i, n, names) {
+            if (seen[name]++) return
+            print name
+            n = split(under[name], names, " ")
+            for (i = 1; i <= n; i++) below(names[i])
+        }
+        /^[a-z]/ { name = $1; sub(/:$/, "", name); $1 = ""; under[name] = $0 }
+        END { below(crate) }' crates.txt | LC_ALL=C sort | while read -r sum_one; do
+        [ ! -d "crates/$sum_one" ] || find "crates/$sum_one" -type f ! -path '*/must-fail/*' -exec sha256sum {} +
+    done | LC_ALL=C sort | sha256sum
+}
+
+# Has a boundary crate proved and built, with its module kept beside: target/staticlib/libCRATE.a and $LIB/CRATE.bc. A crate of which
+# nothing changed since then is left alone.
+proved() {
+    proved_sum=$(sum_of "$1") proved_archive=target/staticlib/lib$1.a
+    if [ -e "$proved_archive" ] && [ -e "$LIB/$1.bc" ] && [ "$(cat "$LIB/$1.sum" 2>/dev/null)" = "$proved_sum" ]; then return; fi
+    rm -f "$LIB/$1.sum"
+    kept "$LIB/$1.bc" "$proved_archive" staticlib "$1"
+    printf '%s\n' "$proved_sum" >"$LIB/$1.sum"
+}
+
+# The object of a boundary crate for a target: object CRATE TARGET FILE. That for x86-64 is the one in its archive.
+object() {
+    if [ "$2" = x86_64-linux ]; then
+        [ "$("$tools/llvm-ar" t "target/staticlib/lib$1.a" | wc -l)" -eq 1 ] && "$tools/llvm-ar" p "target/staticlib/lib$1.a" >"$3"
+    else
+        compiled "$LIB/$1.bc" "$2" "$3"
+    fi
+}
+
 # Makes the library for a target, and sets `made_lib` and its folder.
 for_target() {
     folder=$LIB/$1
     made_lib=$folder/libcard.a
-    if fresh "$made_lib" && [ -z "$(find host/lib.sh -newer "$made_lib")" ]; then return; fi
-    if ! fresh "$LIB/card.bc" || ! fresh target/staticlib/libcard.a; then kept "$LIB/card.bc" target/staticlib/libcard.a staticlib card; fi
+    if fresh "$made_lib" && [ -z "$(find host/lib.sh host/card.h -newer "$made_lib")" ]; then return; fi
+    crates=$(boundary)
+    [ -n "$crates" ] || fail 'no crate has a function that host/card.h declares'
+    kit
     mkdir -p "$folder" || exit 1
-    if [ "$1" = x86_64-linux ]; then
-        cp target/staticlib/libcard.a "$made_lib.new" || exit 1
-    else
-        printf 'lib: %s: the proved module through another back end of the compiler, which is trusted as the one for x86-64 is\n' "$1" >&2
-        rm -f "$made_lib.new"
-        compiled "$LIB/card.bc" "$1" "$folder/card.o" && "$tools/llvm-ar" rcs "$made_lib.new" "$folder/card.o" ||
-            fail "the module is not compiled for $1"
-        rm "$folder/card.o"
-    fi
+    for crate in $crates; do proved "$crate"; done
+    [ "$1" = x86_64-linux ] ||
+        printf 'lib: %s: the proved modules through another back end of the compiler, which is trusted as the one for x86-64 is\n' "$1" >&2
+    rm -f "$made_lib.new"
+    for crate in $crates; do
+        object "$crate" "$1" "$folder/$crate.o" && "$tools/llvm-ar" rcs "$made_lib.new" "$folder/$crate.o" ||
+            fail "$crate is not compiled for $1"
+        rm "$folder/$crate.o"
+    done
     mv "$made_lib.new" "$made_lib"
 }
 

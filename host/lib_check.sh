@@ -57,14 +57,22 @@ as_the_page_says() {
         END { exit bad }' docs/FIRMWARE.md "$folder/stack.out" >&2 || exit 1
 }
 
+# Whether the library has the functions that the header declares, each once, and nothing else that a program could link to.
+as_declared() {
+    sed -n 's/^\(uint32_t\|card_len\) \(card_[a-z_]*\)(.*/\2/p' host/card.h | LC_ALL=C sort >"$folder/declared"
+    "${cc%%gcc*}nm" -g --defined-only "$made_lib" | awk 'NF == 3 { print $3 }' | LC_ALL=C sort >"$folder/exported"
+    diff "$folder/declared" "$folder/exported" >&2 || fail "$1: the library has other functions than its header declares"
+}
+
 check() {
     stack "$1"
     as_the_page_says "$1"
     if "${cc%%gcc*}nm" "$made_lib" | grep -q ' [bBcCdD] '; then fail "$1: the library has words of its own, and its pages say that it has none"; fi
+    as_declared "$1"
     for source in host/checks/c/soak.c host/examples/pops.c; do program "$folder" "$source"; done
     same "$1" soak host/checks/c/soak.txt
     same "$1" pops host/examples/pops.txt
-    printf '%s: soak %s; the example and the stack as their pages have them\n' "$1" "$(sed -n 's/^clocked cluster: //p' "$folder/soak.out")"
+    printf '%s: soak %s; the example and the stack as their pages have them\n' "$1" "$(sed -n 's/^.*: \(.* hash .*\)/\1/p' "$folder/soak.out" | tail -n 1)"
 }
 
 # The bytes of code that a program gets of the library which calls these functions: bytes FUNCTION..

@@ -53,8 +53,9 @@ fn main() {
             path.canonicalize().expect("a file that is there")
         }
         None => {
-            println!("cargo:rerun-if-changed={}", root.join("crates").display());
-            println!("cargo:rerun-if-changed={}", root.join("crates.txt").display());
+            for made_of in ["crates", "crates.txt", "host/card.h", "host/lib.sh"] {
+                println!("cargo:rerun-if-changed={}", root.join(made_of).display());
+            }
             own(&root, &std::env::var("TARGET").unwrap_or_default())
         }
     };

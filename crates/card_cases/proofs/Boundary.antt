@@ -3,13 +3,15 @@ use Rattle.laws.specs.Prelude.{All, blank, refl, sumTo, untagged}
 use lib.Count.{trailingZeros}
 use Rattle.bitmap.specs.Bits.{bitAt}
 use Rattle.bucket_model.specs.Prelude.{blankWord, cleared, fill, filled, heldCount, joinedBits, joinedWords, linkAt, lowestOf, lowestOpen, lowestRank, marked, nextOf, popFound, popOk, popped, pushFound, pushOk, pushed, rankAgrees, replaceFound, replaceJoined, replaced, roomAfter, roomWith, shapeOk, tailLeft, takenBits, takenWords, wholeOk}
-use Rattle.card.proofs.CasesClock.{clocked-rows}
-use Rattle.card.proofs.CasesCluster.{cluster-rows, clocked-cluster-rows}
-use Rattle.card.proofs.CasesSize.{size-rows}
-use Rattle.card.proofs.CasesTree.{fair-rows, mend-rows, tree-rows}
-use Rattle.card.specs.Bucket.{bucketAnswered}
-use Rattle.card.specs.Cases.{Right}
+use Rattle.card_bucket.proofs.Cases as bucket
+use Rattle.card_cluster.proofs.Cases as cluster
+use Rattle.card_cluster.proofs.Cases.{cluster-rows, clocked-cluster-rows}
+use Rattle.card_tree.proofs.Cases as tree
+use Rattle.card_tree.proofs.Cases.{fair-rows, mend-rows, tree-rows}
+use Rattle.card_tree_clock.proofs.Cases.{clocked-rows}
+use Rattle.card_bucket.specs.Bucket.{bucketAnswered}
 use Rattle.card_cases.specs.Table.{bucketRows, portsRows, table}
+use Rattle.card_words.specs.Cases.{Right}
 use Rattle.card_words.specs.Out.{countAnswered}
 use Rattle.ports_model.specs.Calls as ports
 use Rattle.ports_model.specs.Checks as checks
@@ -24,4 +26,4 @@ ports-rows = (refl, (refl, (refl, (refl, (refl, tt)))))
 
 -- BOUNDARY: every row of every family comes out
 pub boundary : All (All Right) table
-boundary = (tree-rows, (mend-rows, (cluster-rows, (clocked-rows, (clocked-cluster-rows, (fair-rows, (bucket-rows, (ports-rows, (size-rows, tt)))))))))
+boundary = (tree-rows, (mend-rows, (cluster-rows, (clocked-rows, (clocked-cluster-rows, (fair-rows, (bucket-rows, (ports-rows, (tree.size-rows, (cluster.size-rows, (bucket.size-rows, tt)))))))))))

@@ -8,13 +8,14 @@ use Rattle.bucket_model.proofs.Promises as bucketPromises
 use Rattle.bucket_model.specs.Calls as bucket
 use Rattle.bucket_model.specs.Prelude.{Laid, Reached, Shaped, Store, after, ask, asked, bucketQueue, callTable, called, plainSays, plainWith, queue, says, store, storedBy}
 use Rattle.bucket_model.specs.declared.Lay.{Lay}
-use Rattle.card.specs.Bucket.{bucketAnswered, bucketClear}
-use Rattle.card.specs.Cluster.{clusterClear}
-use Rattle.card.specs.Tree.{treeAnswered, treeClear}
+use Rattle.card_bucket.specs.Bucket.{bucketAnswered, bucketClear}
+use Rattle.card_cluster.specs.Cluster.{clusterClear}
+use Rattle.card_tree.specs.Tree.{treeClear}
 use Rattle.card_cases.proofs.Through as through
 use Rattle.card_cases.specs.Through.{bucketC, clusterC, refusedC, repliesC, throughC, treeC}
 use Rattle.card_words.specs.Heard.{Ask, Heard, pop, push, replace, wanted}
 use Rattle.card_words.specs.Out.{answerWords, countAfter, CountAfter}
+use Rattle.card_words.specs.Store.{storeAnswered}
 use Rattle.cluster_model.proofs.Damages as clusterShape
 use Rattle.cluster_model.proofs.Exactly as clusterTable
 use Rattle.cluster_model.proofs.Promises as clusterPromises
@@ -34,7 +35,7 @@ stepOf o = step (o .answer) (o .words)
 -- ---- the tree
 module _ (m levels : ℕ) (out : List ℕ) (room : answerWords ≤ length out) where
   tree-is : (c : Ask) (ws : List ℕ) → treeC m levels out c ws ≡ throughC (treeQueue m levels) out c ws
-  unfolding treeAnswered
+  unfolding storeAnswered
   tree-is (push x) ws = refl
   tree-is pop ws = rw (le-leb answerWords (length out) room)
   tree-is (replace x) ws = rw (le-leb answerWords (length out) room)
@@ -57,7 +58,7 @@ module _ (m levels : ℕ) (out : List ℕ) (room : answerWords ≤ length out) w
 -- ---- the cluster heap
 module _ (K levels : ℕ) (out : List ℕ) (room : answerWords ≤ length out) where
   cluster-is : (c : Ask) (ws : List ℕ) → clusterC K levels out c ws ≡ throughC (cluster.clusterQueue K levels) out c ws
-  unfolding treeAnswered
+  unfolding storeAnswered
   cluster-is (push x) ws = refl
   cluster-is pop ws = rw (le-leb answerWords (length out) room)
   cluster-is (replace x) ws = rw (le-leb answerWords (length out) room)

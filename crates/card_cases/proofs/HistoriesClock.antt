@@ -1,15 +1,15 @@
 -- A list of cycles through C from any memory, cleared first: the clocked tree and the clocked cluster heap. What is heard is what the machine answers that the memory holds, and so in the middle of any work it holds what
 -- went in and has not come out, and gives the lowest rank.
 use Rattle.laws.specs.Prelude.{Answer, Exactly, Idle, List, Pop, Push, Refusal, Replace, Request, [], _-_, _∙_, _∷_, _≡_, _≤_, ap, arith, blank, getD, le-leb, leb, length, not-suc-le-zero, numberOf, refl, refusalNumber, subst, suc, sym, true, zero, ℕ}
-use Rattle.card.proofs.History as tree
-use Rattle.card.specs.ClockedCluster as stages
-use Rattle.card.specs.ClockedCluster.{clockedClusterClear, clockedClusterCycle, clockedClusterDrain}
-use Rattle.card.specs.History as kept
-use Rattle.card.specs.History.{asks, broughtBy, callC, callM, clearC, codeOf, Kept}
+use Rattle.card_tree_clock.proofs.History as tree
+use Rattle.card_cluster.specs.ClockedCluster as stages
+use Rattle.card_cluster.specs.ClockedCluster.{clockedClusterClear, clockedClusterCycle, clockedClusterDrain}
+use Rattle.card_tree_clock.specs.History as kept
+use Rattle.card_tree_clock.specs.History.{asks, broughtBy, callC, callM, clearC, codeOf, Kept}
 use Rattle.card_cases.proofs.Through.{beside}
 use Rattle.card_cases.specs.Through.{HeardBeside, stagesC, stagesDrainC}
 use Rattle.card_words.proofs.Heard.{heard-told}
-use Rattle.card.specs.Clocked.{clockedCycle}
+use Rattle.card_tree_clock.specs.Clocked.{clockedCycle}
 use Rattle.card_words.specs.Asked.{asked, marked, markIn, markOut, requestOf}
 use Rattle.card_words.specs.Heard.{heard}
 use Rattle.card_words.specs.Out.{answerOut, answerWords, countAfter, CountAfter, drainOut, drainWords, zeros}

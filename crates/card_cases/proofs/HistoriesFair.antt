@@ -1,6 +1,6 @@
 -- A list of calls of fair ranks through C: what is heard is what the model answers, and the words left are the model's, so that whatever is shown of its lists of calls holds of C's.
 use Rattle.laws.specs.Prelude.{BadPort, BadRank, BadShape, Damaged, Element, Empty, Exactly, Full, List, NoHeap, NoTag, Out, Pop, TooSoon, _∙_, _≡_, _≤_, ap, elementOf, le-leb, length, refl, subst, sym, ℕ}
-use Rattle.card.specs.Fair.{fairAnswered, fairOut}
+use Rattle.card_tree.specs.Fair.{fairAnswered, fairOut}
 use Rattle.card_cases.specs.Through.{fairC, fairHears}
 use Rattle.card_words.proofs.Heard.{heard-in-step, heard-same, heard-told}
 use Rattle.card_words.specs.Heard.{heard, heardAll, heardElement}

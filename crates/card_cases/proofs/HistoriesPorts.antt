@@ -2,8 +2,8 @@
 use Rattle.laws.specs.Prelude.{Answer, Exactly, Ladder, List, Refusal, Refused, Request, [], _∙_, _∷_, _≡_, _≤_, ap, fine, le-leb, length, map, means-and, numberOf, refl, ℕ}
 use Rattle.bucket_model.specs.Calls as bucket
 use Rattle.bucket_model.specs.Prelude.{Said, Store, answered, store}
-use Rattle.card.specs.Bucket.{bucketAnswered}
-use Rattle.card.specs.Ports.{portsClear, shape}
+use Rattle.card_bucket.specs.Bucket.{bucketAnswered}
+use Rattle.card_bucket.specs.Ports.{portsClear, shape}
 use Rattle.card_cases.proofs.Through as through
 use Rattle.card_cases.proofs.Through.{reply-heard}
 use Rattle.card_cases.specs.Through.{PortAsk, portAsks, portHears, portsC, refusedC, throughC}

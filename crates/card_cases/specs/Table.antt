@@ -1,8 +1,15 @@
 -- The bucket queue's and the ports' calls through C in plain numbers, and the table of all families. These are definitions; the claim is in proofs/.
 use Rattle.laws.specs.Prelude.{List, [], _++_, _∷_, replicate, ℕ}
-use Rattle.card.specs.Bucket.{bucketClear, bucketHeld, bucketPop, bucketPush, bucketReplace}
-use Rattle.card.specs.Cases.{bucketGot, bucketOutGot, clockedRows, clusterRows, countGot, fairRows, got, mendRows, out4, row, Row, sizeRows, clockedClusterRows, treeRows}
-use Rattle.card.specs.Ports.{portsClear, portsHeld, portsPop, portsPush, portsReplace}
+use Rattle.card_bucket.specs.Bucket.{bucketClear, bucketHeld, bucketPop, bucketPush, bucketReplace}
+use Rattle.card_bucket.specs.Cases as bucket
+use Rattle.card_bucket.specs.Cases.{bucketGot, bucketOutGot}
+use Rattle.card_cluster.specs.Cases as cluster
+use Rattle.card_cluster.specs.Cases.{clockedClusterRows, clusterRows}
+use Rattle.card_tree.specs.Cases as tree
+use Rattle.card_tree.specs.Cases.{fairRows, mendRows, treeRows}
+use Rattle.card_tree_clock.specs.Cases.{clockedRows}
+use Rattle.card_words.specs.Cases.{countGot, got, out4, row, Row}
+use Rattle.card_bucket.specs.Ports.{portsClear, portsHeld, portsPop, portsPush, portsReplace}
 
 -- ---- the bucket queue: two storeys, two nodes, 65 words of 64 bits and 8,200 words, and one more of each
 abbrev emptyBits : List ℕ
@@ -55,4 +62,4 @@ portsRows =
 
 -- ---- all families
 abbrev pub table : List (List Row)
-table = treeRows ∷ mendRows ∷ clusterRows ∷ clockedRows ∷ clockedClusterRows ∷ fairRows ∷ bucketRows ∷ portsRows ∷ sizeRows ∷ []
+table = treeRows ∷ mendRows ∷ clusterRows ∷ clockedRows ∷ clockedClusterRows ∷ fairRows ∷ bucketRows ∷ portsRows ∷ tree.sizeRows ∷ cluster.sizeRows ∷ bucket.sizeRows ∷ []

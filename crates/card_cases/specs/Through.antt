@@ -1,13 +1,13 @@
 -- Lists of calls through C, each on what the one before left: what a call answers is the number returned and `out`. These are definitions.
 use Rattle.laws.specs.Prelude.{Answer, Bool, Element, List, Refusal, Request, [], _∷_, _≡_, cond, eqb, numberOf, refusalNumber, ℕ}
 use Rattle.bucket_model.specs.Prelude.{Said, Store, answered, ask, store}
-use Rattle.card.specs.Bucket.{bucketPop, bucketPush, bucketReplace}
-use Rattle.card.specs.ClockedCluster.{clockedClusterCycle, clockedClusterDrain}
-use Rattle.card.specs.Cluster.{clusterPop, clusterPush, clusterReplace}
-use Rattle.card.specs.Fair.{fairPop, fairPush, fairReset}
-use Rattle.card.specs.History.{broughtBy, codeOf}
-use Rattle.card.specs.Ports.{portsPop, portsPush, portsReplace}
-use Rattle.card.specs.Tree.{treePop, treePush, treeReplace}
+use Rattle.card_bucket.specs.Bucket.{bucketPop, bucketPush, bucketReplace}
+use Rattle.card_cluster.specs.ClockedCluster.{clockedClusterCycle, clockedClusterDrain}
+use Rattle.card_cluster.specs.Cluster.{clusterPop, clusterPush, clusterReplace}
+use Rattle.card_tree.specs.Fair.{fairPop, fairPush, fairReset}
+use Rattle.card_tree_clock.specs.History.{broughtBy, codeOf}
+use Rattle.card_bucket.specs.Ports.{portsPop, portsPush, portsReplace}
+use Rattle.card_tree.specs.Tree.{treePop, treePush, treeReplace}
 use Rattle.card_words.specs.Heard.{Ask, heard, heardAll, heardElement, pop, push, replace, wanted}
 use Rattle.promise.specs.Prelude.{Holds, Least, Step, answers, leaves, refusalOf, step}
 use Rattle.card_words.specs.Out.{answerOut, countAfter, CountAfter}

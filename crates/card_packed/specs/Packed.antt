@@ -1,32 +1,9 @@
 -- The calls of the packed heap as C sees them: total functions of all numbers and words handed in, to the number returned and all words afterwards.
-use Rattle.laws.specs.Prelude.{List, Pop, Push, Replace, cond, element, leb, length, numberOf, ℕ}
-use Rattle.card_words.specs.Out.{answerOut, answerWords, badShape, CountAfter, countAnswered}
-use Rattle.packed_model.specs.Calls.{called, cleared, heldCount, Outcome, shapeOk}
+use Rattle.laws.specs.Prelude.{List, Pop, Push, Replace, cond, element, ℕ}
+use Rattle.card_words.specs.Out.{CountAfter, countAnswered}
+use Rattle.card_words.specs.Store.{StoreAfter, StoreAfterOut, storeAnswered, storeDone}
+use Rattle.packed_model.specs.Calls.{called, cleared, heldCount, shapeOk}
 use Rattle.packed_model.specs.Words.{extent}
-
--- the number returned, and the store afterwards
-pub record StoreAfter : Type 0 where
-  pub number : ℕ
-  pub store : List ℕ
-
-abbrev pub storeAfter : ℕ → List ℕ → StoreAfter
-storeAfter n ws = record { number = n; store = ws }
-
--- .. and `out`
-pub record StoreAfterOut : Type 0 where
-  pub number : ℕ
-  pub store : List ℕ
-  pub out : List ℕ
-
-abbrev pub storeAfterOut : ℕ → List ℕ → List ℕ → StoreAfterOut
-storeAfterOut n ws out = record { number = n; store = ws; out = out }
-
-abbrev pub storeDone : Outcome → StoreAfter
-storeDone o = storeAfter (numberOf (o .answer)) (o .words)
-
--- rank, tag and length of the answer; an `out` that has no room for them is refused, and nothing is changed
-unfoldable pub storeAnswered : Outcome → List ℕ → List ℕ → StoreAfterOut
-storeAnswered o ws out = cond (leb answerWords (length out)) (storeAfterOut (numberOf (o .answer)) (o .words) (answerOut (o .answer) out)) (storeAfterOut badShape ws out)
 
 -- ---- the calls
 abbrev pub packedClear : ℕ → ℕ → List ℕ → StoreAfter

@@ -1,7 +1,8 @@
 // The packed heap for C and Rust: numbers and slices.
 ghost use mathlib.Core.Path.{_≡_};
 ghost use Rattle.card_words.specs.Out.{countAfter};
-ghost use Rattle.card_packed.specs.Packed.{packedClear, packedHeld, packedPop, packedPush, packedReplace, packedWords, storeAfter, storeAfterOut};
+ghost use Rattle.card_words.specs.Store.{storeAfter, storeAfterOut};
+ghost use Rattle.card_packed.specs.Packed.{packedClear, packedHeld, packedPop, packedPush, packedReplace, packedWords};
 use card_words::OUT;
 use card_words::tell;
 use card_words::tell_count;

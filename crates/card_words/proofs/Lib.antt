@@ -1,4 +1,6 @@
 pub mod Out
+pub mod Store
+pub mod Pinned
 pub mod Asked
 pub mod Heard
 pub mod Numbers

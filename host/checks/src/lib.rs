@@ -5,6 +5,7 @@
 
 pub mod table;
 
+use std::collections::BTreeMap;
 use std::path::{Path, PathBuf};
 use std::process::{Command, Output};
 
@@ -113,4 +114,32 @@ pub fn done(command: &mut Command) -> String {
 /// A file's text.
 pub fn text(path: &Path) -> String {
     std::fs::read_to_string(path).unwrap_or_else(|error| panic!("{}: {error}", path.display()))
+}
+
+/// The boundary crates, whose functions for C the header declares, and the text of each: what `host/lib.sh` makes the library of.
+pub fn boundary() -> BTreeMap<String, String> {
+    let header = text(&root().join(table::HEADER));
+    let crates = std::fs::read_dir(root().join("crates")).expect("the crates").map(|entry| entry.unwrap().path());
+    let named =
+        crates.map(|folder| (folder.file_name().unwrap().to_string_lossy().into_owned(), source(&folder.join("src"))));
+    let exports = |text: &str| {
+        let functions = text.split("\n#[no_mangle]\npub extern \"C\" fn ").skip(1);
+        let mut names = functions.filter_map(|rest| rest.split(|c| "(<".contains(c)).next());
+        names.any(|name| {
+            header.contains(&format!("\nuint32_t {name}(")) || header.contains(&format!("\ncard_len {name}("))
+        })
+    };
+    named.filter(|(_, text)| exports(text)).collect()
+}
+
+/// The text of all modules of a crate's source, one after the other.
+fn source(folder: &Path) -> String {
+    let mut files: Vec<PathBuf> =
+        std::fs::read_dir(folder).into_iter().flatten().map(|entry| entry.unwrap().path()).collect();
+    files.sort();
+    let module = |path: &PathBuf| match path.extension().map_or(false, |e| e == "rt") {
+        true => text(path),
+        false => source(path),
+    };
+    files.iter().map(module).collect::<Vec<_>>().join("\n")
 }

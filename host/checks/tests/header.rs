@@ -5,7 +5,7 @@
 //! header; the source's `usize`, of 64 bits, is `card_len` in C. The header's declarations are written from the list, to the byte.
 
 use checks::table::{calls, of_list, written, Call, Kind, HEADER, LIST};
-use checks::{root, text};
+use checks::{boundary, root, text};
 use std::collections::{BTreeMap, BTreeSet};
 
 /// A function: its parameters as `name: type`, and what it answers.
@@ -224,11 +224,11 @@ fn of_header(text: &str) -> Result<Functions, String> {
 
 #[test]
 fn header_declarations_and_source_agree() {
-    let paths = [HEADER, LIST, "crates/card/src"];
-    // every module of the library's source
-    let files = std::fs::read_dir(root().join(paths[2])).unwrap().map(|entry| entry.unwrap().path());
-    let source: String =
-        files.filter(|path| path.extension().map_or(false, |e| e == "rt")).map(|path| text(&path)).collect();
+    // every module of every crate that the library is made of
+    let crates = boundary();
+    let names = crates.keys().map(String::as_str).collect::<Vec<_>>().join(", ");
+    let paths = [HEADER, LIST, &format!("the source of {names}")];
+    let source = crates.into_values().collect::<Vec<_>>().join("\n");
     let tables = [of_header(&text(&root().join(paths[0]))), Ok(of_calls(&calls())), of_source(&source)];
     let tables: Vec<Functions> =
         tables.into_iter().zip(paths).map(|(t, path)| t.unwrap_or_else(|e| panic!("{path}: {e}"))).collect();
@@ -249,13 +249,14 @@ fn header_declarations_and_source_agree() {
 /// The version stands in the source's contract, in its code, in the header and in the wrapper: one number.
 #[test]
 fn one_version() {
-    let number = |path: &str, before: &str, after: &str| {
-        let all = text(&root().join(path));
+    let number_in = |path: &str, all: &str, before: &str, after: &str| {
         let found: Vec<&str> = all.split(before).skip(1).filter_map(|rest| rest.split(after).next()).collect();
         assert_eq!(found.len(), 1, "{path}: {before}");
         found[0].trim().parse::<u32>().unwrap_or_else(|_| panic!("{path}: {} is no number", found[0]))
     };
-    let version = number("crates/card/src/version.rt", "⌜ r ≡ ", " ⌝");
+    let number = |path: &str, before: &str, after: &str| number_in(path, &text(&root().join(path)), before, after);
+    let source = boundary().into_values().collect::<String>();
+    let version = number_in("the source", &source, "fn card_version() -> u32\n    ensures { λ r. ⌜ r ≡ ", " ⌝");
     assert_eq!(number("host/card.h", "#define CARD_VERSION ", "u\n"), version);
     assert_eq!(number("host/card/src/lib.rs", "pub const VERSION: u32 = ", ";"), version);
 }

@@ -2,7 +2,7 @@
 //! with public functions, every edit that the prover must refuse is named, and every name and file in backticks is there. The names of
 //! the other pages that go by definitions are there too.
 
-use checks::{root, text};
+use checks::{boundary, root, text};
 use std::collections::{BTreeMap, BTreeSet};
 use std::path::Path;
 use std::sync::Mutex;
@@ -178,7 +178,7 @@ fn public_functions_are_those_of_the_sources() {
     let (mut wrong, mut listed) = (Vec::new(), Names::new());
     for row in rows(part) {
         let owner = words(row[0])[0].to_string();
-        if owner != "card" {
+        if !boundary().contains_key(&owner) {
             let named = words(row[1]).into_iter().filter(|word| !word.contains("::")).map(String::from).collect();
             differ(&format!("public functions of `{owner}`"), &named, &sources.public(&owner), &mut wrong);
         }
@@ -203,8 +203,7 @@ fn exported_functions_are_those_of_the_sources() {
         if !definitions.is_empty() && functions.len() != definitions.len() {
             wrong.push(format!("PROMISES, static library: as many definitions as functions beside `{}`", functions[0]));
         }
-        let file = if file.contains('/') { file.to_string() } else { format!("card/specs/{file}") };
-        for definition in definitions.into_iter().filter(|name| !sources.declares(&file, name)) {
+        for definition in definitions.into_iter().filter(|name| !sources.declares(file, name)) {
             wrong.push(format!("PROMISES, static library: `{definition}` is not in {file}"));
         }
         for function in functions {
@@ -213,7 +212,8 @@ fn exported_functions_are_those_of_the_sources() {
             }
         }
     }
-    differ("static library", &named, &sources.behind("card", "#[no_mangle]\npub extern \"C\" fn "), &mut wrong);
+    let exported = |name: &String| sources.behind(name, "#[no_mangle]\npub extern \"C\" fn ");
+    differ("static library", &named, &boundary().keys().flat_map(exported).collect(), &mut wrong);
     told(&wrong);
 }
 

@@ -1,6 +1,6 @@
 -- `card_packed::card_packed_words` meets its contract.
 use Rattle.laws.specs.Prelude.{arith, needs, not-false, not-true}
-use Rattle.card_packed.proofs.Told.{words-few, words-fit, words-none, words-some}
+use Rattle.card_packed.proofs.Sized.{words-few, words-fit, words-none, words-some}
 use Rattle.packed_model.proofs.Tests.{size-pos}
 use Rattle.card_packed.proofs.card_packed_words.Statement.{statement}
 use Rattle.card_packed.proofs.card_packed_words.Tie as tie

@@ -1,0 +1,3 @@
+pub mod Cluster
+pub mod ClockedCluster
+pub mod Cases

@@ -1,0 +1,6 @@
+-- What the proofs of the calls share.
+pub mod Zeros
+pub mod Pinned
+pub mod Mend
+pub mod Fair
+pub mod Cases

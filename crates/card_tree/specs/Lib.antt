@@ -1,0 +1,4 @@
+pub mod Tree
+pub mod Mend
+pub mod Fair
+pub mod Cases
