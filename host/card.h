@@ -3,7 +3,7 @@
  *
  * Every call but the sizes answers a number: 0 where it is not refused, else
  *
- *   1 bad shape     order, places, levels, storeys, nodes, ports, limits or a slice's length outside the rules
+ *   1 bad shape     order, places, heaps, levels, storeys, nodes, ports, limits or a slice's length outside the rules
  *   2 damaged       a store or a pending record does not hold together
  *   3 too soon      a clocked tree's pop or replace just after an answered operation
  *   4 bad rank      a bucket rank above its last: 4095, or 262143 with three storeys
@@ -83,6 +83,9 @@ uint32_t card_tree_words(uint32_t order, uint32_t levels);
 /* A cluster heap's store. */
 uint32_t card_cluster_words(uint32_t places, uint32_t levels);
 
+/* A packed heap's store. */
+uint32_t card_packed_words(uint32_t heaps, uint32_t levels);
+
 /* The state of fair ranks. */
 card_len card_fair_words(void);
 
@@ -99,10 +102,11 @@ uint32_t card_ports_bits(uint32_t storeys, uint32_t ports);
 uint32_t card_ports_words(uint32_t storeys, uint32_t nodes, uint32_t ports);
 
 /*
- * The same as constants, for arrays. They test nothing: order, places, levels, storeys, nodes and ports must be good.
+ * The same as constants, for arrays. They test nothing: order, places, heaps, levels, storeys, nodes and ports must be good.
  */
 #define CARD_TREE_WORDS(order, levels) (4u * ((((order) << (CARD_SHIFT(order) * (levels))) - (order)) / ((order)-1u)))
 #define CARD_CLUSTER_WORDS(places, levels) (((1u << (levels)) - 1u) * (4u * (places) + 2u))
+#define CARD_PACKED_WORDS(heaps, levels) ((heaps) * (3u * ((1u << (levels)) - 1u) + 1u))
 #define CARD_BUCKET_BITS(storeys) ((storeys) == 3u ? 4161u : 65u)
 #define CARD_BUCKET_WORDS(storeys, nodes) ((2u << (6u * (storeys))) + 3u * (nodes) + 2u)
 #define CARD_PORTS_BITS(storeys, ports) ((ports) * CARD_BUCKET_BITS(storeys))
@@ -222,6 +226,40 @@ uint32_t card_cluster_replace(uint32_t *store, card_len store_len, uint32_t plac
 /* Gives the number of held elements in out[0]. */
 uint32_t card_cluster_held(const uint32_t *store, card_len store_len, uint32_t places,
                            uint32_t levels, uint32_t *out, card_len out_len);
+
+/*
+ * The packed heap: a forest of H binary heaps side by side, H from 1 to 256, numbered from 0, in one
+ * store. Each has levels L, at least 1, and room for 2^L - 1 elements, all heaps together for at most
+ * 131071: up to 17 levels with 1 heap, 16 with 2, and one less each time that the heaps are twice as
+ * many, down to 9 with 256. The store has a held word for each heap, then three words for each slot,
+ * rank, tag and length, level by level, in a level heap by heap (card_packed_words in all); it must be
+ * cleared before its first use. A call at one heap neither reads nor writes another's words. A heap
+ * answers the same ranks as the tree.
+ */
+
+/* Empties all heaps: held words and slots zero. Never refused 2. */
+uint32_t card_packed_clear(uint32_t *store, card_len store_len, uint32_t heaps, uint32_t levels);
+
+/* Takes an element in at a heap. Refused 12 for a heap that there is not, 7 with tag 0, 5 where the heap
+   is full. */
+uint32_t card_packed_push(uint32_t *store, card_len store_len, uint32_t heaps, uint32_t levels,
+                          uint32_t heap, uint32_t rank, uint32_t tag, uint32_t length);
+
+/* Gives the heap's element of lowest rank in out[0] to out[2]. Refused 12 for a heap that there is not,
+   6 where the heap holds nothing. */
+uint32_t card_packed_pop(uint32_t *store, card_len store_len, uint32_t heaps, uint32_t levels,
+                         uint32_t heap, uint32_t *out, card_len out_len);
+
+/* A pop, and then a push of the new element at the same heap: gives the element of lowest rank in out[0]
+   to out[2], even if the new rank is lower. Works on a full heap. Refused 12 for a heap that there is
+   not, 7 with tag 0, 6 where the heap holds nothing. */
+uint32_t card_packed_replace(uint32_t *store, card_len store_len, uint32_t heaps, uint32_t levels,
+                             uint32_t heap, uint32_t rank, uint32_t tag, uint32_t length,
+                             uint32_t *out, card_len out_len);
+
+/* Gives the number of elements that the heap holds in out[0]. Refused 12 for a heap that there is not. */
+uint32_t card_packed_held(const uint32_t *store, card_len store_len, uint32_t heaps,
+                          uint32_t levels, uint32_t heap, uint32_t *out, card_len out_len);
 
 /*
  * The bucket queue: first in first out within a rank, a pool of 1 to 65536 nodes. With two storeys

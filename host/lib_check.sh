@@ -97,6 +97,7 @@ size() {
         echo "$1, the tree: $(bytes $(calls tree_ 'check\|mend'))"
         echo "$1, check and mend: $(bytes $(calls 'tree_\(check\|mend\)'))"
         echo "$1, the cluster heap: $(bytes $(calls cluster_))"
+        echo "$1, the packed heap: $(bytes $(calls packed_))"
         echo "$1, the bucket queue: $(bytes $(calls bucket_))"
         echo "$1, several ports: $(bytes $(calls ports_))"
         echo "$1, fair ranks: $(bytes $(calls fair_))"

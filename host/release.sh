@@ -74,7 +74,7 @@ The card's library of proved priority queues, version $version, for machines wit
 A program:   cc -Iinclude examples/pops.c lib/\$(uname -m)-linux/libcard.a -o pops
 A store:     bin/\$(uname -m)-linux/mend STORE ORDER LEVELS
 
-lib/x86_64-linux has the archive that was proved and built. The others are the same proved code through another back
+lib/x86_64-linux has the objects that were proved and built. The others are the same proved code through another back
 end of the same compiler; they were held to it, call by call, under an emulator.
 TEXT
 tools_for x86_64-linux || fail 'no tools for x86-64'

@@ -9,6 +9,7 @@ use Rattle.tree_clock_model.specs.Cases as clock
 use Rattle.cluster_clock_model.specs.Prelude.{caseClock, caseClockSays, caseFlight, caseFlightAnswers, caseFlightAnswersSay, caseFlightSays, caseTie, caseTieAnswers, caseTieAnswersSay, caseTieSays}
 use Rattle.cluster_model.specs.Edge as cluster
 use Rattle.cluster_model.specs.Prelude.{caseCluster, caseClusterAnswers, caseClusterAnswersSay, caseClusterSays}
+use Rattle.packed_model.specs.Cases.{caseDeep, caseDeepSays, caseEven, caseEvenSays, casePacked, casePackedAnswers, casePackedAnswersSay, casePackedSays, caseSpoilt, caseSpoiltSays}
 use Rattle.fair_model.specs.Cases.{caseFair, caseFairSays, caseLimits, caseLimitsSays, caseReset, caseResetSays, caseServed, caseServedSays, caseSpent, caseSpentSays, caseWords, caseWordsSays}
 use Rattle.promise.specs.Prelude.{answers}
 use Rattle.trace_model.specs.Example.{cut, cutLengths, cutLengthsSay, cutSays, deep, deepSays, emptied, emptiedSays, example, exampleSays, idleRanked, idleRankedSays, lengthless, lengthlessSays, lengths, lengthsSay, popTagged, popTaggedSays, untaggedOnes, untaggedSays, wide, wideSays}
@@ -142,6 +143,13 @@ table =
     -- .. equal ranks: the place that gives is chosen before the gap is filled
     ∷ wordsAre caseTie caseTieSays
     ∷ answersAre (map told caseTieAnswers) (map told caseTieAnswersSay)
+    -- [15] the packed heap: the rules' own store of two heaps with two levels, and emptied at heap 0; what is answered: 5 on the full heap, 12 at heap 2, 7, and the lowest at heap 0, then 6 ..
+    ∷ wordsAre casePacked casePackedSays
+    ∷ wordsAre casePackedAnswers casePackedAnswersSay
+    -- .. equal ranks; pops that sink on three levels; and each damage test, met alone
+    ∷ wordsAre caseEven caseEvenSays
+    ∷ wordsAre caseDeep caseDeepSays
+    ∷ wordsAre (caseSpoilt ∷ []) (caseSpoiltSays ∷ [])
     -- held refused: 1, an order of 3; 2, a slot with count 0 and a rank, or a length
     ∷ held 3 1 (replicate 12 0) (1, 0)
     ∷ held 2 1 (9 ∷ 0 ∷ 0 ∷ 0 ∷ 0 ∷ 0 ∷ 0 ∷ 0 ∷ []) (2, 0)

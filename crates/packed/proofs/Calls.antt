@@ -8,10 +8,10 @@ use Rattle.packed_model.specs.Calls.{called, cleared, does, heldCount, Outcome,
 use Rattle.packed_model.specs.Causes.{Shape}
 use Rattle.packed_model.specs.Node.{Op, put, sink, size}
 use Rattle.packed_model.specs.Words.{capacity, cutLast, depth, extent, lastIn, lastSlot, Lies, runWords, slotAt, slotIn, slotOf, tagged, towards, wayOk, word, writeSlot, zeroSlot}
-use Rattle.packed_steps.proofs.Putted.{ok-is, run-is}
+use Rattle.packed_steps.proofs.Putted.{found-done, found-ok, found-ready, ok-is, run-is}
 use Rattle.packed_steps.proofs.Slots.{tagged-is}
-use Rattle.packed_steps.proofs.Turned.{hole-is, hole-not}
-use Rattle.packed_steps.specs.Put.{PutReady, putOk, putRun}
+use Rattle.packed_steps.proofs.Sinks.{hole-is, hole-not}
+use Rattle.packed_steps.specs.Put.{PutDone, PutFound, putOk, PutReady, PutSought}
 use Rattle.packed_steps.specs.Sink.{Climbed, Found, Reads, Seat, SinkReady, Sought, top}
 use Rattle.packed.proofs.Shapes.{Ground, ground, shape-few, shape-is, size-most}
 use Rattle.packed.proofs.Seats.{gets-lies, held-before, held-to, not-top}
@@ -128,9 +128,6 @@ module _ (H levels h n : ℕ) (ws : List ℕ) (o : Opened H levels h n ws) where
         lies = lies-less (suc d) levels h (length ws) i (open-ground .lies);
       }
 
-  pub put-ready : (t d q : ℕ) → At t d q → PutReady H d h ws
-  put-ready t d q a = record { one = open-ground .shape .one; few = a .small; lies = a .lies }
-
   -- ---- push
   module _ (x : Element) (b : Bool) (tag : b ≡ untagged x) where
     pub push-tag : b ≡ true → outcome (Refused NoTag) ws ≡ served H levels h (Push x) ws
@@ -164,24 +161,42 @@ module _ (H levels h n : ℕ) (ws : List ℕ) (o : Opened H levels h n ws) where
       unfolding served
       is-pushed = rw (sym tag ∙ t, lt-ltb (word ws h) (capacity levels) (omega (arith, p, c, l, o .held))) refl
 
-      pub push-bad : (ok : Bool) → ok ≡ putOk H d (count + 1 - q) h ws → ok ≡ false → outcome (Refused Damaged) ws ≡ served H levels h (Push x) ws
-      push-bad ok m z = rw (reads-is ∙ sym m ∙ z) at is-pushed
+      module _ (end : ℕ) (pe : end ≡ slotAt H h d (count + 1 - q)) where
+        pub end-lies : H + end * 3 + 3 ≤ length ws
+        end-lies = rw pe (spot-lies H levels h d (count + 1 - q) (length ws) (push-at .inside) (open-ground .lies))
 
-      pub push-done : (ok : Bool) (vs : List ℕ) → ok ≡ putOk H d (count + 1 - q) h ws → ok ≡ true → vs ≡ putRun H d (count + 1 - q) h x ws
-          → outcome Done (set vs h (n + 1)) ≡ served H levels h (Push x) ws
-      unfolding does
-      push-done ok vs m z v =
-          let w : vs ≡ runWords H levels (towards levels (word ws h + 1) x) h ws =
-          v ∙ sym (run-is H (open-ground .shape .one) levels d (count + 1 - q) x h ws (push-at .inside)) ∙ ap (λ (o : Op). runWords H levels o h ws) op-is in
-          ap₂ (λ (us : List ℕ) (i : ℕ). outcome Done (set us h (i + 1))) w (o .held) ∙ rw (reads-is ∙ sym m ∙ z) at is-pushed
+        module _ (from : ℕ) (s : PutSought H end x ws from) where
+          found : PutFound H d (count + 1 - q) h x ws from
+          found = s d (count + 1 - q) h (o .heap) pe
+
+          pub push-bad : from ≡ 0 → outcome (Refused Damaged) ws ≡ served H levels h (Push x) ws
+          push-bad z = let g : putOk H d (count + 1 - q) h ws ≡ false = subst (PutFound H d (count + 1 - q) h x ws) z found in rw (reads-is ∙ g) at is-pushed
+
+          pub push-ready : (from ≡ 0 → ⊥) → PutReady H end (from - 1) (length ws)
+          push-ready z = found-ready H (open-ground .shape .one) d (count + 1 - q) h (push-at .upto) end pe x ws (length ws) (push-at .small) end-lies from found z
+
+          pub push-done : (from ≡ 0 → ⊥) → (vs : List ℕ) → PutDone H end (from - 1) x ws vs → outcome Done (set vs h (n + 1)) ≡ served H levels h (Push x) ws
+          unfolding does
+          push-done z vs v =
+              let g : putOk H d (count + 1 - q) h ws ≡ true = found-ok H (open-ground .shape .one) d (count + 1 - q) h (push-at .upto) end pe x ws from found z in
+              let w : vs ≡ runWords H levels (towards levels (word ws h + 1) x) h ws =
+              found-done H (open-ground .shape .one) d (count + 1 - q) h (push-at .upto) end pe x ws from found z vs v
+              ∙ sym (run-is H (open-ground .shape .one) levels d (count + 1 - q) x h ws (push-at .inside)) ∙ ap (λ (o : Op). runWords H levels o h ws) op-is in
+              ap₂ (λ (us : List ℕ) (i : ℕ). outcome Done (set us h (i + 1))) w (o .held) ∙ rw (reads-is ∙ g) at is-pushed
 
   -- ---- sinks, of all levels
   whole : suc (levels - 1) ≡ levels
   whole = omega (arith, open-ground .shape .some)
 
-  pub sink-ready : (last p : ℕ) → (last < p) ⊎ (p < H) → SinkReady H (levels - 1) last p h ws
-  sink-ready last p z =
-      record { one = open-ground .shape .one; there = o .heap; lies = subst (λ (k : ℕ). Lies H k h (length ws)) (sym whole) (open-ground .lies); hole = z }
+  pub sink-ready : (last p : ℕ) → H + last * 3 + 3 ≤ length ws → (last < p) ⊎ (p < H) → SinkReady H (levels - 1) last p h ws
+  sink-ready last p r z =
+      record {
+        one = open-ground .shape .one;
+        there = o .heap;
+        lies = subst (λ (k : ℕ). Lies H k h (length ws)) (sym whole) (open-ground .lies);
+        ends = r;
+        hole = z;
+      }
 
   -- what is sought and found, in words us of this length as they are read
   module _ (us : List ℕ) (len : length us ≡ length ws) (m : ℕ) (x : Element) where

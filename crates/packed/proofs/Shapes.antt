@@ -1,5 +1,5 @@
 -- For the code of the shape, of positions, and of the tests that every call makes.
-use Rattle.laws.specs.Prelude.{Bool, Element, List, _&&_, _*_, _+_, _-_, _<_, _∙_, _≡_, _≤_, ap, arith, cond, eq-eqb, false, le-leb, leb, leb-false, leb-true, length, lt-leb, mul-le-mul-right, ne-eqb, not, not-suc-le-zero, refl, suc, sym, true, untagged, zero, ℕ}
+use Rattle.laws.specs.Prelude.{Bool, Element, List, _&&_, _*_, _+_, _-_, _<_, _∙_, _≡_, _≤_, ap, arith, cond, eq-eqb, false, isBlank, le-leb, leb, leb-false, leb-true, length, lt-leb, mul-le-mul-right, ne-eqb, not, not-suc-le-zero, refl, suc, sym, true, untagged, zero, ℕ}
 use Rattle.packed_model.specs.Node.{size}
 use Rattle.packed_model.specs.Words.{capacity, extent, word, depth, slotIn, slotAt, Lies}
 use Rattle.packed_model.specs.Calls.{shapeOk, rootOk}
@@ -9,7 +9,6 @@ use Rattle.packed_model.proofs.Tests.{size-pos}
 use Rattle.packed_model.proofs.Numbers.{size-grow}
 use Rattle.packed_model.proofs.Serve.{shape-lies}
 use Rattle.packed_model.proofs.Slice.{slot-by}
-use Rattle.packed_steps.specs.Put.{zeroElem}
 use Rattle.packed.specs.Open.{Around}
 use Rattle.packed_steps.proofs.Slots.{tagged-is, zero-is}
 
@@ -132,10 +131,10 @@ module _ (H levels h : ℕ) (ws : List ℕ) (e : Element) (slot : e ≡ slotIn H
   unfolding rootOk
   root-over l = rw (lt-leb (word ws h) (capacity levels) (omega (arith, pn, pc))) refl
 
-  pub root-none : n ≤ cap → n ≡ 0 → (b : Bool) → b ≡ zeroElem e → b ≡ rootOk H levels h ws
+  pub root-none : n ≤ cap → n ≡ 0 → (b : Bool) → b ≡ isBlank e → b ≡ rootOk H levels h ws
   unfolding rootOk
   root-none l z b q =
-      rw (le-leb (word ws h) (capacity levels) (omega (arith, pn, pc)), eq-eqb (word ws h) 0 (sym pn ∙ z)) (q ∙ ap zeroElem slot ∙ sym (zero-is H ws h))
+      rw (le-leb (word ws h) (capacity levels) (omega (arith, pn, pc)), eq-eqb (word ws h) 0 (sym pn ∙ z)) (q ∙ ap isBlank slot ∙ sym (zero-is H ws h))
 
   pub root-some : n ≤ cap → (n ≡ 0 → ⊥) → (b : Bool) → b ≡ untagged e → not b ≡ rootOk H levels h ws
   unfolding rootOk

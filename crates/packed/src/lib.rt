@@ -9,10 +9,9 @@ ghost use Rattle.packed_model.specs.Node.{size};
 ghost use Rattle.packed_model.specs.Words.{capacity, depth, slotAt};
 ghost use Rattle.packed.specs.Open.{Around, Opened};
 use packed_steps::climb;
-use packed_steps::is_zero;
 use packed_steps::power;
 use packed_steps::put_down;
-use packed_steps::put_ok;
+use packed_steps::put_from;
 use packed_steps::rest_slot;
 use packed_steps::set_slot;
 use packed_steps::slot;
@@ -21,6 +20,7 @@ use strip::Count;
 use strip::Element;
 use strip::Refusal;
 use strip::Request;
+use strip::is_blank;
 use strip::is_untagged;
 use strip::no_element;
 
@@ -97,7 +97,7 @@ fn root_ok(s: &[u32], heaps: usize, levels: usize, heap: usize) -> bool
         return false;
     }
     if n == 0 {
-        return is_zero(e);
+        return is_blank(e);
     }
     !is_untagged(e)
 }
@@ -137,11 +137,13 @@ fn push_open(
         return Answer::Refused(Refusal::Full);
     }
     let d = depth_of(levels, count + 1);
-    let r = count + 1 - power(d);
-    if !put_ok(store, heaps, d, r, heap) {
+    let q = power(d);
+    let end = slot_at(heaps, heap, d, count + 1 - q);
+    let from = put_from(store, heaps, end, x);
+    if from == 0 {
         return Answer::Refused(Refusal::Damaged);
     }
-    put_down(store, heaps, d, r, heap, x);
+    put_down(store, heaps, end, from - 1, x);
     store[heap] = n + 1;
     Answer::Done
 }

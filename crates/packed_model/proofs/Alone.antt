@@ -1,6 +1,7 @@
 -- A call at one heap neither reads nor writes another's words: whatever the words, two stores with the same held word and slots of heap h are answered the same at h
 -- and left alike there, and a call at another heap leaves h's held word and slots. So what a heap is answered is what it would be answered alone.
 use Rattle.laws.specs.Prelude.{BadShape, Bool, Element, Idle, List, Pop, Push, Replace, Request, _&&_, _+_, _-_, _<_, _||_, _∙_, _≡_, ap, ap₂, arith, blank, cond, cond-both, eqb, false, getD-set-other, getD-set-same, inl, leb, length, length-set, lt-ltb, ltb-true, not, not-suc-le-zero, refl, set, subst, suc, sym, true, zero, ℕ}
+use Rattle.strip.proofs.Words.{same-words}
 use Rattle.packed_model.proofs.Exactly.{shape-means}
 use Rattle.packed_model.proofs.Serve.{roots, run-word, shape-lies}
 use Rattle.packed_model.proofs.Words.{heap-held, run-apart, run-length, spot-apart, top-is, words-at, words-cut, words-run, write-length, write-word}
@@ -9,7 +10,7 @@ use Rattle.packed_model.specs.Causes.{Shape}
 use Rattle.packed_model.specs.Heap.{at, cut, Heap, run, top}
 use Rattle.packed_model.specs.Node.{lhs, none, Op, put, rhs, Side, sink, size, step, Stepped}
 use Rattle.packed_model.specs.Promise.{heapQueue, Like, packedQueue}
-use Rattle.packed_model.specs.Words.{below, capacity, child, cutLast, depth, extent, heapIn, lastIn, lastSlot, ownOk, placeOk, runWords, slotAt, slotIn, slotOf, stepIn, tagged, topIn, towards, wayOk, word, zeroSlot}
+use Rattle.packed_model.specs.Words.{below, capacity, child, cutLast, depth, extent, heapIn, lastIn, lastSlot, ownOk, placeOk, runWords, slotAt, slotIn, slotOf, spot, stepIn, tagged, topIn, towards, wayOk, word, zeroSlot}
 use Rattle.promise.proofs.Calls.{called-either, unread-by}
 use Rattle.promise.proofs.Forest.{forest-alone}
 use Rattle.promise.specs.Calls as calls
@@ -21,10 +22,11 @@ module _ (H : ℕ) (ws vs : List ℕ) where
   zero-like : (m : ℕ) → slotIn H ws m ≡ slotIn H vs m → zeroSlot H ws m ≡ zeroSlot H vs m
   unfolding zeroSlot slotIn
   zero-like m e =
-      let a = ap (λ (x : Element). eqb (x .rank .0) 0) e in
-      let b = ap (λ (x : Element). eqb (x .tag .0) 0) e in
-      let c = ap (λ (x : Element). eqb (x .length .0) 0) e in
-      λ i. a i && (b i && c i)
+      let at : spot H m ≡ spot H m + 0 = omega arith in
+      let a : word ws (spot H m) ≡ word vs (spot H m) = rw at (same-words ws vs (spot H m) 0 (omega arith) e) in
+      let b = same-words ws vs (spot H m) 1 (omega arith) e in
+      let c = same-words ws vs (spot H m) 2 (omega arith) e in
+      λ i. eqb (a i) 0 && (eqb (b i) 0 && eqb (c i) 0)
 
   tag-like : (m : ℕ) → slotIn H ws m ≡ slotIn H vs m → tagged H ws m ≡ tagged H vs m
   unfolding tagged slotIn

@@ -1,8 +1,8 @@
 -- The worked store and its answers, computed.
-use Rattle.laws.specs.Prelude.{_≡_, blank, key, refl, untagged}
+use Rattle.laws.specs.Prelude.{_≡_, blank, keep, key, pass, refl, untagged}
 use Rattle.packed_model.specs.Calls.{called, cleared, does, readsOk, rootOk, shapeOk, wipe}
 use Rattle.packed_model.specs.Cases.{caseDeep, caseDeepSays, caseEven, caseEvenSays, casePacked, casePackedAnswers, casePackedAnswersSay, casePackedSays, caseSpoilt, caseSpoiltSays}
-use Rattle.packed_model.specs.Node.{keep, lifts, lowerSide, pass, restOf, sinkBy, size, step, turnOf}
+use Rattle.packed_model.specs.Node.{lifts, lowerSide, restOf, sinkBy, size, step, turnOf}
 use Rattle.packed_model.specs.Words.{capacity, cutLast, depth, extent, lastIn, lastSlot, ownOk, placeOk, runWords, slotAt, slotIn, slotOf, stepIn, tagged, topIn, touch, towards, wayOk, works, writeSlot, zeroSlot}
 use Rattle.promise.specs.Prelude.{answers, leaves}
 

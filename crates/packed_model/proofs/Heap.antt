@@ -1,7 +1,7 @@
 -- The main lemmas: a put, a sink and taking away the last entry keep the heap packed and in order, and change what it holds as they say.
-use Rattle.laws.specs.Prelude.{Bool, Element, _+_, _-_, _<_, _≡_, _≤_, arith, cond, false, key, leb, leb-false, leb-true, not-suc-le-zero, refl, subst, suc, true, zero, ℕ}
+use Rattle.laws.specs.Prelude.{Bool, Element, _+_, _-_, _<_, _≡_, _≤_, arith, cond, false, keep, key, leb, leb-false, leb-true, not-suc-le-zero, pass, refl, subst, suc, true, zero, ℕ}
 use Rattle.promise.specs.Prelude.{hit}
-use Rattle.packed_model.specs.Node.{size, pick, sideIf, turnOf, restOf, keep, pass, none, put, step}
+use Rattle.packed_model.specs.Node.{size, pick, sideIf, turnOf, restOf, none, put, step}
 use Rattle.packed_model.specs.Heap.{under, Heap, run, many, Has, Sound}
 use Rattle.packed_model.proofs.Tests.{not-under, under-mono, hit-has, hit-blank, hitIn-le, keep-pass, keep-le, keep-has}
 

@@ -1,9 +1,9 @@
 -- The steps are the rules', and the way leads to the position.
-use Rattle.laws.specs.Prelude.{Bool, Element, _&&_, _-_, _<_, _||_, _∙_, _≡_, _≤_, _⊎_, arith, cond, false, false≢true, inl, inr, key, leb, leb-false, leb-true, ltb, ltb-false, ltb-true, means-no, means-off, not, refl, subst, suc, sym, true, untagged, zero, ℕ}
+use Rattle.laws.specs.Prelude.{Bool, Element, _&&_, _-_, _<_, _||_, _∙_, _≡_, _≤_, _⊎_, arith, cond, false, false≢true, inl, inr, keep, key, leb, leb-false, leb-true, ltb, ltb-false, ltb-true, means-no, means-off, not, pass, refl, subst, suc, sym, true, untagged, zero, ℕ}
 use Rattle.packed_model.proofs.Numbers.{Deep, deep}
 use Rattle.packed_model.proofs.Sink.{lifts-no, lifts-yes, side-told}
 use Rattle.packed_model.specs.Heap.{Has}
-use Rattle.packed_model.specs.Node.{keep, lhs, lifts, lowerSide, pass, pick, put, restOf, rhs, Side, sideIf, sink, sinkBy, size, step, turnOf}
+use Rattle.packed_model.specs.Node.{lhs, lifts, lowerSide, pick, put, restOf, rhs, Side, sideIf, sink, sinkBy, size, step, turnOf}
 use Rattle.packed_model.specs.Rules as rules
 use Rattle.packed_model.specs.Rules.{Empty, Lower, Next, Puts, Sinks, Steered}
 use Rattle.packed_model.specs.Words.{depth, towards}

@@ -1,7 +1,7 @@
 -- Tests on elements, and counting in a slot.
-use Rattle.laws.specs.Prelude.{Bool, Element, _+_, _<_, _≡_, _≤_, ap, arith, blank, cond, false, key, le-ltb, lt-ltb, ltb, ltb-false, ltb-true, refl, suc, true, untagged, zero, ℕ}
+use Rattle.laws.specs.Prelude.{Bool, Element, _+_, _<_, _≡_, _≤_, ap, arith, blank, cond, false, keep, key, le-ltb, lt-ltb, ltb, ltb-false, ltb-true, pass, refl, suc, true, untagged, zero, ℕ}
 use Rattle.promise.specs.Prelude.{hit}
-use Rattle.packed_model.specs.Node.{keep, pass, size}
+use Rattle.packed_model.specs.Node.{size}
 use Rattle.packed_model.specs.Heap.{Has, hitIn, under}
 
 pub hit-le : (b : Bool) → hit b ≤ 1

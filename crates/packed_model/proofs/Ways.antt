@@ -1,7 +1,8 @@
 -- In a packed heap nothing is found damaged: positions up to n are occupied, and no others.
-use Rattle.laws.specs.Prelude.{Bool, Element, List, _*_, _+_, _-_, _<_, _≡_, _≤_, and-true, ap, arith, blank, false, le-leb, leb, leb-false, leb-true, length, lt-leb, refl, subst, suc, true, untagged, zero, ℕ}
+use Rattle.laws.specs.Prelude.{Bool, Element, List, _*_, _+_, _-_, _<_, _≡_, _≤_, and-true, ap, arith, blank, false, le-leb, leb, leb-false, leb-true, length, lt-leb, pass, refl, subst, suc, true, untagged, zero, ℕ}
 use native.Mathlib.Nat.{le-mul-of-pos-right}
-use Rattle.packed_model.specs.Node.{size, Side, lhs, rhs, pick, turnOf, restOf, lowerSide, lifts, pass, Op, none, put, sink, step, sinkBy}
+use Rattle.strip.proofs.Words.{blank-words}
+use Rattle.packed_model.specs.Node.{size, Side, lhs, rhs, pick, turnOf, restOf, lowerSide, lifts, Op, none, put, sink, step, sinkBy}
 use Rattle.packed_model.specs.Heap.{Has, Sound}
 use Rattle.packed_model.specs.Words.{word, spot, slotIn, child, Lies, topIn, heapIn, stepIn, zeroSlot, tagged, placeOk, ownOk, below, wayOk}
 use Rattle.packed_model.proofs.Tests.{size-pos}
@@ -58,9 +59,9 @@ module _ (H : ℕ) where
   pub zero-blank : (ws : List ℕ) (m : ℕ) → slotIn H ws m ≡ blank → zeroSlot H ws m ≡ true
   unfolding slotIn blank zeroSlot
   zero-blank ws m e =
-      let a : word ws (spot H m) ≡ 0 = ap (λ (x : Element). x .rank .0) e in
-      let b : word ws (spot H m + 1) ≡ 0 = ap (λ (x : Element). x .tag .0) e in
-      let c : word ws (spot H m + 2) ≡ 0 = ap (λ (x : Element). x .length .0) e in
+      let a : word ws (spot H m) ≡ 0 = blank-words ws (spot H m) (spot H m) e (omega arith) (omega arith) in
+      let b : word ws (spot H m + 1) ≡ 0 = blank-words ws (spot H m) (spot H m + 1) e (omega arith) (omega arith) in
+      let c : word ws (spot H m + 2) ≡ 0 = blank-words ws (spot H m) (spot H m + 2) e (omega arith) (omega arith) in
       rw (a, b, c) refl
 
   pub tagged-has : (ws : List ℕ) (m : ℕ) → Has (slotIn H ws m) → tagged H ws m ≡ true

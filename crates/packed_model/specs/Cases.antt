@@ -1,6 +1,6 @@
 -- The rules' worked store: H = 2, L = 2, pushes of 5/50, 3/30, 9/90 at heap 0 and of 8/80, 1/10 at heap 1; then a full heap, a heap that is not there, a push
 -- without a tag, a pop, a replace and pops to the end at heap 0.
-use Rattle.laws.specs.Prelude.{Answer, List, Pop, Push, Replace, Request, [], _++_, _∷_, element, lengthOf, map, numberOf, rankOf, replicate, tagOf, ℕ}
+use Rattle.laws.specs.Prelude.{Answer, List, Pop, Push, Replace, Request, [], _++_, _∷_, element, elementNumbers, elementOf, map, numberOf, replicate, ℕ}
 use Rattle.packed_model.specs.Calls.{called}
 use Rattle.packed_model.specs.Promise.{after, said}
 use Rattle.promise.specs.Forest.{At}
@@ -26,7 +26,7 @@ casePackedSays =
 
 -- number, rank, tag and length of each answer
 abbrev pub plainly : Answer → List ℕ
-plainly a = numberOf a ∷ rankOf a ∷ tagOf a ∷ lengthOf a ∷ []
+plainly a = numberOf a ∷ elementNumbers (elementOf a)
 
 unfoldable pub casePackedAnswers : List (List ℕ)
 casePackedAnswers = map plainly (said 2 2 (packedCalls ++ moreCalls) (replicate 20 7))

@@ -1,5 +1,5 @@
 -- One step at one position of a packed heap: of a put on its way to a position, and of a sink.
-use Rattle.laws.specs.Prelude.{Bool, Element, _&&_, _+_, _-_, _||_, cond, false, key, leb, ltb, not, suc, true, untagged, zero, ℕ}
+use Rattle.laws.specs.Prelude.{Bool, Element, _&&_, _+_, _-_, _||_, cond, false, keep, key, leb, ltb, not, pass, suc, true, untagged, zero, ℕ}
 
 -- ---- numbers. 2^d, by doubling
 unfoldable pub size : ℕ → ℕ
@@ -34,13 +34,6 @@ lowerSide a b = sideIf (not (untagged b) && (untagged a || ltb (key b) (key a)))
 -- "there is a lower child and its rank is strictly lower than x's"
 unfoldable pub lifts : Element → Element → Bool
 lifts x c = not (untagged c) && ltb (key c) (key x)
-
--- "x if x's rank is strictly lower than that of the slot's element, else its own element", and "the other of the two"
-unfoldable pub keep : Element → Element → Element
-keep x e = cond (ltb (key x) (key e)) x e
-
-unfoldable pub pass : Element → Element → Element
-pass x e = cond (ltb (key x) (key e)) e x
 
 -- ---- what is to be done at a position: put x towards the position d levels deeper and r further; sink x
 pub data Op : Type 0 where

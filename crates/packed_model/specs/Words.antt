@@ -1,6 +1,6 @@
 -- The lent words: H held words, then the slots, level by level, three words each: rank, tag, length. Slot m's children are slots 2m + H and 2m + H + 1; the top
 -- of heap h is slot h.
-use Rattle.laws.specs.Prelude.{Bool, Element, List, _&&_, _*_, _+_, _-_, _≤_, blank, cond, element, eqb, false, getD, leb, length, not, set, suc, true, zero, ℕ}
+use Rattle.laws.specs.Prelude.{Bool, Element, List, _&&_, _*_, _+_, _-_, _≤_, blank, cond, element, elementIn, eqb, false, getD, leb, length, not, suc, true, writeElement, zero, ℕ}
 use Rattle.packed_model.specs.Node.{size, Side, lhs, rhs, turnOf, restOf, Op, none, put, sink, Stepped, step}
 use Rattle.packed_model.specs.Heap.{Heap}
 
@@ -39,10 +39,10 @@ module _ (H : ℕ) where
   spot m = H + m * 3
 
   unfoldable pub slotIn : List ℕ → ℕ → Element
-  slotIn ws m = element (word ws (spot m)) (word ws (spot m + 1)) (word ws (spot m + 2))
+  slotIn ws m = elementIn ws (spot m)
 
   unfoldable pub writeSlot : List ℕ → ℕ → Element → List ℕ
-  writeSlot ws m e = set (set (set ws (spot m) (e .rank .0)) (spot m + 1) (e .tag .0)) (spot m + 2) (e .length .0)
+  writeSlot ws m e = writeElement ws (spot m) e
 
   abbrev pub child : ℕ → Side → ℕ
   child m lhs = m + m + H

@@ -1,5 +1,5 @@
 pub mod Leaf
 pub mod Slots
 pub mod Putted
-pub mod Turned
+pub mod Sinks
 pub mod Walked

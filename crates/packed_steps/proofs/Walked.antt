@@ -1,12 +1,12 @@
 -- The walk down a sink's way, and the climb back.
-use Rattle.laws.specs.Prelude.{Bool, Element, List, _&&_, _+_, _-_, _/_, _<_, _∙_, _≡_, _≤_, _⊎_, ap, ap₂, arith, blank, cond, false, inl, inr, le-leb, leb, leb-false, leb-true, lt-leb, not, not-suc-le-zero, refl, subst, suc, sym, true, untagged, zero, ℕ}
+use Rattle.laws.specs.Prelude.{Bool, Element, List, _&&_, _*_, _+_, _-_, _/_, _<_, _||_, _∙_, _≡_, _≤_, _⊎_, ap, ap₂, arith, blank, cond, eqb, false, inl, inr, isBlank, le-leb, leb, leb-false, leb-true, length, lt-leb, ltb, not, not-suc-le-zero, refl, subst, suc, sym, true, untagged, zero, ℕ}
 use Rattle.packed_model.proofs.Ways.{way-none}
 use Rattle.packed_model.proofs.Words.{words-none, write-other}
 use Rattle.packed_model.specs.Node.{lhs, lifts, lowerSide, none, pick, rhs, Side, sink, sinkBy, size, step, Stepped, stepped}
-use Rattle.packed_model.specs.Words.{below, child, Lies, ownOk, placeOk, runWords, slotIn, stepIn, topIn, touch, wayOk, works, writeSlot}
+use Rattle.packed_model.specs.Words.{below, child, Lies, ownOk, placeOk, runWords, slotIn, stepIn, topIn, touch, wayOk, word, works, writeSlot}
+use Rattle.packed_steps.proofs.Sinks.{Leads, read-goes, read-stay, read-torn}
 use Rattle.packed_steps.proofs.Slots.{tagged-is, zero-is}
-use Rattle.packed_steps.specs.Put.{zeroElem}
-use Rattle.packed_steps.specs.Sink.{Ends, fine, Found, Gets, HeldTo, on, Reads, Seat, sideNumber, slotBut, top, turnBy}
+use Rattle.packed_steps.specs.Sink.{EdgeSought, Ends, fine, Found, Gets, HeldTo, on, Reads, Seat, sideNumber, sinkTo, slotBut, Sought, top, Walk}
 
 -- ---- seats
 pub seat-top : (H h : ℕ) → Seat H h 1 h
@@ -37,22 +37,15 @@ same-leb a b c d f = go (leb c d) refl
 
 -- ---- down
 module _ (H left : ℕ) (x : Element) (h : ℕ) (us : List ℕ) (n : ℕ) where
-  -- the walk has come to slot m, with k levels below it
-  pub record Walk (k m : ℕ) : Type 0 where
-    pub i : ℕ
-    pub seat : Seat H h i m
-    pub gets : Gets H left x h us k m
-    pub way : wayOk H (suc left) n (sink x) 1 h us ≡ wayOk H (suc k) n (sink x) i m us
-
-  pub walk-top : Walk left h
+  pub walk-top : Walk H left x h us n left h
   walk-top = record { i = 1; seat = seat-top H h; gets = top; way = refl }
 
   -- no levels below: x comes to rest
-  pub walk-last : (m : ℕ) → Walk 0 m → Found H left x h us n (suc m)
+  pub walk-last : (m : ℕ) → Walk H left x h us n 0 m → Found H left x h us n (suc m)
   unfolding wayOk ownOk stepIn step sinkBy lifts lowerSide topIn blank untagged
   walk-last m w = (w .way, record { k = 0; gets = w .gets; rests = refl })
 
-  module _ (last : ℕ) (held : HeldTo H h n last) (k m : ℕ) (w : Walk (suc k) m) where
+  module _ (last : ℕ) (held : HeldTo H h n last) (k m : ℕ) (w : Walk H left x h us n (suc k) m) where
     abbrev a : Element
     a = slotIn H us (child H m lhs)
 
@@ -63,7 +56,7 @@ module _ (H left : ℕ) (x : Element) (h : ℕ) (us : List ℕ) (n : ℕ) where
     unfolding placeOk fine
     place-is i m s = rw (same-leb i n m last (held i m s), tagged-is H us m, zero-is H us m) (go (leb m last))
       where
-        go : (t : Bool) → cond t (not (untagged (slotIn H us m))) (zeroElem (slotIn H us m)) ≡ fine t (slotIn H us m)
+        go : (t : Bool) → cond t (not (untagged (slotIn H us m))) (isBlank (slotIn H us m)) ≡ fine t (slotIn H us m)
         go true = refl
         go false = refl
 
@@ -91,29 +84,29 @@ module _ (H left : ℕ) (x : Element) (h : ℕ) (us : List ℕ) (n : ℕ) where
     slot-is rhs = omega arith
 
     -- what one step comes to
-    pub record Turned (t : ℕ) : Type 0 where
+    pub record Led (t : ℕ) : Type 0 where
       pub torn : t ≡ 3 → Found H left x h us n 0
       pub stays : t ≡ 2 → Found H left x h us n (suc m)
-      pub goes : (t ≡ 3 → ⊥) → (t ≡ 2 → ⊥) → Walk k (child H m lhs + t)
+      pub goes : (t ≡ 3 → ⊥) → (t ≡ 2 → ⊥) → Walk H left x h us n k (child H m lhs + t)
 
     stepped-is : (d : Side) → lowerSide a b ≡ d → (l : Bool) → lifts x (pick d a b) ≡ l → stepIn H (suc k) (sink x) m us ≡ sinkBy l d x a b
     stepped-is d ed l el = step-is ∙ ap (λ (e : Side). sinkBy (lifts x (pick e a b)) e x a b) ed ∙ ap (λ (t : Bool). sinkBy t d x a b) el
 
-    turn-torn : inOrder ≡ false → wayOk H (suc left) n (sink x) 1 h us ≡ false
-    turn-torn e = way-is (stepIn H (suc k) (sink x) m us) refl ∙ ap (λ (c : Bool). c && wayOk H (suc k) n (v .op) (below (w .i) (v .side)) (child H m (v .side)) us) e
+    step-torn : inOrder ≡ false → wayOk H (suc left) n (sink x) 1 h us ≡ false
+    step-torn e = way-is (stepIn H (suc k) (sink x) m us) refl ∙ ap (λ (c : Bool). c && wayOk H (suc k) n (v .op) (below (w .i) (v .side)) (child H m (v .side)) us) e
       where
         v : Stepped
         v = stepIn H (suc k) (sink x) m us
 
-    turn-stays : inOrder ≡ true → stepIn H (suc k) (sink x) m us ≡ stepped x lhs none → Found H left x h us n (suc m)
-    turn-stays e s = (
+    step-stays : inOrder ≡ true → stepIn H (suc k) (sink x) m us ≡ stepped x lhs none → Found H left x h us n (suc m)
+    step-stays e s = (
       way-is (stepped x lhs none) s ∙ ap₂ (λ (c d : Bool). c && d) e (way-none H (suc k) n (below (w .i) lhs) (child H m lhs) us),
       record { k = suc k; gets = w .gets; rests = s },
     )
 
-    turn-goes : inOrder ≡ true → (d : Side) → stepIn H (suc k) (sink x) m us ≡ stepped (pick d a b) d (sink x) → Walk k (child H m lhs + sideNumber d)
-    turn-goes e d s =
-        subst (Walk k) (sym (slot-is d))
+    step-goes : inOrder ≡ true → (d : Side) → stepIn H (suc k) (sink x) m us ≡ stepped (pick d a b) d (sink x) → Walk H left x h us n k (child H m lhs + sideNumber d)
+    step-goes e d s =
+        subst (Walk H left x h us n k) (sym (slot-is d))
         (record {
           i = below (w .i) d;
           seat = seat-child H h (w .i) m d (w .seat);
@@ -125,15 +118,15 @@ module _ (H left : ℕ) (x : Element) (h : ℕ) (us : List ℕ) (n : ℕ) where
     side-few lhs = ((λ z. omega arith), (λ z. omega arith))
     side-few rhs = ((λ z. omega arith), (λ z. omega arith))
 
-    pub turned : Turned (turnBy (leb (child H m lhs) last) (leb (child H m rhs) last) x a b)
-    unfolding turnBy sinkBy
-    turned = go inOrder refl (lowerSide a b) refl (lifts x (pick (lowerSide a b) a b)) refl
+    pub led : Led (sinkTo (leb (child H m lhs) last) (leb (child H m rhs) last) x a b)
+    unfolding sinkTo sinkBy
+    led = go inOrder refl (lowerSide a b) refl (lifts x (pick (lowerSide a b) a b)) refl
       where
-        go : (f : Bool) → inOrder ≡ f → (d : Side) → lowerSide a b ≡ d → (l : Bool) → lifts x (pick d a b) ≡ l → Turned (cond f (cond l (sideNumber d) 2) 3)
-        go false ef d ed l el = record { torn = λ z. turn-torn ef; stays = λ z. absurd (omega arith); goes = λ y z. absurd (y refl) }
-        go true ef d ed false el = record { torn = λ z. absurd (omega arith); stays = λ z. turn-stays ef (stepped-is d ed false el); goes = λ y z. absurd (z refl) }
+        go : (f : Bool) → inOrder ≡ f → (d : Side) → lowerSide a b ≡ d → (l : Bool) → lifts x (pick d a b) ≡ l → Led (cond f (cond l (sideNumber d) 2) 3)
+        go false ef d ed l el = record { torn = λ z. step-torn ef; stays = λ z. absurd (omega arith); goes = λ y z. absurd (y refl) }
+        go true ef d ed false el = record { torn = λ z. absurd (omega arith); stays = λ z. step-stays ef (stepped-is d ed false el); goes = λ y z. absurd (z refl) }
         go true ef d ed true el =
-            record { torn = λ z. absurd (side-few d .0 z); stays = λ z. absurd (side-few d .1 z); goes = λ y z. turn-goes ef d (stepped-is d ed true el) }
+            record { torn = λ z. absurd (side-few d .0 z); stays = λ z. absurd (side-few d .1 z); goes = λ y z. step-goes ef d (stepped-is d ed true el) }
 
 under : (H m : ℕ) (d : Side) → 0 < H → m < child H m d
 under H m lhs l = omega arith
@@ -182,30 +175,30 @@ module _ (H left : ℕ) (x : Element) (h : ℕ) (ws : List ℕ) where
     pub climb-top : (m : ℕ) (y : Element) (us vs : List ℕ) → Climb m y us → m < H → vs ≡ writeSlot H us m y → vs ≡ runWords H (suc left) (sink x) h ws
     climb-top m y us vs c l e = at-top (c .k) m (c .gets) l vs (e ∙ c .done)
 
--- ---- one turn of the walk, by what the code has read: k is how many levels are below slot m before it
+-- ---- one step of the walk, by what the code has read: k is how many levels are below slot m before it
 module _ (H left : ℕ) (x : Element) (h : ℕ) (ws us : List ℕ) (n last p : ℕ) (held : HeldTo H h n last) (reads : Reads H p ws us) (m t : ℕ)
-    (turns : t ≡ turnBy (leb (m + m + H) last) (leb (m + m + H + 1) last) x (slotBut H p ws (m + m + H)) (slotBut H p ws (m + m + H + 1))) where
-  turned-so : (k : ℕ) (w : Walk H left x h us n (suc k) m) → Turned H left x h us n last held k m w t
-  turned-so k w =
-      subst (Turned H left x h us n last held k m w)
-      (ap₂ (λ (a b : Element). turnBy (leb (m + m + H) last) (leb (m + m + H + 1) last) x a b) (reads (m + m + H) (omega arith)) (reads (m + m + H + 1) (omega arith)) ∙ sym turns)
-      (turned H left x h us n last held k m w)
+    (goes : t ≡ sinkTo (leb (m + m + H) last) (leb (m + m + H + 1) last) x (slotBut H p ws (m + m + H)) (slotBut H p ws (m + m + H + 1))) where
+  led-so : (k : ℕ) (w : Walk H left x h us n (suc k) m) → Led H left x h us n last held k m w t
+  led-so k w =
+      subst (Led H left x h us n last held k m w)
+      (ap₂ (λ (a b : Element). sinkTo (leb (m + m + H) last) (leb (m + m + H + 1) last) x a b) (reads (m + m + H) (omega arith)) (reads (m + m + H + 1) (omega arith)) ∙ sym goes)
+      (led H left x h us n last held k m w)
 
   pub walk-torn : (k : ℕ) → 0 < k → Walk H left x h us n k m → t ≡ 3 → Found H left x h us n 0
   walk-torn zero l w z = absurd (not-suc-le-zero l)
-  walk-torn (suc k) l w z = turned-so k w .torn z
+  walk-torn (suc k) l w z = led-so k w .torn z
 
   pub walk-stays : (k : ℕ) → 0 < k → Walk H left x h us n k m → t ≡ 2 → Found H left x h us n (suc m)
   walk-stays zero l w z = absurd (not-suc-le-zero l)
-  walk-stays (suc k) l w z = turned-so k w .stays z
+  walk-stays (suc k) l w z = led-so k w .stays z
 
   pub walk-goes : (k : ℕ) → 0 < k → Walk H left x h us n k m → (t ≡ 3 → ⊥) → (t ≡ 2 → ⊥) → Walk H left x h us n (k - 1) (m + m + H + t)
   walk-goes zero l w y z = absurd (not-suc-le-zero l)
-  walk-goes (suc k) l w y z = let e : k ≡ suc k - 1 = omega arith in subst (λ (i : ℕ). Walk H left x h us n i (m + m + H + t)) e (turned-so k w .goes y z)
+  walk-goes (suc k) l w y z = let e : k ≡ suc k - 1 = omega arith in subst (λ (i : ℕ). Walk H left x h us n i (m + m + H + t)) e (led-so k w .goes y z)
 
-pub turn-few : (p q : Bool) (x a b : Element) → turnBy p q x a b ≤ 3
-unfolding turnBy
-turn-few p q x a b = go (fine p a && fine q b) (lifts x (pick (lowerSide a b) a b)) (lowerSide a b)
+pub to-few : (p q : Bool) (x a b : Element) → sinkTo p q x a b ≤ 3
+unfolding sinkTo
+to-few p q x a b = go (fine p a && fine q b) (lifts x (pick (lowerSide a b) a b)) (lowerSide a b)
   where
     go : (f l : Bool) (d : Side) → cond f (cond l (sideNumber d) 2) 3 ≤ 3
     go true true lhs = omega arith
@@ -223,3 +216,70 @@ lies-on H (suc k) m (suc (suc t)) len l f z = absurd (omega (arith, f))
 pub hole-off : (H last p c : ℕ) → (last < p) ⊎ (p < H) → H ≤ c → c < last → (c ≡ p → ⊥) × (c + 1 ≡ p → ⊥)
 hole-off H last p c (inl o) l b = ((λ e. omega (arith, o, b, e)), (λ e. omega (arith, o, b, e)))
 hole-off H last p c (inr o) l b = ((λ e. omega (arith, o, l, e)), (λ e. omega (arith, o, l, e)))
+
+-- ---- the walk by words: it has come to the slot that begins at word w, with k levels below it
+pub record Stands (H left last p h : ℕ) (x : Element) (ws : List ℕ) (k w : ℕ) : Type 0 where
+  pub m : ℕ
+  pub word : w ≡ H + m * 3
+  pub lies : Lies H (suc k) m (length ws)
+  pub walk : (n : ℕ) → HeldTo H h n last → (us : List ℕ) → Reads H p ws us → Walk H left x h us n k m
+
+module _ (H left last p h : ℕ) (x : Element) (ws : List ℕ) where
+  pub stands-top : Lies H (suc left) h (length ws) → Stands H left last p h x ws left (H + h * 3)
+  stands-top l = record { m = h; word = refl; lies = l; walk = λ n held us reads. walk-top H left x h us n }
+
+  module _ (k w : ℕ) (s : Stands H left last p h x ws k w) where
+    pub slot-of : (w - H) / 3 ≡ s .m
+    slot-of = omega (arith, s .word)
+
+    slot-next : suc (s .m) ≡ (w - H) / 3 + 1
+    slot-next = omega (arith, slot-of)
+
+    pub stands-last : k ≡ 0 → Sought H left last p h x ws ((w - H) / 3 + 1)
+    stands-last z n held us reads =
+        subst (Found H left x h us n) slot-next
+        (walk-last H left x h us n (s .m) (subst (λ (i : ℕ). Walk H left x h us n i (s .m)) z (s .walk n held us reads)))
+
+    pub stands-edge : (r : ℕ) → EdgeSought H k last p ((w - H) / 3) x ws r → Sought H left last p h x ws r
+    stands-edge r e n held us reads = e left h n held us reads (subst (Walk H left x h us n k) (sym slot-of) (s .walk n held us reads))
+
+    module _ (some : 0 < k) (t : ℕ)
+        (goes : t ≡ sinkTo (leb (s .m + s .m + H) last) (leb (s .m + s .m + H + 1) last) x (slotBut H p ws (s .m + s .m + H)) (slotBut H p ws (s .m + s .m + H + 1))) where
+      pub stands-torn : t ≡ 3 → Sought H left last p h x ws 0
+      stands-torn z n held us reads = walk-torn H left x h ws us n last p held reads (s .m) t goes k some (s .walk n held us reads) z
+
+      pub stands-stays : t ≡ 2 → Sought H left last p h x ws ((w - H) / 3 + 1)
+      stands-stays z n held us reads =
+          subst (Found H left x h us n) slot-next (walk-stays H left x h ws us n last p held reads (s .m) t goes k some (s .walk n held us reads) z)
+
+      pub stands-on : t ≤ 1 → (v : ℕ) → v ≡ H + (s .m + s .m + H + t) * 3 → Stands H left last p h x ws (k - 1) v
+      stands-on l v e =
+          record {
+            m = s .m + s .m + H + t;
+            word = e;
+            lies = lies-on H k (s .m) t (length ws) some l (s .lies);
+            walk = λ n held us reads. walk-goes H left x h ws us n last p held reads (s .m) t goes k some (s .walk n held us reads) (λ z. omega (arith, z, l)) (λ z. omega (arith, z, l));
+          }
+
+  -- both children are held: i is the word at which the left one's slot begins, `end` the last one held
+  module _ (k w : ℕ) (s : Stands H left last p h x ws k w) (some : 0 < k) (hole : (last < p) ⊎ (p < H)) (i end : ℕ) (is : i ≡ w + w + (H + H)) (ends : end ≡ H + last * 3) (both : i < end) where
+    at : i ≡ H + (s .m + s .m + H) * 3
+    at = omega (arith, is, s .word)
+
+    held : s .m + s .m + H < last
+    held = omega (arith, at, ends, both)
+
+    off : (s .m + s .m + H ≡ p → ⊥) × (s .m + s .m + H + 1 ≡ p → ⊥)
+    off = hole-off H last p (s .m + s .m + H) hole (omega arith) held
+
+    pub down-torn : (eqb (word ws (i + 1)) 0 || eqb (word ws (i + 4)) 0) ≡ true → Sought H left last p h x ws 0
+    down-torn e = stands-torn k w s some 3 (read-torn H (s .m + s .m + H) last p ws x held off i at e) refl
+
+    module _ (tags : (eqb (word ws (i + 1)) 0 || eqb (word ws (i + 4)) 0) ≡ false) (low : ℕ) (lows : low ≡ cond (ltb (word ws (i + 3)) (word ws i)) (word ws (i + 3)) (word ws i)) where
+      pub down-stays : x .rank .0 ≤ low → Sought H left last p h x ws ((w - H) / 3 + 1)
+      down-stays l = stands-stays k w s some 2 (read-stay H (s .m + s .m + H) last p ws x held off i at tags low lows l) refl
+
+      pub down-on : low < x .rank .0 → (v : ℕ) → v ≡ cond (ltb (word ws (i + 3)) (word ws i)) (i + 3) i → Stands H left last p h x ws (k - 1) v
+      down-on l v e =
+          let z : Leads H (s .m + s .m + H) last p ws x held off i at tags low lows v = read-goes H (s .m + s .m + H) last p ws x held off i at tags low lows l v e in
+          stands-on k w s some (z .side) (z .goes) (z .one) v (z .word)

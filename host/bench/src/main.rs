@@ -91,6 +91,10 @@ fn main() {
     show("fair ranks of 64 flows beside the bare tree at the same ranks", fairs::rows(&plan));
     show("check and mend of a full store, for one slot, beside a plain check and a heap", mends::rows(&plan));
     show("cluster heap beside std's BinaryHeap, then beside the tree of order 2, 4,000 held", traces::clusters(&plan));
+    show(
+        "packed heap beside std's BinaryHeap, beside that by rank alone, and beside the tree of order 4",
+        traces::packed(&plan),
+    );
     show("clocked tree beside a plain machine without damage tests, 4,000 held or three quarters", cycles::rows(&plan));
     let (staged, by_cycle) = stages::rows(&plan);
     show(

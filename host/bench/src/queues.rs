@@ -1,7 +1,7 @@
 //! Queues that take the same trace: the card's, and the plain ones beside them.
 
 use crate::measure::Contestant;
-use card_host::{BucketQueue, ClusterQueue, Element, Length, Rank, Tag, TreeQueue};
+use card_host::{BucketQueue, ClusterQueue, Element, Length, PackedQueue, Rank, Tag, TreeQueue};
 use std::cmp::{Ordering, Reverse};
 use std::collections::{BTreeMap, BinaryHeap, VecDeque};
 
@@ -84,6 +84,25 @@ impl Queue for ClusterQueue {
     #[inline]
     fn replace(&mut self, x: Strip) -> Strip {
         bare(ClusterQueue::replace(self, wrapped(x)).expect("replace"))
+    }
+}
+
+/// The first of the heaps.
+impl Queue for PackedQueue {
+    fn clear(&mut self) {
+        PackedQueue::clear(self).expect("clear");
+    }
+    #[inline]
+    fn push(&mut self, x: Strip) {
+        self.heap(0).push(wrapped(x)).expect("push");
+    }
+    #[inline]
+    fn pop(&mut self) -> Strip {
+        bare(self.heap(0).pop().expect("pop"))
+    }
+    #[inline]
+    fn replace(&mut self, x: Strip) -> Strip {
+        bare(self.heap(0).replace(wrapped(x)).expect("replace"))
     }
 }
 

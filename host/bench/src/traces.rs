@@ -5,7 +5,7 @@ use crate::count::bytes_of;
 use crate::measure::{race, Rng, Work};
 use crate::queues::{filled, HeapQueue, MapQueue, Op, Player, Queue, RankHeap, Strip};
 use crate::table::{Plan, Row};
-use card_host::{BucketQueue, ClusterQueue, TreeQueue};
+use card_host::{cluster_words, packed_words, tree_words, BucketQueue, ClusterQueue, PackedQueue, TreeQueue};
 
 /// The bucket queue's pool at two storeys, and at three.
 const NODES: u32 = 4096;
@@ -76,51 +76,48 @@ fn shaped(plan: &Plan, all: &mut Vec<Row>, name: &str, shape: (u32, u32), mut wo
     });
 }
 
-fn tree<Q: Queue + Default>(
+/// A queue of any ranks beside another that answers the same ones; how many words the card's has.
+fn beside<C: Queue, Q: Queue>(
     plan: &Plan,
     all: &mut Vec<Row>,
     name: &str,
-    shape: (u32, u32),
+    (card, words): (C, usize),
+    other: impl Fn() -> Q,
     mut work: impl FnMut(&mut Rng) -> Work<Op>,
 ) {
     if !plan.wants(name) {
         return;
     }
     let mut rng = Rng::new(2);
-    let mut card = Player { queue: TreeQueue::new(shape.0, shape.1).expect("a good shape"), whole: false };
-    let mut other = Player { queue: Q::default(), whole: false };
-    let pair = race(plan.rounds, Clock::Own, &mut card, &mut other, || work(&mut rng));
-    let fill = work(&mut rng).fill;
-    all.push(Row {
-        name: name.to_string(),
-        pair,
-        card_bytes: 4 * card.queue.words().len(),
-        other_bytes: bytes_of(|| filled(Q::default(), &fill)),
-    });
+    let (mut card, mut with) = (Player { queue: card, whole: false }, Player { queue: other(), whole: false });
+    let pair = race(plan.rounds, Clock::Own, &mut card, &mut with, || work(&mut rng));
+    let Work { fill, trace } = work(&mut rng);
+    let most = if fill.is_empty() { &trace[..trace.len() / 2] } else { &fill };
+    let other_bytes = bytes_of(|| filled(other(), most));
+    all.push(Row { name: name.to_string(), pair, card_bytes: 4 * words, other_bytes });
+}
+
+fn tree<Q: Queue + Default>(
+    plan: &Plan,
+    all: &mut Vec<Row>,
+    name: &str,
+    (order, levels): (u32, u32),
+    work: impl FnMut(&mut Rng) -> Work<Op>,
+) {
+    let card = (TreeQueue::new(order, levels).expect("a good shape"), tree_words(order, levels));
+    beside(plan, all, name, card, Q::default, work);
 }
 
 fn cluster<Q: Queue>(
     plan: &Plan,
     all: &mut Vec<Row>,
     name: &str,
-    shape: (u32, u32),
-    beside: impl Fn() -> Q,
-    mut work: impl FnMut(&mut Rng) -> Work<Op>,
+    (places, levels): (u32, u32),
+    other: impl Fn() -> Q,
+    work: impl FnMut(&mut Rng) -> Work<Op>,
 ) {
-    if !plan.wants(name) {
-        return;
-    }
-    let mut rng = Rng::new(2);
-    let mut card = Player { queue: ClusterQueue::new(shape.0, shape.1).expect("a good shape"), whole: false };
-    let mut other = Player { queue: beside(), whole: false };
-    let pair = race(plan.rounds, Clock::Own, &mut card, &mut other, || work(&mut rng));
-    let fill = work(&mut rng).fill;
-    all.push(Row {
-        name: name.to_string(),
-        pair,
-        card_bytes: 4 * card.queue.words().len(),
-        other_bytes: bytes_of(|| filled(beside(), &fill)),
-    });
+    let card = (ClusterQueue::new(places, levels).expect("a good shape"), cluster_words(places, levels));
+    beside(plan, all, name, card, other, work);
 }
 
 /// The bucket queue beside the map: each input at 4,000 held, then growth.
@@ -239,5 +236,39 @@ pub fn clusters(plan: &Plan) -> Vec<Row> {
     cluster(plan, &mut all, "cluster heap, 4 x 10, replace", (4, 10), HeapQueue::default, swap);
     cluster(plan, &mut all, "cluster heap, 4 x 10, push and pop, beside the tree of order 2", (4, 10), tree, any);
     cluster(plan, &mut all, "cluster heap, 4 x 10, replace, beside the tree of order 2", (4, 10), tree, swap);
+    all
+}
+
+/// One packed heap beside the heap, beside that by rank alone, and beside the tree of order 4, each with as many levels as it needs.
+pub fn packed(plan: &Plan) -> Vec<Row> {
+    type Input = (&'static str, fn(&mut Rng, usize, usize) -> Work<Op>);
+    let inputs: [Input; 3] = [
+        ("push and pop", |rng, held, operations| {
+            let fill = pushes(held, || rng.below(RANKS));
+            refilled(fill, operations, |_| rng.below(RANKS))
+        }),
+        ("replace", |rng, held, operations| {
+            let fill = pushes(held, || rng.below(RANKS));
+            replaced(fill, operations / 2, |given| given + rng.below(RANKS))
+        }),
+        ("fill and drain", |rng, held, _| {
+            let mut trace = pushes(held, || rng.below(RANKS));
+            trace.extend(vec![Op::Pop; held]);
+            Work { fill: Vec::new(), trace }
+        }),
+    ];
+    let mut all = Vec::new();
+    for (held, levels, tree_levels) in [(64, 7, 3), (4000, 12, 6), (65_000, 16, 8)] {
+        let card = || (PackedQueue::new(1, levels).expect("a good shape"), packed_words(1, levels));
+        let tree = || TreeQueue::new(4, tree_levels).expect("a good shape");
+        let operations = plan.operations;
+        for (input, work) in inputs {
+            let name = |other: &str| format!("packed heap, {input}, {held} held{other}");
+            let work = |rng: &mut Rng| work(rng, held, operations);
+            beside(plan, &mut all, &name(""), card(), HeapQueue::default, work);
+            beside(plan, &mut all, &name(", by rank"), card(), RankHeap::default, work);
+            beside(plan, &mut all, &name(", tree"), card(), tree, work);
+        }
+    }
     all
 }

@@ -39,6 +39,9 @@ sizes! {
     /// A cluster heap's store.
     fn cluster_words(places, levels);
 
+    /// A packed heap's store.
+    fn packed_words(heaps, levels);
+
     /// The state of fair ranks.
     fn fair_words() -> usize;
 
@@ -121,6 +124,27 @@ calls! {
 
     /// Gives the number of held elements in out[0].
     fn cluster_held(store: &[u32], places, levels, out: &mut [u32]);
+
+    // The packed heap.
+
+    /// Empties all heaps: held words and slots zero. Never refused 2.
+    fn packed_clear(store: &mut [u32], heaps, levels);
+
+    /// Takes an element in at a heap. Refused 12 for a heap that there is not, 7 with tag 0, 5 where the heap
+    /// is full.
+    fn packed_push(store: &mut [u32], heaps, levels, heap, rank, tag, length);
+
+    /// Gives the heap's element of lowest rank in out[0] to out[2]. Refused 12 for a heap that there is not,
+    /// 6 where the heap holds nothing.
+    fn packed_pop(store: &mut [u32], heaps, levels, heap, out: &mut [u32]);
+
+    /// A pop, and then a push of the new element at the same heap: gives the element of lowest rank in out[0]
+    /// to out[2], even if the new rank is lower. Works on a full heap. Refused 12 for a heap that there is
+    /// not, 7 with tag 0, 6 where the heap holds nothing.
+    fn packed_replace(store: &mut [u32], heaps, levels, heap, rank, tag, length, out: &mut [u32]);
+
+    /// Gives the number of elements that the heap holds in out[0]. Refused 12 for a heap that there is not.
+    fn packed_held(store: &[u32], heaps, levels, heap, out: &mut [u32]);
 
     // The bucket queue.
 

@@ -1,12 +1,13 @@
 //! Safe Rust over the card's library of proved priority queues.
 //!
-//! An [`Element`] is a [`Rank`], a [`Tag`] and a [`Length`]; the lowest rank leaves first. There are five queues:
+//! An [`Element`] is a [`Rank`], a [`Tag`] and a [`Length`]; the lowest rank leaves first. There are six queues:
 //!
 //! | queue | ranks | ties | over lent words or arrays | with a store of its own (feature `std`) |
 //! |---|---|---|---|---|
 //! | multi-way tree | any | in a node the lower tag, else its own order | [`Tree`] | `TreeQueue` |
 //! | bucket queue | 0 to 4,095, or 262,143 | first in, first out | [`Bucket`] | `BucketQueue` |
 //! | cluster heap | any | in a node the lower tag, else its own order | [`Cluster`] | `ClusterQueue` |
+//! | packed heap, up to 256 side by side | any | its own order | [`Packed`] | `PackedQueue` |
 //! | multi-way tree by clock cycles | any | in a node the lower tag, else its own order | [`Clocked`] | `ClockedTree` |
 //! | cluster heap by clock cycles | any | its own order | [`ClockedCluster`] | `ClockedHeap` |
 //!
@@ -51,6 +52,7 @@ mod fair;
 mod mend;
 #[cfg(feature = "std")]
 mod owned;
+mod packed;
 mod ports;
 mod sizes;
 mod tree;
@@ -62,12 +64,13 @@ pub use cluster::Cluster;
 pub use fair::{Fair, Flow, Strip, Weight};
 pub use mend::{Broken, Mended};
 #[cfg(feature = "std")]
-pub use owned::{BucketQueue, ClockedHeap, ClockedTree, ClusterQueue, FairQueue, PortsQueue, TreeQueue};
+pub use owned::{BucketQueue, ClockedHeap, ClockedTree, ClusterQueue, FairQueue, PackedQueue, PortsQueue, TreeQueue};
+pub use packed::{Heap, Packed};
 pub use ports::{Limits, Port, Ports};
 pub use queue::{Clear, Lent, Machine, Queue, Replace};
 pub use sizes::{
-    bucket_bits, bucket_ranks, bucket_words, cluster_places, cluster_words, fair_words, ports_bits, ports_words,
-    record_count, tree_slots, tree_words,
+    bucket_bits, bucket_ranks, bucket_words, cluster_places, cluster_words, fair_words, packed_slots, packed_words,
+    ports_bits, ports_words, record_count, tree_slots, tree_words,
 };
 pub use tree::Tree;
 
@@ -127,7 +130,7 @@ impl From<[u32; 3]> for Element {
 #[repr(u32)]
 #[non_exhaustive]
 pub enum Refusal {
-    /// Order, places, levels, storeys, number of nodes or ports, limits or a slice's length. Everything stands.
+    /// Order, places, heaps, levels, storeys, number of nodes or ports, limits or a slice's length. Everything stands.
     BadShape = 1,
     /// The store or a pending record does not hold together. Everything stands.
     Damaged = 2,
@@ -149,7 +152,7 @@ pub enum Refusal {
     ClockSpent = 10,
     /// Fair ranks: a reset while something is held. Everything stands.
     NotEmpty = 11,
-    /// Packed heap: no such heap. Everything stands.
+    /// A packed heap above the last. Everything stands.
     NoHeap = 12,
 }
 

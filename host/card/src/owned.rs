@@ -1,8 +1,9 @@
 //! Queues that own their stores.
 
 use crate::{
-    bucket_bits, bucket_words, cluster_words, fair_words, ports_bits, ports_words, record_count, tree_words, Bucket,
-    Clocked, ClockedCluster, Cluster, ClusterRecord, Fair, Limits, Ports, Record, Refusal, Tree,
+    bucket_bits, bucket_words, cluster_words, fair_words, packed_words, ports_bits, ports_words, record_count,
+    tree_words, Bucket, Clocked, ClockedCluster, Cluster, ClusterRecord, Fair, Limits, Packed, Ports, Record, Refusal,
+    Tree,
 };
 use std::vec;
 use std::vec::Vec;
@@ -71,6 +72,28 @@ impl ClusterQueue {
     /// An empty heap, its store allocated.
     pub fn new(places: u32, levels: u32) -> Result<ClusterQueue, Refusal> {
         Cluster::cleared(places, levels, vec![0; cluster_words(places, levels)])
+    }
+}
+
+/// Packed heaps with a store of their own. Everything else is [`Packed`]'s.
+///
+/// ```
+/// use card_host::{Element, Length, PackedQueue, Rank, Refusal, Tag};
+///
+/// # fn main() -> Result<(), Refusal> {
+/// let mut heaps = PackedQueue::new(5, 6)?;
+/// heaps.heap(4).push(Element::new(Rank(7), Tag(1), Length(64)))?;
+/// let mut again = PackedQueue::from_words(5, 6, heaps.into_words());
+/// assert_eq!((again.held(4)?, again.held(0)?), (1, 0));
+/// # Ok(())
+/// # }
+/// ```
+pub type PackedQueue = Packed<Vec<u32>>;
+
+impl PackedQueue {
+    /// So many empty heaps of these levels, their store allocated.
+    pub fn new(heaps: u32, levels: u32) -> Result<PackedQueue, Refusal> {
+        Packed::cleared(heaps, levels, vec![0; packed_words(heaps, levels)])
     }
 }
 

@@ -82,6 +82,43 @@ pub const fn cluster_words(places: u32, levels: u32) -> usize {
     4 * all + 2 * (all / places as usize)
 }
 
+/// The most heaps of a packed heap, and its most slots.
+const HEAPS: u32 = 256;
+const PACKED: usize = 131_071;
+
+/// How many elements so many packed heaps of these levels can hold together, each as many as the others; 0 for a bad shape.
+///
+/// ```
+/// assert_eq!(card_host::packed_slots(1, 17), 131_071);
+/// assert_eq!(card_host::packed_slots(1, 18), 0);
+/// assert_eq!(card_host::packed_slots(256, 9), 130_816);
+/// assert_eq!(card_host::packed_slots(257, 1), 0);
+/// ```
+pub const fn packed_slots(heaps: u32, levels: u32) -> usize {
+    if heaps > HEAPS || levels > 17 {
+        return 0;
+    }
+    let slots = heaps as usize * ((1 << levels) - 1);
+    if slots > PACKED {
+        return 0;
+    }
+    slots
+}
+
+/// How many words the store of so many packed heaps needs, one for each heap and three for each slot; 0 for a bad shape.
+///
+/// ```
+/// static STORE: [u32; card_host::packed_words(2, 2)] = [0; 20];
+/// # let _ = STORE;
+/// ```
+pub const fn packed_words(heaps: u32, levels: u32) -> usize {
+    let slots = packed_slots(heaps, levels);
+    if slots == 0 {
+        return 0;
+    }
+    heaps as usize + 3 * slots
+}
+
 /// How many pending records a clocked tree or cluster heap needs, one for each level from 2.
 pub const fn record_count(levels: u32) -> usize {
     (levels as usize).saturating_sub(1)

@@ -20,7 +20,7 @@ static struct card_record records[CARD_RECORDS(15) + BEHIND];
 static struct card_cluster_record stages[CARD_RECORDS(15) + BEHIND];
 
 static uint64_t hash;
-static uint32_t calls, numbers[13], strange;
+static uint32_t calls, numbers[14], strange;
 
 /* the shape, and how many words and records its slices need */
 static uint32_t shape[3], words, words64, pending;
@@ -62,7 +62,7 @@ static void note(uint32_t number) {
     mix(number);
     all(out, 6);
     for (i = 0; i < 6; i++) out[i] = 0xdead0000u + i;
-    numbers[number < 12 ? number : 12]++;
+    numbers[number < 13 ? number : 13]++;
     if (calls++ % (words / 160 + 1) == 0) everything();
 }
 
@@ -259,6 +259,17 @@ static uint32_t clocked_cluster(uint32_t what) {
     return card_clocked_cluster_cycle(store, n, a, b, stages, n3, about(CARD_IDLE), 0, 0, 0, out, no);
 }
 
+static uint32_t packed(uint32_t what) {
+    uint32_t heap = below(30) == 0 ? at % 300 : at % shape[0];
+    switch (what) {
+    case PUSH: return card_packed_push(store, n, a, b, heap, rank, tag, length);
+    case POP: return card_packed_pop(store, n, a, b, heap, out, no);
+    case REPLACE: return card_packed_replace(store, n, a, b, heap, rank, tag, length, out, no);
+    case CLEAR: return card_packed_clear(store, n, a, b);
+    default: return card_packed_held(store, n, a, b, heap, out, no);
+    }
+}
+
 /* A stretch of calls from a cleared store, then one in which stores, lengths and numbers are spoilt. */
 static void work(uint32_t (*queue)(uint32_t)) {
     uint32_t i, what;
@@ -285,8 +296,8 @@ static void told(const char *name) {
     for (i = 0; i < 16; i++) text[i] = "0123456789abcdef"[hash >> (60 - 4 * i) & 15];
     text[16] = 0;
     printf("%s: %u calls, hash %s\n", name, (unsigned)calls, text);
-    strange += numbers[12];
-    for (i = 0; i < 12; i++) {
+    strange += numbers[13];
+    for (i = 0; i < 13; i++) {
         if (numbers[i] != 0) printf("    %s %u\n", card_name(i), (unsigned)numbers[i]);
         numbers[i] = 0;
     }
@@ -314,6 +325,18 @@ static void sizes(void) {
     told("sizes");
 }
 
+/* Of the queues that came later, so that the lines before theirs stay as they were. */
+static void more_sizes(void) {
+    uint32_t i, j;
+    for (i = 0; i < 20; i++)
+        for (j = 0; j < 20; j++) {
+            mix(card_packed_words(i, j));
+            mix(card_packed_words(240 + i, j));
+            mix(card_packed_words(word(), j));
+            mix(card_packed_words(i, word()));
+        }
+}
+
 /* A shape, what its slices need, and the work on it. */
 static void on(uint32_t x, uint32_t y, uint32_t z, uint32_t (*queue)(uint32_t)) {
     shape[0] = x;
@@ -326,6 +349,9 @@ static void on(uint32_t x, uint32_t y, uint32_t z, uint32_t (*queue)(uint32_t)) 
         words64 = queue == ports ? card_ports_bits(x, z) : card_bucket_bits(x);
         words = queue == ports ? card_ports_words(x, y, z) : card_bucket_words(x, y);
         pending = 0;
+    } else if (queue == packed) {
+        words = card_packed_words(x, y);
+        pending = 0;
     } else words = card_tree_words(x, y);
     work(queue);
 }
@@ -335,6 +361,7 @@ int main(void) {
     static const uint32_t clusters[6][2] = {{2, 1}, {2, 3}, {3, 4}, {7, 3}, {16, 2}, {4, 10}};
     static const uint32_t pools[5][2] = {{2, 1}, {2, 7}, {2, 64}, {2, 1000}, {3, 40}};
     static const uint32_t halls[5][3] = {{2, 6, 2}, {2, 60, 5}, {2, 40, 16}, {2, 9, 1}, {3, 10, 1}};
+    static const uint32_t forests[8][2] = {{1, 1}, {1, 4}, {2, 3}, {3, 5}, {7, 2}, {256, 2}, {16, 8}, {1, 17}};
     uint32_t i;
     hash = (uint64_t)0xcbf29ce4u << 32 | 0x84222325u;
     sizes();
@@ -352,5 +379,8 @@ int main(void) {
     told("clocked");
     for (i = 0; i < 6; i++) on(clusters[i][0], clusters[i][1], 0, clocked_cluster);
     told("clocked cluster");
+    more_sizes();
+    for (i = 0; i < 8; i++) on(forests[i][0], forests[i][1], 0, packed);
+    told("packed");
     return strange == 0 ? 0 : 1;
 }

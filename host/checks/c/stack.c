@@ -30,7 +30,7 @@
 static struct row {
     const char *name;
     uint32_t bytes;
-} rows[64];
+} rows[96];
 
 static int same(const char *a, const char *b) {
     while (*a != 0 && *a == *b) a++, b++;
@@ -48,7 +48,7 @@ static void took(const char *name, uint32_t bytes) {
 #define TREE CARD_TREE_WORDS(2, 15), 2, 15
 #define OUT out, CARD_OUT_WORDS
 
-static uint32_t store[CARD_TREE_WORDS(2, 15)], second[CARD_TREE_WORDS(2, 15)], state[CARD_FAIR_WORDS], mark[1], out[3];
+static uint32_t store[CARD_PACKED_WORDS(1, 17)], second[CARD_TREE_WORDS(2, 15)], state[CARD_FAIR_WORDS], mark[1], out[3];
 static uint64_t bits[CARD_PORTS_BITS(2, 16)];
 static struct card_record records[CARD_RECORDS(15)];
 static struct card_cluster_record stages[CARD_RECORDS(15)];
@@ -114,6 +114,27 @@ static void cluster(uint32_t places, uint32_t levels) {
         TOOK(card_cluster_push, card_cluster_push(store, HEAP, rank, i, 1));
         TOOK(card_cluster_replace, card_cluster_replace(store, HEAP, rank, i, 1, OUT));
         TOOK(card_cluster_held, card_cluster_held(store, HEAP, OUT));
+        store[spoilt] = was;
+    }
+}
+
+#define FOREST CARD_PACKED_WORDS(heaps, levels), heaps, levels
+
+static void packed(uint32_t heaps, uint32_t levels) {
+    uint32_t i, rank, heap;
+    TOOK(card_packed_words, card_packed_words(heaps, levels));
+    TOOK(card_packed_clear, card_packed_clear(store, FOREST));
+    for (heap = 0; heap < heaps; heap++)
+        while (card_packed_push(store, FOREST, heap, word() >> 1, 1, 1) == CARD_OK) continue;
+    for (i = 0; i < 300; i++) {
+        rank = word() >> (i % 2 ? 1 : 12);
+        heap = word() % (heaps + 1);
+        spoil(CARD_PACKED_WORDS(heaps, levels));
+        TOOK(card_packed_push, card_packed_push(store, FOREST, heap, rank, i, 1));
+        TOOK(card_packed_pop, card_packed_pop(store, FOREST, heap, OUT));
+        TOOK(card_packed_push, card_packed_push(store, FOREST, heap, rank, i, 1));
+        TOOK(card_packed_replace, card_packed_replace(store, FOREST, heap, rank, i, 1, OUT));
+        TOOK(card_packed_held, card_packed_held(store, FOREST, heap, OUT));
         store[spoilt] = was;
     }
 }
@@ -192,13 +213,15 @@ static void clocked_cluster(uint32_t places, uint32_t levels) {
 
 int main(void) {
     struct row *row;
-    /* heaps with many levels, and with many places in a node */
-    const uint32_t many = 11, wide = 16;
+    /* heaps with many levels, and with many places in a node; packed ones with many levels, and many side by side */
+    const uint32_t many = 11, wide = 16, one = 1, all = 256;
     TOOK(card_version, card_version());
     tree();
     fair();
     cluster(2, many);
     cluster(wide, 8);
+    packed(one, 17);
+    packed(all, 9);
     bucket();
     ports();
     clocked();

@@ -56,6 +56,13 @@ fn fair_ranks() {
 }
 
 #[test]
+fn packed_heaps() {
+    for (standard, written) in in_each("host/checks/c/packed.c") {
+        assert_eq!(written, "", "{standard}");
+    }
+}
+
+#[test]
 fn several_ports() {
     for (standard, written) in in_each("host/checks/c/ports.c") {
         assert_eq!(written, "", "{standard}");

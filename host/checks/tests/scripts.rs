@@ -110,6 +110,8 @@ fn the_bench_runs() {
         "fair, order 4 x 6, push and pop, 4000 held",
         "check, order 4 x 8, full",
         "mend, order 4 x 8, full",
+        "packed heap, push and pop, 4000 held",
+        "packed heap, fill and drain, 65000 held, tree",
         "cycle, order 4 x 6, idle",
         "cluster clock, pop every cycle",
         "records a second",

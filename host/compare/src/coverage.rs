@@ -102,7 +102,7 @@ pub fn check(h: &Harness, verbose: bool) -> Vec<String> {
     for (i, &op) in OPS.iter().enumerate() {
         let row: Vec<String> = rows[i].numbers[..8].iter().map(|n| format!("{n:8}")).collect();
         println!("  {:24} {}", op.name(), row.join(" "));
-        for number in 0..12u32 {
+        for number in 0..13u32 {
             let seen = rows[i].numbers[number as usize];
             let can = numbers(op).contains(&number);
             if can && seen == 0 {

@@ -167,7 +167,7 @@ where
 pub struct Row {
     pub name: &'static str,
     /// How often each number.
-    pub numbers: [u64; 12],
+    pub numbers: [u64; 13],
     /// How often one clause alone made it damaged, and how often a clause was among others.
     pub alone: [u64; 64],
     pub met: [u64; 64],
@@ -201,7 +201,7 @@ impl Row {
 
 impl Tally {
     pub fn of<S: Subject>() -> Tally {
-        let row = |name: &&'static str| Row { name, numbers: [0; 12], alone: [0; 64], met: [0; 64], shapes: [0; 64] };
+        let row = |name: &&'static str| Row { name, numbers: [0; 13], alone: [0; 64], met: [0; 64], shapes: [0; 64] };
         Tally { rows: S::CALLS.iter().map(row).collect(), calls: 0 }
     }
 

@@ -1,10 +1,10 @@
 //! The queues as the desk sees them. Those that take elements in at any rank, one operation at a time or by cycles, share one kind of call and
-//! are a line each; fair ranks, ports, and the check and mending of a tree have calls of their own.
+//! are a line each; packed heaps, fair ranks, ports, and the check and mending of a tree have calls of their own.
 
 use crate::desk::{as_structs, Store, Subject};
 use card_host::{calls, ClusterRecord, Record};
 use models::boundary::{self, counted, told};
-use models::{bucket, cluster, cluster_clock, element, fair, mend, ports, shape_cause, tree, Element, No};
+use models::{bucket, cluster, cluster_clock, element, fair, mend, packed, ports, shape_cause, tree, Element, No};
 
 /// A call of a queue of elements, with the length of `out` where it has one.
 #[derive(Clone, Copy, Debug)]
@@ -96,6 +96,45 @@ operations! {
     Cluster on (words): cluster_clear, cluster_push, cluster_pop, cluster_replace, cluster_held as cluster;
     /// The bucket queue.
     Bucket on (bits, words): bucket_clear, bucket_push, bucket_pop, bucket_replace, bucket_held as bucket;
+}
+
+/// Packed heaps side by side. The shape is the heaps and the levels; a call is at a heap, but for clear, which is of all.
+pub struct Packed;
+
+impl Subject for Packed {
+    type Store = Store;
+    type Call = (u32, Ask);
+    const CALLS: &'static [&'static str] = Tree::CALLS;
+
+    fn kind((_, ask): &(u32, Ask)) -> usize {
+        Tree::kind(ask)
+    }
+
+    fn out((_, ask): &(u32, Ask)) -> usize {
+        ask.out()
+    }
+
+    fn library(&(heap, ask): &(u32, Ask), store: &mut Store, out: &mut [u32]) -> u32 {
+        let ([a, b, _], Store { words, .. }) = (store.shape, store);
+        match ask {
+            Ask::Clear => calls::packed_clear(words, a, b),
+            Ask::Push(x) => calls::packed_push(words, a, b, heap, x.rank, x.tag, x.length),
+            Ask::Pop(_) => calls::packed_pop(words, a, b, heap, out),
+            Ask::Replace(x, _) => calls::packed_replace(words, a, b, heap, x.rank, x.tag, x.length, out),
+            _ => calls::packed_held(words, a, b, heap, out),
+        }
+    }
+
+    fn model(&(heap, ask): &(u32, Ask), store: &mut Store, out: &mut [u32]) -> Result<(), No> {
+        let ([a, b, _], Store { words, .. }) = (store.shape, store);
+        match ask {
+            Ask::Clear => packed::clear(words, a, b),
+            Ask::Push(x) => packed::push(words, a, b, heap, x),
+            Ask::Pop(_) => told(out, || packed::pop(words, a, b, heap)),
+            Ask::Replace(x, _) => told(out, || packed::replace(words, a, b, heap, x)),
+            _ => counted(out, || packed::held(words, a, b, heap)),
+        }
+    }
 }
 
 /// The calls of a machine that are counted apart.

@@ -1,6 +1,6 @@
 -- `packed::pop_open` meets its contract.
 use native.Mathlib.Nat.{pos-of-ne-zero}
-use Rattle.laws.specs.Prelude.{_∙_, _≡_, arith, inl, length-set, needs}
+use Rattle.laws.specs.Prelude.{_-_, _∙_, _≡_, arith, inl, length-set, needs}
 use Rattle.packed.proofs.Calls.{before-last, depth-few, last-is, not-first, open-ground, pop-bare, pop-done, pop-none, pop-only, pop-room, pop-stop, seat-of, sink-ready, slot-at-of, slot-lies}
 use Rattle.packed.proofs.pop_open.Statement.{statement}
 use Rattle.packed.proofs.pop_open.Tie as tie
@@ -63,7 +63,7 @@ sub-rest-slot-2 : tie.Need-sub-rest-slot-2
 sub-rest-slot-2 c = not-first (c .before .before .before .before .before .before .before .before .before .before .before .before .before .before .args .heaps) (c .before .before .before .before .before .before .before .before .before .before .before .before .before .before .args .levels) (c .before .before .before .before .before .before .before .before .before .before .before .before .before .before .args .heap) (c .before .before .before .before .before .before .before .before .before .before .before .before .before .before .args .n) (c .before .before .before .before .before .before .before .before .before .before .before .before .before .before .args .store .now) (c .before .before .before .before .before .before .before .before .before .before .before .before .before .before .pre) (c .before .before .before .before .before .before .before .before .before .before .before .before .if1 .left) (c .before .if3 .left) _ (seat-of (c .before .before .before .before .before .before .before .before .before .before .before .before .before .before .args .heaps) (c .before .before .before .before .before .before .before .before .before .before .before .before .before .before .args .levels) (c .before .before .before .before .before .before .before .before .before .before .before .before .before .before .args .heap) (c .before .before .before .before .before .before .before .before .before .before .before .before .before .before .args .n) (c .before .before .before .before .before .before .before .before .before .before .before .before .before .before .args .store .now) (c .before .before .before .before .before .before .before .before .before .before .before .before .before .before .pre) (c .before .before .before .before .before .before .before .before .before .before .before .wide .result) (c .before .before .before .before .before .before .before .before .before .before .depth-of .result) (c .before .before .before .before .before .before .before .before .before .power .result) (c .before .before .before .before .before .before .before .before .before .before .before .wide .ensures .0) (pos-of-ne-zero (c .before .before .before .before .before .before .before .before .before .before .before .before .if1 .left)) (c .before .before .before .before .before .before .before .before .before .before .depth-of .ensures) (c .before .before .before .before .before .before .before .before .before .power .ensures) _ (c .before .before .before .before .before .before .before .before .slot-at .ensures))
 
 rest-slot-requires : tie.Need-rest-slot-requires
-rest-slot-requires c κs = sink-ready (c .before .before .before .before .before .before .before .before .before .before .before .before .before .before .args .heaps) (c .before .before .before .before .before .before .before .before .before .before .before .before .before .before .args .levels) (c .before .before .before .before .before .before .before .before .before .before .before .before .before .before .args .heap) (c .before .before .before .before .before .before .before .before .before .before .before .before .before .before .args .n) (c .before .before .before .before .before .before .before .before .before .before .before .before .before .before .args .store .now) (c .before .before .before .before .before .before .before .before .before .before .before .before .before .before .pre) _ _ (inl (before-last (c .before .before .before .before .before .before .before .before .before .before .before .before .before .before .args .heaps) (c .before .before .before .before .before .before .before .before .before .before .before .before .before .before .args .levels) (c .before .before .before .before .before .before .before .before .before .before .before .before .before .before .args .heap) (c .before .before .before .before .before .before .before .before .before .before .before .before .before .before .args .n) (c .before .before .before .before .before .before .before .before .before .before .before .before .before .before .args .store .now) (c .before .before .before .before .before .before .before .before .before .before .before .before .before .before .pre) (c .before .before .before .before .before .before .before .before .before .before .before .before .if1 .left) (c .before .if3 .left) _ (seat-of (c .before .before .before .before .before .before .before .before .before .before .before .before .before .before .args .heaps) (c .before .before .before .before .before .before .before .before .before .before .before .before .before .before .args .levels) (c .before .before .before .before .before .before .before .before .before .before .before .before .before .before .args .heap) (c .before .before .before .before .before .before .before .before .before .before .before .before .before .before .args .n) (c .before .before .before .before .before .before .before .before .before .before .before .before .before .before .args .store .now) (c .before .before .before .before .before .before .before .before .before .before .before .before .before .before .pre) (c .before .before .before .before .before .before .before .before .before .before .before .wide .result) (c .before .before .before .before .before .before .before .before .before .before .depth-of .result) (c .before .before .before .before .before .before .before .before .before .power .result) (c .before .before .before .before .before .before .before .before .before .before .before .wide .ensures .0) (pos-of-ne-zero (c .before .before .before .before .before .before .before .before .before .before .before .before .if1 .left)) (c .before .before .before .before .before .before .before .before .before .before .depth-of .ensures) (c .before .before .before .before .before .before .before .before .before .power .ensures) _ (c .before .before .before .before .before .before .before .before .slot-at .ensures))))
+rest-slot-requires c κs = sink-ready (c .before .before .before .before .before .before .before .before .before .before .before .before .before .before .args .heaps) (c .before .before .before .before .before .before .before .before .before .before .before .before .before .before .args .levels) (c .before .before .before .before .before .before .before .before .before .before .before .before .before .before .args .heap) (c .before .before .before .before .before .before .before .before .before .before .before .before .before .before .args .n) (c .before .before .before .before .before .before .before .before .before .before .before .before .before .before .args .store .now) (c .before .before .before .before .before .before .before .before .before .before .before .before .before .before .pre) (c .before .before .before .before .before .before .before .before .slot-at .result - 1) (c .before .before .before .before .before .before .before .before .slot-at .result) (omega (arith, slot-lies (c .before .before .before .before .before .before .before .before .before .before .before .before .before .before .args .heaps) (c .before .before .before .before .before .before .before .before .before .before .before .before .before .before .args .levels) (c .before .before .before .before .before .before .before .before .before .before .before .before .before .before .args .heap) (c .before .before .before .before .before .before .before .before .before .before .before .before .before .before .args .n) (c .before .before .before .before .before .before .before .before .before .before .before .before .before .before .args .store .now) (c .before .before .before .before .before .before .before .before .before .before .before .before .before .before .pre) (c .before .before .before .before .before .before .before .before .before .before .before .wide .result) (c .before .before .before .before .before .before .before .before .before .before .depth-of .result) (c .before .before .before .before .before .before .before .before .before .power .result) (c .before .before .before .before .before .before .before .before .before .before .before .wide .ensures .0) (pos-of-ne-zero (c .before .before .before .before .before .before .before .before .before .before .before .before .if1 .left)) (c .before .before .before .before .before .before .before .before .before .before .depth-of .ensures) (c .before .before .before .before .before .before .before .before .before .power .ensures) (c .before .before .before .before .before .before .before .before .slot-at .result) (c .before .before .before .before .before .before .before .before .slot-at .ensures))) (inl (before-last (c .before .before .before .before .before .before .before .before .before .before .before .before .before .before .args .heaps) (c .before .before .before .before .before .before .before .before .before .before .before .before .before .before .args .levels) (c .before .before .before .before .before .before .before .before .before .before .before .before .before .before .args .heap) (c .before .before .before .before .before .before .before .before .before .before .before .before .before .before .args .n) (c .before .before .before .before .before .before .before .before .before .before .before .before .before .before .args .store .now) (c .before .before .before .before .before .before .before .before .before .before .before .before .before .before .pre) (c .before .before .before .before .before .before .before .before .before .before .before .before .if1 .left) (c .before .if3 .left) _ (seat-of (c .before .before .before .before .before .before .before .before .before .before .before .before .before .before .args .heaps) (c .before .before .before .before .before .before .before .before .before .before .before .before .before .before .args .levels) (c .before .before .before .before .before .before .before .before .before .before .before .before .before .before .args .heap) (c .before .before .before .before .before .before .before .before .before .before .before .before .before .before .args .n) (c .before .before .before .before .before .before .before .before .before .before .before .before .before .before .args .store .now) (c .before .before .before .before .before .before .before .before .before .before .before .before .before .before .pre) (c .before .before .before .before .before .before .before .before .before .before .before .wide .result) (c .before .before .before .before .before .before .before .before .before .before .depth-of .result) (c .before .before .before .before .before .before .before .before .before .power .result) (c .before .before .before .before .before .before .before .before .before .before .before .wide .ensures .0) (pos-of-ne-zero (c .before .before .before .before .before .before .before .before .before .before .before .before .if1 .left)) (c .before .before .before .before .before .before .before .before .before .before .depth-of .ensures) (c .before .before .before .before .before .before .before .before .before .power .ensures) _ (c .before .before .before .before .before .before .before .before .slot-at .ensures))))
 
 same-length-3 : tie.Need-same-length-3
 same-length-3 c = search needs

@@ -1,7 +1,7 @@
 -- `packed::replace_open` meets its contract.
 use native.Mathlib.Nat.{pos-of-ne-zero}
 use Rattle.laws.specs.Prelude.{arith, inr, needs, refl}
-use Rattle.packed.proofs.Calls.{depth-few, found-replace, found-room, open-ground, replace-bad, replace-done, replace-none, replace-tag, seat-of, sink-ready, slot-at-of}
+use Rattle.packed.proofs.Calls.{depth-few, found-replace, found-room, open-ground, replace-bad, replace-done, replace-none, replace-tag, seat-of, sink-ready, slot-at-of, slot-lies}
 use Rattle.packed.proofs.replace_open.Statement.{statement}
 use Rattle.packed.proofs.replace_open.Tie as tie
 
@@ -36,7 +36,7 @@ sub-rest-slot : tie.Need-sub-rest-slot
 sub-rest-slot c = omega (arith, open-ground (c .before .before .before .before .before .before .before .before .before .before .before .args .heaps) (c .before .before .before .before .before .before .before .before .before .before .before .args .levels) (c .before .before .before .before .before .before .before .before .before .before .before .args .heap) (c .before .before .before .before .before .before .before .before .before .before .before .args .n) (c .before .before .before .before .before .before .before .before .before .before .before .args .store .now) (c .before .before .before .before .before .before .before .before .before .before .before .pre) .shape .some)
 
 rest-slot-requires : tie.Need-rest-slot-requires
-rest-slot-requires c κs = sink-ready (c .before .before .before .before .before .before .before .before .before .before .before .args .heaps) (c .before .before .before .before .before .before .before .before .before .before .before .args .levels) (c .before .before .before .before .before .before .before .before .before .before .before .args .heap) (c .before .before .before .before .before .before .before .before .before .before .before .args .n) (c .before .before .before .before .before .before .before .before .before .before .before .args .store .now) (c .before .before .before .before .before .before .before .before .before .before .before .pre) _ _ (inr (c .before .before .before .before .before .before .before .before .before .before .before .pre .heap))
+rest-slot-requires c κs = sink-ready (c .before .before .before .before .before .before .before .before .before .before .before .args .heaps) (c .before .before .before .before .before .before .before .before .before .before .before .args .levels) (c .before .before .before .before .before .before .before .before .before .before .before .args .heap) (c .before .before .before .before .before .before .before .before .before .before .before .args .n) (c .before .before .before .before .before .before .before .before .before .before .before .args .store .now) (c .before .before .before .before .before .before .before .before .before .before .before .pre) _ _ (slot-lies (c .before .before .before .before .before .before .before .before .before .before .before .args .heaps) (c .before .before .before .before .before .before .before .before .before .before .before .args .levels) (c .before .before .before .before .before .before .before .before .before .before .before .args .heap) (c .before .before .before .before .before .before .before .before .before .before .before .args .n) (c .before .before .before .before .before .before .before .before .before .before .before .args .store .now) (c .before .before .before .before .before .before .before .before .before .before .before .pre) (c .before .before .before .before .before .before .wide .result) (c .before .before .before .before .before .depth-of .result) (c .before .before .before .before .power .result) (c .before .before .before .before .before .before .wide .ensures .0) (pos-of-ne-zero (c .before .before .before .before .before .before .before .if2 .left)) (c .before .before .before .before .before .depth-of .ensures) (c .before .before .before .before .power .ensures) (c .before .before .before .slot-at .result) (c .before .before .before .slot-at .ensures)) (inr (c .before .before .before .before .before .before .before .before .before .before .before .pre .heap))
 
 same-length : tie.Need-same-length
 same-length c = search needs

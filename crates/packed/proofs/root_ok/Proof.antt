@@ -22,11 +22,11 @@ capacity-of-requires c κs = ground (c .before .before .before .before .args .he
 returns : tie.Need-returns
 returns c = root-over _ _ _ _ _ (c .before .before .before .slot .ensures) _ _ (c .before .before .wide .ensures .0) (c .before .capacity-of .ensures) (c .if1 .taken)
 
-is-zero-requires : tie.Need-is-zero-requires
-is-zero-requires c κs = search needs
+is-blank-requires : tie.Need-is-blank-requires
+is-blank-requires c κs = search needs
 
 returns-2 : tie.Need-returns-2
-returns-2 c = root-none _ _ _ _ _ (c .before .before .before .before .before .slot .ensures) _ _ (c .before .before .before .before .wide .ensures .0) (c .before .before .before .capacity-of .ensures) (c .before .before .if1 .left) (c .before .before .before .before .wide .ensures .0 ∙ c .before .if2 .taken) _ (c .is-zero .ensures)
+returns-2 c = root-none _ _ _ _ _ (c .before .before .before .before .before .slot .ensures) _ _ (c .before .before .before .before .wide .ensures .0) (c .before .before .before .capacity-of .ensures) (c .before .before .if1 .left) (c .before .before .before .before .wide .ensures .0 ∙ c .before .if2 .taken) _ (c .is-blank .ensures)
 
 is-untagged-requires : tie.Need-is-untagged-requires
 is-untagged-requires c κs = search needs
@@ -44,7 +44,7 @@ root-ok-spec =
     wide-requires
     capacity-of-requires
     returns
-    is-zero-requires
+    is-blank-requires
     returns-2
     is-untagged-requires
     returns-3)

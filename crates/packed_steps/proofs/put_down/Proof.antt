@@ -1,50 +1,49 @@
 -- `packed_steps::put_down` meets its contract.
-use Rattle.laws.specs.Prelude.{_∙_, _≡_, _≤_, arith, length, refl, suc, sym}
-use Rattle.packed_steps.proofs.Putted.{last-run, next-lies, next-met, under-lies}
-use Rattle.packed_model.specs.Words.{Lies}
-use Rattle.packed_steps.specs.Put.{putRun}
+use Rattle.laws.specs.Prelude.{_*_, _+_, _<_, _∙_, _≡_, _≤_, arith, length, refl, ℕ}
+use Rattle.packed_model.specs.Node.{size}
+use Rattle.packed_model.specs.Words.{slotAt}
+use Rattle.packed_steps.proofs.Putted.{below-on, Falls, falls-from, falls-last, falls-on, up-least, up-most}
 use Rattle.packed_steps.proofs.put_down.Statement.{statement}
 use Rattle.packed_steps.proofs.put_down.Tie as tie
 
 abbrev Inv-loop : tie.InvT-loop
-Inv-loop s₀ heaps d r m k₀ rest₀ at₀ y₀ s k rest at y =
-    (k ≤ d) × Lies heaps (suc k) at (length s₀) × (length s ≡ length s₀) × (putRun heaps d r m y₀ s₀ ≡ putRun heaps k rest at y s)
+Inv-loop s₀ heaps end levels k₀ y₀ s k y = (k ≤ levels) × (heaps * size k ≤ end + heaps) × (length s ≡ length s₀) × ((r t : ℕ) → r < size levels → end ≡ slotAt heaps t levels r → Falls heaps end levels r t y₀ s₀ k y s)
 
 abbrev μ-loop : tie.MeasureT-loop
-μ-loop s₀ heaps d r m k₀ rest₀ at₀ y₀ s k rest at y = k
+μ-loop s₀ heaps end levels k₀ y₀ s k y = k
 
 loop-holds : tie.Need-loop-holds Inv-loop μ-loop
-loop-holds c = (omega arith, c .before .pre .lies, refl, refl)
+loop-holds c = (omega arith, c .before .pre .below, refl, λ r t l e. falls-from (c .before .args .heaps) (c .before .pre .one) (c .before .args .end) (c .before .args .levels) r t (c .before .args .x) (c .before .args .s .now) l e)
+
+add-m : tie.Need-add-m Inv-loop μ-loop
+add-m c = omega (arith, c .before .before .before .pre .room)
+
+shr-m : tie.Need-shr-m Inv-loop μ-loop
+shr-m c = omega (arith, c .before .before .before .pre .few, c .before .loop .inv .0)
+
+sub-m : tie.Need-sub-m Inv-loop μ-loop
+sub-m c = up-least (c .before .before .before .args .heaps) (c .before .loop .k) (c .before .before .before .args .end + c .before .before .before .args .heaps) (c .before .loop .inv .1)
 
 meet-requires : tie.Need-meet-requires Inv-loop μ-loop
-meet-requires c κs = omega (arith, c .before .before .loop .inv .1 .0, c .before .before .loop .inv .2)
+meet-requires c κs = omega (arith, c .before .before .before .before .pre .room, c .before .before .loop .inv .2, up-most (c .before .before .loop .k) (c .before .before .before .before .args .end + c .before .before .before .before .args .heaps))
 
 sub-k : tie.Need-sub-k Inv-loop μ-loop
 sub-k c = omega arith
-
-goes-right-requires : tie.Need-goes-right-requires Inv-loop μ-loop
-goes-right-requires c κs = omega (arith, c .before .before .before .before .before .before .before .pre .few, c .before .before .before .before .before .loop .inv .0)
-
-rest-of-requires : tie.Need-rest-of-requires Inv-loop μ-loop
-rest-of-requires c κs = omega (arith, c .before .before .before .before .before .before .before .before .pre .few, c .before .before .before .before .before .before .loop .inv .0)
-
-child-of-requires : tie.Need-child-of-requires Inv-loop μ-loop
-child-of-requires c κs = omega (arith, under-lies (c .before .before .before .before .before .before .before .before .before .args .heaps) (c .before .before .before .before .before .before .before .loop .k) (c .before .before .before .before .before .before .before .loop .at) (length (c .before .before .before .before .before .before .before .before .before .args .s .now)) (c .before .before .before .before .before .before .loop-test .taken) (c .before .before .before .before .before .before .before .loop .inv .1))
 
 loop-less : tie.Need-loop-less Inv-loop μ-loop
 loop-less c = omega arith
 
 loop-again : tie.Need-loop-again Inv-loop μ-loop
-loop-again c = (omega (arith, c .before .before .before .before .before .before .before .before .loop .inv .0), next-lies (c .before .before .before .before .before .before .before .before .before .before .args .heaps) (c .before .before .before .before .before .before .before .before .before .before .pre .one) (c .before .before .before .before .before .before .before .before .loop .k) _ _ (c .before .before .before .before .before .before .before .loop-test .taken) _ _ _ (c .before .before .goes-right .ensures) (c .before .rest-of .ensures) (c .child-of .ensures) _ (c .before .before .before .before .before .before .before .before .loop .inv .1), c .before .before .before .before .before .meet .kept .0 ∙ c .before .before .before .before .before .before .before .before .loop .inv .2, c .before .before .before .before .before .before .before .before .loop .inv .3 ∙ next-met (c .before .before .before .before .before .before .before .before .before .before .args .heaps) (c .before .before .before .before .before .before .before .before .before .before .pre .one) (c .before .before .before .before .before .before .before .before .loop .k) _ _ (c .before .before .before .before .before .before .before .loop-test .taken) _ _ _ (c .before .before .goes-right .ensures) (c .before .rest-of .ensures) (c .child-of .ensures) _ _ _ _ (c .before .before .before .before .before .meet .ensures .0) (c .before .before .before .before .before .meet .ensures .1))
+loop-again c = (omega (arith, c .before .before .before .before .before .loop .inv .0), below-on (c .before .before .before .before .before .before .before .args .heaps) (c .before .before .before .before .before .loop .k) (c .before .before .before .before .before .before .before .args .end + c .before .before .before .before .before .before .before .args .heaps) (c .before .before .before .before .loop-test .taken) (c .before .before .before .before .before .loop .inv .1), c .before .before .meet .kept .0 ∙ c .before .before .before .before .before .loop .inv .2, λ r t l e. falls-on (c .before .before .before .before .before .before .before .args .heaps) (c .before .before .before .before .before .before .before .pre .one) (c .before .before .before .before .before .before .before .args .end) (c .before .before .before .before .before .before .before .args .levels) r t (c .before .before .before .before .before .before .before .args .x) (c .before .before .before .before .before .before .before .args .s .now) (c .before .before .before .before .before .loop .k) (c .before .before .before .before .loop-test .taken) _ _ (c .before .before .before .before .before .loop .inv .3 r t l e) _ refl _ _ (c .before .before .meet .ensures .0) (c .before .before .meet .ensures .1))
 
 set-slot-requires : tie.Need-set-slot-requires Inv-loop μ-loop
-set-slot-requires c κs = omega (arith, c .before .before .loop .inv .1 .0, c .before .before .loop .inv .2)
+set-slot-requires c κs = omega (arith, c .before .before .before .before .pre .room, c .before .before .loop .inv .2)
 
 same-length : tie.Need-same-length Inv-loop μ-loop
 same-length c = c .before .before .set-slot .kept .0 ∙ c .before .before .before .before .before .loop .inv .2
 
 returns : tie.Need-returns Inv-loop μ-loop
-returns c = last-run (c .before .before .before .before .before .before .before .args .heaps) (c .before .before .before .before .before .before .before .pre .one) _ _ _ _ _ _ (omega arith) (c .before .before .set-slot .ensures) ∙ sym (c .before .before .before .before .before .loop .inv .3)
+returns c = λ r t l e. falls-last (c .before .before .before .before .before .before .before .args .heaps) (c .before .before .before .before .before .before .before .pre .one) (c .before .before .before .before .before .before .before .args .end) (c .before .before .before .before .before .before .before .args .levels) r t (c .before .before .before .before .before .before .before .args .x) (c .before .before .before .before .before .before .before .args .s .now) (c .before .before .before .before .before .loop .k) (omega arith) _ _ (c .before .before .before .before .before .loop .inv .3 r t l e) _ (c .before .before .set-slot .ensures)
 
 pub put-down-spec : {M : Type 1} → statement M
 put-down-spec =
@@ -53,11 +52,11 @@ put-down-spec =
     Inv-loop
     μ-loop
     loop-holds
+    add-m
+    shr-m
+    sub-m
     meet-requires
     sub-k
-    goes-right-requires
-    rest-of-requires
-    child-of-requires
     loop-less
     loop-again
     set-slot-requires

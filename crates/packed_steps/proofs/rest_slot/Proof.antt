@@ -1,43 +1,100 @@
 -- `packed_steps::rest_slot` meets its contract.
-use Rattle.laws.specs.Prelude.{List, _+_, _≡_, _≤_, add-one, arith, leb, length, subst, suc, ℕ}
+use Rattle.laws.specs.Prelude.{_≤_, arith, length, refl, subst, suc, sym, ℕ}
 use Rattle.packed_model.specs.Words.{Lies}
 use Rattle.packed_steps.proofs.Putted.{under-lies}
-use Rattle.packed_steps.proofs.Walked.{hole-off, lies-on, turn-few, Walk, walk-goes, walk-last, walk-stays, walk-top, walk-torn}
-use Rattle.packed_steps.specs.Sink.{HeldTo, Reads, slotBut}
+use Rattle.packed_steps.proofs.Walked.{down-on, down-stays, down-torn, slot-of, Stands, stands-edge, stands-last, stands-top}
 use Rattle.packed_steps.proofs.rest_slot.Statement.{statement}
 use Rattle.packed_steps.proofs.rest_slot.Tie as tie
-use Rattle.packed_steps.proofs.rest_slot.Reads as reads
 
 abbrev Inv-loop : tie.InvT-loop
-Inv-loop s heaps left last p heap x k₀ m₀ k m =
-    (k ≤ left) × Lies heaps (suc k) m (length s) × ((n : ℕ) → HeldTo heaps heap n last → (us : List ℕ) → Reads heaps p s us → Walk heaps left x heap us n k m)
+Inv-loop s heaps left last p heap x end k₀ w₀ k w = (k ≤ left) × Stands heaps left last p heap x s k w
 
 abbrev μ-loop : tie.MeasureT-loop
-μ-loop s heaps left last p heap x k₀ m₀ k m = k
+μ-loop s heaps left last p heap x end k₀ w₀ k w = k
+
+mul-end : tie.Need-mul-end Inv-loop μ-loop
+mul-end c = omega (arith, c .before .pre .ends)
+
+add-end : tie.Need-add-end Inv-loop μ-loop
+add-end c = omega (arith, c .before .pre .ends)
+
+mul-w : tie.Need-mul-w Inv-loop μ-loop
+mul-w c = omega (arith, c .before .pre .lies .0)
+
+add-w : tie.Need-add-w Inv-loop μ-loop
+add-w c = omega (arith, c .before .pre .lies .0)
 
 loop-holds : tie.Need-loop-holds Inv-loop μ-loop
-loop-holds c = (omega arith, c .before .pre .lies, λ n held us reads. walk-top _ _ _ _ us n)
+loop-holds c = (omega arith, stands-top (c .before .args .heaps) (c .before .args .left) (c .before .args .last) (c .before .args .p) (c .before .args .heap) (c .before .args .x) (c .before .args .s .now) (c .before .pre .lies))
 
-add-c : tie.Need-add-c Inv-loop μ-loop
-add-c c = omega (arith, under-lies (c .before .before .before .args .heaps) (c .before .loop .k) (c .before .loop .m) (length (c .before .before .before .args .s .now)) (c .loop-test .taken) (c .before .loop .inv .1))
+add-i : tie.Need-add-i Inv-loop μ-loop
+add-i c = omega (arith, c .before .loop .inv .1 .word, under-lies (c .before .before .before .args .heaps) (c .before .loop .k) (c .before .loop .inv .1 .m) (length (c .before .before .before .args .s .now)) (c .loop-test .taken) (c .before .loop .inv .1 .lies))
 
-add-c-2 : tie.Need-add-c-2 Inv-loop μ-loop
-add-c-2 c = omega (arith, under-lies (c .before .before .before .args .heaps) (c .before .loop .k) (c .before .loop .m) (length (c .before .before .before .args .s .now)) (c .loop-test .taken) (c .before .loop .inv .1))
+add-i-2 : tie.Need-add-i-2 Inv-loop μ-loop
+add-i-2 c = omega (arith, c .before .loop .inv .1 .word, under-lies (c .before .before .before .args .heaps) (c .before .loop .k) (c .before .loop .inv .1 .m) (length (c .before .before .before .args .s .now)) (c .loop-test .taken) (c .before .loop .inv .1 .lies))
 
-turn-requires : tie.Need-turn-requires Inv-loop μ-loop
-turn-requires c κs = record { room = omega (arith, under-lies (c .before .before .before .args .heaps) (c .before .loop .k) (c .before .loop .m) (length (c .before .before .before .args .s .now)) (c .loop-test .taken) (c .before .loop .inv .1)); apart = λ l. hole-off _ _ _ _ (c .before .before .before .pre .hole) (omega arith) l }
+add-i-3 : tie.Need-add-i-3 Inv-loop μ-loop
+add-i-3 c = omega (arith, c .before .loop .inv .1 .word, under-lies (c .before .before .before .args .heaps) (c .before .loop .k) (c .before .loop .inv .1 .m) (length (c .before .before .before .args .s .now)) (c .loop-test .taken) (c .before .loop .inv .1 .lies))
+
+sub-rest-edge : tie.Need-sub-rest-edge Inv-loop μ-loop
+sub-rest-edge c = omega (arith, c .before .before .loop .inv .1 .word)
+
+rest-edge-requires : tie.Need-rest-edge-requires Inv-loop μ-loop
+rest-edge-requires c κs = record { one = c .before .before .before .before .pre .one; lies = subst (λ (i : ℕ). Lies (c .before .before .before .before .args .heaps) (suc (c .before .before .loop .k)) i (length (c .before .before .before .before .args .s .now))) (sym (slot-of (c .before .before .before .before .args .heaps) (c .before .before .before .before .args .left) (c .before .before .before .before .args .last) (c .before .before .before .before .args .p) (c .before .before .before .before .args .heap) (c .before .before .before .before .args .x) (c .before .before .before .before .args .s .now) (c .before .before .loop .k) (c .before .before .loop .w) (c .before .before .loop .inv .1))) (c .before .before .loop .inv .1 .lies); edge = omega (arith, c .before .before .loop .inv .1 .word, slot-of (c .before .before .before .before .args .heaps) (c .before .before .before .before .args .left) (c .before .before .before .before .args .last) (c .before .before .before .before .args .p) (c .before .before .before .before .args .heap) (c .before .before .before .before .args .x) (c .before .before .before .before .args .s .now) (c .before .before .loop .k) (c .before .before .loop .w) (c .before .before .loop .inv .1), c .if1 .taken) }
 
 returns : tie.Need-returns Inv-loop μ-loop
-returns c = λ n held us reads. walk-torn (c .before .before .before .before .before .args .heaps) (c .before .before .before .before .before .args .left) (c .before .before .before .before .before .args .x) (c .before .before .before .before .before .args .heap) (c .before .before .before .before .before .args .s .now) us n (c .before .before .before .before .before .args .last) (c .before .before .before .before .before .args .p) held reads (c .before .before .before .loop .m) _ (c .before .turn .ensures) (c .before .before .before .loop .k) (c .before .before .loop-test .taken) (c .before .before .before .loop .inv .2 n held us reads) (c .if1 .taken)
+returns c = stands-edge (c .before .before .before .before .before .args .heaps) (c .before .before .before .before .before .args .left) (c .before .before .before .before .before .args .last) (c .before .before .before .before .before .args .p) (c .before .before .before .before .before .args .heap) (c .before .before .before .before .before .args .x) (c .before .before .before .before .before .args .s .now) (c .before .before .before .loop .k) (c .before .before .before .loop .w) (c .before .before .before .loop .inv .1) (c .rest-edge .result) (c .rest-edge .ensures)
 
-add-result : tie.Need-add-result Inv-loop μ-loop
-add-result c = omega (arith, c .before .before .before .before .loop .inv .1 .0)
+mul-a : tie.Need-mul-a Inv-loop μ-loop
+mul-a c = omega (arith, c .before .before .loop .inv .1 .word, under-lies (c .before .before .before .before .args .heaps) (c .before .before .loop .k) (c .before .before .loop .inv .1 .m) (length (c .before .before .before .before .args .s .now)) (c .before .loop-test .taken) (c .before .before .loop .inv .1 .lies))
+
+shared-slice-read-a : tie.Need-shared-slice-read-a Inv-loop μ-loop
+shared-slice-read-a c = omega (arith, c .before .before .before .loop .inv .1 .word, under-lies (c .before .before .before .before .before .args .heaps) (c .before .before .before .loop .k) (c .before .before .before .loop .inv .1 .m) (length (c .before .before .before .before .before .args .s .now)) (c .before .before .loop-test .taken) (c .before .before .before .loop .inv .1 .lies))
+
+add-b : tie.Need-add-b Inv-loop μ-loop
+add-b c = omega (arith, c .before .before .before .loop .inv .1 .word, under-lies (c .before .before .before .before .before .args .heaps) (c .before .before .before .loop .k) (c .before .before .before .loop .inv .1 .m) (length (c .before .before .before .before .before .args .s .now)) (c .before .before .loop-test .taken) (c .before .before .before .loop .inv .1 .lies))
+
+mul-b : tie.Need-mul-b Inv-loop μ-loop
+mul-b c = omega (arith, c .before .before .before .loop .inv .1 .word, under-lies (c .before .before .before .before .before .args .heaps) (c .before .before .before .loop .k) (c .before .before .before .loop .inv .1 .m) (length (c .before .before .before .before .before .args .s .now)) (c .before .before .loop-test .taken) (c .before .before .before .loop .inv .1 .lies))
+
+shared-slice-read-b : tie.Need-shared-slice-read-b Inv-loop μ-loop
+shared-slice-read-b c = omega (arith, c .before .before .before .before .loop .inv .1 .word, under-lies (c .before .before .before .before .before .before .args .heaps) (c .before .before .before .before .loop .k) (c .before .before .before .before .loop .inv .1 .m) (length (c .before .before .before .before .before .before .args .s .now)) (c .before .before .before .loop-test .taken) (c .before .before .before .before .loop .inv .1 .lies))
+
+add-if2 : tie.Need-add-if2 Inv-loop μ-loop
+add-if2 c = omega (arith, c .before .before .before .before .loop .inv .1 .word, under-lies (c .before .before .before .before .before .before .args .heaps) (c .before .before .before .before .loop .k) (c .before .before .before .before .loop .inv .1 .m) (length (c .before .before .before .before .before .before .args .s .now)) (c .before .before .before .loop-test .taken) (c .before .before .before .before .loop .inv .1 .lies))
+
+mul-if2 : tie.Need-mul-if2 Inv-loop μ-loop
+mul-if2 c = omega (arith, c .before .before .before .before .loop .inv .1 .word, under-lies (c .before .before .before .before .before .before .args .heaps) (c .before .before .before .before .loop .k) (c .before .before .before .before .loop .inv .1 .m) (length (c .before .before .before .before .before .before .args .s .now)) (c .before .before .before .loop-test .taken) (c .before .before .before .before .loop .inv .1 .lies))
+
+shared-slice-read-if2 : tie.Need-shared-slice-read-if2 Inv-loop μ-loop
+shared-slice-read-if2 c = omega (arith, c .before .before .before .before .before .loop .inv .1 .word, under-lies (c .before .before .before .before .before .before .before .args .heaps) (c .before .before .before .before .before .loop .k) (c .before .before .before .before .before .loop .inv .1 .m) (length (c .before .before .before .before .before .before .before .args .s .now)) (c .before .before .before .before .loop-test .taken) (c .before .before .before .before .before .loop .inv .1 .lies))
+
+add-if2-2 : tie.Need-add-if2-2 Inv-loop μ-loop
+add-if2-2 c = omega (arith, c .before .before .before .before .before .loop .inv .1 .word, under-lies (c .before .before .before .before .before .before .before .args .heaps) (c .before .before .before .before .before .loop .k) (c .before .before .before .before .before .loop .inv .1 .m) (length (c .before .before .before .before .before .before .before .args .s .now)) (c .before .before .before .before .loop-test .taken) (c .before .before .before .before .before .loop .inv .1 .lies))
+
+mul-if2-2 : tie.Need-mul-if2-2 Inv-loop μ-loop
+mul-if2-2 c = omega (arith, c .before .before .before .before .before .loop .inv .1 .word, under-lies (c .before .before .before .before .before .before .before .args .heaps) (c .before .before .before .before .before .loop .k) (c .before .before .before .before .before .loop .inv .1 .m) (length (c .before .before .before .before .before .before .before .args .s .now)) (c .before .before .before .before .loop-test .taken) (c .before .before .before .before .before .loop .inv .1 .lies))
+
+shared-slice-read-if2-2 : tie.Need-shared-slice-read-if2-2 Inv-loop μ-loop
+shared-slice-read-if2-2 c = omega (arith, c .before .before .before .before .before .before .loop .inv .1 .word, under-lies (c .before .before .before .before .before .before .before .before .args .heaps) (c .before .before .before .before .before .before .loop .k) (c .before .before .before .before .before .before .loop .inv .1 .m) (length (c .before .before .before .before .before .before .before .before .args .s .now)) (c .before .before .before .before .before .loop-test .taken) (c .before .before .before .before .before .before .loop .inv .1 .lies))
 
 returns-2 : tie.Need-returns-2 Inv-loop μ-loop
-returns-2 c = λ n held us reads. rw add-one (walk-stays (c .before .before .before .before .before .before .args .heaps) (c .before .before .before .before .before .before .args .left) (c .before .before .before .before .before .before .args .x) (c .before .before .before .before .before .before .args .heap) (c .before .before .before .before .before .before .args .s .now) us n (c .before .before .before .before .before .before .args .last) (c .before .before .before .before .before .before .args .p) held reads (c .before .before .before .before .loop .m) _ (c .before .before .turn .ensures) (c .before .before .before .before .loop .k) (c .before .before .before .loop-test .taken) (c .before .before .before .before .loop .inv .2 n held us reads) (c .if2 .taken))
+returns-2 c = down-torn (c .before .before .before .before .before .before .before .before .before .args .heaps) (c .before .before .before .before .before .before .before .before .before .args .left) (c .before .before .before .before .before .before .before .before .before .args .last) (c .before .before .before .before .before .before .before .before .before .args .p) (c .before .before .before .before .before .before .before .before .before .args .heap) (c .before .before .before .before .before .before .before .before .before .args .x) (c .before .before .before .before .before .before .before .before .before .args .s .now) (c .before .before .before .before .before .before .before .loop .k) (c .before .before .before .before .before .before .before .loop .w) (c .before .before .before .before .before .before .before .loop .inv .1) (c .before .before .before .before .before .before .loop-test .taken) (c .before .before .before .before .before .before .before .before .before .pre .hole) _ _ refl refl (c .before .before .before .before .before .if1 .left) (c .if2 .taken)
 
-add-m : tie.Need-add-m Inv-loop μ-loop
-add-m c = let few : c .before .before .turn .result ≤ 1 = (let n3 : c .before .before .turn .result ≡ 3 → ⊥ = c .before .if1 .left in let n2 : c .before .before .turn .result ≡ 2 → ⊥ = c .if2 .left in omega (arith, c .before .before .turn .ensures, turn-few (leb (c .before .before .before .before .loop .m + c .before .before .before .before .loop .m + c .before .before .before .before .before .before .args .heaps) (c .before .before .before .before .before .before .args .last)) (leb (c .before .before .before .before .loop .m + c .before .before .before .before .loop .m + c .before .before .before .before .before .before .args .heaps + 1) (c .before .before .before .before .before .before .args .last)) (c .before .before .before .before .before .before .args .x) (slotBut (c .before .before .before .before .before .before .args .heaps) (c .before .before .before .before .before .before .args .p) (c .before .before .before .before .before .before .args .s .now) (c .before .before .before .before .loop .m + c .before .before .before .before .loop .m + c .before .before .before .before .before .before .args .heaps)) (slotBut (c .before .before .before .before .before .before .args .heaps) (c .before .before .before .before .before .before .args .p) (c .before .before .before .before .before .before .args .s .now) (c .before .before .before .before .loop .m + c .before .before .before .before .loop .m + c .before .before .before .before .before .before .args .heaps + 1)))) in omega (arith, under-lies (c .before .before .before .before .before .before .args .heaps) (c .before .before .before .before .loop .k) (c .before .before .before .before .loop .m) (length (c .before .before .before .before .before .before .args .s .now)) (c .before .before .before .loop-test .taken) (c .before .before .before .before .loop .inv .1), few)
+lower-requires : tie.Need-lower-requires Inv-loop μ-loop
+lower-requires c κs = tt
+
+sub-result : tie.Need-sub-result Inv-loop μ-loop
+sub-result c = omega (arith, c .before .before .before .before .before .before .before .before .before .before .loop .inv .1 .word)
+
+add-result : tie.Need-add-result Inv-loop μ-loop
+add-result c = omega (arith, c .before .before .before .before .before .before .before .before .before .before .loop .inv .1 .word, under-lies (c .before .before .before .before .before .before .before .before .before .before .before .before .args .heaps) (c .before .before .before .before .before .before .before .before .before .before .loop .k) (c .before .before .before .before .before .before .before .before .before .before .loop .inv .1 .m) (length (c .before .before .before .before .before .before .before .before .before .before .before .before .args .s .now)) (c .before .before .before .before .before .before .before .before .before .loop-test .taken) (c .before .before .before .before .before .before .before .before .before .before .loop .inv .1 .lies))
+
+returns-3 : tie.Need-returns-3 Inv-loop μ-loop
+returns-3 c = down-stays (c .before .before .before .before .before .before .before .before .before .before .before .before .args .heaps) (c .before .before .before .before .before .before .before .before .before .before .before .before .args .left) (c .before .before .before .before .before .before .before .before .before .before .before .before .args .last) (c .before .before .before .before .before .before .before .before .before .before .before .before .args .p) (c .before .before .before .before .before .before .before .before .before .before .before .before .args .heap) (c .before .before .before .before .before .before .before .before .before .before .before .before .args .x) (c .before .before .before .before .before .before .before .before .before .before .before .before .args .s .now) (c .before .before .before .before .before .before .before .before .before .before .loop .k) (c .before .before .before .before .before .before .before .before .before .before .loop .w) (c .before .before .before .before .before .before .before .before .before .before .loop .inv .1) (c .before .before .before .before .before .before .before .before .before .loop-test .taken) (c .before .before .before .before .before .before .before .before .before .before .before .before .pre .hole) _ _ refl refl (c .before .before .before .before .before .before .before .before .if1 .left) (c .before .before .before .if2 .left) _ (c .before .before .lower .ensures) (c .if3 .taken)
+
+lower-at-requires : tie.Need-lower-at-requires Inv-loop μ-loop
+lower-at-requires c κs = omega (arith, c .before .before .before .before .before .before .before .before .before .before .loop .inv .1 .word, under-lies (c .before .before .before .before .before .before .before .before .before .before .before .before .args .heaps) (c .before .before .before .before .before .before .before .before .before .before .loop .k) (c .before .before .before .before .before .before .before .before .before .before .loop .inv .1 .m) (length (c .before .before .before .before .before .before .before .before .before .before .before .before .args .s .now)) (c .before .before .before .before .before .before .before .before .before .loop-test .taken) (c .before .before .before .before .before .before .before .before .before .before .loop .inv .1 .lies))
 
 sub-k : tie.Need-sub-k Inv-loop μ-loop
 sub-k c = omega arith
@@ -46,13 +103,16 @@ loop-less : tie.Need-loop-less Inv-loop μ-loop
 loop-less c = omega arith
 
 loop-again : tie.Need-loop-again Inv-loop μ-loop
-loop-again c = (omega (arith, c .before .before .before .before .loop .inv .0), lies-on _ _ _ _ _ (c .before .before .before .loop-test .taken) (let n3 : c .before .before .turn .result ≡ 3 → ⊥ = c .before .if1 .left in let n2 : c .before .before .turn .result ≡ 2 → ⊥ = c .if2 .left in omega (arith, c .before .before .turn .ensures, turn-few (leb (c .before .before .before .before .loop .m + c .before .before .before .before .loop .m + c .before .before .before .before .before .before .args .heaps) (c .before .before .before .before .before .before .args .last)) (leb (c .before .before .before .before .loop .m + c .before .before .before .before .loop .m + c .before .before .before .before .before .before .args .heaps + 1) (c .before .before .before .before .before .before .args .last)) (c .before .before .before .before .before .before .args .x) (slotBut (c .before .before .before .before .before .before .args .heaps) (c .before .before .before .before .before .before .args .p) (c .before .before .before .before .before .before .args .s .now) (c .before .before .before .before .loop .m + c .before .before .before .before .loop .m + c .before .before .before .before .before .before .args .heaps)) (slotBut (c .before .before .before .before .before .before .args .heaps) (c .before .before .before .before .before .before .args .p) (c .before .before .before .before .before .before .args .s .now) (c .before .before .before .before .loop .m + c .before .before .before .before .loop .m + c .before .before .before .before .before .before .args .heaps + 1)))) (c .before .before .before .before .loop .inv .1), λ n held us reads. walk-goes (c .before .before .before .before .before .before .args .heaps) (c .before .before .before .before .before .before .args .left) (c .before .before .before .before .before .before .args .x) (c .before .before .before .before .before .before .args .heap) (c .before .before .before .before .before .before .args .s .now) us n (c .before .before .before .before .before .before .args .last) (c .before .before .before .before .before .before .args .p) held reads (c .before .before .before .before .loop .m) _ (c .before .before .turn .ensures) (c .before .before .before .before .loop .k) (c .before .before .before .loop-test .taken) (c .before .before .before .before .loop .inv .2 n held us reads) (c .before .if1 .left) (c .if2 .left))
+loop-again c = (omega (arith, c .before .before .before .before .before .before .before .before .before .before .before .loop .inv .0), down-on (c .before .before .before .before .before .before .before .before .before .before .before .before .before .args .heaps) (c .before .before .before .before .before .before .before .before .before .before .before .before .before .args .left) (c .before .before .before .before .before .before .before .before .before .before .before .before .before .args .last) (c .before .before .before .before .before .before .before .before .before .before .before .before .before .args .p) (c .before .before .before .before .before .before .before .before .before .before .before .before .before .args .heap) (c .before .before .before .before .before .before .before .before .before .before .before .before .before .args .x) (c .before .before .before .before .before .before .before .before .before .before .before .before .before .args .s .now) (c .before .before .before .before .before .before .before .before .before .before .before .loop .k) (c .before .before .before .before .before .before .before .before .before .before .before .loop .w) (c .before .before .before .before .before .before .before .before .before .before .before .loop .inv .1) (c .before .before .before .before .before .before .before .before .before .before .loop-test .taken) (c .before .before .before .before .before .before .before .before .before .before .before .before .before .pre .hole) _ _ refl refl (c .before .before .before .before .before .before .before .before .before .if1 .left) (c .before .before .before .before .if2 .left) _ (c .before .before .before .lower .ensures) (c .before .if3 .left) _ (c .lower-at .ensures))
+
+sub-result-2 : tie.Need-sub-result-2 Inv-loop μ-loop
+sub-result-2 c = omega (arith, c .before .loop .inv .1 .word)
 
 add-result-2 : tie.Need-add-result-2 Inv-loop μ-loop
-add-result-2 c = omega (arith, c .before .loop .inv .1 .0)
+add-result-2 c = omega (arith, c .before .loop .inv .1 .word, c .before .loop .inv .1 .lies .0)
 
-returns-3 : tie.Need-returns-3 Inv-loop μ-loop
-returns-3 c = λ n held us reads. let z : c .before .loop .k ≡ 0 = omega arith in rw add-one (walk-last _ _ _ _ us n _ (subst (λ (k : ℕ). Walk (c .before .before .before .args .heaps) (c .before .before .before .args .left) (c .before .before .before .args .x) (c .before .before .before .args .heap) us n k (c .before .loop .m)) z (c .before .loop .inv .2 n held us reads)))
+returns-4 : tie.Need-returns-4 Inv-loop μ-loop
+returns-4 c = stands-last (c .before .before .before .args .heaps) (c .before .before .before .args .left) (c .before .before .before .args .last) (c .before .before .before .args .p) (c .before .before .before .args .heap) (c .before .before .before .args .x) (c .before .before .before .args .s .now) (c .before .loop .k) (c .before .loop .w) (c .before .loop .inv .1) (omega arith)
 
 pub rest-slot-spec : {M : Type 1} → statement M
 rest-slot-spec =
@@ -60,16 +120,37 @@ rest-slot-spec =
     (tie.spec
     Inv-loop
     μ-loop
+    mul-end
+    add-end
+    mul-w
+    add-w
     loop-holds
-    add-c
-    add-c-2
-    turn-requires
+    add-i
+    add-i-2
+    add-i-3
+    sub-rest-edge
+    rest-edge-requires
     returns
-    add-result
+    mul-a
+    shared-slice-read-a
+    add-b
+    mul-b
+    shared-slice-read-b
+    add-if2
+    mul-if2
+    shared-slice-read-if2
+    add-if2-2
+    mul-if2-2
+    shared-slice-read-if2-2
     returns-2
-    add-m
+    lower-requires
+    sub-result
+    add-result
+    returns-3
+    lower-at-requires
     sub-k
     loop-less
     loop-again
+    sub-result-2
     add-result-2
-    returns-3)
+    returns-4)

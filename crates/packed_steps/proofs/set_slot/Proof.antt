@@ -1,59 +1,12 @@
 -- `packed_steps::set_slot` meets its contract.
 use Rattle.packed_model.specs.Words.{writeSlot}
-use Rattle.laws.specs.Prelude.{arith, length-set, needs, refl}
+use Rattle.laws.specs.Prelude.{needs}
 use Rattle.packed_steps.proofs.set_slot.Statement.{statement}
 use Rattle.packed_steps.proofs.set_slot.Tie as tie
 
-mul-i : tie.Need-mul-i
-mul-i c = search needs
-
-add-i : tie.Need-add-i
-add-i c = search needs
-
-mul-s : tie.Need-mul-s
-mul-s c = search needs
-
-slice-write-s : tie.Need-slice-write-s
-slice-write-s c = search needs
-
-add-s : tie.Need-add-s
-add-s c = search needs
-
-mul-s-2 : tie.Need-mul-s-2
-mul-s-2 c = search needs
-
-slice-write-s-2 : tie.Need-slice-write-s-2
-slice-write-s-2 c = simp length-set (omega arith)
-
-add-s-2 : tie.Need-add-s-2
-add-s-2 c = search needs
-
-mul-s-3 : tie.Need-mul-s-3
-mul-s-3 c = search needs
-
-slice-write-s-3 : tie.Need-slice-write-s-3
-slice-write-s-3 c = simp length-set (omega arith)
-
-same-length : tie.Need-same-length
-same-length c = search needs
-
 returns : tie.Need-returns
 unfolding writeSlot
-returns c = refl
+returns c = search needs
 
 pub set-slot-spec : {M : Type 1} → statement M
-set-slot-spec =
-    tie.close
-    (tie.spec
-    mul-i
-    add-i
-    mul-s
-    slice-write-s
-    add-s
-    mul-s-2
-    slice-write-s-2
-    add-s-2
-    mul-s-3
-    slice-write-s-3
-    same-length
-    returns)
+set-slot-spec = tie.close (tie.spec (λ c. search needs) (λ c. search needs) (λ c κs. search needs) (λ c. search needs) returns)

@@ -1,6 +1,6 @@
 -- `packed_steps::slot_but` meets its contract.
 use Rattle.laws.specs.Prelude.{_∙_, needs}
-use Rattle.packed_steps.proofs.Turned.{hole-is, hole-not}
+use Rattle.packed_steps.proofs.Sinks.{hole-is, hole-not}
 use Rattle.packed_steps.proofs.slot_but.Statement.{statement}
 use Rattle.packed_steps.proofs.slot_but.Tie as tie
 
