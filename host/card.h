@@ -3,11 +3,12 @@
  *
  * Every call but the sizes answers a number: 0 where it is not refused, else
  *
- *   1 bad shape     order, places, heaps, levels, storeys, nodes, ports, limits or a slice's length outside the rules
+ *   1 bad shape     order, places, heaps, levels, storeys, nodes, ports, limits, kind, lines or a slice's length outside
+ *                   the rules
  *   2 damaged       a store or a pending record does not hold together
  *   3 too soon      a clocked tree's pop or replace just after an answered operation
- *   4 bad rank      a bucket rank above its last: 4095, or 262143 with three storeys
- *   5 full          a push on a full queue
+ *   4 bad rank      a bucket rank above its last: 4095, or 262143 with three storeys; of lines of kind 1, 65535
+ *   5 full          a push on a full queue; of lines of kind 1 a push or replace into a full line
  *   6 empty         a pop or replace on an empty queue
  *   7 no tag        a push or replace with tag 0, which stands for no strip
  *   8 no such port  a port above the last
@@ -101,8 +102,12 @@ uint32_t card_ports_bits(uint32_t storeys, uint32_t ports);
 /* The words of 32 bits of several ports on one pool. */
 uint32_t card_ports_words(uint32_t storeys, uint32_t nodes, uint32_t ports);
 
+/* The store of lines. */
+uint32_t card_lines_words(uint32_t kind, uint32_t lines, uint32_t places);
+
 /*
- * The same as constants, for arrays. They test nothing: order, places, heaps, levels, storeys, nodes and ports must be good.
+ * The same as constants, for arrays. They test nothing: order, places, heaps, levels, storeys, nodes, ports and lines must
+ * be good.
  */
 #define CARD_TREE_WORDS(order, levels) (4u * ((((order) << (CARD_SHIFT(order) * (levels))) - (order)) / ((order)-1u)))
 #define CARD_CLUSTER_WORDS(places, levels) (((1u << (levels)) - 1u) * (4u * (places) + 2u))
@@ -111,10 +116,13 @@ uint32_t card_ports_words(uint32_t storeys, uint32_t nodes, uint32_t ports);
 #define CARD_BUCKET_WORDS(storeys, nodes) ((2u << (6u * (storeys))) + 3u * (nodes) + 2u)
 #define CARD_PORTS_BITS(storeys, ports) ((ports) * CARD_BUCKET_BITS(storeys))
 #define CARD_PORTS_WORDS(storeys, nodes, ports) ((ports) * (2u << (6u * (storeys))) + 3u * (nodes) + 1u + 3u * (ports))
+#define CARD_LINES_WORDS(lines, places) ((lines) + 3u * (lines) * (places))
 /* A floor and a ceiling for each port. */
 #define CARD_LIMIT_WORDS(ports) (2u * (ports))
 /* The records of a clocked tree or cluster heap, one for each level from 2: none where there is one level. */
 #define CARD_RECORDS(levels) ((levels)-1u)
+/* The records of lines on the clock. */
+#define CARD_LINES_RECORDS 1u
 #define CARD_MARK_WORDS 1u
 #define CARD_FAIR_WORDS 65u
 #define CARD_OUT_WORDS 3u
@@ -439,6 +447,74 @@ uint32_t card_clocked_cluster_drain(uint32_t *store, card_len store_len, uint32_
    record. */
 uint32_t card_clocked_cluster_held(const uint32_t *store, card_len store_len, uint32_t places,
                                    uint32_t levels, uint32_t *out, card_len out_len);
+
+/*
+ * Lines: Q sorted lines of W places each, Q a power of two from 1 to 512, W from 1 to 1024. Of kind 1
+ * each line has as many of the ranks 0 to 65535 as every other, the lowest ranks in the first line; a
+ * line is a queue of its own, the first that is not empty gives, and equal ranks leave first in, first
+ * out. Of kind 2 all lines are one queue, of any rank: an element goes into the first line that is not
+ * full, and the line whose first rank is lowest gives. With one line both are a single sorted row, first
+ * in, first out. The store has a count for each line, then the lines one behind the other, three words
+ * for each place: rank, tag, length (card_lines_words in all); it must be cleared before its first use,
+ * and kind, lines and places are the same in every call.
+ */
+
+/* Empties all lines: all words zero. Never refused 2. */
+uint32_t card_lines_clear(uint32_t *store, card_len store_len, uint32_t kind, uint32_t lines,
+                          uint32_t places);
+
+/* Takes an element in, behind those of its rank in its line. Refused 4 where the kind is 1 and the rank
+   above 65535, 7 with tag 0. Refused 5, kind 1, where the line of its rank is full, kind 2 where all
+   lines are. */
+uint32_t card_lines_push(uint32_t *store, card_len store_len, uint32_t kind, uint32_t lines,
+                         uint32_t places, uint32_t rank, uint32_t tag, uint32_t length);
+
+/* Gives the first element of the lowest rank in out[0] to out[2]; of kind 2 it is the first in its line,
+   and of equal lines the first. Refused 6 where nothing is held. */
+uint32_t card_lines_pop(uint32_t *store, card_len store_len, uint32_t kind, uint32_t lines,
+                        uint32_t places, uint32_t *out, card_len out_len);
+
+/* A pop, and then a push of the new element, of kind 2 into the line that gave: gives what the pop gives,
+   even if the new rank is lower. Refused 4 where the kind is 1 and the rank above 65535, 7 with tag 0, 6
+   where nothing is held. Refused 5, kind 1, where the line of its rank did not give and is full. */
+uint32_t card_lines_replace(uint32_t *store, card_len store_len, uint32_t kind, uint32_t lines,
+                            uint32_t places, uint32_t rank, uint32_t tag, uint32_t length,
+                            uint32_t *out, card_len out_len);
+
+/* Gives the number of held elements in out[0]. Reads the counts alone. */
+uint32_t card_lines_held(const uint32_t *store, card_len store_len, uint32_t kind, uint32_t lines,
+                         uint32_t places, uint32_t *out, card_len out_len);
+
+/*
+ * The same lines, worked by clock cycles: the counts change in an operation's own cycle, its line in the
+ * next. Nothing is ever too soon, and there is no mark. Beside the store there is one pending record, a
+ * card_record: kind (0 nothing, 1 push, 2 pop, 3 replace), the line as node, and the element of a push or
+ * replace. It is handed on, each time, as the call before left it; of a longer slice only the first is
+ * read and written. A cycle that runs writes it, with 0 for the numbers that its kind does not use. After
+ * 1 and 2 it is not written, but a drain refused 2 leaves that of the cycles already run.
+ */
+
+/* Empties all lines: store and record zero. Reads no record. */
+uint32_t card_lines_clock_clear(uint32_t *store, card_len store_len, uint32_t kind, uint32_t lines,
+                                uint32_t places, struct card_record *records, card_len records_len);
+
+/* Runs one cycle with a request: 0 idle, 1 push, 2 pop, 3 replace. The operation is answered in its own
+   cycle, as one at a time, whatever the cycle before did. Refused 4, 5, 6 or 7 it runs as an idle cycle. */
+uint32_t card_lines_clock_cycle(uint32_t *store, card_len store_len, uint32_t kind, uint32_t lines,
+                                uint32_t places, struct card_record *records, card_len records_len,
+                                uint32_t request, uint32_t rank, uint32_t tag, uint32_t length,
+                                uint32_t *out, card_len out_len);
+
+/* Runs idle cycles until nothing is pending or the budget is spent: out[0] the cycles run, out[1] 1
+   where work is left. One is always enough. */
+uint32_t card_lines_clock_drain(uint32_t *store, card_len store_len, uint32_t kind, uint32_t lines,
+                                uint32_t places, struct card_record *records, card_len records_len,
+                                uint32_t budget, uint32_t *out, card_len out_len);
+
+/* Gives the number of held elements in out[0], in the middle of any work too. Reads the counts alone, no
+   record. */
+uint32_t card_lines_clock_held(const uint32_t *store, card_len store_len, uint32_t kind,
+                               uint32_t lines, uint32_t places, uint32_t *out, card_len out_len);
 
 #ifdef __cplusplus
 }

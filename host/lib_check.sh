@@ -103,6 +103,8 @@ size() {
         echo "$1, fair ranks: $(bytes $(calls fair_))"
         echo "$1, the clocked tree: $(bytes $(calls clocked_ cluster))"
         echo "$1, the clocked cluster heap: $(bytes $(calls clocked_cluster_))"
+        echo "$1, the lines: $(bytes $(calls lines_ clock))"
+        echo "$1, the clocked lines: $(bytes $(calls lines_clock_))"
         echo "$1, all of the library: $(bytes $all)"
     }
 }

@@ -1,12 +1,13 @@
 -- A cycle, from what its steps have tested and written.
 use Rattle.laws.specs.Prelude.{BadRank, BadShape, Bool, Damaged, Element, List, NoTag, Refused, Request, _&&_, _+_, _-_, _<_, _||_, _∙_, _≡_, _≤_, ap, arith, eq-eqb, eqb, false, le-ltb, length, lt-ltb, ltb, ne-eqb, not, not-false, not-true, refl, subst, sym, true, ℕ}
+use Rattle.lines_clock.specs.declared.Cycled.{Cycled}
 use Rattle.lines_model.proofs.Acts.{goal-lt}
 use Rattle.lines_model.proofs.Clocked.{due-means, work-long}
 use Rattle.lines_model.proofs.Tests.{below-means, shape-means}
 use Rattle.lines_model.proofs.Ticks.{choose-ext, counts-same, turned-is}
 use Rattle.lines_model.proofs.Which.{total-ext}
 use Rattle.lines_model.specs.Calls.{countsOk, heads}
-use Rattle.lines_model.specs.Clock.{chosen, DueFit, dueOk, had, machine, settled, turn, turned, turnOk}
+use Rattle.lines_model.specs.Clock.{chosen, DueFit, dueOk, had, Machine, machine, settled, turn, turned, turnOk}
 use Rattle.lines_model.specs.Layout.{shapeOk, word}
 use Rattle.lines_model.specs.Rules.{choose, comeTo, counted, denied, goal, inRange, linesOk, rankFit, total, worked}
 use Rattle.lines_model.specs.declared.Choice.{Choice}
@@ -20,7 +21,7 @@ use Rattle.lines_steps.specs.Work.{Countable, Fits, looked, Passed, totals, wor
 use Rattle.lines_steps.specs.declared.Look.{Look}
 use Rattle.lines_steps.specs.declared.Sizes.{Sizes}
 use Rattle.lines_steps.specs.declared.Totals.{Totals}
-use Rattle.promise.specs.Prelude.{lacksTag, outcome}
+use Rattle.promise.specs.Prelude.{Outcome, lacksTag, outcome}
 
 -- ---- what is pending
 
@@ -129,32 +130,36 @@ module _ (k : Rows) (w : List ℕ) (q : Request) where
 
 -- ---- a cycle
 
+-- what is handed back says what it is
+pub cycle-answered : (w : List ℕ) (t u : Cycled) (o : Outcome Machine) → t ≡ u → outcome (u .answer) (machine w (u .due)) ≡ o → outcome (t .answer) (machine w (t .due)) ≡ o
+cycle-answered w t u o e p = ap (λ (t : Cycled). outcome (t .answer) (machine w (t .due))) e ∙ p
+
 module _ (k : Rows) (q : Request) (w : List ℕ) (due : Due) where
-  pub turn-shape : shapeOk k (length w) ≡ false → outcome (Refused BadShape) (machine w due) ≡ turned k q (machine w due)
+  pub cycle-shape : shapeOk k (length w) ≡ false → outcome (Refused BadShape) (machine w due) ≡ turned k q (machine w due)
   unfolding turned
-  turn-shape e = rw e refl
+  cycle-shape e = rw e refl
 
   module _ (s : shapeOk k (length w) ≡ true) where
     torn : turnOk k (machine w due) ≡ false → outcome (Refused Damaged) (machine w due) ≡ turned k q (machine w due)
     unfolding turned
     torn e = rw (s, e) refl
 
-    pub turn-counts : countsOk k w ≡ false → outcome (Refused Damaged) (machine w due) ≡ turned k q (machine w due)
+    pub cycle-counts : countsOk k w ≡ false → outcome (Refused Damaged) (machine w due) ≡ turned k q (machine w due)
     unfolding turnOk
-    turn-counts e = torn (rw e refl)
+    cycle-counts e = torn (rw e refl)
 
     module _ (c : countsOk k w ≡ true) where
-      pub turn-due : dueOk k w due ≡ false → outcome (Refused Damaged) (machine w due) ≡ turned k q (machine w due)
+      pub cycle-due : dueOk k w due ≡ false → outcome (Refused Damaged) (machine w due) ≡ turned k q (machine w due)
       unfolding turnOk
-      turn-due e = torn (rw (c, e) refl)
+      cycle-due e = torn (rw (c, e) refl)
 
       module _ (p : dueOk k w due ≡ true) (n : Sizes) (g : n ≡ sizesBy k (had k w due) due) (look : Look) (f : look ≡ looked k w n due) where
         tested-is : linesOk k w (had k w due) due ≡ look .ok
         tested-is = sym (ap (λ (o : Look). o .ok) f ∙ ap (λ (n : Sizes). looked k w n due .ok) g ∙ looked-ok k w (had k w due) due)
 
-        pub turn-line : not (look .ok) ≡ true → outcome (Refused Damaged) (machine w due) ≡ turned k q (machine w due)
+        pub cycle-line : not (look .ok) ≡ true → outcome (Refused Damaged) (machine w due) ≡ turned k q (machine w due)
         unfolding turnOk
-        turn-line m = torn (rw (c, p, tested-is ∙ not-true (look .ok) m) refl)
+        cycle-line m = torn (rw (c, p, tested-is ∙ not-true (look .ok) m) refl)
 
         passes : not (look .ok) ≡ false → turnOk k (machine w due) ≡ true
         unfolding turnOk
@@ -166,9 +171,9 @@ module _ (k : Rows) (q : Request) (w : List ℕ) (due : Due) where
             e ∙ ap (λ (n : Sizes). workedBy k n due w) g
             ∙ had-worked k w (shape-means k (length w) .says s) (below-means (k .places) (word w) (k .lines) .says c) due (due-means k w due .says p)
 
-        pub turn-done : (u v : List ℕ) (z : Choice) → not (look .ok) ≡ false → u ≡ workedBy k n due w → z ≡ choose k (word u) (heads k u) q → v ≡ counted k (z .due) u
+        pub cycle-done : (u v : List ℕ) (z : Choice) → not (look .ok) ≡ false → u ≡ workedBy k n due w → z ≡ choose k (word u) (heads k u) q → v ≡ counted k (z .due) u
             → outcome (z .answer) (machine v (z .due)) ≡ turned k q (machine w due)
-        turn-done u v z m e a b =
+        cycle-done u v z m e a b =
             let st = settles u e in
             let same-choice : z ≡ chosen k q (machine w due) =
             a ∙ ap (λ (u : List ℕ). choose k (word u) (heads k u) q) st

@@ -1,51 +1,50 @@
 -- Clear, held and drain. After an idle cycle nothing is pending, so that one is enough.
-use Rattle.laws.specs.Prelude.{Answer, BadShape, Damaged, Done, Held, Idle, List, Out, Refused, Unknown, _∙_, _≡_, _≤_, ap, arith, false, isRefused, length, not, numberOf, refl, suc, sym, true, zero, ℕ}
-use Rattle.lines_clock.proofs.Cycles.{counts-no, counts-yes}
+use Rattle.laws.specs.Prelude.{Answer, BadShape, Bool, Done, Idle, List, Out, Refused, _∙_, _≡_, ap, cond, false, isRefused, length, numberOf, refl, suc, sym, true, zero, ℕ}
+use Rattle.lines_clock.specs.declared.Report.{Report}
 use Rattle.lines_model.proofs.Clocked.{ticks}
-use Rattle.lines_model.proofs.Full.{total-most}
-use Rattle.lines_model.proofs.Tests.{below-means}
-use Rattle.lines_model.specs.Calls.{wipe}
+use Rattle.lines_model.specs.Calls.{cleared, heldCount, wipe}
 use Rattle.lines_model.specs.Clock.{clock, clockCleared, clockHeld, drains, dueAt, isPending, Machine, machine, turn, turned, turning}
-use Rattle.lines_model.specs.Layout.{shapeOk, storeWords, word}
+use Rattle.lines_model.specs.Layout.{shapeOk, storeWords}
 use Rattle.lines_model.specs.Rules.{dueOf}
 use Rattle.lines_model.specs.declared.Due.{Due}
 use Rattle.lines_model.specs.declared.Due.the-variants.{Rest}
 use Rattle.lines_model.specs.declared.Rows.{Rows}
-use Rattle.lines_steps.proofs.Finds.{small}
-use Rattle.lines_steps.specs.Work.{totals}
-use Rattle.lines_steps.specs.declared.Totals.{Totals}
 use Rattle.promise.proofs.Clock.{idle-ran}
-use Rattle.promise.specs.Prelude.{Outcome, Step, asking, cycling, drainBy, drained, outcome, zero-told}
+use Rattle.promise.specs.Prelude.{Drained, Outcome, Step, asking, cycling, drainBy, drained, left, outcome, zero-told}
+
+-- what is handed back says what it is
+pub drain-answered : (w : List ℕ) (t u : Report) (o : Drained Machine) → t ≡ u → drained (u .answer) (u .cycles) (u .left) (machine w (u .due)) ≡ o
+    → drained (t .answer) (t .cycles) (t .left) (machine w (t .due)) ≡ o
+drain-answered w t u o e p = ap (λ (t : Report). drained (t .answer) (t .cycles) (t .left) (machine w (t .due))) e ∙ p
 
 module _ (k : Rows) (w : List ℕ) (due : Due) where
   abbrev m : Machine
   m = machine w due
 
-  pub clear-no : shapeOk k (length w) ≡ false → outcome (Refused BadShape) (machine w due) ≡ clockCleared k (machine w due)
-  unfolding clockCleared
-  clear-no e = rw e refl
+  -- clear is the lines', and where it is done nothing is pending
+  module _ (a : Answer) (v : List ℕ) (e : outcome a v ≡ cleared k w) where
+    pub clear-no : (numberOf a ≡ 0 → ⊥) → outcome a (machine v due) ≡ clockCleared k (machine w due)
+    unfolding cleared clockCleared
+    clear-no n = go (shapeOk k (length w)) e
+      where
+        go : (b : Bool) → outcome a v ≡ cond {A = Outcome (List ℕ)} b (outcome Done (wipe (storeWords k) w)) (left w BadShape)
+            → outcome a (machine v due) ≡ cond {A = Outcome Machine} b (outcome Done (machine (wipe (storeWords k) w) Rest)) (left (machine w due) BadShape)
+        go true p = absurd (n (ap (λ (o : Outcome (List ℕ)). numberOf (o .answer)) p))
+        go false p = ap (λ (o : Outcome (List ℕ)). outcome (o .answer) (machine (o .words) due)) p
 
-  pub clear-yes : (v : List ℕ) → shapeOk k (length w) ≡ true → v ≡ wipe (storeWords k) w → outcome Done (machine v Rest) ≡ clockCleared k (machine w due)
-  unfolding clockCleared
-  clear-yes v e p = rw e (ap (λ (v : List ℕ). outcome Done (machine v Rest)) p)
+    pub clear-yes : numberOf a ≡ 0 → outcome a (machine v Rest) ≡ clockCleared k (machine w due)
+    unfolding cleared clockCleared
+    clear-yes n = go (shapeOk k (length w)) e
+      where
+        go : (b : Bool) → outcome a v ≡ cond {A = Outcome (List ℕ)} b (outcome Done (wipe (storeWords k) w)) (left w BadShape)
+            → outcome a (machine v Rest) ≡ cond {A = Outcome Machine} b (outcome Done (machine (wipe (storeWords k) w) Rest)) (left (machine w due) BadShape)
+        go true p = ap (λ (o : Outcome (List ℕ)). outcome (o .answer) (machine (o .words) Rest)) p
+        go false p = absurd (zero-told BadShape (sym n ∙ ap (λ (o : Outcome (List ℕ)). numberOf (o .answer)) p))
 
-  pub held-no : shapeOk k (length w) ≡ false → Unknown BadShape ≡ clockHeld k (machine w due)
-  unfolding clockHeld
-  held-no e = rw e refl
-
-  module _ (s : shapeOk k (length w) ≡ true) (t : Totals) (e : t ≡ totals w (k .lines) (k .places)) where
-    pub held-torn : not (t .ok) ≡ true → Unknown Damaged ≡ clockHeld k (machine w due)
-    unfolding clockHeld
-    held-torn n = rw (s, counts-no k w t e n) refl
-
-    pub held-most : not (t .ok) ≡ false → t .sum ≤ 524288
-    unfolding totals
-    held-most n =
-        omega (arith, ap (λ (t : Totals). t .sum) e, total-most (word w) (k .lines) (k .places) (below-means (k .places) (word w) (k .lines) .says (counts-yes k w t e n)), small k (length w) s .area)
-
-    pub held-told : not (t .ok) ≡ false → Held (t .sum) ≡ clockHeld k (machine w due)
-    unfolding clockHeld totals
-    held-told n = rw (s, counts-yes k w t e n) (ap (λ (t : Totals). Held (t .sum)) e)
+  -- held is the lines', whatever is pending
+  pub held-as : heldCount k w ≡ clockHeld k (machine w due)
+  unfolding heldCount clockHeld
+  held-as = refl
 
   module _ (b : ℕ) where
     pub drain-shape : shapeOk k (length w) ≡ false → drained (Refused BadShape) 0 false (machine w due) ≡ drains k b (machine w due)

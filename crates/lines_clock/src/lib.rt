@@ -12,7 +12,6 @@ use lines_steps::look_lines;
 use lines_steps::rank_fit;
 use lines_steps::shape_ok;
 use lines_steps::sum_up;
-use lines_steps::wipe_words;
 use lines_steps::work;
 use strip::Answer;
 use strip::Count;
@@ -28,13 +27,14 @@ ghost use Rattle.lines_model.specs.Clock.{clockCleared, clockHeld, drains, dueO
 ghost use Rattle.lines_model.specs.Layout.{powerOfTwo, shapeOk, word};
 ghost use Rattle.lines_model.specs.Rules as rules;
 ghost use Rattle.lines_model.specs.Rules.{total};
-ghost use Rattle.lines_model.specs.declared.Due.the-variants.{Put, Swap, Take};
+ghost use Rattle.lines_model.specs.declared.Due.the-variants.{Put, Rest, Swap, Take};
+ghost use Rattle.lines_clock.specs.Reports.{reported, stood};
 ghost use Rattle.lines_steps.specs.Sizes.{sizesBy, Standing};
 ghost use Rattle.promise.specs.Calls.{outcome};
 ghost use Rattle.promise.specs.Drains.{drained};
 
 // What a cycle answers, and what is pending after it.
-pub struct Turned {
+pub struct Cycled {
     pub answer: Answer,
     pub due: Due,
 }
@@ -45,6 +45,27 @@ pub struct Report {
     pub cycles: u32,
     pub left: bool,
     pub due: Due,
+}
+
+// Refused 1 or 2: what was pending stands.
+fn stays(refusal: Refusal, due: Due) -> Cycled
+    ensures { λ r. ⌜ r ≡ stood refusal due ⌝ }
+{
+    Cycled {
+        answer: Answer::Refused(refusal),
+        due,
+    }
+}
+
+fn told(answer: Answer, cycles: u32, left: bool, due: Due) -> Report
+    ensures { λ r. ⌜ r ≡ reported answer cycles left due ⌝ }
+{
+    Report {
+        answer,
+        cycles,
+        left,
+        due,
+    }
 }
 
 // Is work pending?
@@ -181,84 +202,56 @@ fn choose(s: &[u32], k: Rows, q: Request, held: usize) -> Choice
 }
 
 // A cycle with a request, or idle: test, sort, choose, write.
-pub fn turn(s: &mut [u32], k: Rows, due: Due, q: Request) -> Turned
+pub fn cycle(s: &mut [u32], k: Rows, due: Due, q: Request) -> Cycled
     ensures { λ r. ⌜ outcome (r .answer) (machine (now (s .exit)) (r .due)) ≡ turned k q (machine (now (s .entry)) due) ⌝ }
 {
     let fits = shape_ok(k, s.len());
     if !fits {
-        return Turned {
-            answer: Answer::Refused(Refusal::BadShape),
-            due,
-        };
+        return stays(Refusal::BadShape, due);
     }
     let lines = k.lines;
     let places = k.places;
     let seen = sum_up(s, lines, places);
     if !seen.ok {
-        return Turned {
-            answer: Answer::Refused(Refusal::Damaged),
-            due,
-        };
+        return stays(Refusal::Damaged, due);
     }
     let fine = due_ok(s, k, due);
     if !fine {
-        return Turned {
-            answer: Answer::Refused(Refusal::Damaged),
-            due,
-        };
+        return stays(Refusal::Damaged, due);
     }
     let size = sizes_had(s, k, due);
     let look = look_lines(s, k, due, size);
     if !look.ok {
-        return Turned {
-            answer: Answer::Refused(Refusal::Damaged),
-            due,
-        };
+        return stays(Refusal::Damaged, due);
     }
     work(s, k, due, size, look.spot);
     let z = choose(s, k, q, seen.sum);
     let next = z.due;
     let answer = z.answer;
     count(s, k, next);
-    Turned { answer, due: next }
+    Cycled { answer, due: next }
 }
 
 // Clear: zeros, and nothing pending.
-pub fn clear(s: &mut [u32], k: Rows, due: Due) -> Turned
+pub fn clear(s: &mut [u32], k: Rows, due: Due) -> Cycled
     ensures { λ r. ⌜ outcome (r .answer) (machine (now (s .exit)) (r .due)) ≡ clockCleared k (machine (now (s .entry)) due) ⌝ }
 {
-    let fits = shape_ok(k, s.len());
-    if !fits {
-        return Turned {
-            answer: Answer::Refused(Refusal::BadShape),
-            due,
-        };
+    let answer = lines::clear(s, k);
+    let n = number(answer);
+    if n != 0 {
+        return Cycled { answer, due };
     }
-    let lines = k.lines;
-    let places = k.places;
-    let words = lines + 3 * (lines * places);
-    wipe_words(s, words);
-    Turned {
-        answer: Answer::Done,
+    Cycled {
+        answer,
         due: Due::Rest,
     }
 }
 
 // Held: exact in the middle of any work. It reads no record.
-pub fn held(s: &[u32], k: Rows, due: Due) -> Count
-    ensures { λ r. ⌜ r ≡ clockHeld k (machine (now (s .entry)) due) ⌝ }
+pub fn held(s: &[u32], k: Rows) -> Count
+    ensures { λ r. ⌜ r ≡ clockHeld k (machine (now (s .entry)) Rest) ⌝ }
 {
-    let fits = shape_ok(k, s.len());
-    if !fits {
-        return Count::Unknown(Refusal::BadShape);
-    }
-    let lines = k.lines;
-    let places = k.places;
-    let seen = sum_up(s, lines, places);
-    if !seen.ok {
-        return Count::Unknown(Refusal::Damaged);
-    }
-    Count::Held(seen.sum as u32)
+    lines::held(s, k)
 }
 
 // Drain: idle cycles while work is pending and the budget lasts. One is always enough.
@@ -267,46 +260,21 @@ pub fn drain(s: &mut [u32], k: Rows, due: Due, budget: u32) -> Report
 {
     let fits = shape_ok(k, s.len());
     if !fits {
-        return Report {
-            answer: Answer::Refused(Refusal::BadShape),
-            cycles: 0,
-            left: false,
-            due,
-        };
+        return told(Answer::Refused(Refusal::BadShape), 0, false, due);
     }
     let pending = is_pending(due);
     if !pending {
-        return Report {
-            answer: Answer::Done,
-            cycles: 0,
-            left: false,
-            due,
-        };
+        return told(Answer::Done, 0, false, due);
     }
     if budget == 0 {
-        return Report {
-            answer: Answer::Done,
-            cycles: 0,
-            left: true,
-            due,
-        };
+        return told(Answer::Done, 0, true, due);
     }
-    let o = turn(s, k, due, Request::Idle);
+    let o = cycle(s, k, due, Request::Idle);
     let answer = o.answer;
     let next = o.due;
     let n = number(answer);
     if n != 0 {
-        return Report {
-            answer,
-            cycles: 0,
-            left: true,
-            due: next,
-        };
+        return told(answer, 0, true, next);
     }
-    Report {
-        answer: Answer::Done,
-        cycles: 1,
-        left: false,
-        due: next,
-    }
+    told(Answer::Done, 1, false, next)
 }

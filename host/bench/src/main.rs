@@ -11,6 +11,7 @@ mod count;
 mod cycles;
 mod fairs;
 mod halls;
+mod lines;
 mod measure;
 mod mends;
 mod plain;
@@ -95,6 +96,7 @@ fn main() {
         "packed heap beside std's BinaryHeap, beside that by rank alone, and beside the tree of order 4",
         traces::packed(&plan),
     );
+    show("lines beside BTreeMap<u32, VecDeque<(u32, u32)>>, then beside the bucket queue", lines::rows(&plan));
     show("clocked tree beside a plain machine without damage tests, 4,000 held or three quarters", cycles::rows(&plan));
     let (staged, by_cycle) = stages::rows(&plan);
     show(

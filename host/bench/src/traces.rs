@@ -23,12 +23,12 @@ pub fn strip(rank: u32, n: usize) -> Strip {
 }
 
 /// Pushes at ranks that `rank` chooses.
-fn pushes(held: usize, mut rank: impl FnMut() -> u32) -> Vec<Op> {
+pub fn pushes(held: usize, mut rank: impl FnMut() -> u32) -> Vec<Op> {
     (0..held).map(|n| Op::Push(strip(rank(), n))).collect()
 }
 
 /// Pops, each with a push after it whose rank `rank` chooses from what came out.
-fn refilled(fill: Vec<Op>, operations: usize, mut rank: impl FnMut(u32) -> u32) -> Work<Op> {
+pub fn refilled(fill: Vec<Op>, operations: usize, mut rank: impl FnMut(u32) -> u32) -> Work<Op> {
     let mut queue = filled(MapQueue::default(), &fill);
     let mut trace = Vec::new();
     for n in 0..operations / 2 {
@@ -41,7 +41,7 @@ fn refilled(fill: Vec<Op>, operations: usize, mut rank: impl FnMut(u32) -> u32) 
 }
 
 /// Replaces whose rank `rank` chooses from what came out before.
-fn replaced(fill: Vec<Op>, operations: usize, mut rank: impl FnMut(u32) -> u32) -> Work<Op> {
+pub fn replaced(fill: Vec<Op>, operations: usize, mut rank: impl FnMut(u32) -> u32) -> Work<Op> {
     let mut queue = filled(MapQueue::default(), &fill);
     let mut given = 0;
     let mut trace = Vec::new();

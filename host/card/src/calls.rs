@@ -56,6 +56,9 @@ sizes! {
 
     /// The words of 32 bits of several ports on one pool.
     fn ports_words(storeys, nodes, ports);
+
+    /// The store of lines.
+    fn lines_words(kind, lines, places);
 }
 
 calls! {
@@ -222,4 +225,43 @@ calls! {
     /// Gives the number of held elements in out[0], in the middle of any work too. Reads the root alone, no
     /// record.
     fn clocked_cluster_held(store: &[u32], places, levels, out: &mut [u32]);
+
+    // Lines.
+
+    /// Empties all lines: all words zero. Never refused 2.
+    fn lines_clear(store: &mut [u32], kind, lines, places);
+
+    /// Takes an element in, behind those of its rank in its line. Refused 4 where the kind is 1 and the rank
+    /// above 65535, 7 with tag 0. Refused 5, kind 1, where the line of its rank is full, kind 2 where all
+    /// lines are.
+    fn lines_push(store: &mut [u32], kind, lines, places, rank, tag, length);
+
+    /// Gives the first element of the lowest rank in out[0] to out[2]; of kind 2 it is the first in its line,
+    /// and of equal lines the first. Refused 6 where nothing is held.
+    fn lines_pop(store: &mut [u32], kind, lines, places, out: &mut [u32]);
+
+    /// A pop, and then a push of the new element, of kind 2 into the line that gave: gives what the pop gives,
+    /// even if the new rank is lower. Refused 4 where the kind is 1 and the rank above 65535, 7 with tag 0, 6
+    /// where nothing is held. Refused 5, kind 1, where the line of its rank did not give and is full.
+    fn lines_replace(store: &mut [u32], kind, lines, places, rank, tag, length, out: &mut [u32]);
+
+    /// Gives the number of held elements in out[0]. Reads the counts alone.
+    fn lines_held(store: &[u32], kind, lines, places, out: &mut [u32]);
+
+    // Lines on the clock.
+
+    /// Empties all lines: store and record zero. Reads no record.
+    fn lines_clock_clear(store: &mut [u32], kind, lines, places, records: &mut [Record]);
+
+    /// Runs one cycle with a request: 0 idle, 1 push, 2 pop, 3 replace. The operation is answered in its own
+    /// cycle, as one at a time, whatever the cycle before did. Refused 4, 5, 6 or 7 it runs as an idle cycle.
+    fn lines_clock_cycle(store: &mut [u32], kind, lines, places, records: &mut [Record], request, rank, tag, length, out: &mut [u32]);
+
+    /// Runs idle cycles until nothing is pending or the budget is spent: out[0] the cycles run, out[1] 1
+    /// where work is left. One is always enough.
+    fn lines_clock_drain(store: &mut [u32], kind, lines, places, records: &mut [Record], budget, out: &mut [u32]);
+
+    /// Gives the number of held elements in out[0], in the middle of any work too. Reads the counts alone, no
+    /// record.
+    fn lines_clock_held(store: &[u32], kind, lines, places, out: &mut [u32]);
 }

@@ -1,6 +1,6 @@
 //! Safe Rust over the card's library of proved priority queues.
 //!
-//! An [`Element`] is a [`Rank`], a [`Tag`] and a [`Length`]; the lowest rank leaves first. There are six queues:
+//! An [`Element`] is a [`Rank`], a [`Tag`] and a [`Length`]; the lowest rank leaves first. There are eight queues:
 //!
 //! | queue | ranks | ties | over lent words or arrays | with a store of its own (feature `std`) |
 //! |---|---|---|---|---|
@@ -10,6 +10,8 @@
 //! | packed heap, up to 256 side by side | any | its own order | [`Packed`] | `PackedQueue` |
 //! | multi-way tree by clock cycles | any | in a node the lower tag, else its own order | [`Clocked`] | `ClockedTree` |
 //! | cluster heap by clock cycles | any | its own order | [`ClockedCluster`] | `ClockedHeap` |
+//! | sorted lines | 0 to 65,535 (kind 1), any (kind 2) | first in, first out; of kind 2 within a line | [`Lines`] | `LinesQueue` |
+//! | sorted lines by clock cycles | as the lines | as the lines | [`ClockedLines`] | `ClockedLinesQueue` |
 //!
 //! Several bucket queues can share one pool of nodes: [`Ports`] (`PortsQueue`), up to 16, each with a floor and a ceiling.
 //! Above the tree stands [`Fair`] (`FairQueue`): ranks from weights, for up to 64 flows.
@@ -47,8 +49,10 @@ mod bucket;
 pub mod calls;
 mod clocked;
 mod clocked_cluster;
+mod clocked_lines;
 mod cluster;
 mod fair;
+mod lines;
 mod mend;
 #[cfg(feature = "std")]
 mod owned;
@@ -60,16 +64,22 @@ mod tree;
 pub use bucket::Bucket;
 pub use clocked::{Clocked, Drained, Record, Request, Stopped};
 pub use clocked_cluster::{ClockedCluster, ClusterRecord};
+pub use clocked_lines::ClockedLines;
 pub use cluster::Cluster;
 pub use fair::{Fair, Flow, Strip, Weight};
+pub use lines::Lines;
 pub use mend::{Broken, Mended};
 #[cfg(feature = "std")]
-pub use owned::{BucketQueue, ClockedHeap, ClockedTree, ClusterQueue, FairQueue, PackedQueue, PortsQueue, TreeQueue};
+pub use owned::{
+    BucketQueue, ClockedHeap, ClockedLinesQueue, ClockedTree, ClusterQueue, FairQueue, LinesQueue, PackedQueue,
+    PortsQueue, TreeQueue,
+};
 pub use packed::{Heap, Packed};
 pub use ports::{Limits, Port, Ports};
 pub use queue::{Clear, Lent, Machine, Queue, Replace};
 pub use sizes::{
-    bucket_bits, bucket_ranks, bucket_words, cluster_places, cluster_words, fair_words, packed_slots, packed_words,
+    bucket_bits, bucket_ranks, bucket_words, cluster_places, cluster_words, fair_words, lines_room, lines_words,
+    packed_slots, packed_words,
     ports_bits, ports_words, record_count, tree_slots, tree_words,
 };
 pub use tree::Tree;
@@ -130,15 +140,17 @@ impl From<[u32; 3]> for Element {
 #[repr(u32)]
 #[non_exhaustive]
 pub enum Refusal {
-    /// Order, places, heaps, levels, storeys, number of nodes or ports, limits or a slice's length. Everything stands.
+    /// Order, places, heaps, levels, storeys, number of nodes, ports or lines, kind, limits or a slice's length. Everything
+    /// stands.
     BadShape = 1,
     /// The store or a pending record does not hold together. Everything stands.
     Damaged = 2,
     /// A pop or replace of a clocked tree just after an answered operation. The cycle runs as an idle one.
     TooSoon = 3,
-    /// A bucket rank above the last, 4,095 or (with three storeys) 262,143. Everything stands.
+    /// A bucket rank above the last, 4,095 or (with three storeys) 262,143, or a rank above 65,535 of lines of kind 1. Everything stands; a
+    /// cycle runs as an idle one.
     BadRank = 4,
-    /// A push on a full queue. The store stands; a cycle runs as an idle one.
+    /// A push on a full queue, or of lines of kind 1 a push or replace into a full line. The store stands; a cycle runs as an idle one.
     Full = 5,
     /// A pop or replace on an empty queue. The store stands; a cycle runs as an idle one.
     Empty = 6,

@@ -1,9 +1,9 @@
 //! Queues that own their stores.
 
 use crate::{
-    bucket_bits, bucket_words, cluster_words, fair_words, packed_words, ports_bits, ports_words, record_count,
-    tree_words, Bucket, Clocked, ClockedCluster, Cluster, ClusterRecord, Fair, Limits, Packed, Ports, Record, Refusal,
-    Tree,
+    bucket_bits, bucket_words, cluster_words, fair_words, lines_words, packed_words, ports_bits, ports_words,
+    record_count, tree_words, Bucket, Clocked, ClockedCluster, ClockedLines, Cluster, ClusterRecord, Fair, Limits,
+    Lines, Packed, Ports, Record, Refusal, Tree,
 };
 use std::vec;
 use std::vec::Vec;
@@ -190,5 +190,50 @@ impl ClockedHeap {
         let words = cluster_words(places, levels);
         let records = if words == 0 { 0 } else { record_count(levels) };
         ClockedCluster::cleared(places, levels, vec![0; words], vec![ClusterRecord::default(); records])
+    }
+}
+
+/// Sorted lines with a store of their own. Everything else is [`Lines`]'s.
+///
+/// ```
+/// use card_host::{Element, Length, LinesQueue, Rank, Refusal, Tag};
+///
+/// # fn main() -> Result<(), Refusal> {
+/// let mut queue = LinesQueue::new(2, 4, 64)?;
+/// queue.push(Element::new(Rank(5), Tag(50), Length(1500)))?;
+/// let words = queue.into_words();
+/// let mut again = LinesQueue::from_words(2, 4, 64, words);
+/// assert_eq!(again.pop()?, Element::new(Rank(5), Tag(50), Length(1500)));
+/// # Ok(())
+/// # }
+/// ```
+pub type LinesQueue = Lines<Vec<u32>>;
+
+impl LinesQueue {
+    /// Empty lines of kind 1 or 2, their store allocated.
+    pub fn new(kind: u32, lines: u32, places: u32) -> Result<LinesQueue, Refusal> {
+        Lines::cleared(kind, lines, places, vec![0; lines_words(kind, lines, places)])
+    }
+}
+
+/// Clocked lines with store and record of their own. Everything else is [`ClockedLines`]'s.
+///
+/// ```
+/// use card_host::{ClockedLinesQueue, Element, Length, Rank, Refusal, Tag};
+///
+/// # fn main() -> Result<(), Refusal> {
+/// let mut lines = ClockedLinesQueue::new(1, 4, 64)?;
+/// lines.push(Element::new(Rank(5), Tag(50), Length(1500)))?;
+/// // nothing is ever too soon
+/// assert_eq!(lines.pop()?, Element::new(Rank(5), Tag(50), Length(1500)));
+/// # Ok(())
+/// # }
+/// ```
+pub type ClockedLinesQueue = ClockedLines<Vec<u32>, Vec<Record>>;
+
+impl ClockedLinesQueue {
+    /// Empty lines of kind 1 or 2 with nothing pending, their store and record allocated.
+    pub fn new(kind: u32, lines: u32, places: u32) -> Result<ClockedLinesQueue, Refusal> {
+        ClockedLines::cleared(kind, lines, places, vec![0; lines_words(kind, lines, places)], vec![Record::default()])
     }
 }

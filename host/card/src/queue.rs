@@ -104,7 +104,7 @@ macro_rules! operations {
             }
 
             /// Takes an element in. Refused [`Refusal::NoTag`] with tag 0, [`Refusal::Full`] where there is no room, and
-            /// [`Refusal::BadRank`] above the last rank of a bucket queue.
+            /// [`Refusal::BadRank`] above the last rank of a queue that has one.
             #[inline]
             pub fn push(&mut self, x: Element) -> Result<(), Refusal> {
                 refused(calls::$push($(self.$store.as_mut(),)* $(self.$number,)* x.rank.0, x.tag.0, x.length.0))
@@ -119,8 +119,9 @@ macro_rules! operations {
             }
 
             /// A pop, and then a push of the new element: gives the element of lowest rank, even if the new rank is lower. Works on a full
-            /// queue. Refused [`Refusal::NoTag`] with tag 0, [`Refusal::Empty`] where nothing is held, and [`Refusal::BadRank`] above the
-            /// last rank of a bucket queue.
+            /// queue, but for lines of kind 1: [`Refusal::Full`] where the line of the new rank did not give and is full. Refused
+            /// [`Refusal::NoTag`] with tag 0, [`Refusal::Empty`] where nothing is held, and [`Refusal::BadRank`] above the last rank of a
+            /// queue that has one.
             #[inline]
             pub fn replace(&mut self, x: Element) -> Result<Element, Refusal> {
                 let (rank, tag, length, mut out) = (x.rank.0, x.tag.0, x.length.0, [0; 3]);
@@ -152,8 +153,9 @@ macro_rules! cycles {
                 refused(calls::$clear($(self.$store.as_mut(),)* $(self.$number,)* $(self.$pending.as_mut()),*))
             }
 
-            /// Runs one cycle. An idle cycle or a push answers rank 0, tag 0, length 0. Refused [`Refusal::TooSoon`], [`Refusal::Full`],
-            /// [`Refusal::Empty`] or [`Refusal::NoTag`] it runs as an idle cycle; after any other refusal everything stands.
+            /// Runs one cycle. An idle cycle or a push answers rank 0, tag 0, length 0. Refused [`Refusal::TooSoon`],
+            /// [`Refusal::BadRank`], [`Refusal::Full`], [`Refusal::Empty`] or [`Refusal::NoTag`] it runs as an idle cycle; after any other
+            /// refusal everything stands.
             #[inline]
             pub fn cycle(&mut self, request: Request) -> Result<Element, Refusal> {
                 let ((number, rank, tag, length), mut out) = (request.numbers(), [0; 3]);
@@ -176,7 +178,7 @@ macro_rules! cycles {
             }
 
             /// A cycle that is a pop, and then a push of the new element: gives the element of lowest rank, even if the new rank is lower.
-            /// Refused [`Refusal::NoTag`] with tag 0, [`Refusal::Empty`] where nothing is held.
+            /// Refused as the replace of one operation at a time is.
             #[inline]
             pub fn replace(&mut self, x: Element) -> Result<Element, Refusal> {
                 self.cycle(Request::Replace(x))
@@ -201,7 +203,7 @@ macro_rules! cycles {
                 }
             }
 
-            /// How many elements are held, in the middle of any work too. Reads the root alone.
+            /// How many elements are held, in the middle of any work too. Reads the root alone, of lines the counts.
             #[inline]
             pub fn held(&self) -> Result<u32, Refusal> {
                 let mut out = [0; 1];

@@ -217,3 +217,35 @@ pub(crate) const fn ports_room(storeys: u32, nodes: u32, ports: u32) -> usize {
     }
     nodes as usize
 }
+
+/// The most lines, and the most places of a line.
+const LINES: u32 = 512;
+const LINE: u32 = 1024;
+
+/// How many elements lines can hold, as many as they have places; 0 for a bad shape.
+///
+/// ```
+/// assert_eq!(card_host::lines_room(2, 512, 1024), 524_288);
+/// assert_eq!(card_host::lines_room(2, 3, 1024), 0);
+/// ```
+pub const fn lines_room(kind: u32, lines: u32, places: u32) -> usize {
+    let shaped = lines >= 1 && lines <= LINES && lines & (lines - 1) == 0 && places >= 1 && places <= LINE;
+    if (kind != 1 && kind != 2) || !shaped {
+        return 0;
+    }
+    lines as usize * places as usize
+}
+
+/// How many words the store of lines needs, one for each line and three for each place; 0 for a bad shape.
+///
+/// ```
+/// static STORE: [u32; card_host::lines_words(1, 2, 3)] = [0; 20];
+/// # let _ = STORE;
+/// ```
+pub const fn lines_words(kind: u32, lines: u32, places: u32) -> usize {
+    let room = lines_room(kind, lines, places);
+    if room == 0 {
+        return 0;
+    }
+    lines as usize + 3 * room
+}

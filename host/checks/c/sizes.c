@@ -32,6 +32,16 @@ int main(void) {
             same("words of a bucket queue", CARD_BUCKET_WORDS(storeys, nodes), card_bucket_words(storeys, nodes));
         same("bits of a bucket queue", CARD_BUCKET_BITS(storeys), card_bucket_bits(storeys));
     }
+    for (order = 1; order <= 512; order *= 2)
+        for (levels = 1; levels <= 1024; levels++) {
+            same("words of lines of kind 1", CARD_LINES_WORDS(order, levels), card_lines_words(1, order, levels));
+            same("words of lines of kind 2", CARD_LINES_WORDS(order, levels), card_lines_words(2, order, levels));
+        }
+    same("lines of kind 0", card_lines_words(0, 1, 1), 0);
+    same("lines of kind 3", card_lines_words(3, 1, 1), 0);
+    same("three lines", card_lines_words(1, 3, 1), 0);
+    same("1024 lines", card_lines_words(2, 1024, 1), 0);
+    same("lines of 1025 places", card_lines_words(2, 1, 1025), 0);
     same("slots of order 4, levels 8", sizeof largest / sizeof *largest, 4 * 87380);
     same("order 4, levels 9", card_tree_words(4, 9), 0);
     same("order 2, levels 16", card_tree_words(2, 16), 0);

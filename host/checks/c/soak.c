@@ -270,6 +270,37 @@ static uint32_t packed(uint32_t what) {
     }
 }
 
+/* Of kind 1 most ranks are spread over the lines. */
+static uint32_t line_rank(void) {
+    if (shape[0] == 2 || at % 8 == 0) return rank;
+    return (at % 8 < 4 ? rank * 4099u : rank) & 0xffffu;
+}
+
+static uint32_t lines(uint32_t what) {
+    uint32_t r = line_rank();
+    switch (what) {
+    case PUSH: return card_lines_push(store, n, a, b, c, r, tag, length);
+    case POP: return card_lines_pop(store, n, a, b, c, out, no);
+    case REPLACE: return card_lines_replace(store, n, a, b, c, r, tag, length, out, no);
+    case CLEAR: return card_lines_clear(store, n, a, b, c);
+    default: return card_lines_held(store, n, a, b, c, out, no);
+    }
+}
+
+static uint32_t clocked_lines(uint32_t what) {
+    uint32_t budget = below(3), r = line_rank();
+    switch (what) {
+    case PUSH: return card_lines_clock_cycle(store, n, a, b, c, records, n3, about(CARD_PUSH), r, tag, length, out, no);
+    case POP: return card_lines_clock_cycle(store, n, a, b, c, records, n3, about(CARD_POP), r, tag, length, out, no);
+    case REPLACE: return card_lines_clock_cycle(store, n, a, b, c, records, n3, about(CARD_REPLACE), r, tag, length, out, no);
+    case CLEAR: return card_lines_clock_clear(store, n, a, b, c, records, n3);
+    case HELD: return card_lines_clock_held(store, n, a, b, c, out, no);
+    default: break;
+    }
+    if (below(2) == 0) return card_lines_clock_drain(store, n, a, b, c, records, n3, budget, out, no);
+    return card_lines_clock_cycle(store, n, a, b, c, records, n3, about(CARD_IDLE), 0, 0, 0, out, no);
+}
+
 /* A stretch of calls from a cleared store, then one in which stores, lengths and numbers are spoilt. */
 static void work(uint32_t (*queue)(uint32_t)) {
     uint32_t i, what;
@@ -337,6 +368,13 @@ static void more_sizes(void) {
         }
 }
 
+static void line_sizes(void) {
+    uint32_t i, j, k;
+    for (i = 0; i < 4; i++)
+        for (j = 0; j < 1030; j += j < 20 ? 1 : 82)
+            for (k = 0; k < 1030; k += k < 20 ? 1 : 82) mix(card_lines_words(i, j, k));
+}
+
 /* A shape, what its slices need, and the work on it. */
 static void on(uint32_t x, uint32_t y, uint32_t z, uint32_t (*queue)(uint32_t)) {
     shape[0] = x;
@@ -352,6 +390,9 @@ static void on(uint32_t x, uint32_t y, uint32_t z, uint32_t (*queue)(uint32_t)) 
     } else if (queue == packed) {
         words = card_packed_words(x, y);
         pending = 0;
+    } else if (queue == lines || queue == clocked_lines) {
+        words = card_lines_words(x, y, z);
+        pending = 1;
     } else words = card_tree_words(x, y);
     work(queue);
 }
@@ -362,6 +403,7 @@ int main(void) {
     static const uint32_t pools[5][2] = {{2, 1}, {2, 7}, {2, 64}, {2, 1000}, {3, 40}};
     static const uint32_t halls[5][3] = {{2, 6, 2}, {2, 60, 5}, {2, 40, 16}, {2, 9, 1}, {3, 10, 1}};
     static const uint32_t forests[8][2] = {{1, 1}, {1, 4}, {2, 3}, {3, 5}, {7, 2}, {256, 2}, {16, 8}, {1, 17}};
+    static const uint32_t rows[6][3] = {{1, 1, 1}, {1, 4, 3}, {1, 128, 5}, {2, 1, 9}, {2, 8, 4}, {2, 4, 300}};
     uint32_t i;
     hash = (uint64_t)0xcbf29ce4u << 32 | 0x84222325u;
     sizes();
@@ -382,5 +424,10 @@ int main(void) {
     more_sizes();
     for (i = 0; i < 8; i++) on(forests[i][0], forests[i][1], 0, packed);
     told("packed");
+    line_sizes();
+    for (i = 0; i < 6; i++) on(rows[i][0], rows[i][1], rows[i][2], lines);
+    told("lines");
+    for (i = 0; i < 6; i++) on(rows[i][0], rows[i][1], rows[i][2], clocked_lines);
+    told("clocked lines");
     return strange == 0 ? 0 : 1;
 }

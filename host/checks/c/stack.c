@@ -211,6 +211,40 @@ static void clocked_cluster(uint32_t places, uint32_t levels) {
     }
 }
 
+#define LINES CARD_LINES_WORDS(count, places), kind, count, places
+
+/* Half full, and filled to the brim. */
+static void lines(uint32_t kind, uint32_t count, uint32_t places) {
+    uint32_t i, rank;
+    TOOK(card_lines_words, card_lines_words(kind, count, places));
+    TOOK(card_lines_clear, card_lines_clear(store, LINES));
+    for (i = 0; i < count * places; i++) {
+        rank = word() & 0xffffu;
+        card_lines_push(store, LINES, rank, 1, 1);
+        if (i % (count * places / 100) != 0) continue;
+        spoil(CARD_LINES_WORDS(count, places));
+        TOOK(card_lines_push, card_lines_push(store, LINES, rank / 2, i, 1));
+        TOOK(card_lines_pop, card_lines_pop(store, LINES, OUT));
+        TOOK(card_lines_replace, card_lines_replace(store, LINES, rank, i, 1, OUT));
+        TOOK(card_lines_held, card_lines_held(store, LINES, OUT));
+        store[spoilt] = was;
+    }
+}
+
+static void clocked_lines(uint32_t kind, uint32_t count, uint32_t places) {
+    uint32_t i, rank;
+    TOOK(card_lines_clock_clear, card_lines_clock_clear(store, LINES, records, CARD_LINES_RECORDS));
+    for (i = 0; i < count * places; i++) {
+        rank = word() & 0xffffu;
+        card_lines_clock_cycle(store, LINES, records, CARD_LINES_RECORDS, CARD_PUSH, rank, 1, 1, OUT);
+        if (i % (count * places / 100) != 0) continue;
+        TOOK(card_lines_clock_cycle, card_lines_clock_cycle(store, LINES, records, CARD_LINES_RECORDS, i % 7 % 4, rank, i, 1, OUT));
+        TOOK(card_lines_clock_cycle, card_lines_clock_cycle(store, LINES, records, CARD_LINES_RECORDS, CARD_REPLACE, rank / 2, i, 1, OUT));
+        TOOK(card_lines_clock_drain, card_lines_clock_drain(store, LINES, records, CARD_LINES_RECORDS, i % 2, OUT));
+        TOOK(card_lines_clock_held, card_lines_clock_held(store, LINES, OUT));
+    }
+}
+
 int main(void) {
     struct row *row;
     /* heaps with many levels, and with many places in a node; packed ones with many levels, and many side by side */
@@ -227,6 +261,11 @@ int main(void) {
     clocked();
     clocked_cluster(2, many);
     clocked_cluster(wide, 8);
+    lines(1, 8, 1024);
+    lines(2, 8, 1024);
+    lines(2, 512, 4);
+    clocked_lines(1, 8, 1024);
+    clocked_lines(2, 512, 4);
     for (row = rows; row->name != NULL; row++) printf("%s %u\n", row->name, (unsigned)row->bytes);
     return 0;
 }

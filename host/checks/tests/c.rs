@@ -77,6 +77,13 @@ fn the_clocked_cluster_heap() {
 }
 
 #[test]
+fn the_lines() {
+    for (standard, written) in in_each("host/checks/c/lines.c") {
+        assert_eq!(written, "", "{standard}");
+    }
+}
+
+#[test]
 fn power_goes_in_the_middle_of_a_call() {
     for (standard, written) in in_each("host/checks/c/cut.c") {
         assert_eq!(written, "", "{standard}");

@@ -130,8 +130,8 @@ fn of_source(text: &str) -> Result<Functions, String> {
             let (n, t) = name_and_type(&p)?;
             let words: Vec<&str> = t.trim_start_matches('&').split(' ').filter(|w| !w.starts_with('\'')).collect();
             let reference = if t.starts_with('&') { "&" } else { "" };
-            // a struct of six numbers of 32 bits is so many words to the source
-            let of = words.join(" ").replace("[[u32; 6]]", "[ClusterRecord]");
+            // a struct of numbers of 32 bits is so many words to the source
+            let of = words.join(" ").replace("[[u32; 6]]", "[ClusterRecord]").replace("[[u32; 5]]", "[Record]");
             list.push(format!("{n}: {reference}{of}"));
         }
         if found.insert(name.clone(), Function { parameters: list, answer }).is_some() {

@@ -29,6 +29,18 @@ pub trait Driven<const N: usize>: Subject<Call = Ask, Store = Store<N>> {
     fn ranks(_: Shape) -> u64 {
         1 << 32
     }
+    /// Whether the first in is the first out within a rank in this shape.
+    fn in_turn(_: Shape) -> bool {
+        Self::IN_TURN
+    }
+    /// The rank that a small number stands for: those that are used most.
+    fn near(_: Shape, n: u32) -> u32 {
+        n
+    }
+    /// Whether there is no room for a push, or for a replace once one has left, where these are held in the order of leaving.
+    fn full(shape: Shape, held: &[Element], ask: Ask) -> bool {
+        matches!(ask, Ask::Push(_)) && held.len() == Self::room(shape)
+    }
     /// Slices of this shape, with so many words and records more than are needed, and no zero in them.
     fn blank(shape: Shape, more: usize) -> Store<N>;
     /// Spoils a word, or a record, that calls read.
@@ -83,14 +95,15 @@ fn misshape<const N: usize>(rng: &mut Rng, store: &mut Store<N>) {
 /// The plain list beside a queue, and the limits of its answers.
 struct Beside {
     list: SortedList,
-    room: usize,
+    shape: Shape,
+    full: fn(Shape, &[Element], Ask) -> bool,
     ranks: u64,
     in_turn: bool,
 }
 
 impl Beside {
     fn new<Q: Driven<N>, const N: usize>(shape: Shape) -> Beside {
-        Beside { list: SortedList::new(), room: Q::room(shape), ranks: Q::ranks(shape), in_turn: Q::IN_TURN }
+        Beside { list: SortedList::new(), shape, full: Q::full, ranks: Q::ranks(shape), in_turn: Q::in_turn(shape) }
     }
 
     /// The number that an operation is to give.
@@ -98,8 +111,8 @@ impl Beside {
         match ask {
             Ask::Push(x) | Ask::Replace(x, _) if x.rank as u64 >= self.ranks => 4,
             Ask::Push(x) | Ask::Replace(x, _) if x.tag == 0 => 7,
-            Ask::Push(_) if self.list.held() == self.room => 5,
             Ask::Pop(_) | Ask::Replace(..) if self.list.held() == 0 => 6,
+            _ if (self.full)(self.shape, self.list.elements(), ask) => 5,
             _ => 0,
         }
     }
@@ -267,7 +280,7 @@ fn any_store<Q: Driven<N>, const N: usize>(stream: u64, rounds: u32, asking: Ask
         made(&mut store, Ask::Clear);
         // more pushes than others, so that it is filled to any degree
         for n in 0..rng.below(2 * Q::room(shape).min(60) as u64 + 2) {
-            let x = element(rng.below(12) as u32, 1 + n as u32, rng.below(99) as u32);
+            let x = element(Q::near(shape, rng.below(12) as u32), 1 + n as u32, rng.below(99) as u32);
             made(&mut store, (asking.request)(rng.pick(&[1, 1, 1, 2, 3]), x));
         }
         for _ in 0..rng.pick(&[0, 1, 1, 1, 2, 3]) {
@@ -281,7 +294,8 @@ fn any_store<Q: Driven<N>, const N: usize>(stream: u64, rounds: u32, asking: Ask
         }
         let mut desk = Desk::<Q>::new(store);
         for _ in 0..4 {
-            desk.both(&mut tally, (asking.any)(&mut rng, Q::ranks(shape)));
+            let near = |rank: u32| if rank < 12 { Q::near(shape, rank) } else { rank };
+            desk.both(&mut tally, (asking.any)(&mut rng, Q::ranks(shape)).ranked(near));
         }
     }
     tally.gave(Q::ANY);

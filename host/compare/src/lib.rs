@@ -1,7 +1,7 @@
 //! The card's library held to the plain models, call by call and word by word.
 //!
 //! `desk` is where every queue is held to its model: it makes a call on both sides, compares everything and counts what was answered. What a
-//! queue is to the desk, a `Subject`, stands in `queues`; `drive` works any queue of elements by itself, and any that goes by cycles.
+//! queue is to the desk, a `Subject`, stands in `queues`, of lines in `lines`; `drive` works any queue of elements by itself, and any that goes by cycles.
 //!
 //! The tree, the bucket queue and the clocked tree share one subject (`side`) and have calls of their own: `harness` is their desk,
 //! `coverage` says what must have been met. The calls come from `cases` (the paper's), `histories` (from cleared stores), `large` (to the
@@ -15,5 +15,6 @@ pub mod harness;
 pub mod histories;
 pub mod hostile;
 pub mod large;
+pub mod lines;
 pub mod queues;
 pub mod side;

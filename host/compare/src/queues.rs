@@ -30,6 +30,17 @@ impl Ask {
         }
     }
 
+    /// The same call with another rank of its element.
+    pub fn ranked(self, rank: impl Fn(u32) -> u32) -> Ask {
+        let with = |x: Element| Element { rank: rank(x.rank), ..x };
+        match self {
+            Ask::Push(x) => Ask::Push(with(x)),
+            Ask::Replace(x, out) => Ask::Replace(with(x), out),
+            Ask::Cycle(request, x, out) => Ask::Cycle(request, with(x), out),
+            other => other,
+        }
+    }
+
     fn out(&self) -> usize {
         match *self {
             Ask::Clear | Ask::Push(_) => 0,
@@ -138,9 +149,9 @@ impl Subject for Packed {
 }
 
 /// The calls of a machine that are counted apart.
-const CYCLES: &[&str] = &["clear", "idle", "push", "pop", "replace", "other", "drain", "held"];
+pub(crate) const CYCLES: &[&str] = &["clear", "idle", "push", "pop", "replace", "other", "drain", "held"];
 
-fn cycle_kind(ask: &Ask) -> usize {
+pub(crate) fn cycle_kind(ask: &Ask) -> usize {
     match *ask {
         Ask::Clear => 0,
         Ask::Cycle(request, ..) => 1 + request.min(4) as usize,

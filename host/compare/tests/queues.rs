@@ -3,6 +3,7 @@
 use card_host::{calls, cluster_words, tree_words};
 use compare::desk::{Desk, Store, Subject, Tally};
 use compare::drive::{cycles, edges, histories, hostile, hostile_cycles, Driven};
+use compare::lines::{ClockedLines, Lines};
 use compare::queues::{Ask, Bucket, ClockedCluster, ClockedTree, Cluster, Tree};
 use models::boundary::told;
 use models::{element, No};
@@ -58,11 +59,15 @@ driven! {
     tree: Tree, 2000;
     cluster: Cluster, 2010;
     bucket: Bucket, 2020;
+    lines_kind_1: Lines<1>, 2050;
+    lines_kind_2: Lines<2>, 2060;
 }
 
 by_cycles! {
     clocked_tree: ClockedTree, 5, 2030;
     clocked_cluster: ClockedCluster, 6, 2040;
+    clocked_lines_kind_1: ClockedLines<1>, 5, 2070;
+    clocked_lines_kind_2: ClockedLines<2>, 5, 2080;
 }
 
 /// The library's sizes are the wrapper's constants.

@@ -2,9 +2,10 @@
 
 use card_host::{
     bucket_bits, bucket_ranks, bucket_words, calls, fair_words, record_count, tree_slots, tree_words, Bucket,
-    BucketQueue, Clear, Clocked, ClockedCluster, ClockedHeap, ClockedTree, Cluster, ClusterQueue, ClusterRecord,
-    Drained, Element, Fair, FairQueue, Flow, Length, Limits, Machine, Mended, Ports, PortsQueue, Queue, Rank, Record,
-    Refusal, Replace, Request, Stopped, Strip, Tag, Tree, TreeQueue, Weight,
+    BucketQueue, Clear, Clocked, ClockedCluster, ClockedHeap, ClockedLines, ClockedLinesQueue, ClockedTree, Cluster,
+    ClusterQueue, ClusterRecord, Drained, Element, Fair, FairQueue, Flow, Length, Limits, Lines, LinesQueue, Machine,
+    Mended, Ports, PortsQueue, Queue, Rank, Record, Refusal, Replace, Request, Stopped, Strip, Tag, Tree, TreeQueue,
+    Weight,
 };
 use models::list::SortedList;
 use models::rng::{seed, Rng};
@@ -325,6 +326,12 @@ fn every_queue_by_the_traits() {
     for (storeys, nodes) in [(2, 1), (2, 40), (3, 5)] {
         to_the_brim_and_cleared(BucketQueue::new(storeys, nodes).unwrap(), |_| ());
     }
+    // of kind 1 all these ranks are of one line
+    for (kind, lines, places) in [(1, 1, 1), (1, 1, 40), (2, 1, 6), (2, 4, 9)] {
+        to_the_brim_and_cleared(LinesQueue::new(kind, lines, places).unwrap(), |_| ());
+        to_the_brim_and_cleared(ClockedLinesQueue::new(kind, lines, places).unwrap(), |_| ());
+        by_cycles(ClockedLinesQueue::new(kind, lines, places).unwrap());
+    }
     let mut ports =
         PortsQueue::new(2, 30, &[(1, 30), (9, 10), (0, 99)].map(|(floor, ceiling)| Limits { floor, ceiling })).unwrap();
     assert_eq!([0, 1, 2, 3].map(|port| ports.port(port).capacity()), [30, 10, 30, 0]);
@@ -364,6 +371,11 @@ fn shapes_and_rooms() {
     assert_eq!((bucket.storeys(), bucket.nodes(), bucket.capacity()), (3, 70, 70));
     let ports = Ports::from_words(2, 50, 7, [0; 0], [0; 0]);
     assert_eq!((ports.storeys(), ports.nodes(), ports.ports(), ports.capacity()), (2, 50, 7, 50));
+    let lines = Lines::from_words(2, 8, 5, [0; 0]);
+    assert_eq!((lines.kind(), lines.lines(), lines.places(), lines.capacity()), (2, 8, 5, 40));
+    let rows = ClockedLines::from_words(1, 4, 7, [0; 0], [Record::default(); 1]);
+    assert_eq!((rows.kind(), rows.lines(), rows.places(), rows.capacity()), (1, 4, 7, 28));
+    assert_eq!((Lines::from_words(3, 8, 5, [0; 0]).capacity(), Lines::from_words(1, 6, 5, [0; 0]).capacity()), (0, 0));
     assert_eq!((Tree::from_words(3, 2, [0; 0]).capacity(), Cluster::from_words(1, 2, [0; 0]).capacity()), (0, 0));
     assert_eq!(Bucket::from_words(2, 65_537, [0; 0], [0; 0]).capacity(), 0);
     assert_eq!(Ports::from_words(2, 50, 17, [0; 0], [0; 0]).capacity(), 0);
@@ -389,6 +401,7 @@ macro_rules! never_copied {
 fn no_queue_is_copied() {
     never_copied!(Tree<[u32; 24]>, Cluster<[u32; 30]>, Bucket<[u64; 65], [u32; 8203]>, Ports<[u64; 65], [u32; 8205]>);
     never_copied!(Fair<[u32; 65], [u32; 24]>, Clocked<[u32; 24], [Record; 1]>, ClockedCluster<[u32; 30], [ClusterRecord; 1]>);
+    never_copied!(Lines<[u32; 20]>, ClockedLines<[u32; 20], [Record; 1]>, LinesQueue, ClockedLinesQueue);
     never_copied!(
         Mended<[u32; 24]>,
         TreeQueue,

@@ -122,11 +122,11 @@ pub fn line(words: &[&str], has: Has, form: &Form, order: u32) -> Result<Line, S
         "slot" => {
             modelled("slots")?;
             if words.len() < 4 {
-                return Err(format!("slot takes level, node, slot, {}", form.slot.join(", ")));
+                return Err(format!("slot takes level, {}, slot, {}", form.node, form.slot.join(", ")));
             }
             let at = [number(words[1])?, number(words[2])?, number(words[3])?];
-            let says = "slot takes, behind level, node and slot, ";
-            Ok(Line::Slot(at, values(&words[4..], says, form.fields(order, at[2]), lengths)?))
+            let says = format!("slot takes, behind level, {} and slot, ", form.node);
+            Ok(Line::Slot(at, values(&words[4..], &says, form.fields(order, at[2]), lengths)?))
         }
         "record" => {
             modelled("records")?;
@@ -163,8 +163,8 @@ pub struct Said {
 
 impl Said {
     /// Of a cleared machine nothing has to be said.
-    pub fn new(levels: u32) -> Said {
-        Said { records: vec![[0; 6]; levels as usize - 1], mark: false, held: 0 }
+    pub fn new(machine: &Machine) -> Said {
+        Said { records: vec![[0; 6]; machine.recorded().count()], mark: false, held: 0 }
     }
 
     /// Writes what a cycle did.
@@ -178,9 +178,8 @@ impl Said {
             let words = machine.form().fields(machine.order(), w.slot).len();
             writeln!(to, "slot {} {} {}{}", w.level, w.node, w.slot, listed(&w.new[..words]))?;
         }
-        for level in 2..=machine.levels() {
+        for (last, level) in self.records.iter_mut().zip(machine.recorded()) {
             let now = machine.record(level);
-            let last = &mut self.records[level as usize - 2];
             if *last != now {
                 *last = now;
                 writeln!(to, "record {level}{}", listed(&now[..machine.form().record.len()]))?;

@@ -145,10 +145,10 @@ struct Image {
 }
 
 impl Image {
-    fn new(levels: u32) -> Image {
+    fn new(machine: &Machine) -> Image {
         Image {
             slots: HashMap::new(),
-            records: vec![vec![Some(0); 6]; levels as usize - 1],
+            records: vec![vec![Some(0); 6]; machine.recorded().count()],
             mark: Some(0),
             held: Some(0),
             answer: vec![Some(0); 4],
@@ -172,21 +172,23 @@ impl Image {
                 if level < 1 || level > levels {
                     return Err(format!("level {level}: there are levels 1 to {levels}"));
                 }
-                if node >= machine.nodes(level) {
-                    return Err(format!("node {node}: level {level} has nodes 0 to {}", machine.nodes(level) - 1));
+                let (name, nodes) = (machine.form().node, machine.nodes(level));
+                if node >= nodes {
+                    return Err(format!("{name} {node}: level {level} has {name}s 0 to {}", nodes - 1));
                 }
                 let slots = machine.form().slots(machine.order());
                 if slot >= slots {
-                    return Err(format!("slot {slot}: a node has slots 0 to {}", slots - 1));
+                    return Err(format!("slot {slot}: a {name} has slots 0 to {}", slots - 1));
                 }
                 self.slots.insert(at, words);
                 self.named.push(at);
             }
             Line::Record(level, numbers) => {
-                if level < 2 || level > levels {
-                    return Err(format!("level {level}: there are records of levels 2 to {levels}"));
+                let first = machine.form().first;
+                if level < first || level > levels {
+                    return Err(format!("level {level}: there are records of levels {first} to {levels}"));
                 }
-                self.records[level as usize - 2] = numbers;
+                self.records[(level - first) as usize] = numbers;
             }
             Line::Mark(n) => self.mark = n,
             Line::Held(n) => self.held = n,
@@ -223,7 +225,7 @@ pub fn hold<T: BufRead, D: BufRead>(run: &mut Run<T>, dump: D, strict: bool) -> 
         None => return lines.bad("there is no line `dump 1`"),
     };
     let (form, order) = (run.machine.form(), run.machine.order());
-    let mut image = Image::new(run.machine.levels());
+    let mut image = Image::new(&run.machine);
     let mut before: VecDeque<String> = VecDeque::new();
     let mut behind = 0;
     let mut ahead: Option<Line> = None;
@@ -295,10 +297,12 @@ fn same_request(asked: &str, request: &[String], lengths: bool) -> bool {
 /// A cycle that agreed, in a line.
 fn recalled<R: BufRead>(run: &Run<R>, cycle: u64, op: trace_text::Op) -> String {
     let machine = &run.machine;
-    let pending: Vec<String> = (2..=machine.levels())
+    let form = machine.form();
+    let pending: Vec<String> = machine
+        .recorded()
         .map(|level| (level, machine.record(level)))
         .filter(|(_, r)| r[0] != 0)
-        .map(|(level, r)| format!("level {level} {} at node {}", machine.form().kinds[r[0] as usize], r[1]))
+        .map(|(level, r)| format!("level {level} {} at {} {}", form.kinds[r[0] as usize], form.node, r[1]))
         .collect();
     let pending = if pending.is_empty() { String::from("nothing") } else { pending.join(", ") };
     format!("cycle {cycle}: {} -> {}; pending: {pending}", asked(op), machine.last().answer.said(op))
@@ -324,14 +328,14 @@ fn differ<R: BufRead>(run: &mut Run<R>, op: trace_text::Op, image: &Image, has: 
             at.sort_unstable();
             at.dedup();
             for at in at {
-                let place = format!("level {}, node {}, slot {}", at[0], at[1], at[2]);
+                let place = format!("level {}, {} {}, slot {}", at[0], form.node, at[1], at[2]);
                 let (expected, found) = (machine.slot(at[0], at[1], at[2]), image.slot(at));
                 let names = form.fields(machine.order(), at[2]);
                 compare(&mut fields, place, names, (&expected, &found), |_| true, lengths);
             }
         }
-        if level > 1 && has.part("records") {
-            let (expected, found) = (machine.record(level), &image.records[level as usize - 2]);
+        if level >= form.first && has.part("records") {
+            let (expected, found) = (machine.record(level), &image.records[(level - form.first) as usize]);
             let used = |i: usize| strict || form.used[expected[0] as usize].contains(&i);
             compare(&mut fields, format!("record of level {level}"), form.record, (&expected, found), used, lengths);
         }

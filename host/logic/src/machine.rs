@@ -1,20 +1,20 @@
 //! A clocked queue of the library, watched: what each cycle answered, wrote and left pending.
 
-use card_host::{ClockedHeap, ClockedTree, Element, Length, Rank, Refusal, Request, Tag};
+use card_host::{ClockedHeap, ClockedLinesQueue, ClockedTree, Element, Length, Rank, Refusal, Request, Tag};
 use trace_text::Op;
 
 /// How a clocked queue's store and records read: what a waveform, a page and a dump call things.
 pub struct Form {
     /// What it is.
     pub name: &'static str,
-    /// What its shape's first number is.
-    pub shape: &'static str,
+    /// What a node is called.
+    pub node: &'static str,
     /// The names of a slot's words.
     pub slot: &'static [&'static str],
     /// The names of a node's own words, which stand behind its slots as one more; none where it has no such words.
     pub own: &'static [&'static str],
-    /// How many slots one level writes in a cycle at most.
-    pub writes: usize,
+    /// The first level with a pending record; every one behind it has one too.
+    pub first: u32,
     /// The names of a pending record's numbers: the kind, the node, and then what it carries.
     pub record: &'static [&'static str],
     /// The names of the kinds.
@@ -30,10 +30,10 @@ pub struct Form {
 /// The multi-way tree.
 pub static TREE: Form = Form {
     name: "clocked tree",
-    shape: "order",
+    node: "node",
     slot: &["rank", "tag", "length", "count"],
     own: &[],
-    writes: 1,
+    first: 2,
     record: &["kind", "node", "rank", "tag", "length"],
     kinds: ["nothing", "put", "take", "swap"],
     used: [&[0], &[0, 1, 2, 3, 4], &[0, 1], &[0, 1, 2, 3, 4]],
@@ -44,14 +44,28 @@ pub static TREE: Form = Form {
 /// The cluster heap: a place is a slot, and a node has two counts of its own, of what lies below it to the left and to the right.
 pub static HEAP: Form = Form {
     name: "clocked cluster heap",
-    shape: "places",
+    node: "node",
     slot: &["rank", "tag", "length", "mark"],
     own: &["left", "right"],
-    writes: 4,
+    first: 2,
     record: &["kind", "node", "place", "rank", "tag", "length"],
     kinds: ["nothing", "put", "fill", "swap"],
     used: [&[0], &[0, 1, 3, 4, 5], &[0, 1, 2], &[0, 1, 2, 3, 4, 5]],
     above: [false, false, true, true],
+    marked: false,
+};
+
+/// Lines: a line is a node of the one level and its place a slot; its count is its own word. The one record is that of level 1.
+pub static LINES: Form = Form {
+    name: "clocked lines",
+    node: "line",
+    slot: &["rank", "tag", "length"],
+    own: &["count"],
+    first: 1,
+    record: &["kind", "line", "rank", "tag", "length"],
+    kinds: ["nothing", "push", "pop", "replace"],
+    used: [&[0], &[0, 1, 2, 3, 4], &[0, 1], &[0, 1, 2, 3, 4]],
+    above: [false; 4],
     marked: false,
 };
 
@@ -119,7 +133,7 @@ pub struct Cycle {
     pub op: Op,
     /// What was answered.
     pub answer: Answer,
-    /// The slots that have other words than before, level by level: one of a level at most.
+    /// The slots that have other words than before, level by level: of a level at most as many as [`Machine::writes`] says.
     pub writes: Vec<Write>,
 }
 
@@ -135,6 +149,7 @@ pub fn asked(op: Op) -> String {
 enum Queue {
     Tree(ClockedTree),
     Heap(ClockedHeap),
+    Lines(ClockedLinesQueue),
 }
 
 /// A clocked queue from its clearing on.
@@ -158,6 +173,11 @@ impl Machine {
         Ok(Machine::new(places, levels, Queue::Heap(ClockedHeap::new(places, levels)?)))
     }
 
+    /// Cleared lines of this shape.
+    pub fn lines(kind: u32, lines: u32, places: u32) -> Result<Machine, Refusal> {
+        Ok(Machine::new(places, 1, Queue::Lines(ClockedLinesQueue::new(kind, lines, places)?)))
+    }
+
     fn new(order: u32, levels: u32, queue: Queue) -> Machine {
         let cycle = Cycle { number: 0, op: Op::Idle, answer: Answer::default(), writes: Vec::new() };
         Machine { order, levels, queue, before: Vec::new(), cycle }
@@ -168,7 +188,34 @@ impl Machine {
         match self.queue {
             Queue::Tree(_) => &TREE,
             Queue::Heap(_) => &HEAP,
+            Queue::Lines(_) => &LINES,
         }
+    }
+
+    /// What it is and of which shape.
+    pub fn title(&self) -> String {
+        let (name, order, levels) = (self.form().name, self.order, self.levels);
+        match &self.queue {
+            Queue::Tree(_) => format!("{name}, order {order}, levels {levels}"),
+            Queue::Heap(_) => format!("{name}, places {order}, levels {levels}"),
+            Queue::Lines(lines) => format!("{name}, kind {}, lines {}, places {order}", lines.kind(), lines.lines()),
+        }
+    }
+
+    /// How many slots one level writes in a cycle at most. Of lines those of the line that is sorted and one count; of kind 1, where a
+    /// replace may be over two lines, twice as many.
+    pub fn writes(&self) -> usize {
+        match &self.queue {
+            Queue::Tree(_) => 1,
+            Queue::Heap(_) => 4,
+            Queue::Lines(lines) if lines.kind() == 1 => 2 * (self.order as usize + 1),
+            Queue::Lines(_) => self.order as usize + 1,
+        }
+    }
+
+    /// The levels with a pending record.
+    pub fn recorded(&self) -> std::ops::RangeInclusive<u32> {
+        self.form().first..=self.levels
     }
 
     /// The slots of a node.
@@ -186,15 +233,19 @@ impl Machine {
         match self.queue {
             Queue::Tree(_) => self.order,
             Queue::Heap(_) => 2,
+            Queue::Lines(_) => 0,
         }
     }
 
     /// How many nodes a level has.
     pub fn nodes(&self, level: u32) -> u32 {
-        self.fan().pow(level - 1)
+        match &self.queue {
+            Queue::Lines(lines) => lines.lines(),
+            _ => self.fan().pow(level - 1),
+        }
     }
 
-    /// A slot's words; a heap's node has its two counts behind its places.
+    /// A slot's words; a heap's node has its two counts behind its places, a line its count.
     pub fn slot(&self, level: u32, node: u32, slot: u32) -> [u32; 4] {
         let above: u32 = (1..level).map(|k| self.nodes(k)).sum();
         let (at, words) = match &self.queue {
@@ -206,12 +257,19 @@ impl Machine {
                 }
                 (at + 2 + 4 * slot, heap.words())
             }
+            Queue::Lines(lines) => {
+                let (words, at) = (lines.words(), (lines.lines() + 3 * (node * self.order + slot)) as usize);
+                return match slot == self.order {
+                    true => [words[node as usize], 0, 0, 0],
+                    false => [words[at], words[at + 1], words[at + 2], 0],
+                };
+            }
         };
         let at = at as usize;
         [words[at], words[at + 1], words[at + 2], words[at + 3]]
     }
 
-    /// The numbers of a level's pending record. Level 1 has none.
+    /// The numbers of a level's pending record, which must be one of those that have one.
     pub fn record(&self, level: u32) -> Numbers {
         match &self.queue {
             Queue::Tree(tree) => {
@@ -219,6 +277,10 @@ impl Machine {
                 [kind, node, rank, tag, length, 0]
             }
             Queue::Heap(heap) => heap.records()[level as usize - 2].into(),
+            Queue::Lines(lines) => {
+                let [kind, line, rank, tag, length]: [u32; 5] = lines.record()[0].into();
+                [kind, line, rank, tag, length, 0]
+            }
         }
     }
 
@@ -238,14 +300,14 @@ impl Machine {
 
     /// Whether anything is pending.
     pub fn pending(&self) -> bool {
-        (2..=self.levels).any(|level| self.record(level)[0] != 0)
+        self.recorded().any(|level| self.record(level)[0] != 0)
     }
 
     /// The mark; a queue without one has it off.
     pub fn mark(&self) -> bool {
         match &self.queue {
             Queue::Tree(tree) => tree.mark(),
-            Queue::Heap(_) => false,
+            Queue::Heap(_) | Queue::Lines(_) => false,
         }
     }
 
@@ -254,6 +316,7 @@ impl Machine {
         let held = match &self.queue {
             Queue::Tree(tree) => tree.held(),
             Queue::Heap(heap) => heap.held(),
+            Queue::Lines(lines) => lines.held(),
         };
         held.expect("a machine that only cycles wrote is sound")
     }
@@ -276,6 +339,7 @@ impl Machine {
         let answer = match &mut self.queue {
             Queue::Tree(tree) => tree.cycle(request),
             Queue::Heap(heap) => heap.cycle(request),
+            Queue::Lines(lines) => lines.cycle(request),
         };
         self.cycle.number += 1;
         self.cycle.op = op;
@@ -297,10 +361,21 @@ impl Machine {
 
     /// Keeps the words of every node that the coming cycle may write: the root, and those that the pending records name. In a tree that
     /// is the node of the record's own level. In a heap it is the node of a put; of a fill or swap the node above, which waits, and either
-    /// of its children, one of which gives.
+    /// of its children, one of which gives. Of lines it is the record's line and where its x goes; and every count, by the request.
     fn note_before(&mut self) {
         let mut before = std::mem::take(&mut self.before);
         before.clear();
+        if let Queue::Lines(lines) = &self.queue {
+            let record = lines.record()[0];
+            let goal = if lines.kind() == 1 { record.rank / (65_536 / lines.lines()) } else { record.node };
+            for line in 0..lines.lines() {
+                let worked = record.kind != 0 && (line == record.node || record.kind == 3 && line == goal);
+                let places = if worked { 0..=self.order } else { self.order..=self.order };
+                before.extend(places.map(|place| ([1, line, place], self.slot(1, line, place))));
+            }
+            self.before = before;
+            return;
+        }
         self.note(&mut before, 1, 0);
         for level in 2..=self.levels {
             let [kind, node, ..] = self.record(level);

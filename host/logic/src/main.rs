@@ -1,6 +1,7 @@
 //! Waveforms, pictures and a scoreboard for logic that is held against the clocked tree, and traces from text and back.
 //!
-//! Where the first words are `--heap PLACES LEVELS` the trace's records are played on the clocked cluster heap of that shape.
+//! Where the first words are `--heap PLACES LEVELS` the trace's records are played on the clocked cluster heap of that shape, where they are
+//! `--lines KIND LINES PLACES` on the clocked lines of that shape.
 //!
 //! `-` is standard input; where no second name is given the result goes to standard output. Where anything is wrong a line on standard
 //! error says what and where, and the exit status is 1 (2 where the words of the call are wrong). No file is left half written.
@@ -21,10 +22,30 @@ logic show --svg CYCLE TRACE [SVG]
 logic dump TRACE [DUMP]           what the model does, as a testbench would print it
 logic hold [--strict] TRACE DUMP  a testbench's dump held against the model
 logic --heap PLACES LEVELS PART ..
-                                  any of the last four parts on a clocked cluster heap of this shape";
+                                  any of the last four parts on a clocked cluster heap of this shape
+logic --lines KIND LINES PLACES PART ..
+                                  and on clocked lines of this shape";
 
-/// The heap that the trace is played on; none for the tree of the trace's own shape.
-type Heap = Option<(u32, u32)>;
+/// What the trace is played on.
+#[derive(Clone, Copy, PartialEq)]
+enum On {
+    /// The tree of the trace's own shape.
+    Tree,
+    Heap(u32, u32),
+    Lines(u32, u32, u32),
+}
+
+impl On {
+    /// What the first words ask for, and how many they are.
+    fn asked(words: &[String]) -> (On, usize) {
+        let number = |i: usize| words.get(i).and_then(|word| word.parse().ok()).unwrap_or_else(|| usage());
+        match words.first().map(String::as_str) {
+            Some("--heap") => (On::Heap(number(1), number(2)), 3),
+            Some("--lines") => (On::Lines(number(1), number(2), number(3)), 4),
+            _ => (On::Tree, 0),
+        }
+    }
+}
 
 fn fail(what: impl std::fmt::Display) -> ! {
     eprintln!("logic: {what}");
@@ -92,16 +113,17 @@ fn traced(kind: &str, from: &str, to: Option<&String>) {
 }
 
 /// The run of a trace; where the trace is bad from its beginning the tool ends here.
-fn run(from: &str, heap: Heap) -> Run<Box<dyn BufRead>> {
-    let begun = match heap {
-        None => Run::new(open(from)).map_err(|what| what.to_string()),
-        Some((places, levels)) => Run::on_heap(open(from), places, levels),
+fn run(from: &str, on: On) -> Run<Box<dyn BufRead>> {
+    let begun = match on {
+        On::Tree => Run::new(open(from)).map_err(|what| what.to_string()),
+        On::Heap(places, levels) => Run::on_heap(open(from), places, levels),
+        On::Lines(kind, lines, places) => Run::on_lines(open(from), kind, lines, places),
     };
     begun.unwrap_or_else(|what| fail(format!("{from}: {what}")))
 }
 
-fn waved(from: &str, to: Option<&String>, heap: Heap) {
-    write_to(to, |out| match wave::wave(&mut run(from, heap), out) {
+fn waved(from: &str, to: Option<&String>, on: On) {
+    write_to(to, |out| match wave::wave(&mut run(from, on), out) {
         Ok(_) => Ok(()),
         Err(wave::Fails::Trace(what)) => Err(format!("{from}: {what}")),
         Err(wave::Fails::Write(error)) => Err(error.to_string()),
@@ -116,7 +138,7 @@ struct Shown {
     svg: Option<u64>,
 }
 
-fn shown(words: &[String], heap: Heap) {
+fn shown(words: &[String], on: On) {
     let (mut asked, mut names) = (Shown::default(), words);
     while let [name, number, rest @ ..] = names {
         if !name.starts_with("--") {
@@ -141,10 +163,8 @@ fn shown(words: &[String], heap: Heap) {
     }
     write_to(to, |out| {
         let done = match asked.svg {
-            Some(cycle) => {
-                show::picture(&mut run(from, heap), cycle).and_then(|svg| Ok(out.write_all(svg.as_bytes())?))
-            }
-            None => show::page(&mut run(from, heap), out, asked.from, asked.upto).map(|_| ()),
+            Some(cycle) => show::picture(&mut run(from, on), cycle).and_then(|svg| Ok(out.write_all(svg.as_bytes())?)),
+            None => show::page(&mut run(from, on), out, asked.from, asked.upto).map(|_| ()),
         };
         done.map_err(|fails| match fails {
             show::Fails::Trace(what) => format!("{from}: {what}"),
@@ -154,10 +174,10 @@ fn shown(words: &[String], heap: Heap) {
     });
 }
 
-fn dumped(from: &str, to: Option<&String>, heap: Heap) {
+fn dumped(from: &str, to: Option<&String>, on: On) {
     write_to(to, |out| {
-        let mut run = run(from, heap);
-        let mut said = logic::dump::Said::new(run.machine.levels());
+        let mut run = run(from, on);
+        let mut said = logic::dump::Said::new(&run.machine);
         writeln!(out, "dump 1").map_err(|error| error.to_string())?;
         while run.next_cycle().map_err(|what| format!("{from}: {what}"))?.is_some() {
             said.write(out, run.machine.last(), &run.machine).map_err(|error| error.to_string())?;
@@ -166,8 +186,8 @@ fn dumped(from: &str, to: Option<&String>, heap: Heap) {
     });
 }
 
-fn held(trace: &str, dump: &str, strict: bool, heap: Heap) {
-    match hold::hold(&mut run(trace, heap), open(dump), strict) {
+fn held(trace: &str, dump: &str, strict: bool, on: On) {
+    match hold::hold(&mut run(trace, on), open(dump), strict) {
         Ok(agrees) => print!("{agrees}"),
         Err(hold::Fails::Trace(what)) => fail(format!("{trace}: {what}")),
         Err(hold::Fails::Dump(line, what)) => fail(format!("{dump}: line {line}: {what}")),
@@ -183,25 +203,19 @@ fn held(trace: &str, dump: &str, strict: bool, heap: Heap) {
 
 fn main() {
     let mut words: Vec<String> = std::env::args().skip(1).collect();
-    let mut heap = None;
-    if words.first().map_or(false, |w| w == "--heap") {
-        match (words.get(1).map(|w| w.parse()), words.get(2).map(|w| w.parse())) {
-            (Some(Ok(places)), Some(Ok(levels))) => heap = Some((places, levels)),
-            _ => usage(),
-        }
-        words.drain(..3);
-    }
+    let (on, asked) = On::asked(&words);
+    words.drain(..asked);
     let parts: Vec<&str> = words.iter().map(String::as_str).collect();
     match parts[..] {
-        [kind @ ("to-trace" | "to-text"), from] if heap.is_none() => traced(kind, from, None),
-        [kind @ ("to-trace" | "to-text"), from, _] if heap.is_none() => traced(kind, from, words.get(2)),
-        ["wave", from] => waved(from, None, heap),
-        ["wave", from, _] => waved(from, words.get(2), heap),
-        ["show", ..] => shown(&words[1..], heap),
-        ["dump", from] => dumped(from, None, heap),
-        ["dump", from, _] => dumped(from, words.get(2), heap),
-        ["hold", "--strict", trace, dump] => held(trace, dump, true, heap),
-        ["hold", trace, dump] => held(trace, dump, false, heap),
+        [kind @ ("to-trace" | "to-text"), from] if on == On::Tree => traced(kind, from, None),
+        [kind @ ("to-trace" | "to-text"), from, _] if on == On::Tree => traced(kind, from, words.get(2)),
+        ["wave", from] => waved(from, None, on),
+        ["wave", from, _] => waved(from, words.get(2), on),
+        ["show", ..] => shown(&words[1..], on),
+        ["dump", from] => dumped(from, None, on),
+        ["dump", from, _] => dumped(from, words.get(2), on),
+        ["hold", "--strict", trace, dump] => held(trace, dump, true, on),
+        ["hold", trace, dump] => held(trace, dump, false, on),
         _ => usage(),
     }
 }

@@ -31,6 +31,18 @@ impl<R: BufRead> Run<R> {
         Ok(Run { trace, machine, records: 0, ended: false })
     }
 
+    /// The same records on lines of this shape.
+    pub fn on_lines(from: R, kind: u32, lines: u32, places: u32) -> Result<Run<R>, String> {
+        let trace = Trace::open(from).map_err(|what| what.to_string())?;
+        let machine = Machine::lines(kind, lines, places).map_err(|_| {
+            format!(
+                "kind {kind}, lines {lines}, places {places}: the kind is 1 or 2, the lines are a power of two up to 512, \
+                 and a line has 1 to 1,024 places"
+            )
+        })?;
+        Ok(Run { trace, machine, records: 0, ended: false })
+    }
+
     /// Whether the trace's records have lengths.
     pub fn has_lengths(&self) -> bool {
         self.trace.has_lengths()

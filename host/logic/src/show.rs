@@ -51,8 +51,16 @@ fn forward<R: BufRead>(run: &mut Run<R>, to: u64) -> Result<(), Fails> {
 /// The state at the page's first cycle.
 fn begin(machine: &Machine, to: &mut impl Write) -> io::Result<()> {
     let (order, levels, from, form) = (machine.order(), machine.levels(), machine.last().number, machine.form());
-    write!(to, "{{name:\"{}, {} {order}, levels {levels}\",", form.name, form.shape)?;
-    write!(to, "order:{order},slotted:{},fan:{},levels:{levels},", form.slots(order), machine.fan())?;
+    let nodes: Vec<u32> = (1..=levels).map(|level| machine.nodes(level)).collect();
+    write!(
+        to,
+        "{{name:\"{}\",node:\"{}\",first:{},counted:{},",
+        machine.title(),
+        form.node,
+        form.first,
+        form.slot.len() > 3
+    )?;
+    write!(to, "order:{order},slotted:{},nodes:{nodes:?},levels:{levels},", form.slots(order))?;
     let quoted = |names: &[&str]| -> String { names.iter().map(|n| format!("\"{n}\",")).collect() };
     write!(to, "kinds:[{}],record:[{}],own:[{}],", quoted(&form.kinds), quoted(form.record), quoted(form.own))?;
     let used: Vec<String> = form.used.iter().map(|u| format!("{u:?}")).collect();
@@ -68,7 +76,7 @@ fn begin(machine: &Machine, to: &mut impl Write) -> io::Result<()> {
         }
         write!(to, "]")?;
     }
-    let records: Vec<String> = (2..=levels).map(|level| list(&machine.record(level))).collect();
+    let records: Vec<String> = machine.recorded().map(|level| list(&machine.record(level))).collect();
     write!(to, "],records:[{}],cycles:[", records.join(","))
 }
 
@@ -79,7 +87,7 @@ pub fn page<R: BufRead, W: Write>(run: &mut Run<R>, mut to: W, from: u64, upto: 
     forward(run, from)?;
     to.write_all(head.as_bytes())?;
     begin(&run.machine, &mut to)?;
-    let mut last: Vec<Numbers> = (2..=run.machine.levels()).map(|level| run.machine.record(level)).collect();
+    let mut last: Vec<Numbers> = run.machine.recorded().map(|level| run.machine.record(level)).collect();
     let mut cycles = 0;
     while upto.map_or(true, |upto| from + cycles < upto) && run.next_cycle()?.is_some() {
         if cycles == CYCLES {
@@ -103,10 +111,10 @@ pub fn page<R: BufRead, W: Write>(run: &mut Run<R>, mut to: W, from: u64, upto: 
             .collect();
         write!(to, "{}],records:[", writes.join(","))?;
         let mut changed = Vec::new();
-        for level in 2..=machine.levels() {
+        for (last, level) in last.iter_mut().zip(machine.recorded()) {
             let r = machine.record(level);
-            if r != last[level as usize - 2] {
-                last[level as usize - 2] = r;
+            if r != *last {
+                *last = r;
                 changed.push(list(&[level, r[0], r[1], r[2], r[3], r[4], r[5]]));
             }
         }
@@ -140,12 +148,14 @@ fn left(machine: &Machine, level: u32, node: u32) -> u32 {
 /// A slot's words in two lines.
 fn two_lines(form: &Form, order: u32, slot: u32, words: [u32; 4]) -> [String; 2] {
     if slot >= order {
-        return [format!("{} {}", form.own[0], words[0]), format!("{} {}", form.own[1], words[1])];
+        let own = |i: usize| form.own.get(i).map_or_else(String::new, |name| format!("{name} {}", words[i]));
+        return [own(0), own(1)];
     }
     if words == [0; 4] {
         return [String::from("empty"), String::new()];
     }
-    [format!("{}/{}", words[0], words[1]), format!("{} ×{}", words[2], words[3])]
+    let count = if form.slot.len() > 3 { format!(" ×{}", words[3]) } else { String::new() };
+    [format!("{}/{}", words[0], words[1]), format!("{}{count}", words[2])]
 }
 
 fn slot(svg: &mut String, machine: &Machine, at: [u32; 3], x: u32, y: u32) {
@@ -211,7 +221,7 @@ pub fn picture<R: BufRead>(run: &mut Run<R>, cycle: u64) -> Result<String, Fails
         svg,
         "<text x=\"12\" y=\"22\" font-weight=\"bold\">cycle {cycle}: {ask} → {said}; {mark}held {held}</text>"
     );
-    let due: Vec<(String, u32, u32)> = (2..=levels).filter_map(|level| machine.due(level)).collect();
+    let due: Vec<(String, u32, u32)> = machine.recorded().filter_map(|level| machine.due(level)).collect();
     for level in 1..=levels {
         let y = 44 + (level - 1) * ROW;
         for node in 0..machine.nodes(level) {

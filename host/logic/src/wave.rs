@@ -3,7 +3,7 @@
 //! A cycle takes ten time steps of a nanosecond; the clock rises at its start. With the rising edge that ends cycle n (time 10 n) everything shows what that
 //! cycle did: its request and answer, and what it left. Values that do not change are not written again, so a long trace streams.
 
-use crate::machine::{Cycle, Form, Machine, Numbers};
+use crate::machine::{Cycle, Machine, Numbers};
 use crate::run::Run;
 use std::collections::HashMap;
 use std::io::{self, BufRead, Write};
@@ -139,8 +139,7 @@ const ELEMENT: [&str; 3] = ["rank", "tag", "length"];
 
 fn head<W: Write>(s: &mut Signals<W>, machine: &Machine) -> io::Result<Ids> {
     let form = machine.form();
-    let (order, levels) = (machine.order(), machine.levels());
-    writeln!(s.to, "$comment {}, {} {order}, levels {levels} $end", form.name, form.shape)?;
+    writeln!(s.to, "$comment {} $end", machine.title())?;
     writeln!(s.to, "$timescale 1 ns $end")?;
     s.scope("card")?;
     for (name, width) in [("clock", 1), ("cycle", 32), ("mark", 1), ("held", 32)] {
@@ -159,7 +158,7 @@ fn head<W: Write>(s: &mut Signals<W>, machine: &Machine) -> io::Result<Ids> {
     }
     let mut levels = Vec::new();
     for level in 1..=machine.levels() {
-        levels.push(level_head(s, form, level)?);
+        levels.push(level_head(s, machine, level)?);
     }
     s.end()?;
     writeln!(s.to, "$enddefinitions $end")?;
@@ -178,11 +177,11 @@ fn head<W: Write>(s: &mut Signals<W>, machine: &Machine) -> io::Result<Ids> {
     })
 }
 
-fn level_head<W: Write>(s: &mut Signals<W>, form: &Form, level: u32) -> io::Result<Level> {
-    let scope = format!("level{level}");
+fn level_head<W: Write>(s: &mut Signals<W>, machine: &Machine, level: u32) -> io::Result<Level> {
+    let (scope, form, writes) = (format!("level{level}"), machine.form(), machine.writes());
     let mut found = Level { shown: None, record: Vec::new(), kind: 0, writes: Vec::new() };
     s.scope(&scope)?;
-    if level > 1 {
+    if level >= form.first {
         let scope = format!("{scope}.record");
         s.scope("record")?;
         s.declare(&scope, "name", 0)?;
@@ -193,12 +192,12 @@ fn level_head<W: Write>(s: &mut Signals<W>, form: &Form, level: u32) -> io::Resu
         }
         s.end()?;
     }
-    for i in 0..form.writes {
-        let name = if form.writes == 1 { String::from("write") } else { format!("write{i}") };
+    for i in 0..writes {
+        let name = if writes == 1 { String::from("write") } else { format!("write{i}") };
         let scope = format!("{scope}.{name}");
         s.scope(&name)?;
         let mut one = Written { at: Vec::new(), old: Vec::new(), new: Vec::new() };
-        for (name, width) in [("on", 1), ("node", 32), ("slot", 32)] {
+        for (name, width) in [("on", 1), (form.node, 32), ("slot", 32)] {
             s.declare(&scope, name, width)?;
             one.at.push(s.id(&scope, name));
         }
@@ -219,6 +218,7 @@ fn level_head<W: Write>(s: &mut Signals<W>, form: &Form, level: u32) -> io::Resu
 fn said(cycle: &Cycle) -> &'static str {
     match (card_host::Refusal::of(cycle.answer.number), cycle.op) {
         (Some(card_host::Refusal::TooSoon), _) => "too_soon",
+        (Some(card_host::Refusal::BadRank), _) => "bad_rank",
         (Some(card_host::Refusal::Full), _) => "full",
         (Some(card_host::Refusal::Empty), _) => "empty",
         (Some(card_host::Refusal::NoTag), _) => "no_tag",
@@ -245,7 +245,8 @@ fn show<W: Write>(s: &mut Signals<W>, ids: &mut Ids, cycle: &Cycle, machine: &Ma
     }
     s.set(ids.held, Value::Bits(machine.held()))?;
     for (i, level) in ids.levels.iter_mut().enumerate() {
-        let record = if i > 0 { machine.record(i as u32 + 1) } else { [0; 6] };
+        let recorded = machine.recorded().contains(&(i as u32 + 1));
+        let record = if recorded { machine.record(i as u32 + 1) } else { [0; 6] };
         let mut writes = cycle.writes.iter().filter(|w| w.level == i as u32 + 1).peekable();
         let wrote = writes.peek().is_some();
         // most levels rest in most cycles
@@ -253,7 +254,7 @@ fn show<W: Write>(s: &mut Signals<W>, ids: &mut Ids, cycle: &Cycle, machine: &Ma
             continue;
         }
         level.shown = Some((record, wrote));
-        if i > 0 {
+        if recorded {
             s.set(level.kind, Value::Word(machine.form().kinds[record[0] as usize]))?;
             for (id, n) in level.record.iter().zip(record) {
                 s.set(*id, Value::Bits(n))?;

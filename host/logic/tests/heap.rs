@@ -57,7 +57,7 @@ fn the_writes_are_all_that_is_written() {
 /// The model's own dump of a run.
 fn dumped(text: &str, places: u32, levels: u32) -> String {
     let mut run = run(text, places, levels);
-    let (mut said, mut file) = (Said::new(levels), b"dump 1\n".to_vec());
+    let (mut said, mut file) = (Said::new(&run.machine), b"dump 1\n".to_vec());
     while run.next_cycle().unwrap().is_some() {
         said.write(&mut file, run.machine.last(), &run.machine).unwrap();
     }

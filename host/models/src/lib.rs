@@ -2,7 +2,7 @@
 //!
 //! Each queue is modelled word by word: which words of a lent store a call writes, what it
 //! answers, and which refusal it gives. `list` is the plain sorted list that the queues' answers
-//! are held to, `mend` the check of a tree's store and its mending, `cluster_clock` the cluster heap by clock cycles, `packed` the packed heap, `fair` the ranks from weights above the tree, `ports` several ports on one pool of the bucket queue, `flight` the account of a clocked machine in the middle of its work, `trace` the
+//! are held to, `mend` the check of a tree's store and its mending, `cluster_clock` the cluster heap by clock cycles, `packed` the packed heap, `lines` sorted lines and `lines_clock` the same by clock cycles, `fair` the ranks from weights above the tree, `ports` several ports on one pool of the bucket queue, `flight` the account of a clocked machine in the middle of its work, `trace` the
 //! trace program, and `boundary` the same calls as the C library offers them (slices of numbers in,
 //! a refusal number out); `call` is such a call as data, and `rng` makes the random numbers of the
 //! comparisons.
@@ -15,6 +15,8 @@ pub mod cluster;
 pub mod cluster_clock;
 pub mod fair;
 pub mod flight;
+pub mod lines;
+pub mod lines_clock;
 pub mod list;
 pub mod mend;
 pub mod packed;

@@ -1,28 +1,19 @@
-use Rattle.laws.specs.Prelude.{arith, length, needs}
+-- `lines_clock::clear` meets its contract.
+use Rattle.laws.specs.Prelude.{_∙_, needs, sym}
 use Rattle.lines_clock.proofs.Drained.{clear-no, clear-yes}
-use Rattle.lines_model.specs.Layout.{shapeOk}
-use Rattle.lines_steps.proofs.Finds.{room, small, told-no, told-yes}
-use Rattle.lines_clock.proofs.clear.Tie as tie
 use Rattle.lines_clock.proofs.clear.Statement.{statement}
+use Rattle.lines_clock.proofs.clear.Tie as tie
 
 returns : tie.Need-returns
-returns c = clear-no (c .before .before .before .args .k) (c .before .before .before .args .s .now) (c .before .before .before .args .due) (told-no _ _ (c .before .shape-ok .ensures) (c .if1 .taken))
-
-mul-words : tie.Need-mul-words
-mul-words c = omega (arith, small (c .before .before .before .args .k) (length (c .before .before .before .args .s .now)) (told-yes _ (shapeOk (c .before .before .before .args .k) (length (c .before .before .before .args .s .now))) (c .before .shape-ok .ensures) (c .if1 .left)) .area)
-
-mul-words-2 : tie.Need-mul-words-2
-mul-words-2 c = omega (arith, small (c .before .before .before .args .k) (length (c .before .before .before .args .s .now)) (told-yes _ (shapeOk (c .before .before .before .args .k) (length (c .before .before .before .args .s .now))) (c .before .shape-ok .ensures) (c .if1 .left)) .area)
-
-add-words : tie.Need-add-words
-add-words c = omega (arith, small (c .before .before .before .args .k) (length (c .before .before .before .args .s .now)) (told-yes _ (shapeOk (c .before .before .before .args .k) (length (c .before .before .before .args .s .now))) (c .before .shape-ok .ensures) (c .if1 .left)) .area, small (c .before .before .before .args .k) (length (c .before .before .before .args .s .now)) (told-yes _ (shapeOk (c .before .before .before .args .k) (length (c .before .before .before .args .s .now))) (c .before .shape-ok .ensures) (c .if1 .left)) .lines)
-
-wipe-words-requires : tie.Need-wipe-words-requires
-wipe-words-requires c κs = omega (arith, room (c .before .before .before .before .args .k) (length (c .before .before .before .before .args .s .now)) (told-yes _ (shapeOk (c .before .before .before .before .args .k) (length (c .before .before .before .before .args .s .now))) (c .before .before .shape-ok .ensures) (c .before .if1 .left)))
+returns c =
+    let at-number = c .before in let at-clear = at-number .before .before .before in
+    clear-no _ _ _ _ _ (at-clear .clear .ensures) (λ z. c .if1 .taken (at-number .number .ensures ∙ z))
 
 returns-2 : tie.Need-returns-2
-returns-2 c = clear-yes (c .before .before .before .before .before .before .before .args .k) (c .before .before .before .before .before .before .before .args .s .now) (c .before .before .before .before .before .before .before .args .due) _ (told-yes _ (shapeOk (c .before .before .before .before .before .before .before .args .k) (length (c .before .before .before .before .before .before .before .args .s .now))) (c .before .before .before .before .before .shape-ok .ensures) (c .before .before .before .before .if1 .left)) (c .before .before .wipe-words .ensures)
+returns-2 c =
+    let at-number = c .before in let at-clear = at-number .before .before .before in
+    clear-yes _ _ _ _ _ (at-clear .clear .ensures) (sym (at-number .number .ensures) ∙ c .if1 .left)
 
 pub clear-spec : {M : Type 1} → statement M
 clear-spec = tie.close
-    (tie.spec (λ c κs. search needs) returns mul-words mul-words-2 add-words wipe-words-requires (λ c. search needs) returns-2)
+    (tie.spec (λ c κs. search needs) (λ c κs. search needs) (λ c. search needs) returns (λ c. search needs) returns-2)

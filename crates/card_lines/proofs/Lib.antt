@@ -1,0 +1,5 @@
+pub mod Sized
+pub mod Clocked
+pub mod CasesLines
+pub mod Heard
+pub mod Zeros

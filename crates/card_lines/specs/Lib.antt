@@ -1,0 +1,3 @@
+pub mod Lines
+pub mod Clocked
+pub mod Through
