@@ -28,6 +28,7 @@ x86=
     echo 'host: FAILED: compilers and, where one is needed, an emulator'
     exit 1
 }
+counter || echo 'host: there is no valgrind, and the budget of a call is not held'
 [ -z "${CARD_LIB:-}" ] || echo "host: the static library is taken from CARD_LIB: $CARD_LIB"
 # what needs no library is compiled while the library is proved
 (cd host && $CARGO test --offline --no-run -p models -p trace_text -p checks >/dev/null 2>&1) &

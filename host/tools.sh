@@ -26,6 +26,9 @@ tools() {
     export CARGO CARD_CC CARD_CXX
 }
 
+# Callgrind, which counts the instructions of a call. Without it the budget is not held, and its test says so.
+counter() { have valgrind || install_packages valgrind; }
+
 # RUNNER: what runs an x86-64 program. Nothing on an x86-64 machine, else an emulator; the C library that the program loads is there too.
 runner() {
     RUNNER=

@@ -2,4 +2,3 @@ pub mod Sized
 pub mod Clocked
 pub mod CasesLines
 pub mod Heard
-pub mod Zeros

@@ -21,7 +21,7 @@ pub record Leads (nd : List Slot) (lo hi p k : ℕ) : Type 0 where
   pub left : (a : ℕ) → lo ≤ a → a < p → k < turnOr (slotAt nd a)
   pub words : (a : ℕ) → lo ≤ a → a < hi → IsWords (slotAt nd a .element)
 
-side-case : (a mid : ℕ) (P : Type 0) → (a < mid → P) → (mid ≤ a → P) → P
+pub side-case : (a mid : ℕ) (P : Type 0) → (a < mid → P) → (mid ≤ a → P) → P
 side-case a mid P f g = go (ltb a mid) refl
   where
     go : (t : Bool) → ltb a mid ≡ t → P

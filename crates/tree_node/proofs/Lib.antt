@@ -5,3 +5,4 @@ pub mod Shapes
 pub mod Scans
 pub mod Looks
 pub mod Leads
+pub mod Winners

@@ -1,7 +1,9 @@
 -- What the code of a node's tests and steps has read makes the test's answer and the step.
-use Rattle.laws.specs.Prelude.{All, Bool, Element, List, _&&_, _*_, _+_, _-_, _<_, _||_, _∙_, _≡_, _≤_, add-one, and-unit, ap, ap₂, arith, blank, eqb, eqb-true, false, false≢true, key, le-leb, le-ltb, leb, leb-false, leb-true, length, lt-leb, lt-ltb, ltb, mul-le-mul-right, not, not-false, not-true, pred, refl, sub-one, subst, suc, suc-add, sym, true, zero, zero-add, ℕ}
-use native.Mathlib.Nat.{pos-of-ne-zero}
-use Rattle.tree_node.specs.Room.{Capacity, childOf, liftOk, lowBelow, slotsCounted}
+use Rattle.laws.specs.Prelude.{All, Bool, Element, List, _%_, _&&_, _*_, _+_, _-_, _/_, _<_, _^_, _||_, _∙_, _≡_, _≤_, add-one, and-unit, ap, ap₂, arith, blank, eqb, eqb-true, false, false≢true, key, le-leb, le-ltb, leb, leb-false, leb-true, length, lt-leb, lt-ltb, ltb, mul-le-mul-right, not, not-false, not-true, pred, refl, sub-one, subst, suc, suc-add, sym, true, zero, zero-add, ℕ}
+use native.Mathlib.Nat.{mul-div-cancel, one-mul, pos-of-ne-zero, pow-suc}
+use lib.Dec.{lit<}
+use lib.Pow.{pow-mono, pow-pos, shl-exact}
+use Rattle.tree_node.specs.Room.{Capacity, Capped, childOf, liftOk, lowBelow, slotsCounted}
 use Rattle.tree_model.proofs.Laws.{all-slotAt, every-all, least-empty, least-full, least-in, least-room, lowest-is, lowest-none, node-length, node-slot, room-fails, slot-limit, some-sum, void}
 use Rattle.tree_model.specs.Prelude.{every, firstEmpty, hasRoom, hasSome, isEmpty, keep, leastCount, lifts, low, lowest, move, nodeMove, nodeOf, nodeOk, opMove, orderOk, pass, putBy, putMove, readOk, room, shapeOk, slotAt, slotLimit, slotOf, slotOk, slotWords, stepOk, sumCounts, swapBy, swapMove, takeBy, takeMove}
 use Rattle.tree_model.specs.declared.Move.{Move}
@@ -48,6 +50,68 @@ pub counted-above : (m levels i r : ℕ) → i ≤ levels → slotLimit < r → 
 counted-above m levels i r l a p =
     let e : levels - i + i ≡ levels = omega arith in
     p ∙ sym (counted-stands m i (levels - i) (omega arith)) ∙ ap (slotsCounted m) e
+
+-- the counted slots are the room up to the first count above the limit
+counted-room : (m k : ℕ) → 0 < m → room m (k - 1) ≤ slotLimit → slotsCounted m k ≡ room m k
+unfolding slotsCounted room
+counted-room m zero h l = refl
+counted-room m (suc k) h l =
+    let e : suc k - 1 ≡ k = omega arith in
+    let here : room m k ≤ slotLimit = subst (λ (n : ℕ). room m n ≤ slotLimit) e l in
+    let same : slotsCounted m k ≡ room m k = counted-room m k h (omega (arith, room-up m (k - 1) k h (omega arith))) in
+    rw (same, le-leb (room m k) slotLimit here)
+
+-- ---- powers of two, and their sums
+pub power-is : (k : ℕ) → k ≤ 18 → (1 * 2 ^ k % 2 ^ 64 ≡ 2 ^ k) × ((1 ≤ 1 * 2 ^ k % 2 ^ 64) × (1 * 2 ^ k % 2 ^ 64 ≤ 262144))
+power-is k h =
+    let e : 1 * 2 ^ k % 2 ^ 64 ≡ 2 ^ k = shl-exact 1 k 64 (lit< tt) (omega arith) ∙ one-mul (2 ^ k) in
+    let some : 1 ≤ 2 ^ k = pow-pos k in
+    let most : 2 ^ k ≤ 262144 = pow-mono h in
+    (e, (subst (λ (n : ℕ). 1 ≤ n) (sym e) some, subst (λ (n : ℕ). n ≤ 262144) (sym e) most))
+
+room-two : (k : ℕ) → room 2 k + 2 ≡ 2 * 2 ^ k
+unfolding room
+room-two zero = refl
+room-two (suc k) = omega (arith, room-two k, pow-suc 2 k)
+
+room-four : (k : ℕ) → 3 * room 4 k + 4 ≡ 4 * 2 ^ (2 * k)
+unfolding room
+room-four zero = refl
+room-four (suc k) =
+    let e : 2 * suc k ≡ suc (suc (2 * k)) = omega arith in
+    omega (arith, room-four k, ap (λ (n : ℕ). 2 ^ n) e, pow-suc 2 (suc (2 * k)), pow-suc 2 (2 * k))
+
+room-eight : (k : ℕ) → 7 * room 8 k + 8 ≡ 8 * 2 ^ (3 * k)
+unfolding room
+room-eight zero = refl
+room-eight (suc k) =
+    let e : 3 * suc k ≡ suc (suc (suc (3 * k))) = omega arith in
+    omega (arith, room-eight k, ap (λ (n : ℕ). 2 ^ n) e, pow-suc 2 (suc (suc (3 * k))), pow-suc 2 (suc (3 * k)), pow-suc 2 (3 * k))
+
+pub sum-two : (k p : ℕ) → p ≡ 2 ^ k → 2 * p - 2 ≡ room 2 k
+sum-two k p e = omega (arith, room-two k)
+
+pub sum-four : (k p : ℕ) → p ≡ 2 ^ (2 * k) → (4 * p - 4) / 3 ≡ room 4 k
+sum-four k p e = let s : 4 * p - 4 ≡ room 4 k * 3 = omega (arith, room-four k) in ap (λ (n : ℕ). n / 3) s ∙ mul-div-cancel (room 4 k) (omega arith)
+
+pub sum-eight : (k p : ℕ) → p ≡ 2 ^ (3 * k) → (8 * p - 8) / 7 ≡ room 8 k
+sum-eight k p e = let s : 8 * p - 8 ≡ room 8 k * 7 = omega (arith, room-eight k) in ap (λ (n : ℕ). n / 7) s ∙ mul-div-cancel (room 8 k) (omega arith)
+
+-- .. so that no more levels need be looked at
+pub summed : (m n last levels k r : ℕ) → m ≡ n → 0 < n → room n (last - 1) ≤ slotLimit → slotLimit < room n last → Capped levels last k → r ≡ room n k
+    → Capacity m levels r × (r ≡ slotsCounted m levels)
+summed m n last levels k r e h below above c er =
+    subst (λ (m : ℕ). Capacity m levels r × (r ≡ slotsCounted m levels)) (sym e) (go (leb levels last) refl)
+  where
+    go : (t : Bool) → leb levels last ≡ t → Capacity n levels r × (r ≡ slotsCounted n levels)
+    go true p =
+        let l : levels ≤ last = leb-true levels last p in
+        let q : r ≡ room n levels = er ∙ ap (room n) (c .few l) in
+        (capacity-end n levels levels r refl q, q ∙ sym (counted-room n levels h (omega (arith, room-up n (levels - 1) (last - 1) h (omega arith)))))
+    go false p =
+        let l : last ≤ levels = omega (arith, leb-false levels last p) in
+        let q : r ≡ room n last = er ∙ ap (room n) (c .many l) in
+        (capacity-above n levels last r h l (omega arith) q, counted-above n levels last r l (omega arith) (q ∙ sym (counted-room n last h below)))
 
 -- a slot's count by its words
 module _ (m : ℕ) (ws : List ℕ) (i : ℕ) (j : ℕ) (a : Slot) (inside : j < m) (read : a ≡ slotOf ws (i + j)) where

@@ -1,3 +1,4 @@
 pub mod Room
 pub mod Shaping
 pub mod Look
+pub mod Full

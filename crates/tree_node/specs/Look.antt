@@ -1,6 +1,6 @@
 -- What a scan of a node asks of the words, and what it finds.
 use Rattle.laws.specs.Prelude.{List, _*_, _+_, _<_, _≡_, _≤_, cond, length, turn, ℕ}
-use Rattle.tree_model.specs.Prelude.{isEmpty, lowest, slotAt, slotWords}
+use Rattle.tree_model.specs.Prelude.{isEmpty, leastCount, lowest, nodeOk, slotAt, slotWords}
 use Rattle.tree_model.specs.declared.Slot.{Slot}
 
 -- a node of m slots lies within the words
@@ -29,3 +29,10 @@ pub record FirstFilled (nd : List Slot) (p : ℕ) : Type 0 where
   pub within : p ≤ length nd
   pub here : p < length nd → 0 < slotAt nd p .count
   pub left : (a : ℕ) → a < p → slotAt nd a .count ≡ 0
+
+-- the place that a take, a swap or a read for the lowest chooses, and a put; the order where the node is damaged
+unfoldable pub lowOr : ℕ → ℕ → List Slot → ℕ
+lowOr m r nd = cond (nodeOk r nd) (lowest nd) m
+
+unfoldable pub leastOr : ℕ → ℕ → List Slot → ℕ
+leastOr m r nd = cond (nodeOk r nd) (leastCount nd) m

@@ -5,7 +5,11 @@ ghost use Rattle.tree_model.specs.Node.{leastCount, lowest, sumCounts};
 ghost use Rattle.tree_model.specs.Words.{nodeOf};
 ghost use Rattle.tree_model.specs.Damage.{slotOk, nodeOk};
 ghost use Rattle.tree_model.specs.Calls.{slotLimit};
-ghost use Rattle.tree_node.specs.Look.{turnOr, Led, FirstFilled, NodeIn};
+ghost use Rattle.tree_node.specs.Look.{turnOr, leastOr, lowOr, Led, FirstFilled, NodeIn};
+use crate::full::few_eight;
+use crate::full::few_four;
+use crate::full::few_two;
+use crate::full::full_low;
 use crate::slot::slot_at;
 use strip::is_blank;
 use strip::turn_of;
@@ -159,7 +163,7 @@ fn first_filled(s: &[u32], at: usize, order: usize) -> usize
 
 // The place of the occupied slot of lowest rank, of those of that rank the one of lowest tag, leftmost on a tie of both; the order where
 // all are empty.
-pub fn look_low(s: &[u32], at: usize, order: usize, room: usize) -> Look
+fn look_any(s: &[u32], at: usize, order: usize, room: usize) -> Look
     requires { ⌜ NodeIn order at (now s) × (order ≤ 8) × (room ≤ slotLimit) ⌝ }
     ensures whole { λ r. ⌜ r .ok ≡ nodeOk room (nodeOf order (now (s .entry)) at) ⌝ }
     ensures place { λ r. ⌜ r .place ≡ lowest (nodeOf order (now (s .entry)) at) ⌝ }
@@ -174,6 +178,67 @@ pub fn look_low(s: &[u32], at: usize, order: usize, room: usize) -> Look
         return Look { ok, place: first };
     }
     Look { ok, place }
+}
+
+// .. in a full node first
+pub fn look_low(s: &[u32], at: usize, order: usize, room: usize) -> Look
+    requires { ⌜ NodeIn order at (now s) × (order ≤ 8) × (room ≤ slotLimit) ⌝ }
+    ensures whole { λ r. ⌜ r .ok ≡ nodeOk room (nodeOf order (now (s .entry)) at) ⌝ }
+    ensures place { λ r. ⌜ r .place ≡ lowest (nodeOf order (now (s .entry)) at) ⌝ }
+    ensures within { λ r. ⌜ r .place ≤ order ⌝ }
+{
+    let place = full_low(s, at, order, room);
+    if place != order {
+        return Look { ok: true, place };
+    }
+    look_any(s, at, order, room)
+}
+
+// ---- the same as one number, for who goes on in a node that holds something: the order stands for a damaged node too
+
+pub fn find_low(s: &[u32], at: usize, order: usize, room: usize) -> usize
+    requires { ⌜ NodeIn order at (now s) × (order ≤ 8) × (room ≤ slotLimit) ⌝ }
+    ensures place { λ r. ⌜ r ≡ lowOr order room (nodeOf order (now (s .entry)) at) ⌝ }
+    ensures within { λ r. ⌜ r ≤ order ⌝ }
+{
+    let place = full_low(s, at, order, room);
+    if place != order {
+        return place;
+    }
+    let v = look_any(s, at, order, room);
+    if v.ok {
+        return v.place;
+    }
+    order
+}
+
+pub fn find_least(s: &[u32], at: usize, order: usize, room: usize) -> usize
+    requires { ⌜ NodeIn order at (now s) × (order ≤ 8) × (room ≤ slotLimit) ⌝ }
+    ensures { λ r. ⌜ r ≡ leastOr order room (nodeOf order (now (s .entry)) at) ⌝ }
+{
+    if order == 4 {
+        let w = few_four(s, at, 0);
+        if w.most as usize <= room {
+            return w.place;
+        }
+    }
+    if order == 2 {
+        let w = few_two(s, at, 0);
+        if w.most as usize <= room {
+            return w.place;
+        }
+    }
+    if order == 8 {
+        let w = few_eight(s, at);
+        if w.most as usize <= room {
+            return w.place;
+        }
+    }
+    let v = look_least(s, at, order, room);
+    if v.ok {
+        return v.place;
+    }
+    order
 }
 
 // Whether no slot of a node is damaged, with room for so many below each.

@@ -1,11 +1,12 @@
 -- A level tested on the way down and written on the way back.
-use Rattle.laws.specs.Prelude.{Bool, Element, List, _&&_, _*_, _+_, _-_, _/_, _<_, _||_, _∙_, _≡_, _≤_, add-one, ap, ap₂, arith, blank, cond, eqb, eqb-false, eqb-true, false, key, le-leb, le-ltb, leb, length, lt-leb, lt-ltb, ltb, ltb-false, ltb-true, mul-le-mul-right, not, not-false, not-true, refl, subst, suc, sym, true, true≢false, zero, ℕ}
+use Rattle.laws.specs.Prelude.{Bool, Element, List, _&&_, _*_, _+_, _-_, _/_, _<_, _∙_, _≡_, _≤_, add-one, ap, ap₂, arith, blank, cond, false, key, le-leb, le-ltb, leb, length, lt-leb, lt-ltb, ltb, mul-le-mul-right, not, not-false, not-true, refl, subst, suc, sym, true, zero, ℕ}
 use native.Mathlib.Nat.{mul-le-mul}
 use Rattle.tree_node.proofs.Under.{under-div}
 use Rattle.tree_node.proofs.Scans.{low-found}
 use Rattle.tree_node.proofs.Steps.{below-some, lift-ends, lift-reads, move-put, move-swap, move-take, put-first, put-full, put-test, some-test, step-put, step-swap, step-take, swap-ends, swap-lifts, swap-stays, take-ends, take-lifts}
 use Rattle.tree_node.specs.Room.{childOf, liftOk}
-use Rattle.tree_node.specs.Look.{NodeIn}
+use Rattle.tree_node.proofs.Winners.{least-or-off, least-or-place, low-or-place, low-or-test}
+use Rattle.tree_node.specs.Look.{leastOr, lowOr, NodeIn}
 use Rattle.tree_model.proofs.Laws.{apply-write, fine-here, op-work, path-none, place-here, rest-here, room-deep, words-none, write-here}
 use Rattle.tree_model.specs.Prelude.{applyWords, hasSome, isNothing, keep, leastCount, levelOf, levelsOf, low, lowest, move, nodeMove, nodeOf, nodeOk, pass, pathOk, restWords, room, slotLimit, slotOf, slotWords, stepOk, stepWords, top, under, work, workOk, write}
 use Rattle.tree_model.specs.declared.Move.{Move}
@@ -15,14 +16,6 @@ use Rattle.tree_model.specs.declared.Slot.{Slot}
 use Rattle.tree_model.specs.declared.Work.{Work}
 use Rattle.tree_path.proofs.Down.{Level, level-of, not-zero, size-step, step-in}
 use Rattle.tree_path.specs.Down.{Carried, Looked, Placed, Stands}
-
-left-off : (a b : Bool) → (a || b) ≡ false → a ≡ false
-left-off true b e = e
-left-off false b e = refl
-
-right-off : (a b : Bool) → (a || b) ≡ false → b ≡ false
-right-off true b e = absurd (true≢false e)
-right-off false b e = e
 
 pub below-ne : (p m : ℕ) → (p ≡ m → ⊥) → p ≤ m → p < m
 below-ne p m h l = omega arith
@@ -207,65 +200,76 @@ module _ {m k at cap : ℕ} {ws : List ℕ} (st : Stands m k at cap ws) where
         }
 
   -- ---- put
+  -- the test of the node, by the place of the smallest count and what is read there
   module _ (x : Element) (j : ℕ) (t : Bool) (whole : t ≡ nodeOk cap (nodeOf m ws at)) (least : j ≡ leastCount (nodeOf m ws at)) (inside : j < m)
       (a : Slot) (read : a ≡ slotOf ws (at + j)) where
-    -- what the code refuses by
-    abbrev crowded : Bool
-    crowded = not t || ltb cap (a .count)
-
-    put-tested : tested m at ws (Put x) (k - 1) ≡ not crowded
+    put-tested : tested m at ws (Put x) (k - 1) ≡ (t && leb (a .count) cap)
     put-tested =
         sym (step-put m (k - 1) (Put x) (nodeOf m ws at) (childOf m ((at + 1) * m) ws) x cap (t && leb (a .count) cap) refl
         (record { within = λ h. st .fits; above = λ h. omega (arith, st .fits) }) (omega (arith, st .fits, numbers .limit)) (put-test m ws at j a inside read least cap t whole))
-        ∙ go t (ltb cap (a .count)) refl
-      where
-        go : (t s : Bool) → ltb cap (a .count) ≡ s → (t && leb (a .count) cap) ≡ not (not t || s)
-        go false s e = refl
-        go true true e = lt-leb (a .count) cap (ltb-true cap (a .count) e)
-        go true false e = le-leb (a .count) cap (ltb-false cap (a .count) e)
 
-    pub put-off : crowded ≡ true → Carried m k at (Put x) ws false ws
+  module _ (x : Element) (j : ℕ) (found : j ≡ leastOr m cap (nodeOf m ws at)) where
+    -- the node is damaged
+    pub put-off : j ≡ m → Carried m k at (Put x) ws false ws
     unfolding isNothing
-    put-off e = off st (Put x) refl (put-tested ∙ ap not e)
+    put-off e =
+        let z = least-or-off m ws at cap j (numbers .order) found e in
+        off st (Put x) refl (put-tested x (leastCount (nodeOf m ws at)) false (z .0) refl (z .1) (slotOf ws (at + leastCount (nodeOf m ws at))) refl)
 
-    module _ (no : crowded ≡ false) where
-      put-fine : tested m at ws (Put x) (k - 1) ≡ true
-      put-fine = put-tested ∙ ap not no
+    module _ (on : j ≡ m → ⊥) where
+      put-whole : true ≡ nodeOk cap (nodeOf m ws at)
+      put-whole = least-or-place m ws at cap j (numbers .order) found on .0
 
-      pub put-room : a .count ≤ cap
-      put-room = ltb-false cap (a .count) (right-off (not t) (ltb cap (a .count)) no)
+      put-least : j ≡ leastCount (nodeOf m ws at)
+      put-least = least-or-place m ws at cap j (numbers .order) found on .1 .0
 
-      pub put-ends : a .count ≡ 0 → (r : List ℕ) → r ≡ write ws (at + j) (record { element = x; count = 1 }) → Carried m k at (Put x) ws true r
-      unfolding isNothing
-      put-ends z r w =
-          stops st (Put x) refl put-fine (move j x 1 Nothing)
-          (move-put m (Put x) at ((at + 1) * m) ws _ x refl (put-first m ws at j a inside read least x _ z refl)) refl r w
+      pub put-inside : j < m
+      put-inside = least-or-place m ws at cap j (numbers .order) found on .1 .1
 
-      module _ (z : a .count ≡ 0 → ⊥) where
-        put-deep : 1 ≤ k - 1
-        put-deep = room-deep m (k - 1) (omega (arith, st .fits, put-room))
+      module _ (a : Slot) (read : a ≡ slotOf ws (at + j)) where
+        here-tested : tested m at ws (Put x) (k - 1) ≡ leb (a .count) cap
+        here-tested = put-tested x j true put-whole put-least put-inside a read
 
-        pub put-cap : 1 ≤ cap
-        put-cap = cap-some put-deep
+        -- every count is at its limit
+        pub put-crowded : cap < a .count → Carried m k at (Put x) ws false ws
+        unfolding isNothing
+        put-crowded h = off st (Put x) refl (here-tested ∙ lt-leb (a .count) cap h)
 
-        pub put-stands : Stands m (k - 1) ((at + j + 1) * m) ((cap - 1) / m) ws
-        put-stands = stands-below put-deep j inside
+        module _ (fits : a .count ≤ cap) where
+          put-fine : tested m at ws (Put x) (k - 1) ≡ true
+          put-fine = here-tested ∙ le-leb (a .count) cap fits
 
-        module _ (up down : Element) (eu : up ≡ keep x (a .element)) (ed : down ≡ pass x (a .element)) (q : Bool) (r : List ℕ)
-            (d : Carried m (k - 1) ((at + j + 1) * m) (Put down) ws q r) where
-          put-moved : move j up (a .count + 1) (Put down) ≡ moved m at ws (Put x)
-          put-moved =
-              move-put m (Put x) at ((at + 1) * m) ws _ x refl
-              (ap₂ (λ (u d : Element). move j u (a .count + 1) (Put d)) eu ed
-              ∙ ap (λ (n : ℕ). move j (keep x (a .element)) n (Put (pass x (a .element)))) (add-one (a .count)) ∙ sym (put-full m ws at j a inside read least x z))
-
-          pub put-fails : not q ≡ true → Carried m k at (Put x) ws false r
+          pub put-ends : a .count ≡ 0 → (r : List ℕ) → r ≡ write ws (at + j) (record { element = x; count = 1 }) → Carried m k at (Put x) ws true r
           unfolding isNothing
-          put-fails e = fails st (Put x) refl put-fine (move j up (a .count + 1) (Put down)) put-moved q r d e
+          put-ends z r w =
+              stops st (Put x) refl put-fine (move j x 1 Nothing)
+              (move-put m (Put x) at ((at + 1) * m) ws _ x refl (put-first m ws at j a put-inside read put-least x _ z refl)) refl r w
 
-          pub put-passes : not q ≡ false → (r′ : List ℕ) → r′ ≡ write r (at + j) (record { element = up; count = a .count + 1 }) → Carried m k at (Put x) ws true r′
-          unfolding isNothing
-          put-passes e r′ w = passes st (Put x) refl put-fine (move j up (a .count + 1) (Put down)) put-moved q r d e r′ w
+          module _ (z : a .count ≡ 0 → ⊥) where
+            put-deep : 1 ≤ k - 1
+            put-deep = room-deep m (k - 1) (omega (arith, st .fits, fits))
+
+            pub put-cap : 1 ≤ cap
+            put-cap = cap-some put-deep
+
+            pub put-stands : Stands m (k - 1) ((at + j + 1) * m) ((cap - 1) / m) ws
+            put-stands = stands-below put-deep j put-inside
+
+            module _ (up down : Element) (eu : up ≡ keep x (a .element)) (ed : down ≡ pass x (a .element)) (q : Bool) (r : List ℕ)
+                (d : Carried m (k - 1) ((at + j + 1) * m) (Put down) ws q r) where
+              put-moved : move j up (a .count + 1) (Put down) ≡ moved m at ws (Put x)
+              put-moved =
+                  move-put m (Put x) at ((at + 1) * m) ws _ x refl
+                  (ap₂ (λ (u d : Element). move j u (a .count + 1) (Put d)) eu ed
+                  ∙ ap (λ (n : ℕ). move j (keep x (a .element)) n (Put (pass x (a .element)))) (add-one (a .count)) ∙ sym (put-full m ws at j a put-inside read put-least x z))
+
+              pub put-fails : not q ≡ true → Carried m k at (Put x) ws false r
+              unfolding isNothing
+              put-fails e = fails st (Put x) refl put-fine (move j up (a .count + 1) (Put down)) put-moved q r d e
+
+              pub put-passes : not q ≡ false → (r′ : List ℕ) → r′ ≡ write r (at + j) (record { element = up; count = a .count + 1 }) → Carried m k at (Put x) ws true r′
+              unfolding isNothing
+              put-passes e r′ w = passes st (Put x) refl put-fine (move j up (a .count + 1) (Put down)) put-moved q r d e r′ w
 
 -- ---- take and swap, at a node that has been looked at
 module _ {m k at j cap : ℕ} {ws : List ℕ} (seen : Looked m k at j cap ws) where
@@ -329,40 +333,37 @@ module _ {m k at j cap : ℕ} {ws : List ℕ} (seen : Looked m k at j cap ws) wh
       pub lift-stands : Stands m (k - 1) g cap′ ws
       lift-stands = stands-below st lift-deep j (seen .inside)
 
-      module _ (p : ℕ) (t : Bool) (whole : t ≡ nodeOk cap′ (nodeOf m ws g)) (lowest-is : p ≡ lowest (nodeOf m ws g)) (most : p ≤ m) where
-        -- what the code refuses by
-        abbrev unfit : Bool
-        unfit = not t || eqb p m
-
-        lift-tested : not unfit ≡ lifted
+      module _ (p : ℕ) (found : p ≡ lowOr m cap′ (nodeOf m ws g)) (most : p ≤ m) where
+        lift-tested : ltb p m ≡ lifted
         lift-tested =
-            go t (eqb p m) refl
-            ∙ lift-reads m ws at j a (seen .inside) read f (seen .place) (k - 1) (t && ltb p m) own-some h
-            (some-test m ws g p cap′ t lowest-is whole
+            lift-reads m ws at j a (seen .inside) read f (seen .place) (k - 1) (ltb p m) own-some h
+            (low-or-test m ws g cap′ p found
             ∙ ap₂ (λ (u i : ℕ). nodeOk u (nodeOf m ws i) && hasSome (nodeOf m ws i)) (lift-stands .fits) child-at)
-          where
-            go : (t s : Bool) → eqb p m ≡ s → not (not t || s) ≡ (t && ltb p m)
-            go false s e = refl
-            go true true e = sym (le-ltb p m (omega (arith, eqb-true p m e)))
-            go true false e = sym (lt-ltb p m (below-ne p m (eqb-false p m e) most))
 
-        pub take-off : unfit ≡ true → Carried m k at Take ws false ws
-        unfolding isNothing
-        take-off e = off st Take refl (via-take false (ap not (sym e) ∙ lift-tested))
+        module _ (off-end : p ≡ m) where
+          tests-off : false ≡ lifted
+          tests-off = sym (le-ltb p m (omega arith)) ∙ lift-tested
 
-        pub swap-off : (x : Element) → unfit ≡ true → Carried m k at (Swap x) ws false ws
-        unfolding isNothing
-        swap-off x e = off st (Swap x) refl (via-swap x false (ap not (sym e) ∙ lift-tested))
+          pub take-off : Carried m k at Take ws false ws
+          unfolding isNothing
+          take-off = off st Take refl (via-take false tests-off)
 
-        module _ (no : unfit ≡ false) where
-          tests-on : true ≡ lifted
-          tests-on = ap not (sym no) ∙ lift-tested
+          pub swap-off : (x : Element) → Carried m k at (Swap x) ws false ws
+          unfolding isNothing
+          swap-off x = off st (Swap x) refl (via-swap x false tests-off)
 
+        module _ (no : p ≡ m → ⊥) where
           inside : p < m
-          inside = below-ne p m (eqb-false p m (right-off (not t) (eqb p m) no)) most
+          inside = below-ne p m no most
+
+          tests-on : true ≡ lifted
+          tests-on = sym (lt-ltb p m inside) ∙ lift-tested
+
+          lowest-is : p ≡ lowest (nodeOf m ws g)
+          lowest-is = low-or-place m ws g cap′ p found inside .1
 
           pub lift-looked : Looked m (k - 1) g p cap′ ws
-          lift-looked = record { stands = lift-stands; whole = sym whole ∙ not-false t (left-off (not t) (eqb p m) no); place = lowest-is; inside = inside }
+          lift-looked = record { stands = lift-stands; whole = low-or-place m ws g cap′ p found inside .0; place = lowest-is; inside = inside }
 
           module _ (e : Slot) (read-low : e ≡ slotOf ws (g + p)) where
             up-is : e .element ≡ low (childOf m f ws j)

@@ -8,8 +8,8 @@ use strip::no_element;
 use strip::stays;
 use tree_model::Op;
 use tree_model::Slot;
-use tree_node::scan::look_least;
-use tree_node::scan::look_low;
+use tree_node::scan::find_least;
+use tree_node::scan::find_low;
 use tree_node::slot::slot_at;
 use tree_node::slot::write_slot;
 
@@ -21,11 +21,14 @@ pub fn put(s: &mut [u32], order: usize, left: usize, at: usize, cap: usize, x: E
     requires { ⌜ Stands order left at cap (now s) ⌝ }
     ensures { λ r. ⌜ Carried order left at (Op.Put x) (now (s .entry)) r (now (s .exit)) ⌝ }
 {
-    let v = look_least(s, at, order, cap);
-    let i = at + v.place;
+    let j = find_least(s, at, order, cap);
+    if j == order {
+        return false;
+    }
+    let i = at + j;
     let a = slot_at(s, i);
     let count = a.count;
-    if !v.ok | (cap < count as usize) {
+    if cap < count as usize {
         return false;
     }
     if count == 0 {
@@ -72,9 +75,8 @@ pub fn take(s: &mut [u32], order: usize, left: usize, at: usize, j: usize, cap: 
     }
     let below = (i + 1) * order;
     let under = (cap - 1) / order;
-    let v = look_low(s, below, order, under);
-    let p = v.place;
-    if !v.ok | (p == order) {
+    let p = find_low(s, below, order, under);
+    if p == order {
         return false;
     }
     let k = slot_at(s, below + p);
@@ -113,9 +115,8 @@ pub fn swap(
     }
     let below = (i + 1) * order;
     let under = (cap - 1) / order;
-    let v = look_low(s, below, order, under);
-    let p = v.place;
-    if !v.ok | (p == order) {
+    let p = find_low(s, below, order, under);
+    if p == order {
         return false;
     }
     let k = slot_at(s, below + p);

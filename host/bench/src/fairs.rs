@@ -2,6 +2,8 @@
 
 use crate::clock::Clock;
 use crate::measure::{race, Contestant, Rng, Work};
+use crate::plain_c::Fair;
+use crate::queues::wrapped;
 use crate::table::{Plan, Row};
 use crate::traces::strip;
 use card_host::{fair_words, Element, FairQueue, Flow, Length, Rank, Tag, TreeQueue, Weight};
@@ -10,7 +12,7 @@ use std::collections::BinaryHeap;
 
 /// A push of a flow, with the rank that it comes to, or a pop.
 #[derive(Clone, Copy)]
-enum Ask {
+pub enum Ask {
     Push { flow: Flow, weight: Weight, x: Element },
     Pop,
 }
@@ -81,8 +83,25 @@ impl Contestant<Ask> for TreeQueue {
     }
 }
 
+impl Contestant<Ask> for Fair {
+    fn ready(&mut self, fill: &[Ask]) {
+        self.clear();
+        self.run(fill);
+    }
+    fn run(&mut self, trace: &[Ask]) -> u64 {
+        let mut answers = 0;
+        for ask in trace {
+            match *ask {
+                Ask::Push { flow, weight, x } => self.push(flow.0, weight.0, x.tag.0, x.length.0),
+                Ask::Pop => answers = fold(answers, wrapped(self.pop())),
+            }
+        }
+        answers
+    }
+}
+
 /// Pops, each with a push after it, at so many held.
-fn work(rng: &mut Rng, held: usize, operations: usize) -> Work<Ask> {
+pub fn work(rng: &mut Rng, held: usize, operations: usize) -> Work<Ask> {
     let mut flows = Flows::new(rng);
     let fill = (0..held).map(|n| flows.push(rng, n)).collect();
     let mut trace = Vec::new();

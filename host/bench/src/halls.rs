@@ -8,15 +8,15 @@ use crate::table::{Plan, Row};
 use crate::traces::strip;
 use card_host::{BucketQueue, Limits, PortsQueue};
 
-const PORTS: usize = 5;
-const NODES: u32 = 4096;
+pub const PORTS: usize = 5;
+pub const NODES: u32 = 4096;
 const HELD: usize = 4000;
 
 /// What is asked of a port.
-type Ask = (u8, Op);
+pub type Ask = (u8, Op);
 
 /// Five queues under one name.
-trait Halls {
+pub trait Halls {
     fn clear(&mut self);
     fn push(&mut self, port: u8, x: Strip);
     fn pop(&mut self, port: u8) -> Strip;
@@ -24,7 +24,7 @@ trait Halls {
 }
 
 /// Each may always hold a tenth of the pool, and up to the whole of it.
-const LIMITS: [Limits; PORTS] = [Limits { floor: NODES / 10, ceiling: NODES }; PORTS];
+pub const LIMITS: [Limits; PORTS] = [Limits { floor: NODES / 10, ceiling: NODES }; PORTS];
 
 impl Halls for PortsQueue {
     fn clear(&mut self) {
@@ -63,7 +63,7 @@ impl<Q: Queue> Halls for [Q; PORTS] {
 }
 
 /// Halls that take part.
-struct Player<H>(H);
+pub struct Player<H>(pub H);
 
 #[inline]
 fn play<H: Halls>(halls: &mut H, trace: &[Ask]) -> u64 {
@@ -112,8 +112,16 @@ fn refilled(rng: &mut Rng, fill: Vec<Ask>, operations: usize, rank: impl Fn(&mut
     Work { fill, trace }
 }
 
-fn replaced(rng: &mut Rng, fill: Vec<Ask>, operations: usize) -> Work<Ask> {
-    let trace = (0..operations).map(|n| (any_port(rng), Op::Replace(strip(rng.below(4096), n)))).collect();
+/// Ranks all over, at any port.
+pub fn spread(rng: &mut Rng, operations: usize) -> Work<Ask> {
+    let fill = fill(rng, |rng| rng.below(4096));
+    refilled(rng, fill, operations, |rng, _| rng.below(4096))
+}
+
+/// Replaces at any port; they take twice as long.
+pub fn replace(rng: &mut Rng, operations: usize) -> Work<Ask> {
+    let fill = fill(rng, |rng| rng.below(4096));
+    let trace = (0..operations / 2).map(|n| (any_port(rng), Op::Replace(strip(rng.below(4096), n)))).collect();
     Work { fill, trace }
 }
 
@@ -152,18 +160,12 @@ pub fn rows(plan: &Plan) -> Vec<Row> {
             halls
         })
     };
-    let spread = |rng: &mut Rng| {
-        let fill = fill(rng, |rng| rng.below(4096));
-        refilled(rng, fill, operations, |rng, _| rng.below(4096))
-    };
+    let spread = |rng: &mut Rng| spread(rng, operations);
     let window = |rng: &mut Rng| {
         let fill = fill(rng, |rng| rng.below(512));
         refilled(rng, fill, operations, |rng, given| (given + rng.below(512)).min(4095))
     };
-    let replace = |rng: &mut Rng| {
-        let fill = fill(rng, |rng| rng.below(4096));
-        replaced(rng, fill, operations / 2)
-    };
+    let replace = |rng: &mut Rng| replace(rng, operations);
     row(plan, &mut all, "five ports, spread ranks, beside five queues", (queues, queue_bytes), spread);
     row(plan, &mut all, "five ports, spread ranks, beside five maps", (maps, map_bytes), spread);
     row(plan, &mut all, "five ports, a window of 512, beside five queues", (queues, queue_bytes), window);

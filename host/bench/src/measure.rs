@@ -24,14 +24,14 @@ pub struct Pair {
     pub ratio: f64,
 }
 
-fn timed<T>(clock: Clock, contestant: &mut dyn Contestant<T>, work: &Work<T>) -> (f64, u64) {
+pub fn timed<T>(clock: Clock, contestant: &mut dyn Contestant<T>, work: &Work<T>) -> (f64, u64) {
     contestant.ready(&work.fill);
     let start = clock.now();
     let answers = contestant.run(&work.trace);
     ((clock.now() - start) / work.trace.len() as f64, answers)
 }
 
-fn median(mut times: Vec<f64>) -> f64 {
+pub fn median(mut times: Vec<f64>) -> f64 {
     times.sort_by(|a, b| a.total_cmp(b));
     times[times.len() / 2]
 }

@@ -1,12 +1,11 @@
 //! The clocked cluster heap beside the clocked tree: the same operations, each in as many cycles as its machine needs.
 
 use crate::clock::Clock;
+use crate::cycles::{asked, Ask};
 use crate::measure::{race, Contestant, Rng, Work};
-use crate::plain::Ask;
-use crate::queues::wrapped;
 use crate::table::{Plan, Row};
 use crate::traces::strip;
-use card_host::{ClockedHeap, ClockedTree, Refusal, Request};
+use card_host::{ClockedHeap, ClockedTree, Refusal};
 
 /// A machine that answers every operation, and the cycles that it needed.
 struct Counted<M> {
@@ -22,16 +21,6 @@ impl<M> Counted<M> {
     /// Operations answered a cycle, in the timed runs.
     fn answered(&self) -> f64 {
         self.operations as f64 / self.cycles as f64
-    }
-}
-
-#[inline]
-fn asked(ask: Ask) -> Request {
-    match ask {
-        Ask::Idle => Request::Idle,
-        Ask::Push(x) => Request::Push(wrapped(x)),
-        Ask::Pop => Request::Pop,
-        Ask::Replace(x) => Request::Replace(wrapped(x)),
     }
 }
 

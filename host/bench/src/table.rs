@@ -3,6 +3,7 @@
 use crate::measure::Pair;
 
 /// How much is measured.
+#[derive(Clone)]
 pub struct Plan {
     pub rounds: usize,
     pub operations: usize,

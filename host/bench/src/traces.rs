@@ -15,7 +15,7 @@ const NODES_DEEP: u32 = 65536;
 const RANKS_DEEP: u32 = 262_144;
 
 /// Ranks of the trees' rows lie below this, or so far behind what came out before where they rise.
-const RANKS: u32 = 1 << 20;
+pub const RANKS: u32 = 1 << 20;
 
 /// The n-th strip of a trace, at this rank: a tag of its own, and a length between those of the shortest and the longest.
 pub fn strip(rank: u32, n: usize) -> Strip {
@@ -108,18 +108,6 @@ fn tree<Q: Queue + Default>(
     beside(plan, all, name, card, Q::default, work);
 }
 
-fn cluster<Q: Queue>(
-    plan: &Plan,
-    all: &mut Vec<Row>,
-    name: &str,
-    (places, levels): (u32, u32),
-    other: impl Fn() -> Q,
-    work: impl FnMut(&mut Rng) -> Work<Op>,
-) {
-    let card = (ClusterQueue::new(places, levels).expect("a good shape"), cluster_words(places, levels));
-    beside(plan, all, name, card, other, work);
-}
-
 /// The bucket queue beside the map: each input at 4,000 held, then growth.
 pub fn buckets(plan: &Plan) -> Vec<Row> {
     let mut all = Vec::new();
@@ -179,7 +167,7 @@ pub fn deep_buckets(plan: &Plan) -> Vec<Row> {
     all
 }
 
-/// The tree beside the heap: each order at 4,000 held, then growth by what is held and by levels.
+/// The tree beside the heap, beyond what the page has: other ranks, another heap, and growth by what is held and by levels.
 pub fn trees(plan: &Plan) -> Vec<Row> {
     let mut all = Vec::new();
     let operations = plan.operations;
@@ -191,18 +179,6 @@ pub fn trees(plan: &Plan) -> Vec<Row> {
         let fill = pushes(4000, || rng.below(RANKS));
         refilled(fill, operations, |given| given + rng.below(RANKS))
     };
-    let swap = |rng: &mut Rng| {
-        let fill = pushes(4000, || rng.below(RANKS));
-        replaced(fill, operations / 2, |given| given + rng.below(RANKS))
-    };
-    let shapes = [(4, 6), (8, 4), (2, 11)];
-    for (order, levels) in shapes {
-        let name = format!("tree, order {order} x {levels}, push and pop");
-        tree::<HeapQueue>(plan, &mut all, &name, (order, levels), |rng| any(rng, 4000));
-    }
-    for (order, levels) in shapes {
-        tree::<HeapQueue>(plan, &mut all, &format!("tree, order {order} x {levels}, replace"), (order, levels), swap);
-    }
     tree::<HeapQueue>(plan, &mut all, "tree, order 4 x 6, rising ranks", (4, 6), rising);
     tree::<RankHeap>(plan, &mut all, "tree, order 4 x 6, a heap by rank alone", (4, 6), |rng| any(rng, 4000));
     for held in [64, 256, 1024] {
@@ -216,26 +192,18 @@ pub fn trees(plan: &Plan) -> Vec<Row> {
     all
 }
 
-/// The cluster heap beside the heap and beside the tree of order 2, each at 4,000 held.
+/// The cluster heap beside the heap, at other numbers of places than the page has.
 pub fn clusters(plan: &Plan) -> Vec<Row> {
     let mut all = Vec::new();
     let operations = plan.operations;
-    let any = |rng: &mut Rng| {
-        let fill = pushes(4000, || rng.below(RANKS));
-        refilled(fill, operations, |_| rng.below(RANKS))
-    };
-    let swap = |rng: &mut Rng| {
-        let fill = pushes(4000, || rng.below(RANKS));
-        replaced(fill, operations / 2, |given| given + rng.below(RANKS))
-    };
-    let tree = || TreeQueue::new(2, 11).expect("a good shape");
-    for (places, levels) in [(4, 10), (8, 9), (2, 11)] {
+    for (places, levels) in [(8, 9), (2, 11)] {
         let name = format!("cluster heap, {places} x {levels}, push and pop");
-        cluster(plan, &mut all, &name, (places, levels), HeapQueue::default, any);
+        let card = (ClusterQueue::new(places, levels).expect("a good shape"), cluster_words(places, levels));
+        beside(plan, &mut all, &name, card, HeapQueue::default, |rng| {
+            let fill = pushes(4000, || rng.below(RANKS));
+            refilled(fill, operations, |_| rng.below(RANKS))
+        });
     }
-    cluster(plan, &mut all, "cluster heap, 4 x 10, replace", (4, 10), HeapQueue::default, swap);
-    cluster(plan, &mut all, "cluster heap, 4 x 10, push and pop, beside the tree of order 2", (4, 10), tree, any);
-    cluster(plan, &mut all, "cluster heap, 4 x 10, replace, beside the tree of order 2", (4, 10), tree, swap);
     all
 }
 

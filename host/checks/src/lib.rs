@@ -3,6 +3,7 @@
 //! The environment may say: `PLAY` (the trace program), `CARD_LIB` (the static library), `CARD_CC` and `CARD_CXX` (compilers of programs
 //! over it), `CARD_RUNNER` (what runs those), `RUNNER` (what runs an x86-64 program), `CARD_SEED`. `host/run.sh` sets them.
 
+pub mod budget;
 pub mod table;
 
 use std::collections::BTreeMap;

@@ -104,20 +104,32 @@ fn the_bench_runs() {
     for part in [
         "bucket, spread ranks refilled",
         "bucket, three storeys, spread ranks refilled, 65536 held",
+        "| tree, order 4 x 6, push and pop ",
+        "| clocked cluster heap, 4 x 10, idle ",
+        "| check, a slot, order 4 x 8, full ",
+        "| mend, a slot, order 4 x 8, full ",
+        "| clear, five ports, 2 storeys, 4096 nodes ",
+        "| play, a record, order 4 x 5 ",
         "five ports, spread ranks, beside five queues",
         "five ports, spread ranks, beside five maps",
-        "tree, order 4 x 6, push and pop",
+        "tree, order 4 x 6, push and pop, 64 held",
         "fair, order 4 x 6, push and pop, 4000 held",
-        "check, order 4 x 8, full",
-        "mend, order 4 x 8, full",
         "packed heap, push and pop, 4000 held",
         "packed heap, fill and drain, 65000 held, tree",
-        "cycle, order 4 x 6, idle",
+        "cycle, order 4 x 6, each second idle",
         "cluster clock, pop every cycle",
         "records a second",
     ] {
         assert!(table.contains(part), "{part} is not in\n{table}");
     }
+    let elsewhere = outside("chart");
+    let chart = elsewhere.join("speed.svg");
+    let page = done(script("bench.sh").args(["--brief", "--page", "--svg"]).arg(&chart).arg("tree, order"));
+    assert!(page.contains("| clocked tree, order 4 x 6, random ") && !page.contains("64 held"), "{page}");
+    let drawn = text(&chart);
+    assert!(drawn.starts_with("<svg ") && drawn.ends_with("</svg>\n"), "{drawn}");
+    assert!(drawn.contains(">tree, order 4 x 6, push and pop<") && drawn.contains(">plain C "), "{drawn}");
+    std::fs::remove_dir_all(&elsewhere).unwrap();
     refused(run(script("bench.sh").arg("--nonsense")), 2, "bench [--brief]");
     refused(run(script("bench.sh").args(["--brief", "no such row"])), 2, "bench: no row has `no such row` in its name");
 }

@@ -1,38 +1,25 @@
 -- `tree_node::capacity` meets its contract.
-use Rattle.laws.specs.Prelude.{_*_, _+_, _-_, _∙_, _≡_, _≤_, ap, arith, leb-false, leb-true, mul-le-mul-right, needs, ℕ}
-use Rattle.tree_node.proofs.Steps.{capacity-above, capacity-end, counted-above, counted-next, room-next}
-use Rattle.tree_node.specs.Room.{slotsCounted}
-use Rattle.tree_model.specs.Prelude.{room, slotLimit, slots}
+use Rattle.laws.specs.Prelude.{arith, needs}
+use Rattle.tree_node.proofs.Steps.{sum-eight, sum-four, sum-two, summed}
+use Rattle.tree_model.specs.Prelude.{room}
 use Rattle.tree_node.proofs.capacity.Statement.{statement}
 use Rattle.tree_node.proofs.capacity.Tie as tie
 
-abbrev Inv-loop : tie.InvT-loop
-Inv-loop order levels slots₀ i₀ slots i = (i ≤ levels) × (slots ≡ room order i) × (slots ≡ slotsCounted order i)
+returns : tie.Need-returns
+unfolding room
+returns c = summed _ 2 16 _ _ _ (c .before .before .if1 .taken) (omega arith) (omega arith) (omega arith) (c .before .capped .ensures) (sum-two _ _ (c .power .ensures .0))
 
-abbrev μ-loop : tie.MeasureT-loop
-μ-loop order levels slots₀ i₀ slots i = levels - i
+returns-2 : tie.Need-returns-2
+unfolding room
+returns-2 c = summed _ 4 9 _ _ _ (c .before .before .if2 .taken) (omega arith) (omega arith) (omega arith) (c .before .capped2 .ensures) (sum-four _ _ (c .power2 .ensures .0))
 
-loop-holds : tie.Need-loop-holds Inv-loop μ-loop
-unfolding room slotsCounted
-loop-holds c = search needs
-
-add-slots : tie.Need-add-slots Inv-loop μ-loop
-add-slots c = omega (arith, leb-true (c .before .before .loop .slots) slotLimit (c .if1 .taken))
-
-mul-slots : tie.Need-mul-slots Inv-loop μ-loop
-mul-slots c = omega (arith, leb-true (c .before .before .loop .slots) slotLimit (c .if1 .taken), mul-le-mul-right (c .before .before .loop .slots + 1) (c .before .before .before .pre .1))
-
-loop-again : tie.Need-loop-again Inv-loop μ-loop
-loop-again c =
-    let start = c .before .before .before in
-    (omega arith, ap (λ (n : ℕ). start .args .order * (n + 1)) (c .before .before .loop .inv .1) ∙ room-next (start .args .order) (c .before .before .loop .i), counted-next _ _ _ (c .before .before .loop .inv .2) (leb-true (c .before .before .loop .slots) slotLimit (c .if1 .taken)))
-
-returns : tie.Need-returns Inv-loop μ-loop
-returns c = (capacity-above _ _ (c .before .before .loop .i) _ (c .before .before .before .pre .0) (c .before .before .loop .inv .0) (leb-false (c .before .before .loop .slots) slotLimit (c .if1 .left)) (c .before .before .loop .inv .1), counted-above _ _ (c .before .before .loop .i) _ (c .before .before .loop .inv .0) (leb-false (c .before .before .loop .slots) slotLimit (c .if1 .left)) (c .before .before .loop .inv .2))
-
-returns-2 : tie.Need-returns-2 Inv-loop μ-loop
-returns-2 c = (capacity-end _ _ _ _ (omega arith) (c .before .loop .inv .1), c .before .loop .inv .2 ∙ ap (slotsCounted (c .before .before .args .order)) (omega arith))
+returns-3 : tie.Need-returns-3
+unfolding room
+returns-3 c = summed _ 8 6 _ _ _ (c .before .before .if3 .taken) (omega arith) (omega arith) (omega arith) (c .before .capped3 .ensures) (sum-eight _ _ (c .power3 .ensures .0))
 
 pub capacity-spec : {M : Type 1} → statement M
 capacity-spec = tie.close
-    (tie.spec Inv-loop μ-loop loop-holds add-slots mul-slots (λ c. search needs) (λ c. search needs) loop-again returns returns-2)
+    (tie.spec (λ c κs. search needs) (λ c κs. search needs) (λ c. search needs) (λ c. search needs) returns
+    (λ c κs. search needs) (λ c. search needs) (λ c κs. search needs) (λ c. search needs) (λ c. search needs) returns-2
+    (λ c κs. search needs) (λ c. search needs) (λ c κs. search needs) (λ c. search needs) (λ c. search needs) returns-3
+    (λ c κs. search needs) (λ c. search needs))
