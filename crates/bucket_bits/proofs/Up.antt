@@ -4,7 +4,7 @@ use Rattle.bitmap.specs.Bits.{bitAt, bit-lt, some-set}
 use Rattle.bucket_model.specs.Prelude.{Agrees, Storey, agree, bitFor, bitNo, bitOf, edit, storey, storeysFrom, switched, tellsAbove, word, wordOf, wordsOf}
 use Rattle.bucket_model.proofs.Laws.{Bits, Outside, Shape, bits-from, deeper, edit-off, other, past-all, same, shape-from}
 use Rattle.bucket_bits.specs.declared.Climb.{Climb}
-use Rattle.bucket_bits.specs.Climbs.{Tall, Switchable, Stays, Switching, Marking, bitsLeft, Agreed, cleared, wordLeft, climbed, Climbable}
+use Rattle.bucket_bits.specs.Climbs.{Tall, Switchable, Stays, Switching, Signalling, bitsLeft, Agreed, cleared, wordLeft, climbed, Climbable}
 use Rattle.bucket_bits.proofs.Numbers.{words-up, words-le}
 
 -- bits that agree with what is below them, from an empty bucket on, can be set
@@ -119,14 +119,14 @@ pub rising-from : (on : Bool) (b0 b1 : List ℕ) (o D : ℕ) (b : List ℕ) (mor
 rising-from on b0 b1 o D b more d i z = (z .0, record { is = z .1 .is; deep = omega arith; within = z .1 .within; long = refl; todo = z .1 .todo; done = z .1 .done ∙ sym (rising-goal on b0 b1 o D b more d i z) })
 
 -- the lowest storey, whose bit changes or not
-module _ (on changes : Bool) (b : List ℕ) (o D tower r : ℕ) (tall : Tall b o D tower) (r< : r < 64 ^ D) (m : Marking on changes b (storeysFrom o D) r) where
+module _ (on changes : Bool) (b : List ℕ) (o D tower r : ℕ) (tall : Tall b o D tower) (r< : r < 64 ^ D) (m : Signalling on changes b (storeysFrom o D) r) where
   abbrev lowest : ℕ
   lowest = o + (tower + r - 1) / 64
 
   pub first-turns : (0 < tower + r) × Switching b on changes (o + (tower + r - 1) / 64) ((tower + r - 1) % 64)
   first-turns = go D (tall .some) (tall .words) r< (tall .long) m
     where
-      go : (D : ℕ) → 1 ≤ D → tower ≡ wordsOf D → r < 64 ^ D → o + wordsOf D ≤ length b → Marking on changes b (storeysFrom o D) r → (0 < tower + r) × Switching b on changes (o + (tower + r - 1) / 64) ((tower + r - 1) % 64)
+      go : (D : ℕ) → 1 ≤ D → tower ≡ wordsOf D → r < 64 ^ D → o + wordsOf D ≤ length b → Signalling on changes b (storeysFrom o D) r → (0 < tower + r) × Switching b on changes (o + (tower + r - 1) / 64) ((tower + r - 1) % 64)
       go zero l e h long m = absurd (omega arith)
       go (suc d) l e h long m =
           let n = number o d (tower + r) r (omega arith) in (

@@ -21,7 +21,7 @@ abbrev pub Stays : List ℕ → List Storey → ℕ → Type 0
 Stays b [] j = Unit {0}
 Stays b (p ∷ ps) j = bitNo b p j ≡ 1
 
-pub record Marking (on changes : Bool) (b : List ℕ) (ps : List Storey) (j : ℕ) : Type 0 where
+pub record Signalling (on changes : Bool) (b : List ℕ) (ps : List Storey) (j : ℕ) : Type 0 where
   pub turns : changes ≡ true → Switchable on b ps j
   pub stays : changes ≡ false → Stays b ps j
 

@@ -10,7 +10,7 @@ ghost use lib.ListN.{length, set};
 ghost use Rattle.bucket_model.specs.Layout.{word};
 ghost use Rattle.bucket_model.specs.Storeys.{storeysFrom, switched, tellsAbove, edit};
 ghost use Rattle.bucket_model.specs.Calls.{fill};
-ghost use Rattle.bucket_bits.specs.Climbs.{Tall, Switchable, Switching, Marking, Leads, Agreed, climbed, Climbable};
+ghost use Rattle.bucket_bits.specs.Climbs.{Tall, Switchable, Switching, Signalling, Leads, Agreed, climbed, Climbable};
 
 // The lowest rank: whether no word on the way down to it is 0, and the rank (0 where one is).
 pub struct LowestRank {
@@ -75,7 +75,7 @@ fn switch(bits: &mut [u64], on: bool, changes: bool, at: usize, k: usize) -> boo
 
 // The bits of a rank, where its bucket was empty and no longer is, or is empty now and was not. The lowest storey's word is
 // written in any case: whether a bucket changes so can often not be foretold, whether a whole word does mostly can.
-pub fn mark(
+pub fn signal(
     bits: &mut [u64],
     on: bool,
     changes: bool,
@@ -84,7 +84,7 @@ pub fn mark(
     tower: usize,
     rank: u32,
 )
-    requires { ⌜ Tall (now bits) base storeys tower ⌝ ∗ ⌜ rank < 64 ^ storeys ⌝ ∗ ⌜ Marking on changes (now bits) (storeysFrom base storeys) rank ⌝ }
+    requires { ⌜ Tall (now bits) base storeys tower ⌝ ∗ ⌜ rank < 64 ^ storeys ⌝ ∗ ⌜ Signalling on changes (now bits) (storeysFrom base storeys) rank ⌝ }
     ensures { λ _. ⌜ now (bits .exit) ≡ cond changes (edit on (now (bits .entry)) (storeysFrom base storeys) rank) (now (bits .entry)) ⌝ }
 {
     let low = tower + rank as usize - 1;

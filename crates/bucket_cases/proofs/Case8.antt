@@ -5,11 +5,11 @@ use lib.Dec.{lit≤}
 use Rattle.bitmap.specs.Bits.{bitAt}
 use Rattle.bucket_cases.specs.Case8.{case8, case8Answers, case8Three, case8ThreeAnswers}
 use Rattle.bucket_model.specs.declared.Lay.{Lay}
-use Rattle.bucket_model.specs.Prelude.{Laid, Said, Shaped, Store, answered, answersFrom, ask, asked, bitWords, blankWord, bucketAnswers, called, cleared, counted, fill, joinedBits, joinedWords, leastStoreys, linkAt, lowestOf, lowestOpen, lowestRank, marked, mostStoreys, nextOf, plainSays, plainWith, pool, popFound, popOk, popped, pushFound, pushOk, pushed, queue, rankAgrees, roomWith, says, shapeOk, start, store, storeWords, tailLeft, takenBits, takenWords, wholeOk}
+use Rattle.bucket_model.specs.Prelude.{Laid, Said, Shaped, Store, answered, answersFrom, ask, asked, bitWords, blankWord, bucketAnswers, called, cleared, counted, fill, joinedBits, joinedWords, leastStoreys, linkAt, lowestOf, lowestOpen, lowestRank, signalled, mostStoreys, nextOf, plainSays, plainWith, pool, popFound, popOk, popped, pushFound, pushOk, pushed, queue, rankAgrees, roomWith, says, shapeOk, start, store, storeWords, tailLeft, takenBits, takenWords, wholeOk}
 use Rattle.bucket_model.proofs.Laws.{answers, laid-of}
 
 pub case8-holds : bucketAnswers (queue 2 3) case8 ≡ case8Answers
-unfolding bucketAnswers answersFrom asked marked lowestRank lowestOpen rankAgrees shapeOk wholeOk nextOf popOk pushOk fill blankWord cleared lowestOf tailLeft takenWords takenBits popFound popped roomWith linkAt joinedWords joinedBits pushFound pushed untagged bitAt trailingZeros
+unfolding bucketAnswers answersFrom asked signalled lowestRank lowestOpen rankAgrees shapeOk wholeOk nextOf popOk pushOk fill blankWord cleared lowestOf tailLeft takenWords takenBits popFound popped roomWith linkAt joinedWords joinedBits pushFound pushed untagged bitAt trailingZeros
 case8-holds = refl
 
 -- ---- at three storeys a store has half a million words: its answers are those of the plain list, and these are computed

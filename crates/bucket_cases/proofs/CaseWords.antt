@@ -4,24 +4,24 @@ use lib.Count.{trailingZeros}
 use lib.Dec.{lit≤}
 use Rattle.bitmap.specs.Bits.{bitAt}
 use Rattle.bucket_cases.specs.CaseWords.{leftBy, popCase, popCaseBits, popCaseWords, replaceCase, replaceCaseBits, replaceCaseWords, lengthCase, lengthCaseAnswers}
-use Rattle.bucket_model.specs.Prelude.{after, ask, asked, blankWord, bucketAnswers, called, cleared, fill, filled, joinedBits, joinedWords, linkAt, lowestOf, lowestOpen, lowestRank, marked, nextOf, plainSays, plainWith, popFound, popOk, popped, pushFound, pushOk, pushed, queue, rankAgrees, replaceFound, replaceJoined, replaced, roomAfter, roomWith, shapeOk, tailLeft, takenBits, takenWords, wholeOk}
+use Rattle.bucket_model.specs.Prelude.{after, ask, asked, blankWord, bucketAnswers, called, cleared, fill, filled, joinedBits, joinedWords, linkAt, lowestOf, lowestOpen, lowestRank, signalled, nextOf, plainSays, plainWith, popFound, popOk, popped, pushFound, pushOk, pushed, queue, rankAgrees, replaceFound, replaceJoined, replaced, roomAfter, roomWith, shapeOk, tailLeft, takenBits, takenWords, wholeOk}
 use Rattle.bucket_cases.proofs.Case8.{answerOf, as-list}
 use Rattle.bucket_model.proofs.Laws.{laid-of}
 
 pub pop-case-bits : filled 0 (leftBy 4 popCase .bits) ≡ popCaseBits
-unfolding filled after called asked marked lowestRank lowestOpen rankAgrees shapeOk wholeOk nextOf popOk pushOk fill blankWord cleared lowestOf tailLeft takenWords takenBits popFound popped roomWith linkAt joinedWords joinedBits pushFound pushed untagged bitAt trailingZeros
+unfolding filled after called asked signalled lowestRank lowestOpen rankAgrees shapeOk wholeOk nextOf popOk pushOk fill blankWord cleared lowestOf tailLeft takenWords takenBits popFound popped roomWith linkAt joinedWords joinedBits pushFound pushed untagged bitAt trailingZeros
 pop-case-bits = refl
 
 pub pop-case-words : filled 0 (leftBy 4 popCase .words) ≡ popCaseWords
-unfolding filled after called asked marked lowestRank lowestOpen rankAgrees shapeOk wholeOk nextOf popOk pushOk fill blankWord cleared lowestOf tailLeft takenWords takenBits popFound popped roomWith linkAt joinedWords joinedBits pushFound pushed untagged bitAt trailingZeros
+unfolding filled after called asked signalled lowestRank lowestOpen rankAgrees shapeOk wholeOk nextOf popOk pushOk fill blankWord cleared lowestOf tailLeft takenWords takenBits popFound popped roomWith linkAt joinedWords joinedBits pushFound pushed untagged bitAt trailingZeros
 pop-case-words = refl
 
 pub replace-case-bits : filled 0 (leftBy 4 replaceCase .bits) ≡ replaceCaseBits
-unfolding filled after called asked marked lowestRank lowestOpen rankAgrees shapeOk wholeOk nextOf popOk pushOk fill blankWord cleared lowestOf tailLeft takenWords takenBits popFound popped roomWith linkAt joinedWords joinedBits pushFound pushed roomAfter replaceFound replaceJoined replaced untagged bitAt trailingZeros
+unfolding filled after called asked signalled lowestRank lowestOpen rankAgrees shapeOk wholeOk nextOf popOk pushOk fill blankWord cleared lowestOf tailLeft takenWords takenBits popFound popped roomWith linkAt joinedWords joinedBits pushFound pushed roomAfter replaceFound replaceJoined replaced untagged bitAt trailingZeros
 replace-case-bits = refl
 
 pub replace-case-words : filled 0 (leftBy 4 replaceCase .words) ≡ replaceCaseWords
-unfolding filled after called asked marked lowestRank lowestOpen rankAgrees shapeOk wholeOk nextOf popOk pushOk fill blankWord cleared lowestOf tailLeft takenWords takenBits popFound popped roomWith linkAt joinedWords joinedBits pushFound pushed roomAfter replaceFound replaceJoined replaced untagged bitAt trailingZeros
+unfolding filled after called asked signalled lowestRank lowestOpen rankAgrees shapeOk wholeOk nextOf popOk pushOk fill blankWord cleared lowestOf tailLeft takenWords takenBits popFound popped roomWith linkAt joinedWords joinedBits pushFound pushed roomAfter replaceFound replaceJoined replaced untagged bitAt trailingZeros
 replace-case-words = refl
 
 -- the answers, by those of the plain list

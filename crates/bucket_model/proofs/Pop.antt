@@ -1,12 +1,12 @@
 -- What a pop does to a store that holds a list.
 use Rattle.laws.specs.Prelude.{All, Element, Iff, List, [], _-_, _<_, _∙_, _∷_, _≡_, _≤_, ap, arith, cond-path, eq-eqb, eqb, false, inl, is-upd, le-ltb, length, length-set, ne-eqb, refl, same-upd, set, subst, suc, sym, true, upd, ℕ}
-use Rattle.bucket_model.specs.Prelude.{Laid, PopFit, given, headAt, inOrder, loaded, lowestOf, lowestRank, marked, nextAt, nextIn, nextOf, tailAt, takenBits, takenWords, takes, word}
+use Rattle.bucket_model.specs.Prelude.{Laid, PopFit, given, headAt, inOrder, loaded, lowestOf, lowestRank, signalled, nextAt, nextIn, nextOf, tailAt, takenBits, takenWords, takes, word}
 use Rattle.bucket_model.specs.Layout.{Lay}
 use Rattle.bucket_model.specs.Calls.{Lowest}
 use Rattle.bucket_model.proofs.Facts.{pop-means, pop-way, low-is}
 use Rattle.bucket_model.proofs.Writes.{same, write-length}
 use Rattle.bucket_model.proofs.Tower as tower
-use Rattle.bucket_model.proofs.Tower.{Ranks, ranks-ext, marks, marked-length}
+use Rattle.bucket_model.proofs.Tower.{Ranks, ranks-ext, signals, signalled-length}
 use Rattle.bucket_model.proofs.Chain.{Node, Seg, Apart, Mine, Chain}
 use Rattle.bucket_model.proofs.Linked.{lastFrom, lastLink, last≤, linked-off, taking, takenQ, takenOwn, take-linked, taken-else, taken-free}
 use Rattle.bucket_model.proofs.Order.{order-pop}
@@ -44,7 +44,7 @@ module _ (stem : ℕ) (w : List ℕ) where
 
 pub taken-bits-length : (k : Lay) (b : List ℕ) (low : Lowest) → length (takenBits k b low) ≡ length b
 unfolding takenBits
-taken-bits-length k b low = cond-path length (eqb (low .next) 0) (marked false k b (low .rank)) b (length b) (marked-length false k b (low .rank)) refl
+taken-bits-length k b low = cond-path length (eqb (low .next) 0) (signalled false k b (low .rank)) b (length b) (signalled-length false k b (low .rank)) refl
 
 pub taken-length : (k : Lay) (w : List ℕ) (low : Lowest) → length (takenWords k w low) ≡ length w
 unfolding takenWords
@@ -141,7 +141,7 @@ module _ (k : Lay) (S : Seat k) (others : ℕ) (b w : List ℕ) (l : List Elemen
     unfolding takenBits
     bits-are [] z =
         let g : word w (nextAt k (x .link)) ≡ 0 = subst (Seg (k .stem) w (nextAt k (x .link))) (sym z) (C .seg .2) in
-        rw (eq-eqb (word w (nextAt k (x .link))) 0 g) (marks k laid b fb (h .bits) r (F .within) false (upd fb r 0) (F .here) (is-upd fb r 0))
+        rw (eq-eqb (word w (nextAt k (x .link))) 0 g) (signals k laid b fb (h .bits) r (F .within) false (upd fb r 0) (F .here) (is-upd fb r 0))
     bits-are (y ∷ ys) z =
         let g = subst (Seg (k .stem) w (nextAt k (x .link))) (sym z) (C .seg .2) in
         let m = subst (All (Mine (h .own) (k .nodes) (headAt k r))) (sym z) (C .mine .1) in

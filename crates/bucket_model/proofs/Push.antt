@@ -1,11 +1,11 @@
 -- What a push does to a store that holds a list.
 use Rattle.laws.specs.Prelude.{All, Element, Iff, List, [], _++_, _+_, _<_, _∙_, _∷_, _≡_, _≤_, ap, arith, cond-path, eq-eqb, eqb, inr, is-upd, length, length-set, ne-eqb, refl, same-upd, set, subst, suc, sym, true, upd, ℕ}
-use Rattle.bucket_model.specs.Prelude.{JoinFit, Laid, Load, headAt, inOrder, insert, joinedBits, joinedWords, joins, linkAt, loadOf, marked, nextAt, nextOf, roomWith, tailAt, word}
+use Rattle.bucket_model.specs.Prelude.{JoinFit, Laid, Load, headAt, inOrder, insert, joinedBits, joinedWords, joins, linkAt, loadOf, signalled, nextAt, nextOf, roomWith, tailAt, word}
 use Rattle.bucket_model.specs.Layout.{Lay}
 use Rattle.bucket_model.specs.Calls.{Room}
 use Rattle.bucket_model.proofs.Facts.{join-means}
 use Rattle.bucket_model.proofs.Writes.{same, write-length}
-use Rattle.bucket_model.proofs.Tower.{Ranks, ranks-ext, ranks-agree, marks, marked-length}
+use Rattle.bucket_model.proofs.Tower.{Ranks, ranks-ext, ranks-agree, signals, signalled-length}
 use Rattle.bucket_model.proofs.Chain.{Node, node, Mine, Chain, endSlot}
 use Rattle.bucket_model.proofs.Linked.{lastFrom, lastLink, last≤, linked-off, slot-end, joining, joinedQ, joinedOwn, join-linked, joined-other, joined-here, joined-free}
 use Rattle.bucket_model.proofs.Order.{order-push}
@@ -45,7 +45,7 @@ module _ (k : Lay) (S : Seat k) (w : List ℕ) (own : ℕ → ℕ) (c : ℕ) whe
 
 pub joined-bits-length : (k : Lay) (b : List ℕ) (e : Element) (to : Room) → length (joinedBits k b e to) ≡ length b
 unfolding joinedBits
-joined-bits-length k b e to = cond-path length (eqb (to .tail) 0) (marked true k b (e .rank .0)) b (length b) (marked-length true k b (e .rank .0)) refl
+joined-bits-length k b e to = cond-path length (eqb (to .tail) 0) (signalled true k b (e .rank .0)) b (length b) (signalled-length true k b (e .rank .0)) refl
 
 pub joined-length : (k : Lay) (w : List ℕ) (e : Element) (to : Room) → length (joinedWords k w e to) ≡ length w
 unfolding joinedWords
@@ -158,7 +158,7 @@ module _ (k : Lay) (S : Seat k) (others : ℕ) (b w : List ℕ) (l : List Elemen
     unfolding joinedBits
     set-bits [] q =
         let g : word w (tailAt k r) ≡ 0 = tail-is ∙ ap lastLink (sym q) in
-        rw (eq-eqb (word w (tailAt k r)) 0 g) (marks k laid b fb (h .bits) r r< true (upd fb r 1) (ap flag (sym q)) (is-upd fb r 1))
+        rw (eq-eqb (word w (tailAt k r)) 0 g) (signals k laid b fb (h .bits) r r< true (upd fb r 1) (ap flag (sym q)) (is-upd fb r 1))
     set-bits (u ∷ us) q =
         let i = last-in k S w (h .own) c u us (subst (Chain (k .stem) w (k .nodes) (h .own) c) (sym q) C) in
         let g : word w (tailAt k r) ≡ lastFrom (u .link) us = tail-is ∙ ap lastLink (sym q) in

@@ -3,7 +3,7 @@ use Rattle.laws.specs.Prelude.{Bool, Iff, List, Upd, [], _%_, _*_, _+_, _-_, _/
 use lib.Pow.{pow-pos}
 use lib.Count.{trailingZeros}
 use Rattle.bitmap.specs.Bits.{bitAt, bit-zero, bit-suc, set-le}
-use Rattle.bucket_model.specs.Prelude.{Agrees, Laid, Opens, Storey, bitFor, bitWords, edit, find, lowestRank, marked, storey, storeysAt, storeysFrom, switched, tellsAbove, word, wordOf, wordsOf}
+use Rattle.bucket_model.specs.Prelude.{Agrees, Laid, Opens, Storey, bitFor, bitWords, edit, find, lowestRank, signalled, storey, storeysAt, storeysFrom, switched, tellsAbove, word, wordOf, wordsOf}
 use Rattle.bucket_model.specs.Layout.{Lay}
 use Rattle.bucket_model.proofs.Writes.{other}
 use Rattle.bucket_model.proofs.Tells.{nz, nz-one, nz-zero, Tells, storey-ext, storey-off, storey-more, storey-less, storey-down, storey-none, Down, up, up-word}
@@ -304,23 +304,23 @@ module _ (k : Lay) (laid : Laid k) (b : List ℕ) (f : ℕ → ℕ) where
       pub ranks-agree : (E : Type 0) → Iff E (f r ≡ 0) → Agrees b (storeysAt k) r E
       ranks-agree E e = agrees b (storeysAt k) f r E (shape-from (k .bits) (k .storeys)) (bits-from (k .bits) (k .storeys) r (omega (arith, laid .ranks))) e (z .tower)
 
-      pub marks : (on : Bool) (f′ : ℕ → ℕ) → f r ≡ bitFor (not on) → Upd f f′ r (bitFor on) → Ranks k (marked on k b r) f′
-      unfolding marked
-      marks on f′ e u = record { tower = edits on b (storeysAt k) f f′ r (bits-from (k .bits) (k .storeys) r (omega (arith, laid .ranks))) (shape-from (k .bits) (k .storeys)) e u (z .tower) }
+      pub signals : (on : Bool) (f′ : ℕ → ℕ) → f r ≡ bitFor (not on) → Upd f f′ r (bitFor on) → Ranks k (signalled on k b r) f′
+      unfolding signalled
+      signals on f′ e u = record { tower = edits on b (storeysAt k) f f′ r (bits-from (k .bits) (k .storeys) r (omega (arith, laid .ranks))) (shape-from (k .bits) (k .storeys)) e u (z .tower) }
 
-pub marked-length : (on : Bool) (k : Lay) (b : List ℕ) (r : ℕ) → length (marked on k b r) ≡ length b
-unfolding marked
-marked-length on k b r = edit-length on b (storeysAt k) r
+pub signalled-length : (on : Bool) (k : Lay) (b : List ℕ) (r : ℕ) → length (signalled on k b r) ≡ length b
+unfolding signalled
+signalled-length on k b r = edit-length on b (storeysAt k) r
 
 -- a word outside the storeys stands
-pub marked-off : (on : Bool) (k : Lay) (laid : Laid k) (b : List ℕ) (r a : ℕ) → r < k .ranks → Outside a (storeysAt k) → word (marked on k b r) a ≡ word b a
-unfolding marked
-marked-off on k laid b r a h o = edit-off on b (storeysAt k) r a (bits-from (k .bits) (k .storeys) r (omega (arith, laid .ranks))) (shape-from (k .bits) (k .storeys)) o
+pub signalled-off : (on : Bool) (k : Lay) (laid : Laid k) (b : List ℕ) (r a : ℕ) → r < k .ranks → Outside a (storeysAt k) → word (signalled on k b r) a ≡ word b a
+unfolding signalled
+signalled-off on k laid b r a h o = edit-off on b (storeysAt k) r a (bits-from (k .bits) (k .storeys) r (omega (arith, laid .ranks))) (shape-from (k .bits) (k .storeys)) o
 
 -- .. so one before them or behind them
-pub marked-away : (on : Bool) (k : Lay) (laid : Laid k) (b : List ℕ) (r a : ℕ) → r < k .ranks → (a < k .bits) ⊎ (bitWords k ≤ a) → word (marked on k b r) a ≡ word b a
-marked-away on k laid b r a h (inl l) = marked-off on k laid b r a h (before-all (k .bits) (k .storeys) a l)
-marked-away on k laid b r a h (inr l) = marked-off on k laid b r a h (past-all (k .bits) (k .storeys) a (omega (arith, laid .tower)))
+pub signalled-away : (on : Bool) (k : Lay) (laid : Laid k) (b : List ℕ) (r a : ℕ) → r < k .ranks → (a < k .bits) ⊎ (bitWords k ≤ a) → word (signalled on k b r) a ≡ word b a
+signalled-away on k laid b r a h (inl l) = signalled-off on k laid b r a h (before-all (k .bits) (k .storeys) a l)
+signalled-away on k laid b r a h (inr l) = signalled-off on k laid b r a h (past-all (k .bits) (k .storeys) a (omega (arith, laid .tower)))
 
 -- ---- storeys whose words stand
 

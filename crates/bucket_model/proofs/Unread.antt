@@ -1,6 +1,6 @@
 -- "Longer slices are taken; the rest is never touched": not read either. Two stores that agree on the words of the shape are answered the same and left the same there, whatever stands behind.
 use Rattle.laws.specs.Prelude.{Answer, Bool, Done, Element, Idle, List, Out, Pop, Push, Replace, Request, [], _%_, _&&_, _+_, _/_, _<_, _^_, _∙_, _∷_, _≡_, _≤_, ap, arith, cond, decLt, eq-eqb, eqb, false, false≢true, le-ltb, length, length-set, lt-ltb, ltb, ltb-true, ne-eqb, not, pow-suc, refl, set, subst, suc, sym, true, untagged, zero, ℕ, ℕ-discrete}
-use Rattle.bucket_model.specs.Prelude.{Agree, AgreeOn, Alike, AlikeOn, Laid, Outcome, Shaped, agree, asked, bitWords, blankWord, cleared, edit, find, given, headAt, heldCount, isShaped, isWhole, joinedBits, joinedWords, joins, loaded, lowestIn, lowestOf, lowestOpen, lowestRank, marked, nextAt, nextOf, noLowest, nodeWords, opens, outcome, popFound, popped, pushFound, pushed, rankAgrees, replaceFound, replaceJoined, replaced, roomAfter, roomOf, roomWith, store, storeWords, storeysAt, storeysFrom, switched, tailAt, takenBits, takenWords, takes, tellsAbove, word, wordsOf, write}
+use Rattle.bucket_model.specs.Prelude.{Agree, AgreeOn, Alike, AlikeOn, Laid, Outcome, Shaped, agree, asked, bitWords, blankWord, cleared, edit, find, given, headAt, heldCount, isShaped, isWhole, joinedBits, joinedWords, joins, loaded, lowestIn, lowestOf, lowestOpen, lowestRank, signalled, nextAt, nextOf, noLowest, nodeWords, opens, outcome, popFound, popped, pushFound, pushed, rankAgrees, replaceFound, replaceJoined, replaced, roomAfter, roomOf, roomWith, store, storeWords, storeysAt, storeysFrom, switched, tailAt, takenBits, takenWords, takes, tellsAbove, word, wordsOf, write}
 use Rattle.bucket_model.specs.Layout.{Lay}
 use Rattle.bucket_model.specs.Calls.{Lowest, Room}
 use Rattle.bucket_model.proofs.Facts.{shape-means, opens-means}
@@ -141,17 +141,17 @@ module _ (k : Lay) (laid : Laid k) (B W : ℕ → Type 0) (all : Covers k B W) w
         go (suc d) a e = omega (arith, pow-pos64 d)
 
     module _ (p : Has B b) (q : Has B c) where
-      marked-same : (on : Bool) (r : ℕ) → r < k .ranks → AgreeOn B (marked on k b r) (marked on k c r)
-      unfolding marked
-      marked-same on r l = same-edit B on (k .bits) (k .storeys) b c r tower p q g (omega (arith, laid .ranks))
+      signalled-same : (on : Bool) (r : ℕ) → r < k .ranks → AgreeOn B (signalled on k b r) (signalled on k c r)
+      unfolding signalled
+      signalled-same on r l = same-edit B on (k .bits) (k .storeys) b c r tower p q g (omega (arith, laid .ranks))
 
       pub taken-bits-same : (low : Lowest) → low .rank < k .ranks → AgreeOn B (takenBits k b low) (takenBits k c low)
       unfolding takenBits
-      taken-bits-same low l = agree-cond B (eqb (low .next) 0) _ _ _ _ (marked-same false (low .rank) l) g
+      taken-bits-same low l = agree-cond B (eqb (low .next) 0) _ _ _ _ (signalled-same false (low .rank) l) g
 
       joined-bits-same : (e : Element) (to : Room) → e .rank .0 < k .ranks → AgreeOn B (joinedBits k b e to) (joinedBits k c e to)
       unfolding joinedBits
-      joined-bits-same e to l = agree-cond B (eqb (to .tail) 0) _ _ _ _ (marked-same true (e .rank .0) l) g
+      joined-bits-same e to l = agree-cond B (eqb (to .tail) 0) _ _ _ _ (signalled-same true (e .rank .0) l) g
 
   module _ (b c w v : List ℕ) (g : AgreeOn B b c) (h : AgreeOn W w v) where
     pub room-same : (used : ℕ) (r : ℕ) → r < k .ranks → roomWith k used b w r ≡ roomWith k used c v r

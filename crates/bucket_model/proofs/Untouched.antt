@@ -2,7 +2,7 @@
 use Rattle.laws.specs.Prelude.{Element, List, Pop, Push, Refusal, Replace, [], _+_, _<_, _^_, _∙_, _∷_, _≡_, _≤_, _⊎_, ap, arith, cond-path, eqb, false, inr, le-of-suc-le-suc, length, not-suc-le-zero, pow-suc, refl, suc, true, zero, ℕ}
 use Rattle.bitmap.specs.Bits as word64
 use Rattle.promise.proofs.Tabled.{either}
-use Rattle.bucket_model.specs.Prelude.{Laid, Opens, Untouched, asked, bitWords, bitsAfter, blankWord, cleared, fill, fillFrom, find, joinedBits, lowestOf, lowestRank, marked, popped, pushed, refused, replaced, roomAfter, roomOf, roomWith, storeWords, storeysFrom, takenBits, takenWords, word, wordsAfter, wordsOf}
+use Rattle.bucket_model.specs.Prelude.{Laid, Opens, Untouched, asked, bitWords, bitsAfter, blankWord, cleared, fill, fillFrom, find, joinedBits, lowestOf, lowestRank, signalled, popped, pushed, refused, replaced, roomAfter, roomOf, roomWith, storeWords, storeysFrom, takenBits, takenWords, word, wordsAfter, wordsOf}
 use Rattle.bucket_model.specs.Layout.{Lay}
 use Rattle.bucket_model.specs.Calls.{Lowest, Room}
 use Rattle.bucket_model.proofs.Exactly.{goes, goes-clear}
@@ -12,7 +12,7 @@ use Rattle.bucket_model.proofs.Taken.{taken-past, free-after}
 use Rattle.bucket_model.proofs.Joined.{joined-past}
 use Rattle.bucket_model.proofs.Pop.{taken-length, taken-bits-length}
 use Rattle.bucket_model.proofs.Push.{joined-length, joined-bits-length}
-use Rattle.bucket_model.proofs.Tower.{marked-away}
+use Rattle.bucket_model.proofs.Tower.{signalled-away}
 
 -- ---- a list filled from the front, past its end
 
@@ -51,11 +51,11 @@ module _ (k : Lay) (laid : Laid k) where
   -- words of bits that are none of the queue's
   pub taken-bits-away : (b : List ℕ) (low : Lowest) (i : ℕ) → low .rank < k .ranks → (i < k .bits) ⊎ (bitWords k ≤ i) → word (takenBits k b low) i ≡ word b i
   unfolding takenBits
-  taken-bits-away b low i h l = cond-path (λ x. word x i) (eqb (low .next) 0) (marked false k b (low .rank)) b (word b i) (marked-away false k laid b (low .rank) i h l) refl
+  taken-bits-away b low i h l = cond-path (λ x. word x i) (eqb (low .next) 0) (signalled false k b (low .rank)) b (word b i) (signalled-away false k laid b (low .rank) i h l) refl
 
   pub joined-bits-away : (b : List ℕ) (e : Element) (to : Room) (i : ℕ) → e .rank .0 < k .ranks → (i < k .bits) ⊎ (bitWords k ≤ i) → word (joinedBits k b e to) i ≡ word b i
   unfolding joinedBits
-  joined-bits-away b e to i h l = cond-path (λ x. word x i) (eqb (to .tail) 0) (marked true k b (e .rank .0)) b (word b i) (marked-away true k laid b (e .rank .0) i h l) refl
+  joined-bits-away b e to i h l = cond-path (λ x. word x i) (eqb (to .tail) 0) (signalled true k b (e .rank .0)) b (word b i) (signalled-away true k laid b (e .rank .0) i h l) refl
 
   pub rank-lt : (b : List ℕ) → ((i : ℕ) → word b i < 2 ^ 64) → Opens b (storeysFrom (k .bits) (k .storeys)) → lowestRank k b < k .ranks
   unfolding lowestRank

@@ -1,7 +1,7 @@
 -- The five calls as functions of every word that they are lent, to their answer and every word that they leave, wherever these words stand. These are definitions, and the contracts cite them.
 use Rattle.laws.specs.Prelude.{Answer, BadRank, BadShape, Bool, Count, Damaged, Done, Element, Empty, Full, Held, List, NoTag, Out, Refusal, Refused, Unknown, [], _%_, _&&_, _++_, _+_, _-_, _/_, _∷_, cond, eqb, false, length, ltb, not, suc, true, untagged, zero, ℕ}
 use Rattle.bucket_model.specs.Layout.{Lay, loadWords, nodeWords, bitWords, storeWords, word, write, headAt, tailAt, nextAt, loadIn, loadWrites, loadOf, loaded, noLoad}
-use Rattle.bucket_model.specs.Storeys.{marked, lowestRank, lowestOpen, rankAgrees}
+use Rattle.bucket_model.specs.Storeys.{signalled, lowestRank, lowestOpen, rankAgrees}
 use Rattle.bucket_model.specs.Checks.{shapeOk, wholeOk, nextOf, popOk, Reads, pushOk}
 pub use Rattle.bucket_model.specs.declared.Lowest.{Lowest}
 pub use Rattle.bucket_model.specs.declared.Room.{Room}
@@ -95,7 +95,7 @@ unfoldable pub takenWords : Lay → List ℕ → Lowest → List ℕ
 takenWords k w low = write w (takes k w low)
 
 unfoldable pub takenBits : Lay → List ℕ → Lowest → List ℕ
-takenBits k b low = cond (eqb (low .next) 0) (marked false k b (low .rank)) b
+takenBits k b low = cond (eqb (low .next) 0) (signalled false k b (low .rank)) b
 
 -- the element that the pop gives
 abbrev pub given : Lay → List ℕ → Lowest → Element
@@ -156,7 +156,7 @@ unfoldable pub joinedWords : Lay → List ℕ → Element → Room → List ℕ
 joinedWords k w e to = write w (joins k w e to)
 
 unfoldable pub joinedBits : Lay → List ℕ → Element → Room → List ℕ
-joinedBits k b e to = cond (eqb (to .tail) 0) (marked true k b (e .rank .0)) b
+joinedBits k b e to = cond (eqb (to .tail) 0) (signalled true k b (e .rank .0)) b
 
 unfoldable pub pushFound : Lay → List ℕ → List ℕ → Element → Room → Outcome
 pushFound k b w e to =

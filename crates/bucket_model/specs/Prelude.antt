@@ -11,7 +11,7 @@ pub use Rattle.bucket_model.specs.Plain.{Call, FirstOut, Reached, Reused
 pub use Rattle.bucket_model.specs.Promise.{Agree, AgreeOn, Alike, AlikeOn, BitsTell, BitsTellThree, Blank, Blind, Depth, Grouped, Lies, Occupied, Shape, Shows, Spare, bucketQueue, popLeaves, shortCall, shortSaid, storedBy, threeStoreys, twoStoreys}
 unfoldable pub use Rattle.bucket_model.specs.Spoilt.{spoiltTable}
 pub use Rattle.bucket_model.specs.Spoilt.{Right, Row, Spoil, at, inBits, inWords, nothing, numbers, small, spoil}
-unfoldable pub use Rattle.bucket_model.specs.Storeys.{lowestOpen, lowestRank, marked, rankAgrees}
+unfoldable pub use Rattle.bucket_model.specs.Storeys.{lowestOpen, lowestRank, signalled, rankAgrees}
 pub use Rattle.bucket_model.specs.Storeys.{Storey, agree, bitFor, bitOf, edit, find, opens, storey, storeysAt, storeysFrom, switched, tellsAbove, wordOf}
 pub use Rattle.bucket_model.specs.declared.Lay.{Lay}
 pub use Rattle.bucket_model.specs.declared.Lowest.{Lowest}

@@ -73,8 +73,8 @@ agree b (p ∷ ps) j empty = not (Bool·beq empty (bitOf b p j)) && agree b ps (
 -- ---- the queue's ranks
 
 -- a rank's bits set, or cleared
-unfoldable pub marked : Bool → Lay → List ℕ → ℕ → List ℕ
-marked on k b r = edit on b (storeysAt k) r
+unfoldable pub signalled : Bool → Lay → List ℕ → ℕ → List ℕ
+signalled on k b r = edit on b (storeysAt k) r
 
 unfoldable pub lowestRank : Lay → List ℕ → ℕ
 lowestRank k b = find b (storeysAt k)

@@ -4,7 +4,7 @@ use Rattle.bucket_model.specs.declared.Lay.{Lay}
 use Rattle.bucket_model.specs.declared.Lowest.{Lowest}
 use Rattle.bucket_model.specs.declared.Reads.{Reads}
 use Rattle.bucket_model.specs.declared.Room.{Room}
-use Rattle.bucket_model.specs.Prelude.{Agrees, Laid, Whole, agree, headAt, isWhole, lowestIn, lowestOf, lowestOpen, lowestRank, marked, nextOf, noLowest, popOk, pushOk, rankAgrees, readsOf, roomAfter, roomWith, storeWords, storeysAt, tailAt, tailLeft, takenBits, takenWords, wholeOk, word}
+use Rattle.bucket_model.specs.Prelude.{Agrees, Laid, Whole, agree, headAt, isWhole, lowestIn, lowestOf, lowestOpen, lowestRank, signalled, nextOf, noLowest, popOk, pushOk, rankAgrees, readsOf, roomAfter, roomWith, storeWords, storeysAt, tailAt, tailLeft, takenBits, takenWords, wholeOk, word}
 use Rattle.bucket_model.proofs.Laws.{agree-means, free-after, head-else, head-own, held-after, low-is, next-else, next-own, pop-means, pop-way, tail-else, tail-own}
 use Rattle.bucket_bits.specs.Climbs.{Tall, Leads, bitsLeft, Agreed}
 use Rattle.bucket_bits.proofs.Numbers.{words-le}
@@ -349,7 +349,7 @@ module _ (k : Lay) (w : List ℕ) (low : Lowest) (t : Takable k w low) where
 -- what the bits say, once a pop has cleared its own
 pub agreed-then : (k : Lay) (b : List ℕ) (low : Lowest) (r : ℕ) (empty agrees : Bool) (top held : ℕ) → Agreed b (k .bits) (k .storeys) (eqb (low .next) 0) (low .rank) empty r agrees top
     → (agrees && Bool·beq (eqb top 0) (eqb held 1)) ≡ (rankAgrees k (takenBits k b low) r empty && Bool·beq (eqb (word (takenBits k b low) (k .bits)) 0) (eqb held 1))
-unfolding rankAgrees takenBits marked
+unfolding rankAgrees takenBits signalled
 agreed-then k b low r empty agrees top held a = go agrees refl
   where
     go : (t : Bool) → agrees ≡ t → (agrees && Bool·beq (eqb top 0) (eqb held 1)) ≡ (agree (bitsLeft b (k .bits) (k .storeys) (eqb (low .next) 0) (low .rank)) (storeysAt k) r empty && Bool·beq (eqb (word (bitsLeft b (k .bits) (k .storeys) (eqb (low .next) 0) (low .rank)) (k .bits)) 0) (eqb held 1))

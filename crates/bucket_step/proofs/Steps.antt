@@ -3,9 +3,9 @@ use Rattle.laws.specs.Prelude.{Bool, Element, Iff, List, _<_, _^_, _∙_, _≡_
 use Rattle.bucket_model.specs.declared.Lay.{Lay}
 use Rattle.bucket_model.specs.declared.Lowest.{Lowest}
 use Rattle.bucket_model.specs.declared.Room.{Room}
-use Rattle.bucket_model.specs.Prelude.{Agrees, edit, headAt, joinedBits, lowestOf, lowestRank, marked, mostStoreys, nextOf, roomWith, storeysAt, tailAt, takenBits, takenWords, word}
+use Rattle.bucket_model.specs.Prelude.{Agrees, edit, headAt, joinedBits, lowestOf, lowestRank, signalled, mostStoreys, nextOf, roomWith, storeysAt, tailAt, takenBits, takenWords, word}
 use Rattle.bucket_model.proofs.Laws.{free-after, join-means, low-is, next-own, pop-means, pop-way, taken-bits-length}
-use Rattle.bucket_bits.specs.Climbs.{Tall, Switchable, Marking}
+use Rattle.bucket_bits.specs.Climbs.{Tall, Switchable, Signalling}
 use Rattle.bucket_bits.proofs.Up.{agreed-switchable, agreed-stays, switchable-stays}
 use Rattle.bucket_step.specs.Tested.{Stands, FoundLow, FoundRoom, Freeing, roomFreed}
 use Rattle.bucket_step.proofs.Read.{tall, fits, freed-means}
@@ -39,8 +39,8 @@ module _ (k : Lay) (b w : List ℕ) where
       }
 
   -- the bits of a bucket that passes its tests
-  pub marks-of : (r tail : ℕ) → tail ≡ word w (tailAt k r) → Iff (word w (headAt k r) ≡ 0) (word w (tailAt k r) ≡ 0) → Agrees b (storeysAt k) r (word w (headAt k r) ≡ 0) → Marking true (eqb tail 0) b (storeysAt k) r
-  marks-of r tail e both bits =
+  pub signals-of : (r tail : ℕ) → tail ≡ word w (tailAt k r) → Iff (word w (headAt k r) ≡ 0) (word w (tailAt k r) ≡ 0) → Agrees b (storeysAt k) r (word w (headAt k r) ≡ 0) → Signalling true (eqb tail 0) b (storeysAt k) r
+  signals-of r tail e both bits =
       record {
         turns = λ z. agreed-switchable b (storeysAt k) r (word w (headAt k r) ≡ 0) bits (both .from (sym e ∙ eqb-true tail 0 z));
         stays = λ z. agreed-stays b (storeysAt k) r (word w (headAt k r) ≡ 0) bits (λ h. eqb-false tail 0 z (e ∙ both .to h));
@@ -55,7 +55,7 @@ module _ (k : Lay) (b w : List ℕ) where
       record {
         stands = s;
         joinable = record { node = record { fits = fits k b w s; some = some; high = free≤ }; rank< = l; tail≤ = omega (arith, p .tail≤); held< = held< };
-        marks = marks-of r (to .tail) e (p .both) (p .bits);
+        signals = signals-of r (to .tail) e (p .both) (p .bits);
       }
 
 -- .. and on the store as after the pop the freed node can join it
@@ -81,20 +81,20 @@ swapping k b w low r good? to f l e g =
             tail≤ = omega (arith, p .0 .1 .0 .0 .1);
             next = next ∙ ap (nextOf k W) (free-after k lay w low long) ∙ next-own k lay w low long (t .rank<) (t .node .some) (t .node .high);
           };
-      marks = marks-of k B W r (to .tail) tail (p .0 .1 .0 .0 .0 .0) (p .1);
+      signals = signals-of k B W r (to .tail) tail (p .0 .1 .0 .0 .0 .0) (p .1);
     }
 
 -- the bits of the lowest bucket, where it is emptied
-pub clears : (k : Lay) (b : List ℕ) (low : Lowest) → Switchable false b (storeysAt k) (low .rank) → Marking false (eqb (low .next) 0) b (storeysAt k) (low .rank)
+pub clears : (k : Lay) (b : List ℕ) (low : Lowest) → Switchable false b (storeysAt k) (low .rank) → Signalling false (eqb (low .next) 0) b (storeysAt k) (low .rank)
 clears k b low t = record { turns = λ z. t; stays = λ z. switchable-stays b (storeysAt k) (low .rank) t }
 
 -- the bits written
 pub taken-is : (k : Lay) (b b′ : List ℕ) (low : Lowest) → b′ ≡ cond (eqb (low .next) 0) (edit false b (storeysAt k) (low .rank)) b → b′ ≡ takenBits k b low
-unfolding takenBits marked
+unfolding takenBits signalled
 taken-is k b b′ low e = e
 
 pub joined-is : (k : Lay) (b b′ : List ℕ) (e : Element) (to : Room) → b′ ≡ cond (eqb (to .tail) 0) (edit true b (storeysAt k) (e .rank .0)) b → b′ ≡ joinedBits k b e to
-unfolding joinedBits marked
+unfolding joinedBits signalled
 joined-is k b b′ e to p = p
 
 -- .. and its bits can be set on those that the pop leaves
@@ -105,5 +105,5 @@ showing k b w low r to h b′ e =
     record {
       tall = record { words = t .words; long = omega (arith, t .long); some = t .some; few = t .few };
       rank< = omega (arith, h .swappable .rank<, h .frees .stands .laid .ranks);
-      marks = subst (λ (x : List ℕ). Marking true (eqb (to .tail) 0) x (storeysAt k) r) (sym e) (h .marks);
+      signals = subst (λ (x : List ℕ). Signalling true (eqb (to .tail) 0) x (storeysAt k) r) (sym e) (h .signals);
     }

@@ -1,5 +1,5 @@
 // What the bucket queue's calls write, once every test holds: a bucket's words and its bits.
-use bucket_bits::mark;
+use bucket_bits::signal;
 use bucket_model::Lay;
 use bucket_model::Lowest;
 use bucket_model::Room;
@@ -20,7 +20,7 @@ pub fn take(bits: &mut [u64], words: &mut [u32], k: Lay, low: Lowest)
     ensures { λ _. ⌜ (now (bits .exit) ≡ takenBits k (now (bits .entry)) low) × (now (words .exit) ≡ takenWords k (now (words .entry)) low) ⌝ }
 {
     take_words(words, k, low);
-    mark(
+    signal(
         bits,
         false,
         low.next == 0,
@@ -38,7 +38,7 @@ pub fn join(bits: &mut [u64], words: &mut [u32], k: Lay, e: Element, to: Room)
 {
     let rank = e.rank;
     join_words(words, k, e, to);
-    mark(bits, true, to.tail == 0, k.bits, k.storeys, k.tower, rank.0);
+    signal(bits, true, to.tail == 0, k.bits, k.storeys, k.tower, rank.0);
 }
 
 // Takes the head out of the lowest bucket, with its bits where that empties it, and joins its node, with what the newcomer
@@ -48,7 +48,7 @@ pub fn swap(bits: &mut [u64], words: &mut [u32], k: Lay, low: Lowest, e: Element
     ensures { λ _. ⌜ (now (bits .exit) ≡ takenBits k (now (bits .entry)) low) × (now (words .exit) ≡ joinedWords k (takenWords k (now (words .entry)) low) e to) ⌝ }
 {
     swap_words(words, k, low, e, to);
-    mark(
+    signal(
         bits,
         false,
         low.next == 0,
@@ -65,5 +65,5 @@ pub fn show(bits: &mut [u64], k: Lay, e: Element, to: Room)
     ensures { λ _. ⌜ now (bits .exit) ≡ joinedBits k (now (bits .entry)) e to ⌝ }
 {
     let rank = e.rank;
-    mark(bits, true, to.tail == 0, k.bits, k.storeys, k.tower, rank.0);
+    signal(bits, true, to.tail == 0, k.bits, k.storeys, k.tower, rank.0);
 }

@@ -7,7 +7,7 @@ use Rattle.card_words.specs.Store.{storeAfter, storeAfterOut, storeAnswered}
 use Rattle.card_words.specs.Asked.{requestOf}
 use Rattle.card_words.specs.Out.{countAfter, countAnswered, refusedOut}
 use Rattle.lines_model.specs.Calls.{called, cleared, heldCount, wipe}
-use Rattle.lines_model.specs.Clock.{clockCleared, clockHeld, drains, dueOk, had, settled, turned, turnOk}
+use Rattle.lines_model.specs.Clock.{clockCleared, clockHeld, drains, dueOk, had, settled, cycled, cycleOk}
 use Rattle.lines_model.specs.Layout.{lineOf, powerOfTwo, putIn, rowIn, rowSet, shapeOk, without}
 use Rattle.lines_model.specs.Rules.{ascends, choose, counted, countsBelow, dueOf, giver, goal, leads, lineOk, linesOk, lowest, owned, seek, taker, total, worked}
 use Rattle.lines_records.specs.Lent.{lentCleared, lentCycled, lentDrains, pendingOf, readable}
@@ -90,7 +90,7 @@ pub case-cycles : (linesClockCycle 1 2 3 caseOne ((0 ∷ 8 ∷ 8 ∷ 8 ∷ 8 ∷
     ≡ clockAfterOut 0 (0 ∷ 2 ∷ 5 ∷ 51 ∷ 510 ∷ 0 ∷ 0 ∷ 0 ∷ 0 ∷ 0 ∷ 0 ∷ 40000 ∷ 40 ∷ 400 ∷ 0 ∷ 0 ∷ 0 ∷ 0 ∷ 0 ∷ 0 ∷ 77 ∷ []) ((3 ∷ 0 ∷ 40000 ∷ 41 ∷ 410 ∷ []) ∷ (6 ∷ 6 ∷ 6 ∷ 6 ∷ 6 ∷ []) ∷ []) (5 ∷ 51 ∷ 510 ∷ 77 ∷ []))
     × (linesClockCycle 1 2 3 (0 ∷ 2 ∷ 5 ∷ 51 ∷ 510 ∷ 0 ∷ 0 ∷ 0 ∷ 0 ∷ 0 ∷ 0 ∷ 40000 ∷ 40 ∷ 400 ∷ 0 ∷ 0 ∷ 0 ∷ 0 ∷ 0 ∷ 0 ∷ 77 ∷ []) ((3 ∷ 0 ∷ 40000 ∷ 41 ∷ 410 ∷ []) ∷ (6 ∷ 6 ∷ 6 ∷ 6 ∷ 6 ∷ []) ∷ []) 0 1 1 1 (9 ∷ 9 ∷ 9 ∷ 77 ∷ [])
     ≡ clockAfterOut 0 (0 ∷ 2 ∷ 0 ∷ 0 ∷ 0 ∷ 0 ∷ 0 ∷ 0 ∷ 0 ∷ 0 ∷ 0 ∷ 40000 ∷ 40 ∷ 400 ∷ 40000 ∷ 41 ∷ 410 ∷ 0 ∷ 0 ∷ 0 ∷ 77 ∷ []) ((0 ∷ 0 ∷ 0 ∷ 0 ∷ 0 ∷ []) ∷ (6 ∷ 6 ∷ 6 ∷ 6 ∷ 6 ∷ []) ∷ []) (0 ∷ 0 ∷ 0 ∷ 77 ∷ []))
-unfolding linesClockCycle linesClockDrain requestOf countAnswered refusedOut lentCleared lentCycled lentDrains readable pendingOf clockCleared clockHeld turned drains drainBy isRefused turnOk dueOk had settled wipe choose taker giver goal seek leads lowest total dueOf counted worked countsBelow ascends owned lineOk linesOk putIn without rowIn rowSet shapeOk powerOfTwo lineOf blank untagged
+unfolding linesClockCycle linesClockDrain requestOf countAnswered refusedOut lentCleared lentCycled lentDrains readable pendingOf clockCleared clockHeld cycled drains drainBy isRefused cycleOk dueOk had settled wipe choose taker giver goal seek leads lowest total dueOf counted worked countsBelow ascends owned lineOk linesOk putIn without rowIn rowSet shapeOk powerOfTwo lineOf blank untagged
 case-cycles = (refl, refl, refl, refl)
 
 -- a push to line 1, and the cycle in which it is sorted in
@@ -98,7 +98,7 @@ pub case-pushed : (linesClockCycle 1 2 3 caseOne ((0 ∷ 0 ∷ 0 ∷ 0 ∷ 0 ∷
     ≡ clockAfterOut 0 (3 ∷ 2 ∷ 3 ∷ 30 ∷ 300 ∷ 5 ∷ 50 ∷ 500 ∷ 5 ∷ 51 ∷ 510 ∷ 40000 ∷ 40 ∷ 400 ∷ 0 ∷ 0 ∷ 0 ∷ 0 ∷ 0 ∷ 0 ∷ 77 ∷ []) ((1 ∷ 1 ∷ 50000 ∷ 60 ∷ 600 ∷ []) ∷ (6 ∷ 6 ∷ 6 ∷ 6 ∷ 6 ∷ []) ∷ []) (0 ∷ 0 ∷ 0 ∷ 77 ∷ []))
     × (linesClockCycle 1 2 3 (3 ∷ 2 ∷ 3 ∷ 30 ∷ 300 ∷ 5 ∷ 50 ∷ 500 ∷ 5 ∷ 51 ∷ 510 ∷ 40000 ∷ 40 ∷ 400 ∷ 0 ∷ 0 ∷ 0 ∷ 0 ∷ 0 ∷ 0 ∷ 77 ∷ []) ((1 ∷ 1 ∷ 50000 ∷ 60 ∷ 600 ∷ []) ∷ (6 ∷ 6 ∷ 6 ∷ 6 ∷ 6 ∷ []) ∷ []) 0 1 1 1 (9 ∷ 9 ∷ 9 ∷ 77 ∷ [])
     ≡ clockAfterOut 0 (3 ∷ 2 ∷ 3 ∷ 30 ∷ 300 ∷ 5 ∷ 50 ∷ 500 ∷ 5 ∷ 51 ∷ 510 ∷ 40000 ∷ 40 ∷ 400 ∷ 50000 ∷ 60 ∷ 600 ∷ 0 ∷ 0 ∷ 0 ∷ 77 ∷ []) ((0 ∷ 0 ∷ 0 ∷ 0 ∷ 0 ∷ []) ∷ (6 ∷ 6 ∷ 6 ∷ 6 ∷ 6 ∷ []) ∷ []) (0 ∷ 0 ∷ 0 ∷ 77 ∷ []))
-unfolding linesClockCycle linesClockDrain requestOf countAnswered refusedOut lentCleared lentCycled lentDrains readable pendingOf clockCleared clockHeld turned drains drainBy isRefused turnOk dueOk had settled wipe choose taker giver goal seek leads lowest total dueOf counted worked countsBelow ascends owned lineOk linesOk putIn without rowIn rowSet shapeOk powerOfTwo lineOf blank untagged
+unfolding linesClockCycle linesClockDrain requestOf countAnswered refusedOut lentCleared lentCycled lentDrains readable pendingOf clockCleared clockHeld cycled drains drainBy isRefused cycleOk dueOk had settled wipe choose taker giver goal seek leads lowest total dueOf counted worked countsBelow ascends owned lineOk linesOk putIn without rowIn rowSet shapeOk powerOfTwo lineOf blank untagged
 case-pushed = (refl, refl)
 
 -- refused 5 the cycle runs as an idle one, and the record is written; refused 1, for its kind and for the request, and 2 it stands
@@ -110,7 +110,7 @@ pub case-cycle-refusals : (linesClockCycle 1 2 3 caseOne ((0 ∷ 8 ∷ 8 ∷ 8 �
     ≡ clockAfterOut 1 caseOne ((0 ∷ 8 ∷ 8 ∷ 8 ∷ 8 ∷ []) ∷ (6 ∷ 6 ∷ 6 ∷ 6 ∷ 6 ∷ []) ∷ []) (0 ∷ 0 ∷ 0 ∷ 77 ∷ []))
     × (linesClockCycle 1 2 3 caseOne ((2 ∷ 2 ∷ 8 ∷ 8 ∷ 8 ∷ []) ∷ (6 ∷ 6 ∷ 6 ∷ 6 ∷ 6 ∷ []) ∷ []) 0 1 1 1 (9 ∷ 9 ∷ 9 ∷ 77 ∷ [])
     ≡ clockAfterOut 2 caseOne ((2 ∷ 2 ∷ 8 ∷ 8 ∷ 8 ∷ []) ∷ (6 ∷ 6 ∷ 6 ∷ 6 ∷ 6 ∷ []) ∷ []) (0 ∷ 0 ∷ 0 ∷ 77 ∷ []))
-unfolding linesClockCycle linesClockDrain requestOf countAnswered refusedOut lentCleared lentCycled lentDrains readable pendingOf clockCleared clockHeld turned drains drainBy isRefused turnOk dueOk had settled wipe choose taker giver goal seek leads lowest total dueOf counted worked countsBelow ascends owned lineOk linesOk putIn without rowIn rowSet shapeOk powerOfTwo lineOf blank untagged
+unfolding linesClockCycle linesClockDrain requestOf countAnswered refusedOut lentCleared lentCycled lentDrains readable pendingOf clockCleared clockHeld cycled drains drainBy isRefused cycleOk dueOk had settled wipe choose taker giver goal seek leads lowest total dueOf counted worked countsBelow ascends owned lineOk linesOk putIn without rowIn rowSet shapeOk powerOfTwo lineOf blank untagged
 case-cycle-refusals = (refl, refl, refl, refl)
 
 -- a drain: one cycle is enough; with nothing pending none is run, and the record stands; with no budget, and refused 2, work is left; and no record is lent
@@ -124,7 +124,7 @@ pub case-drains : (linesClockDrain 1 2 3 (0 ∷ 2 ∷ 5 ∷ 51 ∷ 510 ∷ 0 ∷
     ≡ clockAfterOut 2 caseOne ((2 ∷ 2 ∷ 8 ∷ 8 ∷ 8 ∷ []) ∷ []) (0 ∷ 1 ∷ 77 ∷ []))
     × (linesClockDrain 1 2 3 caseOne [] 5 (9 ∷ 9 ∷ 77 ∷ [])
     ≡ clockAfterOut 1 caseOne [] (0 ∷ 0 ∷ 77 ∷ []))
-unfolding linesClockCycle linesClockDrain requestOf countAnswered refusedOut lentCleared lentCycled lentDrains readable pendingOf clockCleared clockHeld turned drains drainBy isRefused turnOk dueOk had settled wipe choose taker giver goal seek leads lowest total dueOf counted worked countsBelow ascends owned lineOk linesOk putIn without rowIn rowSet shapeOk powerOfTwo lineOf blank untagged
+unfolding linesClockCycle linesClockDrain requestOf countAnswered refusedOut lentCleared lentCycled lentDrains readable pendingOf clockCleared clockHeld cycled drains drainBy isRefused cycleOk dueOk had settled wipe choose taker giver goal seek leads lowest total dueOf counted worked countsBelow ascends owned lineOk linesOk putIn without rowIn rowSet shapeOk powerOfTwo lineOf blank untagged
 case-drains = (refl, refl, refl, refl, refl)
 
 -- clear reads no record, and held is lent none
@@ -132,5 +132,5 @@ pub case-unread : (linesClockClear 1 2 3 caseOne ((7 ∷ 8 ∷ 8 ∷ 8 ∷ 8 ∷
     ≡ clockAfter 0 bareStore ((0 ∷ 0 ∷ 0 ∷ 0 ∷ 0 ∷ []) ∷ (6 ∷ 6 ∷ 6 ∷ 6 ∷ 6 ∷ []) ∷ []))
     × (linesClockHeld 1 2 3 (0 ∷ 2 ∷ 5 ∷ 51 ∷ 510 ∷ 0 ∷ 0 ∷ 0 ∷ 0 ∷ 0 ∷ 0 ∷ 40000 ∷ 40 ∷ 400 ∷ 0 ∷ 0 ∷ 0 ∷ 0 ∷ 0 ∷ 0 ∷ 77 ∷ []) (9 ∷ 77 ∷ [])
     ≡ countAfter 0 (2 ∷ 77 ∷ []))
-unfolding linesClockCycle linesClockDrain requestOf countAnswered refusedOut lentCleared lentCycled lentDrains readable pendingOf clockCleared clockHeld turned drains drainBy isRefused turnOk dueOk had settled wipe choose taker giver goal seek leads lowest total dueOf counted worked countsBelow ascends owned lineOk linesOk putIn without rowIn rowSet shapeOk powerOfTwo lineOf blank untagged
+unfolding linesClockCycle linesClockDrain requestOf countAnswered refusedOut lentCleared lentCycled lentDrains readable pendingOf clockCleared clockHeld cycled drains drainBy isRefused cycleOk dueOk had settled wipe choose taker giver goal seek leads lowest total dueOf counted worked countsBelow ascends owned lineOk linesOk putIn without rowIn rowSet shapeOk powerOfTwo lineOf blank untagged
 case-unread = (refl, refl)

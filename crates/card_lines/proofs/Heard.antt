@@ -13,7 +13,7 @@ use Rattle.lines_model.proofs.Clocked.{inFlight, lines-running, ticks}
 use Rattle.lines_model.proofs.Promises.{lines-answer, lines-promise}
 use Rattle.lines_model.specs.Calls.{called, cleared, lines}
 use Rattle.lines_model.specs.Causes.{Shaped}
-use Rattle.lines_model.specs.Clock.{fresh, Machine, machine, turning}
+use Rattle.lines_model.specs.Clock.{fresh, Machine, machine, ticking}
 use Rattle.lines_model.specs.Promise.{storedBy}
 use Rattle.lines_model.specs.declared.Due.the-variants.{Rest}
 use Rattle.lines_model.specs.declared.Rows.{Rows}
@@ -76,19 +76,19 @@ module _ (kind count places : ℕ) (out : List ℕ) (room : answerWords ≤ leng
   unfolding linesClockCycle
   cycle-through q x = rw (le-leb answerWords (length out) room, asked q, asks-for q) refl
 
-  clock-kinds : (q : Request) (m : Machine) → numberOf (turning k q m .said) ≡ 0 → Kind q (turning k q m .said)
+  clock-kinds : (q : Request) (m : Machine) → numberOf (ticking k q m .said) ≡ 0 → Kind q (ticking k q m .said)
   clock-kinds q m = clocks.kind (ticks k) (λ q z. grants-kind q _) q m
 
-  cycle-said : (q : Request) (x : Memory) (m : Machine) → Holds x m → heard q (linesClockC kind count places out q x .said) ≡ turning k q m .said
+  cycle-said : (q : Request) (x : Memory) (m : Machine) → Holds x m → heard q (linesClockC kind count places out q x .said) ≡ ticking k q m .said
   cycle-said q x m h =
       let a = lentCycled k (x .records) (x .words) q .answer in
-      let e : a ≡ turning k q m .said = one-said k (x .records) (x .words) m h (cycle q) in
+      let e : a ≡ ticking k q m .said = one-said k (x .records) (x .words) m h (cycle q) in
       ap (λ (b : ClockAfterOut). heard q (countAfter (b .number) (b .out))) (cycle-through q x)
       ∙ heard-told q a out room (λ z. subst (Kind q) (sym e) (clock-kinds q m (ap numberOf (sym e) ∙ z))) ∙ e
 
-  cycle-next : (q : Request) (x : Memory) (m : Machine) → Holds x m → Holds (linesClockC kind count places out q x .next) (turning k q m .next)
+  cycle-next : (q : Request) (x : Memory) (m : Machine) → Holds x m → Holds (linesClockC kind count places out q x .next) (ticking k q m .next)
   cycle-next q x m h =
-      subst (λ (b : ClockAfterOut). Holds (memory (b .records) (b .store)) (turning k q m .next)) (sym (cycle-through q x)) (one-next k (x .records) (x .words) m h (cycle q))
+      subst (λ (b : ClockAfterOut). Holds (memory (b .records) (b .store)) (ticking k q m .next)) (sym (cycle-through q x)) (one-next k (x .records) (x .words) m h (cycle q))
 
   -- what the memory holds, in flight too
   abbrev pub heldIn : Memory → (Element → Bool) → ℕ
@@ -99,6 +99,6 @@ module _ (kind count places : ℕ) (out : List ℕ) (room : answerWords ≤ leng
       → Heard (λ q. q) (linesClockC kind count places out) heldIn qs (clearedMemory k (memory rs ws))
   lines-clock-heard ws rs sh lent qs =
       let all = lines-running k (machine ws Rest) sh qs in
-      heard-promised (λ q. q) (linesClockC kind count places out) (turning k) Holds cycle-said cycle-next heldIn (inFlight k)
+      heard-promised (λ q. q) (linesClockC kind count places out) (ticking k) Holds cycle-said cycle-next heldIn (inFlight k)
       (λ x m h f. ap (λ (z : Machine). inFlight k z f) (λ i. machine (h .words i) (h .due i))) qs (clearedMemory k (memory rs ws)) (fresh k (machine ws Rest))
       (lent-cleared k rs ws lent (shape-ok k (length ws) sh)) (all .holds) (λ q. all .least q)

@@ -4,7 +4,7 @@ use Rattle.card_lines.specs.Lines.{linesWords, rows}
 use Rattle.lines_model.proofs.Tests.{shape-means}
 use Rattle.lines_model.specs.Layout.{shapeOk, storeWords}
 use Rattle.lines_model.specs.declared.Rows.{Rows}
-use Rattle.lines_steps.proofs.Finds.{small}
+use Rattle.lines_work.proofs.Finds.{small}
 
 -- No store needs more than the longest, so that the test may ask for any length from there on
 module _ (kind lines places : ℕ) where

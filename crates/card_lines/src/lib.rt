@@ -15,7 +15,7 @@ use lines::pop;
 use lines::push;
 use lines::replace;
 use lines_model::Rows;
-use lines_steps::shape_ok;
+use lines_work::shape_ok;
 use strip::element_of;
 use strip::number;
 

@@ -6,7 +6,7 @@ ghost use Rattle.card_packed.specs.Packed.{packedClear, packedHeld, pack
 use card_words::OUT;
 use card_words::tell;
 use card_words::tell_count;
-use packed_steps::power;
+use packed_way::power;
 use strip::Element;
 use strip::Length;
 use strip::Rank;

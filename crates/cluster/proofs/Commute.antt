@@ -2,7 +2,7 @@
 use Rattle.laws.specs.Prelude.{Bool, Element, List, [], _*_, _+_, _<_, _∙_, _∷_, _≡_, ap, ap₂, arith, elementIn, elementWords, eqb, false, getD-set-other, inl, ltb, ltb-false, ltb-true, not-suc-le-zero, pred, refl, set, set-comm, subst, suc, sym, true, writeElement, zero, ℕ}
 use Rattle.strip.proofs.Words.{write-both, write-past}
 use Rattle.promise.specs.Prelude.{always}
-use Rattle.cluster_model.specs.Prelude.{Finished, Neat, NeatPlace, NeatRow, Node, Op, Place, Side, begin, child, elemOf, finish, has, inside, lhs, low, lowElem, lowIn, markAt, markOf, neatPlace, neatTo, nodeIn, nodeOf, none, placeBy, placeOf, placeWords, rhs, runWords, stepIn, touch, width, word, works, writeNode, writePlace, writeRow}
+use Rattle.cluster_model.specs.Prelude.{Finished, Neat, NeatPlace, NeatRow, Node, Op, Place, Side, begin, child, elemOf, finish, has, inside, lhs, low, lowElem, lowIn, flagAt, flagOf, neatPlace, neatTo, nodeIn, nodeOf, none, placeBy, placeOf, placeWords, rhs, runWords, stepIn, touch, width, word, works, writeNode, writePlace, writeRow}
 use Rattle.cluster_node.proofs.Fulls.{and-l, and-r}
 use Rattle.cluster_node.specs.Leaf.{elemAt, lookNode, placeIn, sinkWords, raiseWords}
 use Rattle.cluster_node.specs.Scan.{lowerThan, scan}
@@ -15,8 +15,8 @@ use Rattle.cluster_node.proofs.Bridge.{look-low}
 place-set : (ws : List ℕ) (i x o : ℕ) (p : Place) → i < o → writePlace (set ws i x) o p ≡ set (writePlace ws o p) i x
 unfolding writePlace
 place-set ws i x o p h =
-    ap (λ (l : List ℕ). set l (markAt o) (markOf p)) (sym (write-past ws o i x (elemOf p) (inl h)))
-    ∙ set-comm (writeElement ws o (elemOf p)) i (markAt o) x (markOf p) (λ e. omega arith)
+    ap (λ (l : List ℕ). set l (flagAt o) (flagOf p)) (sym (write-past ws o i x (elemOf p) (inl h)))
+    ∙ set-comm (writeElement ws o (elemOf p)) i (flagAt o) x (flagOf p) (λ e. omega arith)
 
 row-set : (ps : List Place) (ws : List ℕ) (i x o : ℕ) → i < o → writeRow ps (set ws i x) o ≡ set (writeRow ps ws o) i x
 unfolding writeRow
@@ -64,8 +64,8 @@ run-set K (suc k) o m ws i x h =
 pub run-place : (K k : ℕ) (o : Op) (m : ℕ) (ws : List ℕ) (i : ℕ) (p : Place) → i + elementWords < m * width K → runWords K k o m (writePlace ws i p) ≡ writePlace (runWords K k o m ws) i p
 unfolding writePlace
 run-place K k o m ws i p h =
-    run-set K k o m (writeElement ws i (elemOf p)) (markAt i) (markOf p) h
-    ∙ ap (λ (l : List ℕ). set l (markAt i) (markOf p))
+    run-set K k o m (writeElement ws i (elemOf p)) (flagAt i) (flagOf p) h
+    ∙ ap (λ (l : List ℕ). set l (flagAt i) (flagOf p))
     (write-both (λ us vs. runWords K k o m us ≡ vs) i (λ us vs j x g g′ e. run-set K k o m us j x (omega arith) ∙ ap (λ (l : List ℕ). set l j x) e) ws (runWords K k o m ws) (elemOf p) refl)
 
 pub run-sink : (K k : ℕ) (o : Op) (m : ℕ) (right : Bool) (ws : List ℕ) (i l r : ℕ) → i + 1 < m * width K → runWords K k o m (sinkWords right ws i l r) ≡ sinkWords right (runWords K k o m ws) i l r

@@ -293,11 +293,11 @@ module _ (K left m limit : ℕ) (x : Element) (ws : List ℕ) (o : ℕ) (at : o 
     lead : f ≡ highLead ws (m * width K + 2) K
     lead = led ∙ ap (λ (o : ℕ). highLead ws (o + 2) K) at
 
-    marks : f .full ≡ fullTo ws (m * width K + 2) K
-    marks = ap (λ (u : Lead). u .full) lead
+    flags : f .full ≡ fullTo ws (m * width K + 2) K
+    flags = ap (λ (u : Lead). u .full) lead
 
     pub put-end : not (f .full) ≡ true → (g : Bool) (q : List ℕ) → went g q ≡ putEnd K limit o x ws → went g q ≡ putIn K left m limit x ws
-    put-end t g q e = e ∙ ap (λ (o : ℕ). putEnd K limit o x ws) at ∙ end-in (sym marks ∙ not-true (f .full) t)
+    put-end t g q e = e ∙ ap (λ (o : ℕ). putEnd K limit o x ws) at ∙ end-in (sym flags ∙ not-true (f .full) t)
 
     module _ (full : not (f .full) ≡ false) (big : 1 < K) (more : ℕ) (most : more ≡ cond (ltb (word ws (o + 1)) (word ws o)) (word ws o) (word ws (o + 1))) where
       counted : leb more limit ≡ countsOk limit ws o
@@ -305,7 +305,7 @@ module _ (K left m limit : ℕ) (x : Element) (ws : List ℕ) (o : ℕ) (at : o 
       counted = counts-more limit (word ws o) (word ws (o + 1)) more most
 
       filled : fullTo ws (m * width K + 2) K ≡ true
-      filled = sym marks ∙ not-false (f .full) full
+      filled = sym flags ∙ not-false (f .full) full
 
       tests : okBy K limit ws (m * width K) v ≡ leb more limit
       unfolding lookNode

@@ -2,7 +2,7 @@
 use Rattle.laws.specs.Prelude.{Bool, Count, Damaged, Done, Element, Full, Held, List, Refusal, Refused, Unknown, _&&_, _*_, _+_, _-_, _<_, _∙_, _≡_, _≤_, ap, arith, cond, eq-eqb, eqb, eqb-true, false, false≢true, le-leb, le-ltb, leb, length, ltb, ne-eqb, not, not-suc-le-zero, refl, subst, suc, sym, true, zero, ℕ}
 use Rattle.cluster_node.specs.declared.Seen.{Seen}
 use Rattle.cluster_model.specs.Prelude.{Outcome, heldCount, outcome, placeWords, room, shapeOk, width, word}
-use Rattle.cluster_node.specs.Seeing.{isMarked, seeOne, lookTo}
+use Rattle.cluster_node.specs.Seeing.{isFlagged, seeOne, lookTo}
 use Rattle.cluster_node.specs.Leaf.{underOf, okBy, lookNode}
 use Rattle.cluster.specs.Down.{Went, went, fewerRight, putBack, putNode, putDown, putIn, PutMeets}
 use Rattle.cluster.specs.Coded.{heldBy, wentTo, openedTo, heldDown, pushDown}
@@ -44,7 +44,7 @@ module _ (K : ℕ) (ws : List ℕ) where
 count-free : (ws : List ℕ) (o n : ℕ) → lookTo ws o n .count ≡ n → lookTo ws o n .free ≡ n
 unfolding lookTo seeOne
 count-free ws o zero e = refl
-count-free ws o (suc n) e = go (isMarked ws (o + n * placeWords)) (within ws o n .count) (count-free ws o n) e
+count-free ws o (suc n) e = go (isFlagged ws (o + n * placeWords)) (within ws o n .count) (count-free ws o n) e
   where
     go : (a : Bool) → lookTo ws o n .count ≤ n → (lookTo ws o n .count ≡ n → lookTo ws o n .free ≡ n) → cond a (lookTo ws o n .count + 1) (lookTo ws o n .count) ≡ suc n
         → cond (a && eqb (lookTo ws o n .free) n) (n + 1) (lookTo ws o n .free) ≡ suc n

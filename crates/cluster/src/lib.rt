@@ -1,4 +1,4 @@
-// The cluster heap, one operation at a time, over lent words. Node m begins at word m * (2 + 4k): left, right, then k places of rank, tag, length, mark.
+// The cluster heap, one operation at a time, over lent words. Node m begins at word m * (2 + 4k): left, right, then k places of rank, tag, length, flag.
 // Its children are nodes 2m + 1 and 2m + 2. Every node of a path is tested on the way down and written on the way back.
 ghost use mathlib.Core.Path.{_≡_};
 ghost use mathlib.Core.List.{_++_};

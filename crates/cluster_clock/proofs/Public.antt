@@ -5,7 +5,7 @@ use Rattle.cluster_clock_model.proofs.Laws.{cycled-bad}
 use Rattle.cluster_clock_model.specs.Prelude.{CycleOutcome, DrainOutcome, clockCleared, clockHeld, cycleOutcome, cycled, drainOutcome, drains, fresh}
 use Rattle.cluster_clock_model.specs.declared.Stage.{Stage}
 use Rattle.cluster_model.specs.Prelude.{Outcome, cleared, outcome, room, shapeOk}
-use Rattle.cluster_clock_level.proofs.Turns.{shape-root}
+use Rattle.cluster_clock_level.proofs.Cycles.{shape-root}
 use Rattle.cluster_clock_level.specs.Turn.{Opened, RootIn}
 use Rattle.cluster_clock_level.specs.declared.shaped.Root.{Root}
 

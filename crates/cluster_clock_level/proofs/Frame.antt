@@ -7,7 +7,7 @@ use Rattle.cluster_clock_model.specs.declared.Due.{Due}
 use Rattle.cluster_clock_model.specs.declared.Due.the-variants as due
 use Rattle.cluster_clock_model.specs.declared.Stage.{Stage}
 use Rattle.cluster_model.proofs.Laws.{node-local}
-use Rattle.cluster_model.specs.Prelude.{Node, child, inside, lhs, low, markAt, neatPlace, neatTo, nodeIn, placeWords, rhs, room, some, spotOf, width, word}
+use Rattle.cluster_model.specs.Prelude.{Node, child, inside, lhs, low, flagAt, neatPlace, neatTo, nodeIn, placeWords, rhs, room, some, spotOf, width, word}
 use Rattle.cluster_clock_level.specs.Stage.{Gives, GivesBy, Lowest}
 use Rattle.cluster_clock_level.specs.declared.Job.{Job}
 use Rattle.cluster_clock_level.specs.declared.Job.the-variants as job
@@ -23,7 +23,7 @@ module _ (K : ℕ) (ws ws′ : List ℕ) (b : ℕ) (same : (i : ℕ) → spotOf 
   place-after : (o : ℕ) → spotOf K b ≤ o → neatPlace ws′ o ≡ neatPlace ws o
   unfolding neatPlace
   place-after o h =
-      ap₂ (λ (e : Element) (m : ℕ). (eqb m 0 && isBlank e) || eqb m 1) (read-local ws ws′ o (λ i l g. same i (omega arith))) (same (markAt o) (omega arith))
+      ap₂ (λ (e : Element) (m : ℕ). (eqb m 0 && isBlank e) || eqb m 1) (read-local ws ws′ o (λ i l g. same i (omega arith))) (same (flagAt o) (omega arith))
 
   neat-after : (o n : ℕ) → spotOf K b ≤ o → neatTo K ws′ o n ≡ neatTo K ws o n
   unfolding neatTo

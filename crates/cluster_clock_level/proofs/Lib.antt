@@ -5,5 +5,5 @@ pub mod Settling
 pub mod Beginning
 pub mod Testing
 pub mod Roots
-pub mod Turns
+pub mod Cycles
 pub mod Drains

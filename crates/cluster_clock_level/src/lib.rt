@@ -18,7 +18,7 @@ pub mod shaped;
 use cluster_clock_model::Due;
 use cluster_clock_model::Stage;
 use cluster_node::COUNTS;
-use cluster_node::MARK;
+use cluster_node::FLAG;
 use cluster_node::PLACE_WORDS;
 use cluster_node::RIGHT;
 use cluster_node::bare_at;
@@ -103,7 +103,7 @@ pub fn is_gap(s: &[u32], k: usize, m: usize, place: usize) -> bool
     ensures { λ r. ⌜ r ≡ isGap (placeAt (nodeIn k (now (s .entry)) m .places) place) ⌝ }
 {
     let at = m * (COUNTS + k * PLACE_WORDS);
-    s[at + COUNTS + place * PLACE_WORDS + MARK] == 0
+    s[at + COUNTS + place * PLACE_WORDS + FLAG] == 0
 }
 
 // A put onto node n of the next level: the node is there, in order, and has room.

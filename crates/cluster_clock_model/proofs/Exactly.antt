@@ -17,10 +17,10 @@ unfolding isGap
 gap-fails gap = record { found = λ e. absurd (true≢false e); shown = λ d. absurd (d refl) }
 gap-fails (has e) = record { found = λ z d. gap-has e (sym d); shown = λ d. refl }
 
-mark-fails : (p : Place) → Fails (not (isGap p)) (p ≡ gap)
+flag-fails : (p : Place) → Fails (not (isGap p)) (p ≡ gap)
 unfolding isGap
-mark-fails gap = record { found = λ e. refl; shown = λ d. refl }
-mark-fails (has e) = record { found = λ z. absurd (true≢false z); shown = λ d. absurd (gap-has e (sym d)) }
+flag-fails gap = record { found = λ e. refl; shown = λ d. refl }
+flag-fails (has e) = record { found = λ z. absurd (true≢false z); shown = λ d. absurd (gap-has e (sym d)) }
 
 some-below-fails : (n : Node) → Fails (not (nothingBelow n)) (n .left + n .right ≡ 0)
 unfolding nothingBelow
@@ -71,7 +71,7 @@ module _ (K : ℕ) where
       (fails-and (ltb j K) _ (fails-ltb j K) (fails-and (isGap (placeAt (nodeIn K ws (a + n) .places) j)) _ (gap-fails (placeAt (nodeIn K ws (a + n) .places) j)) (wait-fails k (a + n) ws)))
   stage-fails k (Swap j x) n a ws =
       fails-and (ltb n (a + 1)) _ (fails-ltb n (a + 1))
-      (fails-and (ltb j K) _ (fails-ltb j K) (fails-and (not (isGap (placeAt (nodeIn K ws (a + n) .places) j))) _ (mark-fails (placeAt (nodeIn K ws (a + n) .places) j)) (wait-fails k (a + n) ws)))
+      (fails-and (ltb j K) _ (fails-ltb j K) (fails-and (not (isGap (placeAt (nodeIn K ws (a + n) .places) j))) _ (flag-fails (placeAt (nodeIn K ws (a + n) .places) j)) (wait-fails k (a + n) ws)))
 
   stages-fails : (k a i : ℕ) (rs : List Stage) (ws : List ℕ) → Fails (stagesOk K k a i rs ws) (StagesTorn K k a i rs ws)
   unfolding stagesOk

@@ -16,7 +16,7 @@ fit-count K limit (trial j x) n α β fit = omega (arith, fit .left, fit .right)
 fit-count K limit (onto lhs y) n α β fit = omega (arith, fit .left, fit .right)
 fit-count K limit (onto rhs y) n α β fit = omega (arith, fit .left, fit .right)
 
--- with something below at most one place is not marked
+-- with something below at most one place is not flagged
 pub fit-packed : (K limit : ℕ) (c : Note) (n : Node) (α β : Bag) → Fit K limit c n α β → 0 < n .left + n .right → length (n .places) ≤ suc (inside always (n .places))
 fit-packed K limit nothing n α β fit h = omega (arith, fit .order .packed (omega (arith, fit .left, fit .right)))
 fit-packed K limit (fill j) n α β fit h = omega (arith, fit .order .packed)

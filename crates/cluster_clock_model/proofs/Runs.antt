@@ -66,7 +66,7 @@ last-write K (suc k) ws before sh r after h =
     (ran K (suc k) before ws) 0 (ran-kept K ws before k sh) (omega arith)
 
 -- ---- GAPS
--- a node with all places marked has none, and one with a single gap has one
+-- a node with all places flagged has none, and one with a single gap has one
 full-none : (ps : List Place) (j : ℕ) → inside always ps ≡ length ps → j < length ps → placeAt ps j ≡ gap → ⊥
 unfolding inside placeAt
 full-none [] j e l g = not-suc-le-zero l

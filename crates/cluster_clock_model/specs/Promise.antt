@@ -8,7 +8,7 @@ use Rattle.cluster_clock_model.specs.declared.Stage.{Stage}
 use Rattle.cluster_clock_model.specs.Calls.{askedOk, drainOutcome, DrainOutcome, drains, fresh, pending, cycled, cycleOutcome, CycleOutcome}
 use Rattle.cluster_clock_model.specs.Stage.{below, handed, levelStage, levelWords, lowAt, noStage, pass, stageAt, work, Work}
 use Rattle.cluster_clock_model.specs.Test.{saneAt, stagesOk}
-use Rattle.cluster_model.specs.Prelude.{Agree, AnyTo, PlaceDamaged, Shape, Side, Stuck, child, extent, gap, has, heldIn, lhs, lowElem, marked, nodeIn, none, opOf, placeAt, rhs, room, ruleAt, shapeOk, start, storedCount, wipe, word}
+use Rattle.cluster_model.specs.Prelude.{Agree, AnyTo, PlaceDamaged, Shape, Side, Stuck, child, extent, gap, has, heldIn, lhs, lowElem, flagged, nodeIn, none, opOf, placeAt, rhs, room, ruleAt, shapeOk, start, storedCount, wipe, word}
 use Rattle.promise.specs.Flight as flights
 
 -- ---- the clocked heap as a queue: a list of cycles, each handed the words and the records that the one before left
@@ -45,15 +45,15 @@ module _ (K levels : ℕ) where
 
 -- ---- causes: column "Exactly when" of the table of refusals
 module _ (K : ℕ) where
-  -- C2: a damaged place; a count above what a child has room for; something below, and more than one place not marked
+  -- C2: a damaged place; a count above what a child has room for; something below, and more than one place not flagged
   abbrev pub NodeTorn : ℕ → List ℕ → ℕ → Type 0
   NodeTorn limit ws m =
       AnyTo K (λ j. PlaceDamaged ws (m * (2 + K * 4) + 2 + j * 4))
-      ⊎ ((limit < nodeIn K ws m .left) ⊎ ((limit < nodeIn K ws m .right) ⊎ ((0 < nodeIn K ws m .left + nodeIn K ws m .right) × (marked (nodeIn K ws m) + 1 < K))))
+      ⊎ ((limit < nodeIn K ws m .left) ⊎ ((limit < nodeIn K ws m .right) ⊎ ((0 < nodeIn K ws m .left + nodeIn K ws m .right) × (flagged (nodeIn K ws m) + 1 < K))))
 
   -- C5: a child of this count that is read for its lowest: only where the count is not 0. It must have an element
   abbrev pub ChildTorn : ℕ → ℕ → List ℕ → ℕ → Type 0
-  ChildTorn count limit ws m = (0 < count) × (NodeTorn limit ws m ⊎ (marked (nodeIn K ws m) ≡ 0))
+  ChildTorn count limit ws m = (0 < count) × (NodeTorn limit ws m ⊎ (flagged (nodeIn K ws m) ≡ 0))
 
   -- a node that waits: the node, nothing below it (C3), its children. These have k levels below them
   abbrev pub WaitTorn : ℕ → ℕ → List ℕ → Type 0
@@ -62,7 +62,7 @@ module _ (K : ℕ) where
       ⊎ ((nodeIn K ws m .left + nodeIn K ws m .right ≡ 0)
       ⊎ (ChildTorn (nodeIn K ws m .left) (room K k) ws (child m lhs) ⊎ ChildTorn (nodeIn K ws m .right) (room K k) ws (child m rhs)))
 
-  -- a record below the level whose first node is number a: C1, a node that its level lacks, or a place that is not below K; C3, a fill's place is marked, a
+  -- a record below the level whose first node is number a: C1, a node that its level lacks, or a place that is not below K; C3, a fill's place is flagged, a
   -- swap's is not; C4, a put finds no room; and what it reads
   abbrev pub StageTorn : ℕ → Due → ℕ → ℕ → List ℕ → Type 0
   StageTorn k Nothing n a ws = ⊥

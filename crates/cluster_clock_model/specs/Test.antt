@@ -11,7 +11,7 @@ unfoldable pub isGap : Place → Bool
 isGap gap = true
 isGap (has e) = false
 
--- neither count above what a child has room for, and with something below at most one place is not marked: it may be waiting
+-- neither count above what a child has room for, and with something below at most one place is not flagged: it may be waiting
 unfoldable pub sane : ℕ → Node → Bool
 sane limit n = leb (n .left) limit && (leb (n .right) limit && (nothingBelow n || leb (length (n .places)) (suc (inside always (n .places)))))
 

@@ -2,7 +2,7 @@
 use Rattle.laws.specs.Prelude.{Bool, Element, Fails, List, Means, _&&_, _*_, _+_, _<_, _||_, _≡_, _≤_, _⊎_, arith, elementIn, eqb, eqb-false, eqb-true, fails-and, fails-leb, fails-or, fails-true, false, inl, inr, isBlank, le-ltb, leb, length, ltb, ltb-false, means-and, means-by, means-leb, ne-eqb, refl, suc, true, true≢false, zero, ℕ, ⊎-elim}
 use Rattle.promise.specs.Prelude.{always, blank-fails}
 use Rattle.strip.proofs.Words.{blank-says}
-use Rattle.cluster_model.specs.Prelude.{AnyTo, ChildDamaged, Node, NodeDamaged, Op, PathDamaged, PlaceDamaged, Shape, StepDamaged, Stuck, child, childrenOk, extent, inside, lhs, markAt, marked, neatPlace, neatTo, nodeIn, nodeOk, none, nothingBelow, ownOk, placeLimit, placeWords, put, readOk, rhs, room, roomy, shapeOk, some, stepIn, strict, swap, take, under1, wayOk, width, word}
+use Rattle.cluster_model.specs.Prelude.{AnyTo, ChildDamaged, Node, NodeDamaged, Op, PathDamaged, PlaceDamaged, Shape, StepDamaged, Stuck, child, childrenOk, extent, inside, lhs, flagAt, flagged, neatPlace, neatTo, nodeIn, nodeOk, none, nothingBelow, ownOk, placeLimit, placeWords, put, readOk, rhs, room, roomy, shapeOk, some, stepIn, strict, swap, take, under1, wayOk, width, word}
 use Rattle.cluster_model.proofs.Pass.{node-count}
 
 -- the same damage in other words
@@ -21,7 +21,7 @@ place-fails ws o = go (eqb m 0) refl (eqb m 1) refl (isBlank x) refl
     x = elementIn ws o
 
     m : ℕ
-    m = word ws (markAt o)
+    m = word ws (flagAt o)
 
     one : m ≡ 1 → PlaceDamaged ws o → ⊥
     one e d = ⊎-elim (λ h. omega arith) (λ h. omega (arith, h .0)) d
@@ -71,9 +71,9 @@ room-fails K limit ws m =
     (fails-by (fails-ltb (inside always (n .places)) (length (n .places))) (λ h. omega arith) (λ h. omega arith))
     (fails-or (ltb (n .left) limit) (ltb (n .right) limit) (fails-ltb (n .left) limit) (fails-ltb (n .right) limit))
 
-pub some-fails : (n : Node) → Fails (some n) (marked n ≡ 0)
+pub some-fails : (n : Node) → Fails (some n) (flagged n ≡ 0)
 unfolding some
-some-fails n = fails-by (fails-ltb 0 (marked n)) (λ h. omega arith) (λ h. omega arith)
+some-fails n = fails-by (fails-ltb 0 (flagged n)) (λ h. omega arith) (λ h. omega arith)
 
 read-fails : (K x limit : ℕ) (ws : List ℕ) (m : ℕ) → Fails (readOk K (eqb x 0) limit ws m) (ChildDamaged K x limit ws m)
 unfolding readOk

@@ -2,7 +2,7 @@
 use Rattle.laws.specs.Prelude.{Bool, Element, List, _&&_, _*_, _+_, _<_, _||_, _∙_, _≡_, _≤_, ap, arith, elementIn, eqb, eqb-true, false, false≢true, getD-set-other, inr, isBlank, le-of-suc-le-suc, not-suc-le-zero, refl, set, suc, sym, true, zero, ℕ}
 pub use Rattle.strip.proofs.Words.{set-own as set-word}
 use Rattle.strip.proofs.Words.{blank-is, blank-says, read-local, write-own}
-use Rattle.cluster_model.specs.Prelude.{Neat, NeatPlace, NeatRow, Place, elemOf, markAt, markOf, neatPlace, nodeOf, placeBy, placeOf, placeWords, rowOf, word, writeNode, writePlace, writeRow}
+use Rattle.cluster_model.specs.Prelude.{Neat, NeatPlace, NeatRow, Place, elemOf, flagAt, flagOf, neatPlace, nodeOf, placeBy, placeOf, placeWords, rowOf, word, writeNode, writePlace, writeRow}
 use Rattle.cluster_model.proofs.Words.{row-local, place-local, write-only}
 
 -- a neat place written over itself
@@ -10,14 +10,14 @@ own-place : (ws : List ℕ) (o : ℕ) → NeatPlace ws o → writePlace ws o (pl
 unfolding writePlace
 own-place ws o h =
     let p : Place = placeOf ws o in
-    ap (λ (l : List ℕ). set l (markAt o) (markOf p)) (write-own ws o (elemOf p) (h .0)) ∙ set-word ws (markAt o) (markOf p) (h .1)
+    ap (λ (l : List ℕ). set l (flagAt o) (flagOf p)) (write-own ws o (elemOf p) (h .0)) ∙ set-word ws (flagAt o) (flagOf p) (h .1)
 
 -- the same words, as neat
 pub neat-local : (ws ws′ : List ℕ) (o : ℕ) → ((i : ℕ) → o ≤ i → i < o + placeWords → word ws′ i ≡ word ws i) → NeatPlace ws o → NeatPlace ws′ o
 neat-local ws ws′ o h n =
     let same : placeOf ws′ o ≡ placeOf ws o = place-local ws ws′ o h in (
       ap elemOf same ∙ n .0 ∙ sym (read-local ws ws′ o (λ i g g′. h i g (omega arith))),
-      ap markOf same ∙ n .1 ∙ sym (h (markAt o) (omega arith) (omega arith)),
+      ap flagOf same ∙ n .1 ∙ sym (h (flagAt o) (omega arith) (omega arith)),
     )
 
 pub neat-row : (K : ℕ) (ws ws′ : List ℕ) (o : ℕ) → ((i : ℕ) → o ≤ i → i < o + K * placeWords → word ws′ i ≡ word ws i) → NeatRow K ws o → NeatRow K ws′ o
@@ -70,16 +70,16 @@ impossible : (n : ℕ) → n ≡ 0 → n ≡ 1 → ⊥
 impossible n p q = omega arith
 
 pub neat-test : (ws : List ℕ) (o : ℕ) → neatPlace ws o ≡ true → NeatPlace ws o
-unfolding neatPlace placeOf placeBy markOf
+unfolding neatPlace placeOf placeBy flagOf
 neat-test ws o e = go (eqb m 0) refl (isBlank x) refl (eqb m 1) refl e
   where
     x : Element
     x = elementIn ws o
 
     m : ℕ
-    m = word ws (markAt o)
+    m = word ws (flagAt o)
 
-    go : (a : Bool) → eqb m 0 ≡ a → (b : Bool) → isBlank x ≡ b → (u : Bool) → eqb m 1 ≡ u → ((a && b) || u) ≡ true → (elemOf (placeBy a x) ≡ x) × (markOf (placeBy a x) ≡ m)
+    go : (a : Bool) → eqb m 0 ≡ a → (b : Bool) → isBlank x ≡ b → (u : Bool) → eqb m 1 ≡ u → ((a && b) || u) ≡ true → (elemOf (placeBy a x) ≡ x) × (flagOf (placeBy a x) ≡ m)
     go true p true q u r e = (sym (blank-is x (blank-says x q)), sym (eqb-true m 0 p))
     go true p false q true r e = absurd (impossible m (eqb-true m 0 p) (eqb-true m 1 r))
     go true p false q false r e = absurd (false≢true e)

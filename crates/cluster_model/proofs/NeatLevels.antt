@@ -1,7 +1,7 @@
 -- The words stay neat: what an operation writes is neat, and so is a cleared slice.
 use Rattle.laws.specs.Prelude.{Bool, List, [], _*_, _+_, _<_, _^_, _∙_, _∷_, _≡_, _≤_, ap, arith, elementIn, eqb, eqb-false, eqb-true, false, inl, inr, length, length-set, ltb, ltb-false, ltb-true, mul-le-mul-right, pow-suc, refl, set, subst, suc, sym, true, zero, ℕ}
 use Rattle.strip.proofs.Words.{read-zeros}
-use Rattle.cluster_model.specs.Prelude.{Finished, Neat, NeatPlace, NeatRow, Node, Only, Op, Place, countWords, elemOf, extent, gap, markAt, markOf, placeBy, placeOf, placeWords, touch, width, word, works, writeNode, writePlace, writeRow}
+use Rattle.cluster_model.specs.Prelude.{Finished, Neat, NeatPlace, NeatRow, Node, Only, Op, Place, countWords, elemOf, extent, gap, flagAt, flagOf, placeBy, placeOf, placeWords, touch, width, word, works, writeNode, writePlace, writeRow}
 use Rattle.cluster_model.proofs.Levels.{childOf}
 use Rattle.cluster_model.proofs.Words.{written, write-length, write-place}
 use Rattle.cluster_model.proofs.Neat.{neat-local, neat-row}
@@ -17,7 +17,7 @@ place-written : (ws : List ℕ) (o : ℕ) (p : Place) → o + placeWords ≤ len
 place-written ws o p h =
     let w = written ws o p h in
     let same : placeOf (writePlace ws o p) o ≡ p = write-place ws o p h in
-    (ap elemOf same ∙ sym (w .element), ap markOf same ∙ sym (w .mark))
+    (ap elemOf same ∙ sym (w .element), ap flagOf same ∙ sym (w .flag))
 
 row-written : (ps : List Place) (ws : List ℕ) (o : ℕ) → o + length ps * placeWords ≤ length ws → NeatRow (length ps) (writeRow ps ws o) o
 unfolding writeRow
@@ -103,12 +103,12 @@ apply-neat K (suc k) o n b c ws h fits g =
 
 -- a cleared slice is neat
 pub zero-row : (K : ℕ) (ws : List ℕ) (o : ℕ) → ((i : ℕ) → o ≤ i → i < o + K * placeWords → word ws i ≡ 0) → NeatRow K ws o
-unfolding placeOf placeBy markOf
+unfolding placeOf placeBy flagOf
 zero-row zero ws o h = tt
 zero-row (suc K) ws o h =
-    let m : word ws (markAt o) ≡ 0 = h (markAt o) (omega arith) (omega arith) in
+    let m : word ws (flagAt o) ≡ 0 = h (flagAt o) (omega arith) (omega arith) in
     let p : placeOf ws o ≡ gap = ap (λ (x : ℕ). placeBy (eqb x 0) (elementIn ws o)) m in (
-      (ap elemOf p ∙ sym (read-zeros ws o (λ i g g′. h i g (omega arith))), ap markOf p ∙ sym m),
+      (ap elemOf p ∙ sym (read-zeros ws o (λ i g g′. h i g (omega arith))), ap flagOf p ∙ sym m),
       zero-row K ws (o + placeWords) (λ i g g′. h i (omega arith) (omega arith)),
     )
 

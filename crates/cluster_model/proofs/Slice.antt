@@ -38,7 +38,7 @@ slice K levels = sliced (wide (width K) levels 1 (extent K) (λ c. refl) (λ k c
 pub numbered : (i n m : ℕ) → m + 1 ≡ 2 ^ i + n → (child m lhs + 1 ≡ 2 ^ suc i + (n + n)) × (child m rhs + 1 ≡ 2 ^ suc i + suc (n + n))
 numbered i n m e = (omega (arith, e, pow-suc 2 i), omega (arith, e, pow-suc 2 i))
 
--- a node's words: left count, right count, then K places of rank, tag, length and mark
+-- a node's words: left count, right count, then K places of rank, tag, length and flag
 row-place : (K : ℕ) (ws : List ℕ) (o j : ℕ) → j < K → placeAt (rowOf placeOf 4 K ws o) j ≡ placeOf ws (o + j * 4)
 unfolding rowOf placeAt
 row-place zero ws o j h = absurd (not-suc-le-zero h)

@@ -2,7 +2,7 @@
 use Rattle.laws.specs.Prelude.{Bool, Element, List, _*_, _++_, _+_, _-_, _<_, _∙_, _∷_, _≡_, _≤_, ap, ap₂, arith, drop, elementIn, eqb, getD, getD-replicate, grid, length, length-append, length-drop, length-replicate, refl, replicate, suc, sumTo, sym, to-add, to-append, to-ext, to-zero, zero, zero-add, ℕ}
 use lib.ListN.{List·getD-append}
 use lib.Seq.{getD-append-add, getD-drop}
-use Rattle.cluster_model.specs.Prelude.{Node, Place, Zeroed, countWords, extent, gap, heapIn, inside, many, markAt, nodeIn, nodeOf, nodes, placeBy, placeOf, placeWords, rightAt, rowOf, storedCount, width, wipe, word}
+use Rattle.cluster_model.specs.Prelude.{Node, Place, Zeroed, countWords, extent, gap, heapIn, inside, many, flagAt, nodeIn, nodeOf, nodes, placeBy, placeOf, placeWords, rightAt, rowOf, storedCount, width, wipe, word}
 use Rattle.cluster_model.proofs.Index.{root-heap}
 use Rattle.cluster_model.proofs.Levels.{clear-heap, clearHeap, clearLevels, clearNode, heapOf, Levels, nodeAt}
 use Rattle.cluster_model.proofs.Pass.{row-at}
@@ -80,7 +80,7 @@ zero-places : (K : ℕ) (ws : List ℕ) (o : ℕ) → ((i : ℕ) → o ≤ i →
 unfolding rowOf placeOf placeBy
 zero-places zero ws o h = refl
 zero-places (suc K) ws o h =
-    ap₂ (λ (p : Place) (l : List Place). p ∷ l) (ap (λ (x : ℕ). placeBy (eqb x 0) (elementIn ws o)) (h (markAt o) (omega arith) (omega arith)))
+    ap₂ (λ (p : Place) (l : List Place). p ∷ l) (ap (λ (x : ℕ). placeBy (eqb x 0) (elementIn ws o)) (h (flagAt o) (omega arith) (omega arith)))
     (zero-places K ws (o + placeWords) (λ i g g′. h i (omega arith) (omega arith)))
 
 zero-node : (K : ℕ) (ws : List ℕ) (o : ℕ) → ((i : ℕ) → o ≤ i → i < o + width K → word ws i ≡ 0) → nodeOf K ws o ≡ clearNode K

@@ -4,7 +4,7 @@ use Rattle.laws.specs.Prelude.{Bool, Element, List, Request, [], _&&_, _*_, _+_
 use Rattle.promise.proofs.Calls.{unread-by}
 use Rattle.promise.specs.Prelude.{always}
 use Rattle.strip.proofs.Words.{read-local, write-both}
-use Rattle.cluster_model.specs.Prelude.{Agree, Finished, Lies, Node, Op, Place, Ruling, Shape, Side, begin, called, child, childrenOk, countWords, elemOf, extent, finish, heap, heldCount, inside, lhs, low, lowElem, lowIn, markAt, markOf, neatPlace, neatTo, nodeIn, nodeOk, none, nothingBelow, ownOk, placeWords, put, readOk, rhs, rightAt, room, roomy, rootHeld, rootOk, rule, ruleAt, runWords, some, stepIn, strict, swap, take, touch, under1, wayOk, width, works, writeNode, writePlace, writeRow}
+use Rattle.cluster_model.specs.Prelude.{Agree, Finished, Lies, Node, Op, Place, Ruling, Shape, Side, begin, called, child, childrenOk, countWords, elemOf, extent, finish, heap, heldCount, inside, lhs, low, lowElem, lowIn, flagAt, flagOf, neatPlace, neatTo, nodeIn, nodeOk, none, nothingBelow, ownOk, placeWords, put, readOk, rhs, rightAt, room, roomy, rootHeld, rootOk, rule, ruleAt, runWords, some, stepIn, strict, swap, take, touch, under1, wayOk, width, works, writeNode, writePlace, writeRow}
 use Rattle.cluster_model.proofs.Damages.{is-shape}
 use Rattle.cluster_model.proofs.Slice.{lies-all}
 use Rattle.cluster_model.proofs.Words.{node-local}
@@ -29,7 +29,7 @@ module _ (P : ℕ → Type 0) where
 
   like-place : (ws vs : List ℕ) (o : ℕ) (p : Place) → Alike ws vs → Alike (writePlace ws o p) (writePlace vs o p)
   unfolding writePlace
-  like-place ws vs o p a = like-set _ _ (markAt o) (markOf p) (write-both Alike o (λ us vs i v g g′ a. like-set us vs i v a) ws vs (elemOf p) a)
+  like-place ws vs o p a = like-set _ _ (flagAt o) (flagOf p) (write-both Alike o (λ us vs i v g g′ a. like-set us vs i v a) ws vs (elemOf p) a)
 
   like-row : (ps : List Place) (ws vs : List ℕ) (o : ℕ) → Alike ws vs → Alike (writeRow ps ws o) (writeRow ps vs o)
   unfolding writeRow
@@ -55,7 +55,7 @@ module _ (K N : ℕ) (ws vs : List ℕ) (a : Alike (Under N) ws vs) where
   same-neat o zero h = refl
   same-neat o (suc n) h =
       ap₂ (λ (x y : Bool). x && y) (same-neat o n (omega arith))
-      (ap₂ (λ (e : Element) (m : ℕ). (eqb m 0 && isBlank e) || eqb m 1) (read-local vs ws (o + n * placeWords) (λ i g g′. a .same i (omega arith))) (a .same (markAt (o + n * placeWords)) (omega arith)))
+      (ap₂ (λ (e : Element) (m : ℕ). (eqb m 0 && isBlank e) || eqb m 1) (read-local vs ws (o + n * placeWords) (λ i g g′. a .same i (omega arith))) (a .same (flagAt (o + n * placeWords)) (omega arith)))
 
   same-ok : (limit m : ℕ) → m * width K + width K ≤ N → nodeOk K limit ws m ≡ nodeOk K limit vs m
   unfolding nodeOk

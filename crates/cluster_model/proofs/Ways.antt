@@ -2,7 +2,7 @@
 use Rattle.laws.specs.Prelude.{Bool, Element, List, _&&_, _*_, _+_, _<_, _||_, _∙_, _≡_, _≤_, and-true, ap, ap₂, arith, elementIn, eq-eqb, eqb, eqb-false, false, isBlank, le-leb, length, lt-ltb, ltb, ltb-false, not-suc-le-zero, refl, subst, suc, sym, true, zero, ℕ}
 use Rattle.promise.specs.Prelude.{always}
 use Rattle.strip.proofs.Words.{blank-none}
-use Rattle.cluster_model.specs.Prelude.{Bag, Begun, Can, Finished, Fit, Heap, Neat, NeatPlace, NeatRow, Node, Op, Place, Side, Sound, begin, child, childrenOk, countWords, elemOf, finish, heapIn, inside, lhs, low, lowElem, lowIn, lowest, many, markAt, markOf, neatPlace, neatTo, nodeIn, nodeOk, none, nothing, nothingBelow, ownOk, pick, placeBy, placeOf, placeWords, put, readOk, rhs, room, roomy, some, stepIn, strict, swap, take, under1, wayOk, width, word}
+use Rattle.cluster_model.specs.Prelude.{Bag, Begun, Can, Finished, Fit, Heap, Neat, NeatPlace, NeatRow, Node, Op, Place, Side, Sound, begin, child, childrenOk, countWords, elemOf, finish, heapIn, inside, lhs, low, lowElem, lowIn, lowest, many, flagAt, flagOf, neatPlace, neatTo, nodeIn, nodeOk, none, nothing, nothingBelow, ownOk, pick, placeBy, placeOf, placeWords, put, readOk, rhs, room, roomy, some, stepIn, strict, swap, take, under1, wayOk, width, word}
 use Rattle.cluster_model.proofs.Places.{place-hit}
 use Rattle.cluster_model.proofs.Step.{begins, children-can, Least, low-fit}
 use Rattle.cluster_model.proofs.Heap.{ask, heap-bag, heap-least}
@@ -14,15 +14,15 @@ or-not false b h = h refl
 
 -- ---- neat places pass their test
 neat-place : (ws : List ℕ) (o : ℕ) → NeatPlace ws o → neatPlace ws o ≡ true
-unfolding neatPlace placeOf placeBy markOf
-neat-place ws o n = go (eqb (word ws (markAt o)) 0) refl n
+unfolding neatPlace placeOf placeBy flagOf
+neat-place ws o n = go (eqb (word ws (flagAt o)) 0) refl n
   where
     x : Element
     x = elementIn ws o
 
-    go : (b : Bool) → eqb (word ws (markAt o)) 0 ≡ b → (elemOf (placeBy b x) ≡ x) × (markOf (placeBy b x) ≡ word ws (markAt o)) → ((b && isBlank x) || eqb (word ws (markAt o)) 1) ≡ true
+    go : (b : Bool) → eqb (word ws (flagAt o)) 0 ≡ b → (elemOf (placeBy b x) ≡ x) × (flagOf (placeBy b x) ≡ word ws (flagAt o)) → ((b && isBlank x) || eqb (word ws (flagAt o)) 1) ≡ true
     go true e n = rw (ap isBlank (sym (n .0)) ∙ blank-none)
-    go false e n = rw (eq-eqb (word ws (markAt o)) 1 (sym (n .1))) refl
+    go false e n = rw (eq-eqb (word ws (flagAt o)) 1 (sym (n .1))) refl
 
 neat-at : (K : ℕ) (ws : List ℕ) (o j : ℕ) → j < K → NeatRow K ws o → NeatPlace ws (o + j * placeWords)
 neat-at zero ws o j h n = absurd (not-suc-le-zero h)

@@ -1,7 +1,7 @@
 -- What is written in the words of one node is a store into that node of its level, and nothing else changes.
 use Rattle.laws.specs.Prelude.{Element, List, _*_, _+_, _<_, _∙_, _∷_, _≡_, _≤_, _⊎_, ap, ap₂, arith, elementIn, eqb, getD-set-other, getD-set-same, inl, inr, le-of-suc-le-suc, length, length-set, mul-le-mul-right, not-suc-le-zero, refl, set, suc, sym, writeElement, zero, ℕ, ⊎-elim}
 use Rattle.strip.proofs.Words.{read-local, write-apart as element-apart, write-back, write-length as element-length}
-use Rattle.cluster_model.specs.Prelude.{Node, Only, Place, countWords, elemOf, gap, has, markAt, markOf, nodeOf, placeBy, placeOf, placeWords, rightAt, rowOf, width, word, writePlace}
+use Rattle.cluster_model.specs.Prelude.{Node, Only, Place, countWords, elemOf, gap, has, flagAt, flagOf, nodeOf, placeBy, placeOf, placeWords, rightAt, rowOf, width, word, writePlace}
 use Rattle.cluster_model.proofs.Levels.{Levels}
 
 -- k levels from word b on, the first of c nodes
@@ -35,45 +35,45 @@ module _ {A : Type 0} (rd : List ℕ → ℕ → A) (d : ℕ) (local : Local rd 
       (row-write c j (o + d) ws ws′ x (le-of-suc-le-suc h) (ap (rd ws′) at ∙ e) (λ i h. only i (⊎-elim (λ g. inl (omega arith)) (λ g. inr (omega arith)) h)))
 
 -- ---- a place
--- an element and a mark, put together
+-- an element and a flag, put together
 place-path : {e e′ : Element} {d d′ : ℕ} → e ≡ e′ → d ≡ d′ → placeBy (eqb d 0) e ≡ placeBy (eqb d′ 0) e′
 place-path p s = λ i. placeBy (eqb (s i) 0) (p i)
 
 pub place-local : Local placeOf placeWords
 unfolding placeOf
-place-local ws ws′ o h = place-path (read-local ws ws′ o (λ i l r. h i l (omega arith))) (h (markAt o) (omega arith) (omega arith))
+place-local ws ws′ o h = place-path (read-local ws ws′ o (λ i l r. h i l (omega arith))) (h (flagAt o) (omega arith) (omega arith))
 
 pub write-only : (ws : List ℕ) (o : ℕ) (p : Place) → Only o (o + placeWords) ws (writePlace ws o p)
 unfolding writePlace
-write-only ws o p i (inl h) = getD-set-other (writeElement ws o (elemOf p)) (markAt o) i (markOf p) 0 (λ e. omega arith) ∙ element-apart ws o i (elemOf p) (inl h)
-write-only ws o p i (inr h) = getD-set-other (writeElement ws o (elemOf p)) (markAt o) i (markOf p) 0 (λ e. omega arith) ∙ element-apart ws o i (elemOf p) (inr (omega arith))
+write-only ws o p i (inl h) = getD-set-other (writeElement ws o (elemOf p)) (flagAt o) i (flagOf p) 0 (λ e. omega arith) ∙ element-apart ws o i (elemOf p) (inl h)
+write-only ws o p i (inr h) = getD-set-other (writeElement ws o (elemOf p)) (flagAt o) i (flagOf p) 0 (λ e. omega arith) ∙ element-apart ws o i (elemOf p) (inr (omega arith))
 
 pub write-length : (ws : List ℕ) (o : ℕ) (p : Place) → length (writePlace ws o p) ≡ length ws
 unfolding writePlace
-write-length ws o p = length-set (writeElement ws o (elemOf p)) (markAt o) (markOf p) ∙ element-length ws o (elemOf p)
+write-length ws o p = length-set (writeElement ws o (elemOf p)) (flagAt o) (flagOf p) ∙ element-length ws o (elemOf p)
 
-coded : (p : Place) → placeBy (eqb (markOf p) 0) (elemOf p) ≡ p
-unfolding placeBy markOf
+coded : (p : Place) → placeBy (eqb (flagOf p) 0) (elemOf p) ≡ p
+unfolding placeBy flagOf
 coded gap = refl
 coded (has e) = refl
 
 -- what is written is read back, and stands so in the words
 pub record Written (ws : List ℕ) (o : ℕ) (p : Place) : Type 0 where
   pub element : elementIn (writePlace ws o p) o ≡ elemOf p
-  pub mark : word (writePlace ws o p) (markAt o) ≡ markOf p
+  pub flag : word (writePlace ws o p) (flagAt o) ≡ flagOf p
 
 pub written : (ws : List ℕ) (o : ℕ) (p : Place) → o + placeWords ≤ length ws → Written ws o p
 unfolding writePlace
 written ws o p h =
     let v : List ℕ = writeElement ws o (elemOf p) in
     record {
-      element = read-local v (set v (markAt o) (markOf p)) o (λ i l r. getD-set-other v (markAt o) i (markOf p) 0 (λ e. omega arith)) ∙ write-back ws o (elemOf p) (omega arith);
-      mark = getD-set-same v (markAt o) (markOf p) 0 (omega (arith, element-length ws o (elemOf p)));
+      element = read-local v (set v (flagAt o) (flagOf p)) o (λ i l r. getD-set-other v (flagAt o) i (flagOf p) 0 (λ e. omega arith)) ∙ write-back ws o (elemOf p) (omega arith);
+      flag = getD-set-same v (flagAt o) (flagOf p) 0 (omega (arith, element-length ws o (elemOf p)));
     }
 
 pub write-place : (ws : List ℕ) (o : ℕ) (p : Place) → o + placeWords ≤ length ws → placeOf (writePlace ws o p) o ≡ p
 unfolding placeOf
-write-place ws o p h = let w = written ws o p h in place-path (w .element) (w .mark) ∙ coded p
+write-place ws o p h = let w = written ws o p h in place-path (w .element) (w .flag) ∙ coded p
 
 -- ---- a node
 pub node-local : (K : ℕ) → Local (nodeOf K) (width K)

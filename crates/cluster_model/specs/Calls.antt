@@ -16,7 +16,7 @@ placeLimit = 5460
 unfoldable pub shapeOk : ℕ → ℕ → ℕ → Bool
 shapeOk K levels len = leb 2 K && (leb K 16 && (leb 1 levels && (leb (room K levels) placeLimit && leb (extent K levels 1) len)))
 
--- held, by the root alone: its marked places and its two counts
+-- held, by the root alone: its flagged places and its two counts
 unfoldable pub rootHeld : Node → ℕ
 rootHeld n = inside always (n .places) + (n .left + n .right)
 

@@ -20,28 +20,28 @@ abbrev pub AnyTo : ℕ → (ℕ → Type 0) → Type 0
 AnyTo zero P = ⊥
 AnyTo (suc n) P = AnyTo n P ⊎ P n
 
--- a mark above 1, or a mark of 0 and another word not 0
+-- a flag above 1, or a flag of 0 and another word not 0
 abbrev pub PlaceDamaged : List ℕ → ℕ → Type 0
 PlaceDamaged ws o = (1 < word ws (o + 3)) ⊎ ((word ws (o + 3) ≡ 0) × (Zeros (elementIn ws o) → ⊥))
 
--- how many places are marked
-abbrev pub marked : Node → ℕ
-marked n = inside always (n .places)
+-- how many places are flagged
+abbrev pub flagged : Node → ℕ
+flagged n = inside always (n .places)
 
 module _ (K : ℕ) where
-  -- a damaged place; a count above what a child has room for; something below, and fewer than K places marked
+  -- a damaged place; a count above what a child has room for; something below, and fewer than K places flagged
   abbrev pub NodeDamaged : ℕ → List ℕ → ℕ → Type 0
   NodeDamaged limit ws m =
       AnyTo K (λ j. PlaceDamaged ws (m * (2 + K * 4) + 2 + j * 4))
-      ⊎ ((limit < nodeIn K ws m .left) ⊎ ((limit < nodeIn K ws m .right) ⊎ ((0 < nodeIn K ws m .left + nodeIn K ws m .right) × (marked (nodeIn K ws m) < K))))
+      ⊎ ((limit < nodeIn K ws m .left) ⊎ ((limit < nodeIn K ws m .right) ⊎ ((0 < nodeIn K ws m .left + nodeIn K ws m .right) × (flagged (nodeIn K ws m) < K))))
 
-  -- a put finds every place marked, and both counts at the limit
+  -- a put finds every place flagged, and both counts at the limit
   abbrev pub Stuck : ℕ → Node → Type 0
-  Stuck limit n = (K ≤ marked n) × ((limit ≤ n .left) × (limit ≤ n .right))
+  Stuck limit n = (K ≤ flagged n) × ((limit ≤ n .left) × (limit ≤ n .right))
 
   -- a child of this count that is read for its lowest: only where the count is not 0. It must have an element
   abbrev pub ChildDamaged : ℕ → ℕ → List ℕ → ℕ → Type 0
-  ChildDamaged count limit ws m = (0 < count) × (NodeDamaged limit ws m ⊎ (marked (nodeIn K ws m) ≡ 0))
+  ChildDamaged count limit ws m = (0 < count) × (NodeDamaged limit ws m ⊎ (flagged (nodeIn K ws m) ≡ 0))
 
   -- what a step at node m reads, with k levels below it
   abbrev pub StepDamaged : ℕ → Op → ℕ → List ℕ → Type 0

@@ -4,7 +4,7 @@ use Rattle.promise.specs.Calls as calls
 use Rattle.promise.specs.Prelude.{Step, Untagged, leaves, limits}
 use Rattle.cluster_model.specs.Calls.{called, cleared, heldIn, ruleAt}
 use Rattle.cluster_model.specs.Heap.{room}
-pub use Rattle.cluster_model.specs.Causes.{AnyTo, ChildDamaged, marked, NodeDamaged, PathDamaged, PlaceDamaged, Shape, StepDamaged, Stuck}
+pub use Rattle.cluster_model.specs.Causes.{AnyTo, ChildDamaged, flagged, NodeDamaged, PathDamaged, PlaceDamaged, Shape, StepDamaged, Stuck}
 unfoldable pub use Rattle.cluster_model.specs.Causes.{nodes, storedCount}
 
 module _ (K : ℕ) where

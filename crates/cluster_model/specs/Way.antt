@@ -18,11 +18,11 @@ works take = true
 works (swap x) = true
 
 -- ---- tests of a node's numbers
--- neither count above what a child has room for, and with something below every place is marked
+-- neither count above what a child has room for, and with something below every place is flagged
 unfoldable pub strict : ℕ → Node → Bool
 strict limit n = leb (n .left) limit && (leb (n .right) limit && (nothingBelow n || leb (length (n .places)) (inside always (n .places))))
 
--- a place is marked
+-- a place is flagged
 unfoldable pub some : Node → Bool
 some n = ltb 0 (inside always (n .places))
 

@@ -3,7 +3,7 @@ use Rattle.laws.specs.Prelude.{Bool, Element, List, [], _&&_, _*_, _++_, _+_, _
 use Rattle.promise.specs.Prelude.{always}
 use Rattle.cluster_model.specs.Prelude.{Place, free, freeHere, gap, has, hitAt, inside, neatPlace, neatTo, nodeOf, nodeOk, nothingBelow, placeBy, placeOf, placeWords, rowOf, seek, strict, width, word}
 use Rattle.cluster_node.specs.Scan.{lowerThan, highAs, scan}
-use Rattle.cluster_node.specs.Seeing.{isMarked, seeOne, lookTo}
+use Rattle.cluster_node.specs.Seeing.{isFlagged, seeOne, lookTo}
 use Rattle.cluster_node.specs.Leaf.{bareAt, okBy, lookNode}
 use Rattle.cluster_model.proofs.Laws.{node-count}
 use Rattle.cluster_node.proofs.ScanCode.{row-place}
@@ -27,8 +27,8 @@ none : (ws : List ℕ) (o : ℕ) → 0 ≡ inside always (rowOf placeOf placeWor
 unfolding inside rowOf
 none ws o = refl
 
-count-next : (ws : List ℕ) (p c : ℕ) → cond (isMarked ws p) (c + 1) c ≡ c + hitAt always (placeOf ws p)
-unfolding isMarked placeOf placeBy
+count-next : (ws : List ℕ) (p c : ℕ) → cond (isFlagged ws p) (c + 1) c ≡ c + hitAt always (placeOf ws p)
+unfolding isFlagged placeOf placeBy
 count-next ws p c = go (eqb (word ws (p + elementWords)) 0)
   where
     go : (b : Bool) → cond (not b) (c + 1) c ≡ c + hitAt always (placeBy b (elementIn ws p))
@@ -106,9 +106,9 @@ free-le [] = omega arith
 free-le (gap ∷ ps) = omega arith
 free-le (has e ∷ ps) = omega (arith, free-le ps)
 
-marked-hit : (ws : List ℕ) (p : ℕ) → hitAt always (placeOf ws p) ≡ cond (isMarked ws p) 1 0
-unfolding isMarked placeOf placeBy
-marked-hit ws p = go (eqb (word ws (p + elementWords)) 0)
+flagged-hit : (ws : List ℕ) (p : ℕ) → hitAt always (placeOf ws p) ≡ cond (isFlagged ws p) 1 0
+unfolding isFlagged placeOf placeBy
+flagged-hit ws p = go (eqb (word ws (p + elementWords)) 0)
   where
     go : (b : Bool) → hitAt always (placeBy b (elementIn ws p)) ≡ cond (not b) 1 0
     go true = refl
@@ -135,5 +135,5 @@ look-free ws o (suc n) =
     let ps : List Place = rowOf placeOf placeWords n ws o in
     let e : f ≡ free ps = look-free ws o n in
     let le : f ≤ n = omega (arith, e, free-le ps, row-count n ws o) in
-    free-next f n (isMarked ws (o + n * placeWords)) le
-    ∙ sym (ap free (row-snoc n ws o) ∙ free-snoc ps (placeOf ws (o + n * placeWords)) ∙ rw (row-count n ws o, ← e, marked-hit ws (o + n * placeWords)) refl)
+    free-next f n (isFlagged ws (o + n * placeWords)) le
+    ∙ sym (ap free (row-snoc n ws o) ∙ free-snoc ps (placeOf ws (o + n * placeWords)) ∙ rw (row-count n ws o, ← e, flagged-hit ws (o + n * placeWords)) refl)

@@ -6,7 +6,7 @@ use Rattle.cluster_node.specs.declared.Seen.{Seen}
 use Rattle.cluster_node.specs.declared.Lead.{Lead}
 use Rattle.cluster_node.specs.declared.Found.{Found}
 use Rattle.cluster_node.specs.Scan.{lowerThan, highAs, scan}
-use Rattle.cluster_node.specs.Seeing.{isMarked, seeOne, lookTo, lowOnly}
+use Rattle.cluster_node.specs.Seeing.{isFlagged, seeOne, lookTo, lowOnly}
 use Rattle.cluster_node.specs.Full.{fullTo, turnAt, bestTo, turns, ranks, isHigh, lowTo, highTo, lowLead, highLead}
 use Rattle.cluster_node.specs.Leaf.{bareAt, okBy, countsOk, peekHere, peekAt}
 use Rattle.cluster_node.proofs.ScanCode.{row-place, high-both}
@@ -96,26 +96,26 @@ module _ (ws : List ℕ) (o : ℕ) where
       go true p ih = ap (λ (k : ℕ). word ws (o + k * placeWords + elementWords)) (eqb-true i n p) ∙ last
       go false p ih = let ne : i ≡ n → ⊥ = eqb-false i n p in ih (omega arith)
 
-  neat-marked : (i : ℕ) → word ws (i + elementWords) ≡ 1 → neatPlace ws i ≡ true
+  neat-flagged : (i : ℕ) → word ws (i + elementWords) ≡ 1 → neatPlace ws i ≡ true
   unfolding neatPlace
-  neat-marked i e = rw (ne-eqb (word ws (i + elementWords)) 0 (λ z. omega (arith, e)), eq-eqb (word ws (i + elementWords)) 1 e) refl
+  neat-flagged i e = rw (ne-eqb (word ws (i + elementWords)) 0 (λ z. omega (arith, e)), eq-eqb (word ws (i + elementWords)) 1 e) refl
 
-  is-marked : (i : ℕ) → word ws (i + elementWords) ≡ 1 → isMarked ws i ≡ true
-  unfolding isMarked
-  is-marked i e = rw (ne-eqb (word ws (i + elementWords)) 0 (λ z. omega (arith, e))) refl
+  is-flagged : (i : ℕ) → word ws (i + elementWords) ≡ 1 → isFlagged ws i ≡ true
+  unfolding isFlagged
+  is-flagged i e = rw (ne-eqb (word ws (i + elementWords)) 0 (λ z. omega (arith, e))) refl
 
-  -- neat, and every place marked
+  -- neat, and every place flagged
   pub full-look : (n : ℕ) → fullTo ws o n ≡ true → (lookTo ws o n .neat ≡ true) × (lookTo ws o n .count ≡ n) × (lookTo ws o n .free ≡ n)
   unfolding lookTo seeOne fullTo
   full-look zero e = (refl, refl, refl)
   full-look (suc n) e =
       let m : word ws (o + n * placeWords + elementWords) ≡ 1 = eqb-true (word ws (o + n * placeWords + elementWords)) 1 (and-r (fullTo ws o n) (eqb (word ws (o + n * placeWords + elementWords)) 1) e) in
       let ih = full-look n (and-l (fullTo ws o n) (eqb (word ws (o + n * placeWords + elementWords)) 1) e) in
-      rw (is-marked (o + n * placeWords) m, neat-marked (o + n * placeWords) m, ih .0, ih .1, ih .2, eq-eqb n n refl, add-one) (refl, refl, refl)
+      rw (is-flagged (o + n * placeWords) m, neat-flagged (o + n * placeWords) m, ih .0, ih .1, ih .2, eq-eqb n n refl, add-one) (refl, refl, refl)
 
   module _ (small : (i : ℕ) → word ws i < 4294967296) (n : ℕ) (full : fullTo ws o n ≡ true) where
-    marked : (i : ℕ) → i < n → word ws (o + i * placeWords + elementWords) ≡ 0 → ⊥
-    marked i h z = let e : word ws (o + i * placeWords + elementWords) ≡ 1 = full-at n full i h in not-suc-le-zero {n = 0} (omega (arith, e))
+    flagged : (i : ℕ) → i < n → word ws (o + i * placeWords + elementWords) ≡ 0 → ⊥
+    flagged i h z = let e : word ws (o + i * placeWords + elementWords) ≡ 1 = full-at n full i h in not-suc-le-zero {n = 0} (omega (arith, e))
 
     precedes-turn : (a b : Element) → a .tag .0 < 4294967296 → b .tag .0 < 4294967296 → precedes a b ≡ ltb (turn a) (turn b)
     precedes-turn a b s t = go (ltb (turn a) (turn b)) refl
@@ -127,11 +127,11 @@ module _ (ws : List ℕ) (o : ℕ) where
     lower-turn : (i k : ℕ) → i < n → k < n → lowerThan (placeAt (rowOf placeOf placeWords n ws o) i) (placeAt (rowOf placeOf placeWords n ws o) k) ≡ ltb (turns ws o i) (turns ws o k)
     unfolding lowerThan placeOf placeBy turnAt
     lower-turn i k h l =
-        rw (row-place n ws o i h, row-place n ws o k l, ne-eqb (word ws (o + i * placeWords + elementWords)) 0 (marked i h), ne-eqb (word ws (o + k * placeWords + elementWords)) 0 (marked k l))
+        rw (row-place n ws o i h, row-place n ws o k l, ne-eqb (word ws (o + i * placeWords + elementWords)) 0 (flagged i h), ne-eqb (word ws (o + k * placeWords + elementWords)) 0 (flagged k l))
         (precedes-turn (elementIn ws (o + i * placeWords)) (elementIn ws (o + k * placeWords)) (small (o + i * placeWords + 1)) (small (o + k * placeWords + 1)))
 
     high-rank : (i k : ℕ) → i < n → k < n → highAs (placeAt (rowOf placeOf placeWords n ws o) i) (placeAt (rowOf placeOf placeWords n ws o) k) ≡ isHigh (ranks ws o i) (ranks ws o k)
-    high-rank i k h l = rw (row-place n ws o i h, row-place n ws o k l) (sym (high-both ws (o + i * placeWords) (o + k * placeWords) (marked i h) (marked k l)))
+    high-rank i k h l = rw (row-place n ws o i h, row-place n ws o k l) (sym (high-both ws (o + i * placeWords) (o + k * placeWords) (flagged i h) (flagged k l)))
 
     pub full-low : lookTo ws o n .low ≡ lowTo ws o n
     full-low = look-low ws o n n (omega arith) ∙ best-scan lowerThan (rowOf placeOf placeWords n ws o) ltb (turns ws o) n lower-turn n (omega arith)
@@ -158,17 +158,17 @@ counts-in limit ws o e =
     (leb-true (word ws o) limit (and-l a b e), leb-true (word ws (o + 1)) limit (and-r a b e))
 
 module _ (ws : List ℕ) (o : ℕ) where
-  one-of : (i : ℕ) → isMarked ws i ≡ true → neatPlace ws i ≡ true → eqb (word ws (i + elementWords)) 1 ≡ true
-  unfolding isMarked neatPlace
+  one-of : (i : ℕ) → isFlagged ws i ≡ true → neatPlace ws i ≡ true → eqb (word ws (i + elementWords)) 1 ≡ true
+  unfolding isFlagged neatPlace
   one-of i t e = neat-one (eqb (word ws (i + elementWords)) 0) (isBlank (elementIn ws i)) (eqb (word ws (i + elementWords)) 1) t e
 
   neat-full : (n : ℕ) → lookTo ws o n .neat ≡ true → n ≤ lookTo ws o n .free → fullTo ws o n ≡ true
   unfolding lookTo seeOne fullTo
   neat-full zero e h = refl
   neat-full (suc n) e h =
-      go (isMarked ws (o + n * placeWords)) refl (eqb (lookTo ws o n .free) n) refl h (neat-full n (and-l (lookTo ws o n .neat) (neatPlace ws (o + n * placeWords)) e)) (within ws o n .free)
+      go (isFlagged ws (o + n * placeWords)) refl (eqb (lookTo ws o n .free) n) refl h (neat-full n (and-l (lookTo ws o n .neat) (neatPlace ws (o + n * placeWords)) e)) (within ws o n .free)
     where
-      go : (a : Bool) → isMarked ws (o + n * placeWords) ≡ a → (b : Bool) → eqb (lookTo ws o n .free) n ≡ b → suc n ≤ cond (a && b) (n + 1) (lookTo ws o n .free)
+      go : (a : Bool) → isFlagged ws (o + n * placeWords) ≡ a → (b : Bool) → eqb (lookTo ws o n .free) n ≡ b → suc n ≤ cond (a && b) (n + 1) (lookTo ws o n .free)
           → (n ≤ lookTo ws o n .free → fullTo ws o n ≡ true) → lookTo ws o n .free ≤ n → (fullTo ws o n && eqb (word ws (o + n * placeWords + elementWords)) 1) ≡ true
       go true p true q h ih le =
           let f : fullTo ws o n ≡ true = ih (omega (arith, eqb-true (lookTo ws o n .free) n q)) in

@@ -4,7 +4,7 @@ use Rattle.cluster_node.specs.declared.Seen.{Seen}
 use Rattle.cluster_node.specs.declared.Found.{Found}
 use Rattle.cluster_model.specs.Prelude.{neatPlace, placeOf, placeWords, word}
 use Rattle.cluster_node.specs.Scan.{lowerThan, highAs}
-use Rattle.cluster_node.specs.Seeing.{isMarked, seeOne, lookTo, noLook}
+use Rattle.cluster_node.specs.Seeing.{isFlagged, seeOne, lookTo, noLook}
 use Rattle.cluster_node.specs.Leaf.{okBy, bareAt, underOf, peekHere, peekAt, raiseWords, sinkWords}
 
 pub see-is : (ws : List ℕ) (o j : ℕ) (v : Seen) (x : Element) (blank : Bool) (count free low high : ℕ) (lower higher : Bool)
@@ -19,7 +19,7 @@ pub see-is : (ws : List ℕ) (o j : ℕ) (v : Seen) (x : Element) (blank : Bool)
       low = low;
       high = high;
     }) (seeOne ws o j v)
-unfolding seeOne isMarked neatPlace
+unfolding seeOne isFlagged neatPlace
 see-is ws o j v x blank count free low high lower higher c d a b p q r s =
     let n : blank ≡ isBlank (elementIn ws (o + j * placeWords)) = d ∙ ap isBlank c in
     let r′ : low ≡ cond (lowerThan (placeOf ws (o + j * placeWords)) (placeOf ws (o + v .low * placeWords))) j (v .low) = r ∙ ap (λ (t : Bool). cond t j (v .low)) a in
@@ -60,8 +60,8 @@ within ws o (suc j) =
     record {
       low = either (lowerThan (placeOf ws (o + j * placeWords)) (placeOf ws (o + v .low * placeWords))) j (v .low) (suc j) (omega arith) (omega (arith, h .low));
       high = either (highAs (placeOf ws (o + j * placeWords)) (placeOf ws (o + v .high * placeWords))) j (v .high) (suc j) (omega arith) (omega (arith, h .high));
-      count = either (isMarked ws (o + j * placeWords)) (v .count + 1) (v .count) (suc j) (omega (arith, h .count)) (omega (arith, h .count));
-      free = either (isMarked ws (o + j * placeWords) && eqb (v .free) j) (j + 1) (v .free) (suc j) (omega arith) (omega (arith, h .free));
+      count = either (isFlagged ws (o + j * placeWords)) (v .count + 1) (v .count) (suc j) (omega (arith, h .count)) (omega (arith, h .count));
+      free = either (isFlagged ws (o + j * placeWords) && eqb (v .free) j) (j + 1) (v .free) (suc j) (omega arith) (omega (arith, h .free));
     }
 
 pub within-of : (ws : List ℕ) (o j : ℕ) (v : Seen) → v ≡ lookTo ws o j → Within v j

@@ -1,9 +1,9 @@
--- A node all of whose marks are 1 is scanned without a look at what is empty: the best number so far is kept, not its place's words read again.
+-- A node all of whose flags are 1 is scanned without a look at what is empty: the best number so far is kept, not its place's words read again.
 use Rattle.laws.specs.Prelude.{Bool, List, _&&_, _*_, _+_, cond, elementIn, elementWords, eqb, leb, ltb, suc, true, turn, zero, ℕ}
 use Rattle.cluster_node.specs.declared.Lead.{Lead}
 use Rattle.cluster_model.specs.Prelude.{placeWords, word}
 
--- are the marks of the first so many places 1?
+-- are the flags of the first so many places 1?
 unfoldable pub fullTo : List ℕ → ℕ → ℕ → Bool
 fullTo ws o zero = true
 fullTo ws o (suc j) = fullTo ws o j && eqb (word ws (o + j * placeWords + elementWords)) 1

@@ -1,11 +1,11 @@
--- One scan of a node's places: neat so far, how many are marked, the first that is not, the lowest, the highest.
+-- One scan of a node's places: neat so far, how many are flagged, the first that is not, the lowest, the highest.
 use Rattle.laws.specs.Prelude.{Bool, List, _&&_, _*_, _+_, cond, elementWords, eqb, not, suc, true, zero, ℕ}
 use Rattle.cluster_node.specs.declared.Seen.{Seen}
 use Rattle.cluster_model.specs.Prelude.{neatPlace, placeOf, placeWords, word}
 use Rattle.cluster_node.specs.Scan.{lowerThan, highAs}
 
-unfoldable pub isMarked : List ℕ → ℕ → Bool
-isMarked ws o = not (eqb (word ws (o + elementWords)) 0)
+unfoldable pub isFlagged : List ℕ → ℕ → Bool
+isFlagged ws o = not (eqb (word ws (o + elementWords)) 0)
 
 abbrev pub noLook : Seen
 noLook = record { neat = true; count = 0; free = 0; low = 0; high = 0 }
@@ -14,8 +14,8 @@ noLook = record { neat = true; count = 0; free = 0; low = 0; high = 0 }
 unfoldable pub seeOne : List ℕ → ℕ → ℕ → Seen → Seen
 seeOne ws o j v = record {
   neat = v .neat && neatPlace ws (o + j * placeWords);
-  count = cond (isMarked ws (o + j * placeWords)) (v .count + 1) (v .count);
-  free = cond (isMarked ws (o + j * placeWords) && eqb (v .free) j) (j + 1) (v .free);
+  count = cond (isFlagged ws (o + j * placeWords)) (v .count + 1) (v .count);
+  free = cond (isFlagged ws (o + j * placeWords) && eqb (v .free) j) (j + 1) (v .free);
   low = cond (lowerThan (placeOf ws (o + j * placeWords)) (placeOf ws (o + v .low * placeWords))) j (v .low);
   high = cond (highAs (placeOf ws (o + j * placeWords)) (placeOf ws (o + v .high * placeWords))) j (v .high);
 }

@@ -20,7 +20,7 @@ use strip::no_element;
 use strip::turn_of;
 use strip::write_element;
 
-// One scan of a node: whether all places seen are neat, how many are marked, the first that is not, the lowest and the highest.
+// One scan of a node: whether all places seen are neat, how many are flagged, the first that is not, the lowest and the highest.
 pub struct Seen {
     pub neat: bool,
     pub count: usize,
@@ -29,17 +29,17 @@ pub struct Seen {
     pub high: usize,
 }
 
-// A place's words: its element's, and the mark behind them.
-pub const MARK: usize = ELEMENT_WORDS;
+// A place's words: its element's, and the flag behind them.
+pub const FLAG: usize = ELEMENT_WORDS;
 
-pub const PLACE_WORDS: usize = MARK + 1;
+pub const PLACE_WORDS: usize = FLAG + 1;
 
 // A node's words: the count on the left, the count on the right, then its places.
 pub const RIGHT: usize = 1;
 
 pub const COUNTS: usize = RIGHT + 1;
 
-// The words of a node of four places, where the later three begin, and their marks. The places of its children begin so far behind twice its own word.
+// The words of a node of four places, where the later three begin, and their flags. The places of its children begin so far behind twice its own word.
 pub const FOUR_WORDS: usize = COUNTS + 4 * PLACE_WORDS;
 
 const SECOND: usize = PLACE_WORDS;
@@ -48,17 +48,17 @@ const THIRD: usize = SECOND + PLACE_WORDS;
 
 const FOURTH: usize = THIRD + PLACE_WORDS;
 
-const SECOND_MARK: usize = SECOND + MARK;
+const SECOND_FLAG: usize = SECOND + FLAG;
 
-const THIRD_MARK: usize = THIRD + MARK;
+const THIRD_FLAG: usize = THIRD + FLAG;
 
-const FOURTH_MARK: usize = FOURTH + MARK;
+const FOURTH_FLAG: usize = FOURTH + FLAG;
 
 pub const FOUR_LEFT: usize = FOUR_WORDS + COUNTS;
 
 pub const FOUR_RIGHT: usize = FOUR_LEFT + FOUR_WORDS;
 
-// A scan that takes every place for occupied: whether all marks are 1, the best place and the number that it is the best by.
+// A scan that takes every place for occupied: whether all flags are 1, the best place and the number that it is the best by.
 pub struct Lead {
     pub full: bool,
     pub place: usize,
@@ -99,10 +99,10 @@ pub fn lower_than(s: &[u32], i: usize, k: usize) -> bool
     requires { ⌜ (i + placeWords ≤ length (now s)) × (k + placeWords ≤ length (now s)) ⌝ }
     ensures { λ r. ⌜ r ≡ lowerThan (placeOf (now (s .entry)) i) (placeOf (now (s .entry)) k) ⌝ }
 {
-    if s[i + MARK] == 0 {
+    if s[i + FLAG] == 0 {
         return false;
     }
-    if s[k + MARK] == 0 {
+    if s[k + FLAG] == 0 {
         return true;
     }
     let a = s[i];
@@ -117,10 +117,10 @@ pub fn high_as(s: &[u32], i: usize, k: usize) -> bool
     requires { ⌜ (i + placeWords ≤ length (now s)) × (k + placeWords ≤ length (now s)) ⌝ }
     ensures { λ r. ⌜ r ≡ highAs (placeOf (now (s .entry)) i) (placeOf (now (s .entry)) k) ⌝ }
 {
-    if s[i + MARK] == 0 {
+    if s[i + FLAG] == 0 {
         return false;
     }
-    if s[k + MARK] == 0 {
+    if s[k + FLAG] == 0 {
         return true;
     }
     s[k] <= s[i]
@@ -134,13 +134,13 @@ pub fn elem_at(s: &[u32], i: usize) -> Element
     element_at(s, i)
 }
 
-// The place at word i becomes x, marked.
+// The place at word i becomes x, flagged.
 pub fn set_place(s: &mut [u32], i: usize, x: Element)
     requires { ⌜ i + placeWords ≤ length (now s) ⌝ }
     ensures { λ _. ⌜ now (s .exit) ≡ writePlace (now (s .entry)) i (has x) ⌝ }
 {
     write_element(s, i, x);
-    s[i + MARK] = 1;
+    s[i + FLAG] = 1;
 }
 
 pub fn clear_place(s: &mut [u32], i: usize)
@@ -149,7 +149,7 @@ pub fn clear_place(s: &mut [u32], i: usize)
 {
     let none = no_element();
     write_element(s, i, none);
-    s[i + MARK] = 0;
+    s[i + FLAG] = 0;
 }
 
 // Place j, seen after those before it.
@@ -160,13 +160,13 @@ pub fn see(s: &[u32], at: usize, j: usize, v: Seen) -> Seen
     let i = at + j * PLACE_WORDS;
     let x = element_at(s, i);
     let blank = is_blank(x);
-    let mark = s[i + MARK];
-    let neat = v.neat & (((mark == 0) & blank) | (mark == 1));
-    let marked = mark != 0;
+    let flag = s[i + FLAG];
+    let neat = v.neat & (((flag == 0) & blank) | (flag == 1));
+    let flagged = flag != 0;
     let lower = lower_than(s, i, at + v.low * PLACE_WORDS);
     let higher = high_as(s, i, at + v.high * PLACE_WORDS);
-    let count = choose(marked, v.count + 1, v.count);
-    let free = choose(marked & (v.free == j), j + 1, v.free);
+    let count = choose(flagged, v.count + 1, v.count);
+    let free = choose(flagged & (v.free == j), j + 1, v.free);
     let low = choose(lower, j, v.low);
     let high = choose(higher, j, v.high);
     Seen {
@@ -219,7 +219,7 @@ pub fn low_each(s: &[u32], at: usize, n: usize) -> Lead
     while j < n {
         let i = at + j * PLACE_WORDS;
         let turn = turn_at(s, i);
-        full = full & (s[i + MARK] == 1);
+        full = full & (s[i + FLAG] == 1);
         if turn < best {
             place = j;
             best = turn;
@@ -241,7 +241,7 @@ pub fn high_each(s: &[u32], at: usize, n: usize) -> Lead
     while j < n {
         let i = at + j * PLACE_WORDS;
         let rank = s[i] as u64;
-        full = full & (s[i + MARK] == 1);
+        full = full & (s[i + FLAG] == 1);
         if best <= rank {
             place = j;
             best = rank;
@@ -266,10 +266,10 @@ pub fn low_four(s: &[u32], at: usize) -> Lead
     let b = turn_at(s, at + SECOND);
     let c = turn_at(s, at + THIRD);
     let d = turn_at(s, at + FOURTH);
-    let full = (s[at + MARK] == 1)
-        & (s[at + SECOND_MARK] == 1)
-        & (s[at + THIRD_MARK] == 1)
-        & (s[at + FOURTH_MARK] == 1);
+    let full = (s[at + FLAG] == 1)
+        & (s[at + SECOND_FLAG] == 1)
+        & (s[at + THIRD_FLAG] == 1)
+        & (s[at + FOURTH_FLAG] == 1);
     let second = b < a;
     let first_place = choose(second, 1, 0);
     let first = choose_turn(second, b, a);

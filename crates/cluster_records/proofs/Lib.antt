@@ -6,4 +6,4 @@ pub mod Fits
 pub mod History
 pub mod Plain
 pub mod Records
-pub mod Turns
+pub mod AfterRead

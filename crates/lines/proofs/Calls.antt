@@ -9,13 +9,13 @@ use Rattle.lines_model.specs.declared.Choice.{Choice}
 use Rattle.lines_model.specs.declared.Due.{Due}
 use Rattle.lines_model.specs.declared.Due.the-variants.{Put, Rest, Swap, Take}
 use Rattle.lines_model.specs.declared.Rows.{Rows}
-use Rattle.lines_steps.proofs.Finds.{small}
-use Rattle.lines_steps.proofs.Ready.{come-ready, counted-long, looked-ok, looked-past, Ready, worked-now}
-use Rattle.lines_steps.specs.Sizes.{sizes, sizesBy}
-use Rattle.lines_steps.specs.Work.{Fits, looked, Passed, totals, workedBy}
-use Rattle.lines_steps.specs.declared.Look.{Look}
-use Rattle.lines_steps.specs.declared.Sizes.{Sizes}
-use Rattle.lines_steps.specs.declared.Totals.{Totals}
+use Rattle.lines_work.proofs.Finds.{small}
+use Rattle.lines_work.proofs.Ready.{come-ready, counted-long, looked-ok, looked-past, Ready, worked-now}
+use Rattle.lines_work.specs.Sizes.{sizes, sizesBy}
+use Rattle.lines_work.specs.Work.{Fits, looked, Passed, totals, workedBy}
+use Rattle.lines_work.specs.declared.Look.{Look}
+use Rattle.lines_work.specs.declared.Sizes.{Sizes}
+use Rattle.lines_work.specs.declared.Totals.{Totals}
 use Rattle.promise.specs.Prelude.{Ruling, carriedOut, decided-same, grants, lacksTag, left, ruleAt, ruling}
 
 module _ (k : Rows) (w : List ℕ) where

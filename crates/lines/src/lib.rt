@@ -1,17 +1,17 @@
 // The lines, one operation at a time.
 use lines_model::Due;
 use lines_model::Rows;
-use lines_steps::Sizes;
-use lines_steps::come_to;
-use lines_steps::count;
-use lines_steps::goal_of;
-use lines_steps::lacks_tag;
-use lines_steps::look_lines;
-use lines_steps::rank_fit;
-use lines_steps::shape_ok;
-use lines_steps::sum_up;
-use lines_steps::wipe_words;
-use lines_steps::work;
+use lines_work::Sizes;
+use lines_work::come_to;
+use lines_work::count;
+use lines_work::goal_of;
+use lines_work::lacks_tag;
+use lines_work::look_lines;
+use lines_work::rank_fit;
+use lines_work::shape_ok;
+use lines_work::sum_up;
+use lines_work::wipe_words;
+use lines_work::work;
 use strip::Answer;
 use strip::Count;
 use strip::Element;
@@ -22,7 +22,7 @@ ghost use mathlib.Core.Path.{_≡_};
 ghost use lib.ListN.{length};
 ghost use Rattle.lines_model.specs.Calls.{called, cleared, heldCount, outcome};
 ghost use Rattle.lines_model.specs.Layout.{powerOfTwo, word};
-ghost use Rattle.lines_steps.specs.Sizes.{sizesBy, Standing};
+ghost use Rattle.lines_work.specs.Sizes.{sizesBy, Standing};
 ghost use Rattle.strip.specs.declared.Request.the-variants.{Pop, Push, Replace};
 
 // All counts and places become 0. The rest of a longer slice stays.

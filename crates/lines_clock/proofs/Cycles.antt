@@ -4,23 +4,23 @@ use Rattle.lines_clock.specs.declared.Cycled.{Cycled}
 use Rattle.lines_model.proofs.Acts.{goal-lt}
 use Rattle.lines_model.proofs.Clocked.{due-means, work-long}
 use Rattle.lines_model.proofs.Tests.{below-means, shape-means}
-use Rattle.lines_model.proofs.Ticks.{choose-ext, counts-same, turned-is}
+use Rattle.lines_model.proofs.Ticks.{choose-ext, counts-same, cycled-is}
 use Rattle.lines_model.proofs.Which.{total-ext}
 use Rattle.lines_model.specs.Calls.{countsOk, heads}
-use Rattle.lines_model.specs.Clock.{chosen, DueFit, dueOk, had, Machine, machine, settled, turn, turned, turnOk}
+use Rattle.lines_model.specs.Clock.{chosen, DueFit, dueOk, had, Machine, machine, settled, written, cycled, cycleOk}
 use Rattle.lines_model.specs.Layout.{shapeOk, word}
 use Rattle.lines_model.specs.Rules.{choose, comeTo, counted, denied, goal, inRange, linesOk, rankFit, total, worked}
 use Rattle.lines_model.specs.declared.Choice.{Choice}
 use Rattle.lines_model.specs.declared.Due.{Due}
 use Rattle.lines_model.specs.declared.Due.the-variants.{Put, Rest, Swap, Take}
 use Rattle.lines_model.specs.declared.Rows.{Rows}
-use Rattle.lines_steps.proofs.Finds.{room}
-use Rattle.lines_steps.proofs.Ready.{come-ready, due-stands, had-fits, had-worked, looked-ok, Ready, standing-in}
-use Rattle.lines_steps.specs.Sizes.{sizes, sizesBy, Standing}
-use Rattle.lines_steps.specs.Work.{Countable, Fits, looked, Passed, totals, workedBy}
-use Rattle.lines_steps.specs.declared.Look.{Look}
-use Rattle.lines_steps.specs.declared.Sizes.{Sizes}
-use Rattle.lines_steps.specs.declared.Totals.{Totals}
+use Rattle.lines_work.proofs.Finds.{room}
+use Rattle.lines_work.proofs.Ready.{come-ready, due-stands, had-fits, had-worked, looked-ok, Ready, standing-in}
+use Rattle.lines_work.specs.Sizes.{sizes, sizesBy, Standing}
+use Rattle.lines_work.specs.Work.{Countable, Fits, looked, Passed, totals, workedBy}
+use Rattle.lines_work.specs.declared.Look.{Look}
+use Rattle.lines_work.specs.declared.Sizes.{Sizes}
+use Rattle.lines_work.specs.declared.Totals.{Totals}
 use Rattle.promise.specs.Prelude.{Outcome, lacksTag, outcome}
 
 -- ---- what is pending
@@ -135,34 +135,34 @@ pub cycle-answered : (w : List ℕ) (t u : Cycled) (o : Outcome Machine) → t �
 cycle-answered w t u o e p = ap (λ (t : Cycled). outcome (t .answer) (machine w (t .due))) e ∙ p
 
 module _ (k : Rows) (q : Request) (w : List ℕ) (due : Due) where
-  pub cycle-shape : shapeOk k (length w) ≡ false → outcome (Refused BadShape) (machine w due) ≡ turned k q (machine w due)
-  unfolding turned
+  pub cycle-shape : shapeOk k (length w) ≡ false → outcome (Refused BadShape) (machine w due) ≡ cycled k q (machine w due)
+  unfolding cycled
   cycle-shape e = rw e refl
 
   module _ (s : shapeOk k (length w) ≡ true) where
-    torn : turnOk k (machine w due) ≡ false → outcome (Refused Damaged) (machine w due) ≡ turned k q (machine w due)
-    unfolding turned
+    torn : cycleOk k (machine w due) ≡ false → outcome (Refused Damaged) (machine w due) ≡ cycled k q (machine w due)
+    unfolding cycled
     torn e = rw (s, e) refl
 
-    pub cycle-counts : countsOk k w ≡ false → outcome (Refused Damaged) (machine w due) ≡ turned k q (machine w due)
-    unfolding turnOk
+    pub cycle-counts : countsOk k w ≡ false → outcome (Refused Damaged) (machine w due) ≡ cycled k q (machine w due)
+    unfolding cycleOk
     cycle-counts e = torn (rw e refl)
 
     module _ (c : countsOk k w ≡ true) where
-      pub cycle-due : dueOk k w due ≡ false → outcome (Refused Damaged) (machine w due) ≡ turned k q (machine w due)
-      unfolding turnOk
+      pub cycle-due : dueOk k w due ≡ false → outcome (Refused Damaged) (machine w due) ≡ cycled k q (machine w due)
+      unfolding cycleOk
       cycle-due e = torn (rw (c, e) refl)
 
       module _ (p : dueOk k w due ≡ true) (n : Sizes) (g : n ≡ sizesBy k (had k w due) due) (look : Look) (f : look ≡ looked k w n due) where
         tested-is : linesOk k w (had k w due) due ≡ look .ok
         tested-is = sym (ap (λ (o : Look). o .ok) f ∙ ap (λ (n : Sizes). looked k w n due .ok) g ∙ looked-ok k w (had k w due) due)
 
-        pub cycle-line : not (look .ok) ≡ true → outcome (Refused Damaged) (machine w due) ≡ turned k q (machine w due)
-        unfolding turnOk
+        pub cycle-line : not (look .ok) ≡ true → outcome (Refused Damaged) (machine w due) ≡ cycled k q (machine w due)
+        unfolding cycleOk
         cycle-line m = torn (rw (c, p, tested-is ∙ not-true (look .ok) m) refl)
 
-        passes : not (look .ok) ≡ false → turnOk k (machine w due) ≡ true
-        unfolding turnOk
+        passes : not (look .ok) ≡ false → cycleOk k (machine w due) ≡ true
+        unfolding cycleOk
         passes m = rw (c, p, tested-is ∙ not-false (look .ok) m) refl
 
         pub settles : (u : List ℕ) → u ≡ workedBy k n due w → u ≡ settled k (machine w due)
@@ -172,15 +172,15 @@ module _ (k : Rows) (q : Request) (w : List ℕ) (due : Due) where
             ∙ had-worked k w (shape-means k (length w) .says s) (below-means (k .places) (word w) (k .lines) .says c) due (due-means k w due .says p)
 
         pub cycle-done : (u v : List ℕ) (z : Choice) → not (look .ok) ≡ false → u ≡ workedBy k n due w → z ≡ choose k (word u) (heads k u) q → v ≡ counted k (z .due) u
-            → outcome (z .answer) (machine v (z .due)) ≡ turned k q (machine w due)
+            → outcome (z .answer) (machine v (z .due)) ≡ cycled k q (machine w due)
         cycle-done u v z m e a b =
             let st = settles u e in
             let same-choice : z ≡ chosen k q (machine w due) =
             a ∙ ap (λ (u : List ℕ). choose k (word u) (heads k u) q) st
             ∙ sym (choose-ext k (length w) (shape-means k (length w) .says s) (word w) (word (settled k (machine w due))) (λ i h. sym (settled-same i h)) (heads k (settled k (machine w due))) q) in
             ap (λ (v : List ℕ). outcome (z .answer) (machine v (z .due))) (b ∙ ap (counted k (z .due)) st)
-            ∙ ap (λ (z : Choice). outcome (z .answer) (turn k (z .due) (machine w due))) same-choice
-            ∙ sym (turned-is k q (machine w due) s (passes m))
+            ∙ ap (λ (z : Choice). outcome (z .answer) (written k (z .due) (machine w due))) same-choice
+            ∙ sym (cycled-is k q (machine w due) s (passes m))
           where
             settled-same : (i : ℕ) → i < k .lines → word (settled k (machine w due)) i ≡ word w i
             settled-same i h = unfold settled in counts-same k due w i h

@@ -3,7 +3,7 @@ use Rattle.laws.specs.Prelude.{Answer, BadShape, Bool, Done, Idle, List, Out, R
 use Rattle.lines_clock.specs.declared.Report.{Report}
 use Rattle.lines_model.proofs.Clocked.{ticks}
 use Rattle.lines_model.specs.Calls.{cleared, heldCount, wipe}
-use Rattle.lines_model.specs.Clock.{clock, clockCleared, clockHeld, drains, dueAt, isPending, Machine, machine, turn, turned, turning}
+use Rattle.lines_model.specs.Clock.{clock, clockCleared, clockHeld, drains, dueAt, isPending, Machine, machine, written, cycled, ticking}
 use Rattle.lines_model.specs.Layout.{shapeOk, storeWords}
 use Rattle.lines_model.specs.Rules.{dueOf}
 use Rattle.lines_model.specs.declared.Due.{Due}
@@ -66,13 +66,13 @@ module _ (k : Rows) (w : List ℕ) (due : Due) where
         drain-none e = rw (s, e, on) refl
 
         -- a cycle is run
-        module _ (more : b ≡ 0 → ⊥) (v : List ℕ) (a : Answer) (next : Due) (o : outcome a (machine v next) ≡ turned k Idle (machine w due)) where
-          said-is : turning k Idle (machine w due) .said ≡ a
-          unfolding turned
+        module _ (more : b ≡ 0 → ⊥) (v : List ℕ) (a : Answer) (next : Due) (o : outcome a (machine v next) ≡ cycled k Idle (machine w due)) where
+          said-is : ticking k Idle (machine w due) .said ≡ a
+          unfolding cycled
           said-is = ap (λ (o : Outcome Machine). o .answer) (sym o)
 
-          next-is : turning k Idle (machine w due) .next ≡ machine v next
-          unfolding turned
+          next-is : ticking k Idle (machine w due) .next ≡ machine v next
+          unfolding cycled
           next-is = ap (λ (o : Outcome Machine). o .words) (sym o)
 
           told : (a : Answer) → (numberOf a ≡ 0 → ⊥) → isRefused a ≡ true
@@ -106,7 +106,7 @@ module _ (k : Rows) (w : List ℕ) (due : Due) where
               quiet : isPending next ≡ false
               quiet = ap (λ (z : Machine). isPending (z .due)) (sym next-is ∙ ap (λ (y : Step Answer Machine). y .next) (idle-ran (ticks k) (machine w due) (ap numberOf said-is ∙ n)) ∙ still)
                 where
-                  still : turn k (dueAt k Idle (machine w due)) (machine w due) ≡ turn k Rest (machine w due)
+                  still : written k (dueAt k Idle (machine w due)) (machine w due) ≡ written k Rest (machine w due)
                   still = unfold dueOf in refl
 
               rest : (i : ℕ) → drained Done 1 false (machine v next) ≡ drainBy (asking (clock k) (cycling (clock k))) (λ (z : Machine). isPending (z .due)) i 1 (machine v next)

@@ -2,17 +2,17 @@
 use lines_model::Choice;
 use lines_model::Due;
 use lines_model::Rows;
-use lines_steps::Sizes;
-use lines_steps::come_to;
-use lines_steps::count;
-use lines_steps::goal_of;
-use lines_steps::in_range;
-use lines_steps::lacks_tag;
-use lines_steps::look_lines;
-use lines_steps::rank_fit;
-use lines_steps::shape_ok;
-use lines_steps::sum_up;
-use lines_steps::work;
+use lines_work::Sizes;
+use lines_work::come_to;
+use lines_work::count;
+use lines_work::goal_of;
+use lines_work::in_range;
+use lines_work::lacks_tag;
+use lines_work::look_lines;
+use lines_work::rank_fit;
+use lines_work::shape_ok;
+use lines_work::sum_up;
+use lines_work::work;
 use strip::Answer;
 use strip::Count;
 use strip::Element;
@@ -23,13 +23,13 @@ ghost use mathlib.Core.Bool.{true};
 ghost use mathlib.Core.Path.{_≡_};
 ghost use lib.ListN.{length};
 ghost use Rattle.lines_model.specs.Calls.{heads};
-ghost use Rattle.lines_model.specs.Clock.{clockCleared, clockHeld, drains, dueOk, had, isPending, machine, turned};
+ghost use Rattle.lines_model.specs.Clock.{clockCleared, clockHeld, drains, dueOk, had, isPending, machine, cycled};
 ghost use Rattle.lines_model.specs.Layout.{powerOfTwo, shapeOk, word};
 ghost use Rattle.lines_model.specs.Rules as rules;
 ghost use Rattle.lines_model.specs.Rules.{total};
 ghost use Rattle.lines_model.specs.declared.Due.the-variants.{Put, Rest, Swap, Take};
 ghost use Rattle.lines_clock.specs.Reports.{reported, stood};
-ghost use Rattle.lines_steps.specs.Sizes.{sizesBy, Standing};
+ghost use Rattle.lines_work.specs.Sizes.{sizesBy, Standing};
 ghost use Rattle.promise.specs.Calls.{outcome};
 ghost use Rattle.promise.specs.Drains.{drained};
 
@@ -203,7 +203,7 @@ fn choose(s: &[u32], k: Rows, q: Request, held: usize) -> Choice
 
 // A cycle with a request, or idle: test, sort, choose, write.
 pub fn cycle(s: &mut [u32], k: Rows, due: Due, q: Request) -> Cycled
-    ensures { λ r. ⌜ outcome (r .answer) (machine (now (s .exit)) (r .due)) ≡ turned k q (machine (now (s .entry)) due) ⌝ }
+    ensures { λ r. ⌜ outcome (r .answer) (machine (now (s .exit)) (r .due)) ≡ cycled k q (machine (now (s .entry)) due) ⌝ }
 {
     let fits = shape_ok(k, s.len());
     if !fits {

@@ -1,7 +1,7 @@
--- The worked cases of the rules in plain numbers: the stores after four pushes, of both kinds, and the turns of kind 1.
+-- The worked cases of the rules in plain numbers: the stores after four pushes, of both kinds, and the ticks-as of kind 1.
 use Rattle.laws.specs.Prelude.{Done, Full, List, Out, Pop, Push, Refused, Replace, Request, [], _∷_, _≡_, blank, element, false, isRefused, refl, replicate, untagged, ℕ}
 use Rattle.lines_model.specs.Calls.{called, lines, outcome}
-use Rattle.lines_model.specs.Clock.{drains, dueOk, had, machine, settled, turning, turnOk}
+use Rattle.lines_model.specs.Clock.{drains, dueOk, had, machine, settled, ticking, cycleOk}
 use Rattle.lines_model.specs.Layout.{lineOf, powerOfTwo, putIn, rowIn, Rows, rowSet, shapeOk, without}
 use Rattle.lines_model.specs.Rules.{ascends, choose, counted, countsBelow, dueOf, giver, goal, leads, lineOk, linesOk, lowest, owned, Rest, seek, Swap, Take, taker, total, worked}
 use Rattle.promise.specs.Prelude.{answers, drainBy, drained, leaves}
@@ -52,30 +52,30 @@ unfolding leaves called choose taker giver goal seek leads lowest total dueOf co
 case-other-full = refl
 
 -- kind 1 on the clock: pop, pop, replace 40000/41, idle
-abbrev pub caseTurns : List Request
-caseTurns = Pop ∷ Pop ∷ Replace (element 40000 41 410) ∷ []
+abbrev pub caseCycles : List Request
+caseCycles = Pop ∷ Pop ∷ Replace (element 40000 41 410) ∷ []
 
-pub case-turns-said : answers (turning (caseRows 1)) caseTurns (machine caseOne Rest) ≡ (Out (element 3 30 300) ∷ Out (element 5 50 500) ∷ Out (element 5 51 510) ∷ [])
-unfolding answers turnOk dueOk had settled leaves called choose taker giver goal seek leads lowest total dueOf counted worked countsBelow ascends owned lineOk linesOk putIn without rowIn rowSet shapeOk powerOfTwo lineOf blank untagged
-case-turns-said = refl
+pub case-cycles-said : answers (ticking (caseRows 1)) caseCycles (machine caseOne Rest) ≡ (Out (element 3 30 300) ∷ Out (element 5 50 500) ∷ Out (element 5 51 510) ∷ [])
+unfolding answers cycleOk dueOk had settled leaves called choose taker giver goal seek leads lowest total dueOf counted worked countsBelow ascends owned lineOk linesOk putIn without rowIn rowSet shapeOk powerOfTwo lineOf blank untagged
+case-cycles-said = refl
 
 -- .. row by row: the counts have changed, the lines change a cycle later
-pub case-turn-one : turning (caseRows 1) Pop (machine caseOne Rest) .next
+pub case-cycle-one : ticking (caseRows 1) Pop (machine caseOne Rest) .next
     ≡ machine (2 ∷ 1 ∷ 3 ∷ 30 ∷ 300 ∷ 5 ∷ 50 ∷ 500 ∷ 5 ∷ 51 ∷ 510 ∷ 40000 ∷ 40 ∷ 400 ∷ 0 ∷ 0 ∷ 0 ∷ 0 ∷ 0 ∷ 0 ∷ []) (Take 0)
-unfolding answers turnOk dueOk had settled leaves called choose taker giver goal seek leads lowest total dueOf counted worked countsBelow ascends owned lineOk linesOk putIn without rowIn rowSet shapeOk powerOfTwo lineOf blank untagged
-case-turn-one = refl
+unfolding answers cycleOk dueOk had settled leaves called choose taker giver goal seek leads lowest total dueOf counted worked countsBelow ascends owned lineOk linesOk putIn without rowIn rowSet shapeOk powerOfTwo lineOf blank untagged
+case-cycle-one = refl
 
-pub case-turn-two : leaves (turning (caseRows 1)) (Pop ∷ Pop ∷ []) (machine caseOne Rest)
+pub case-cycle-two : leaves (ticking (caseRows 1)) (Pop ∷ Pop ∷ []) (machine caseOne Rest)
     ≡ machine (1 ∷ 1 ∷ 5 ∷ 50 ∷ 500 ∷ 5 ∷ 51 ∷ 510 ∷ 0 ∷ 0 ∷ 0 ∷ 40000 ∷ 40 ∷ 400 ∷ 0 ∷ 0 ∷ 0 ∷ 0 ∷ 0 ∷ 0 ∷ []) (Take 0)
-unfolding answers turnOk dueOk had settled leaves called choose taker giver goal seek leads lowest total dueOf counted worked countsBelow ascends owned lineOk linesOk putIn without rowIn rowSet shapeOk powerOfTwo lineOf blank untagged
-case-turn-two = refl
+unfolding answers cycleOk dueOk had settled leaves called choose taker giver goal seek leads lowest total dueOf counted worked countsBelow ascends owned lineOk linesOk putIn without rowIn rowSet shapeOk powerOfTwo lineOf blank untagged
+case-cycle-two = refl
 
-pub case-turns-left : leaves (turning (caseRows 1)) caseTurns (machine caseOne Rest)
+pub case-cycles-left : leaves (ticking (caseRows 1)) caseCycles (machine caseOne Rest)
     ≡ machine (0 ∷ 2 ∷ 5 ∷ 51 ∷ 510 ∷ 0 ∷ 0 ∷ 0 ∷ 0 ∷ 0 ∷ 0 ∷ 40000 ∷ 40 ∷ 400 ∷ 0 ∷ 0 ∷ 0 ∷ 0 ∷ 0 ∷ 0 ∷ []) (Swap 0 (element 40000 41 410))
-unfolding answers turnOk dueOk had settled leaves called choose taker giver goal seek leads lowest total dueOf counted worked countsBelow ascends owned lineOk linesOk putIn without rowIn rowSet shapeOk powerOfTwo lineOf blank untagged
-case-turns-left = refl
+unfolding answers cycleOk dueOk had settled leaves called choose taker giver goal seek leads lowest total dueOf counted worked countsBelow ascends owned lineOk linesOk putIn without rowIn rowSet shapeOk powerOfTwo lineOf blank untagged
+case-cycles-left = refl
 
-pub case-turns-idle : drains (caseRows 1) 1 (leaves (turning (caseRows 1)) caseTurns (machine caseOne Rest))
+pub case-cycles-idle : drains (caseRows 1) 1 (leaves (ticking (caseRows 1)) caseCycles (machine caseOne Rest))
     ≡ drained Done 1 false (machine (0 ∷ 2 ∷ 0 ∷ 0 ∷ 0 ∷ 0 ∷ 0 ∷ 0 ∷ 0 ∷ 0 ∷ 0 ∷ 40000 ∷ 40 ∷ 400 ∷ 40000 ∷ 41 ∷ 410 ∷ 0 ∷ 0 ∷ 0 ∷ []) Rest)
-unfolding drains drainBy isRefused answers turnOk dueOk had settled leaves called choose taker giver goal seek leads lowest total dueOf counted worked countsBelow ascends owned lineOk linesOk putIn without rowIn rowSet shapeOk powerOfTwo lineOf blank untagged
-case-turns-idle = refl
+unfolding drains drainBy isRefused answers cycleOk dueOk had settled leaves called choose taker giver goal seek leads lowest total dueOf counted worked countsBelow ascends owned lineOk linesOk putIn without rowIn rowSet shapeOk powerOfTwo lineOf blank untagged
+case-cycles-idle = refl

@@ -7,11 +7,11 @@ use Rattle.lines_model.proofs.Promises.{is-queue}
 use Rattle.lines_model.proofs.Row.{Off, row-length, set-length, set-other}
 use Rattle.lines_model.proofs.Start.{always-neat, cleared-words, start-sound}
 use Rattle.lines_model.proofs.Tests.{ask-told, below-means, fails-means, late-told, lines-means, or-means, range-means, shape-means}
-use Rattle.lines_model.proofs.Ticks.{cycle-flies, cycle-said, cycle-settled, Flying, idle-next, machine-shape, settled-counts, settled-sound, turn-ok}
+use Rattle.lines_model.proofs.Ticks.{cycle-flies, cycle-said, cycle-settled, Flying, idle-next, machine-shape, settled-counts, settled-sound, cycle-ok}
 use Rattle.lines_model.proofs.Which.{total-ext}
 use Rattle.lines_model.specs.Calls.{called, cleared, countsOk, heldCount, lines, wipe}
 use Rattle.lines_model.specs.Causes.{CountsFit, Shaped}
-use Rattle.lines_model.specs.Clock.{Apart, clock, clockCleared, clockHeld, dueAt, DueFit, dueOk, fresh, fronts, had, InLine, isPending, Machine, machine, settled, TurnFit, turning, turnOk}
+use Rattle.lines_model.specs.Clock.{Apart, clock, clockCleared, clockHeld, dueAt, DueFit, dueOk, fresh, fronts, had, InLine, isPending, Machine, machine, settled, CycleFit, ticking, cycleOk}
 use Rattle.lines_model.specs.Layout.{moved, putIn, rowAt, rowIn, Rows, rowSet, shapeOk, storeWords, without, word}
 use Rattle.lines_model.specs.Promise.{Neat, storedBy}
 use Rattle.lines_model.specs.Rules.{askTable, counted, Due, gaveOf, giver, goal, lateTable, Put, Rest, Swap, Take, worked}
@@ -36,9 +36,9 @@ due-means k w (Swap l x) =
     means-by (means-and (means-and (means-and (means-ltb l (k .lines)) (range-means k x)) (means-ltb 0 (word w g))) (or-means (eqb l g) (ltb (word w l) (k .places)) (means-eqb l g) (means-ltb (word w l) (k .places))))
     (λ y. (y .0 .0, y .0 .1, y .1)) (λ y. ((y .0, y .1), y .2))
 
-turn-means : (k : Rows) (z : Machine) → Means (turnOk k z) (TurnFit k z)
-unfolding turnOk
-turn-means k z =
+cycle-means : (k : Rows) (z : Machine) → Means (cycleOk k z) (CycleFit k z)
+unfolding cycleOk
+cycle-means k z =
     means-by (means-and (means-and (below-means (k .places) (word (z .words)) (k .lines)) (due-means k (z .words) (z .due))) (lines-means k (z .words) (had k (z .words) (z .due)) (z .due)))
     (λ y. record { counts = y .0 .0; due = y .0 .1; lines = y .1 }) (λ y. ((y .counts, y .due), y .lines))
 
@@ -84,7 +84,7 @@ module _ (k : Rows) (w : List ℕ) (s : Shaped k (length w)) (counts : CountsFit
         | no e ↦ rw (ne-eqb l g e) (⊎-elim (λ z. absurd (e z)) (λ z. omega arith) r)
       ]
 
-pub settled-else : (k : Rows) (z : Machine) → Shaped k (length (z .words)) → TurnFit k z → (j i : ℕ) → InLine k j i → Apart k (z .due) j → word (settled k z) i ≡ word (z .words) i
+pub settled-else : (k : Rows) (z : Machine) → Shaped k (length (z .words)) → CycleFit k z → (j i : ℕ) → InLine k j i → Apart k (z .due) j → word (settled k z) i ≡ word (z .words) i
 unfolding settled
 settled-else k z s t j i b a = work-else k (z .words) s (t .counts) j i b (z .due) (t .due) a
 
@@ -113,13 +113,13 @@ idle-late k c h (Push x) = (refl, (refl, (refl, tt)))
 idle-late k c h Pop = (refl, (refl, (refl, tt)))
 idle-late k c h (Replace x) = (refl, (refl, (refl, (refl, tt))))
 
-pub ticks : (k : Rows) → Ticks (clock k) (turning k)
+pub ticks : (k : Rows) → Ticks (clock k) (ticking k)
 unfolding settled
 ticks k =
     record {
       same = λ q z. refl;
       shape = λ z. shape-means k (length (z .words));
-      torn = λ q z. fails-means (turn-means k z);
+      torn = λ q z. fails-means (cycle-means k z);
       root = λ z. fails-means (below-means (k .places) (word (z .words)) (k .lines));
       late = λ q z e f. ask-told k q (lateTable k (word (z .words)) (fronts k z) q) (late-told k (length (z .words)) (shape-means k (length (z .words)) .says e) (word (z .words)) (fronts k z) q);
       idles = λ q z. idle-late k (word (z .words)) (fronts k z) q;
@@ -147,20 +147,20 @@ module _ (k : Rows) where
   settled-neat : (z : Machine) → Flying k z → Neat k (settled k z)
   settled-neat z f = (after k (z .due) (f .rows), settled-sound k z f)
 
-  pub is-clock : IsClock (clock k) (turning k) (Flying k)
-  is-clock = is-clock-by (ticks k) (Flying k) flying-shape (λ q z f. turn-ok k z f) (λ q z f. cycle-flies k z f q)
+  pub is-clock : IsClock (clock k) (ticking k) (Flying k)
+  is-clock = is-clock-by (ticks k) (Flying k) flying-shape (λ q z f. cycle-ok k z f) (λ q z f. cycle-flies k z f q)
 
   pub bag : Bag (clock k) (Flying k) (λ q. q) (inFlight k)
   bag =
-      bag-by (ticks k) (Flying k) flying-shape (λ q z f. turn-ok k z f) (λ q. q) (inFlight k) refl
+      bag-by (ticks k) (Flying k) flying-shape (λ q z f. cycle-ok k z f) (λ q. q) (inFlight k) refl
       (λ q z f t. rw (cycle-said k z f q, cycle-settled k z f q) (unfold called in call-sum (is-queue k) q (settled k z) (settled-neat z f) t))
 
   pub lowest-given : Lowest (clock k) (Flying k) (λ q. q) (inFlight k)
   lowest-given =
-      lowest-by (ticks k) (Flying k) flying-shape (λ q z f. turn-ok k z f) (λ q. q) (inFlight k)
+      lowest-by (ticks k) (Flying k) flying-shape (λ q z f. cycle-ok k z f) (λ q. q) (inFlight k)
       (λ q z f. rw (cycle-said k z f q) (unfold called in kept-least (is-queue k) q (settled k z) (settled-neat z f)))
 
-  rests : (z : Machine) → Flying k z → isPending (rested (clock k) (turning k) 1 z .due) ≡ false
+  rests : (z : Machine) → Flying k z → isPending (rested (clock k) (ticking k) 1 z .due) ≡ false
   unfolding leaves
   rests z f = ap (λ (y : Machine). isPending (y .due)) (idle-next k z f)
 
@@ -198,30 +198,30 @@ module _ (k : Rows) (x : Machine) (s : Shaped k (length (x .words))) where
   abbrev Settles : Machine → List ℕ → Type 0
   Settles z v = (settled k z ≡ v) × Flying k z
 
-  settles-said : (q : Request) (z : Machine) (v : List ℕ) → Settles z v → turning k q z .said ≡ lines k q v .said
+  settles-said : (q : Request) (z : Machine) (v : List ℕ) → Settles z v → ticking k q z .said ≡ lines k q v .said
   settles-said q z v y = cycle-said k z (y .1) q ∙ ap (λ (u : List ℕ). called k q u .answer) (y .0)
 
-  settles-next : (q : Request) (z : Machine) (v : List ℕ) → Settles z v → Settles (turning k q z .next) (lines k q v .next)
+  settles-next : (q : Request) (z : Machine) (v : List ℕ) → Settles z v → Settles (ticking k q z .next) (lines k q v .next)
   settles-next q z v y = (cycle-settled k z (y .1) q ∙ ap (λ (u : List ℕ). called k q u .words) (y .0), cycle-flies k z (y .1) q)
 
   module _ (qs : List Request) where
     -- after these cycles; and the one-at-a-time store after the same requests
     abbrev pub flown : Machine
-    flown = leaves (turning k) qs (fresh k x)
+    flown = leaves (ticking k) qs (fresh k x)
 
     abbrev pub plodded : List ℕ
     plodded = leaves (lines k) qs (cleared k (x .words) .words)
 
     -- ANSWERS: every cycle's answer, number and triple, is the one-at-a-time answer to the same requests
-    pub clock-answers : answers (turning k) qs (fresh k x) ≡ answers (lines k) qs (cleared k (x .words) .words)
-    clock-answers = answers-same (turning k) (lines k) Settles settles-said settles-next qs (fresh k x) (cleared k (x .words) .words) (start-settled, start-flies)
+    pub clock-answers : answers (ticking k) qs (fresh k x) ≡ answers (lines k) qs (cleared k (x .words) .words)
+    clock-answers = answers-same (ticking k) (lines k) Settles settles-said settles-next qs (fresh k x) (cleared k (x .words) .words) (start-settled, start-flies)
 
     -- .. and after it the machine settles to the one-at-a-time store
     pub clock-settles : Settles flown plodded
-    clock-settles = leaves-in-step (turning k) (lines k) Settles settles-said settles-next qs (fresh k x) (cleared k (x .words) .words) (start-settled, start-flies)
+    clock-settles = leaves-in-step (ticking k) (lines k) Settles settles-said settles-next qs (fresh k x) (cleared k (x .words) .words) (start-settled, start-flies)
 
     -- DRAINED: after any cycle one idle cycle leaves the one-at-a-time store, word for word, and nothing pending
-    pub clock-drained : turning k Idle flown .next ≡ machine plodded Rest
+    pub clock-drained : ticking k Idle flown .next ≡ machine plodded Rest
     clock-drained = let y = clock-settles in idle-next k flown (y .1) ∙ ap (λ (v : List ℕ). machine v Rest) (y .0)
 
     -- COUNTS: with a record pending the counts are already those of that store
@@ -237,10 +237,10 @@ module _ (k : Rows) (x : Machine) (s : Shaped k (length (x .words))) where
         rw (flying-shape k flown (y .1), shape-ok k (length plodded) (v .1 .shaped), counts-same-ok, counts-ok k plodded (v .0) (v .1)) (ap Held (total-ext (word (flown .words)) (word plodded) (k .lines) clock-counts))
       where
         counts-same-ok : countsOk k (flown .words) ≡ true
-        counts-same-ok = below-means (k .places) (word (flown .words)) (k .lines) .holds (turn-means k flown .says (turn-ok k flown (clock-settles .1)) .counts)
+        counts-same-ok = below-means (k .places) (word (flown .words)) (k .lines) .holds (cycle-means k flown .says (cycle-ok k flown (clock-settles .1)) .counts)
 
     -- LINES: .. "and so are all lines but the record's"
     pub clock-lines : (j : ℕ) → Apart k (flown .due) j → (i : ℕ) → InLine k j i → word (flown .words) i ≡ word plodded i
     clock-lines j a i b =
         let y = clock-settles in
-        sym (settled-else k flown (machine-shape k flown (y .1)) (turn-means k flown .says (turn-ok k flown (y .1))) j i b a) ∙ ap (λ (v : List ℕ). word v i) (y .0)
+        sym (settled-else k flown (machine-shape k flown (y .1)) (cycle-means k flown .says (cycle-ok k flown (y .1))) j i b a) ∙ ap (λ (v : List ℕ). word v i) (y .0)

@@ -6,7 +6,7 @@ use Rattle.lines_model.proofs.Row.{other, row-past, same, set-other}
 use Rattle.lines_model.proofs.Which.{lowest-lt, sought, total-ext}
 use Rattle.lines_model.specs.Calls.{called, countsOk, heads}
 use Rattle.lines_model.specs.Causes.{Own, Shaped}
-use Rattle.lines_model.specs.Clock.{beforePut, beforeTake, chosen, dueAt, dueOk, fronts, had, Machine, machine, settled, turn, turned, turning, turnOk}
+use Rattle.lines_model.specs.Clock.{beforePut, beforeTake, chosen, dueAt, dueOk, fronts, had, Machine, machine, settled, written, cycled, ticking, cycleOk}
 use Rattle.lines_model.specs.Layout.{lineOf, moved, putIn, rowAt, rowIn, Rows, rowSet, shapeOk, without, word}
 use Rattle.lines_model.specs.Promise.{Sound}
 use Rattle.lines_model.specs.Rules.{askTable, Choice, choice, choose, counted, countsBelow, denied, Due, dueOf, gaveOf, giver, goal, hasRoom, inRange, lateTable, leads, lineOk, linesOk, lowest, Put, rankFit, Rest, roomAfter, seek, Swap, Take, taker, total, worked}
@@ -224,9 +224,9 @@ module _ (k : Rows) (z : Machine) (f : Flying k z) where
   settled-counts i h = counts-same k (z .due) (z .words) i h
 
   -- UNDAMAGED
-  pub turn-ok : turnOk k z ≡ true
-  unfolding turnOk
-  turn-ok =
+  pub cycle-ok : cycleOk k z ≡ true
+  unfolding cycleOk
+  cycle-ok =
       and-true (countsOk k (z .words) && dueOk k (z .words) (z .due)) _
       (and-true (countsOk k (z .words)) (dueOk k (z .words) (z .due))
       (sym (below-ext (k .places) (word (settled k z)) (word (z .words)) (k .lines) settled-counts) ∙ counts-ok k (settled k z) (after k (z .due) (f .rows)) settled-sound)
@@ -244,19 +244,19 @@ module _ (k : Rows) (z : Machine) (f : Flying k z) where
   machine-shape = subst (Shaped k) (sym (ap length (f .words) ∙ counted-long (z .due) (f .base))) (f .sound .shaped)
 
 -- a cycle that finds shape and words in order does what its request comes to
-pub turned-is : (k : Rows) (q : Request) (z : Machine) → shapeOk k (length (z .words)) ≡ true → turnOk k z ≡ true → turned k q z ≡ outcome (chosen k q z .answer) (turn k (chosen k q z .due) z)
-unfolding turned choose dueOf
-turned-is k q z e f =
+pub cycled-is : (k : Rows) (q : Request) (z : Machine) → shapeOk k (length (z .words)) ≡ true → cycleOk k z ≡ true → cycled k q z ≡ outcome (chosen k q z .answer) (written k (chosen k q z .due) z)
+unfolding cycled choose dueOf
+cycled-is k q z e f =
     let a = askTable k q (lateTable k (word (z .words)) (fronts k z) q) in
     let o = grants q (fronts k z (giver k (word (z .words)) (fronts k z))) in
     rw (e, f)
-    (decided-same (λ (g : Ruling Request). outcome (g .answer) (turn k (dueAt k (g .op) z) z)) (λ (y : Choice). outcome (y .answer) (turn k (y .due) z)) (λ n. ruling (Refused n) Idle) denied a
+    (decided-same (λ (g : Ruling Request). outcome (g .answer) (written k (dueAt k (g .op) z) z)) (λ (y : Choice). outcome (y .answer) (written k (y .due) z)) (λ n. ruling (Refused n) Idle) denied a
     (ruling o q) (choice o (dueAt k q z)) (λ n. refl) refl)
 
 module _ (k : Rows) (z : Machine) (f : Flying k z) where
-  turns : (q : Request) → turning k q z ≡ step (chosen k q z .answer) (turn k (chosen k q z .due) z)
-  unfolding turned
-  turns q = ap (λ (o : Outcome Machine). step (o .answer) (o .words)) (turned-is k q z (shape-ok k (length (z .words)) (machine-shape k z f)) (turn-ok k z f))
+  ticks-as : (q : Request) → ticking k q z ≡ step (chosen k q z .answer) (written k (chosen k q z .due) z)
+  unfolding cycled
+  ticks-as q = ap (λ (o : Outcome Machine). step (o .answer) (o .words)) (cycled-is k q z (shape-ok k (length (z .words)) (machine-shape k z f)) (cycle-ok k z f))
 
   -- the request comes to what it comes to on the settled store
   pub chosen-is : (q : Request) → chosen k q z ≡ choose k (word (settled k z)) (heads k (settled k z)) q
@@ -266,22 +266,22 @@ module _ (k : Rows) (z : Machine) (f : Flying k z) where
   rows′ = after k (z .due) (f .rows)
 
   -- SAID: answered as one at a time
-  pub cycle-said : (q : Request) → turning k q z .said ≡ called k q (settled k z) .answer
+  pub cycle-said : (q : Request) → ticking k q z .said ≡ called k q (settled k z) .answer
   cycle-said q =
-      ap (λ (y : Step Answer Machine). y .said) (turns q) ∙ ap (λ (c : Choice). c .answer) (chosen-is q)
+      ap (λ (y : Step Answer Machine). y .said) (ticks-as q) ∙ ap (λ (c : Choice). c .answer) (chosen-is q)
       ∙ sym (ap (λ (o : Outcome (List ℕ)). o .answer) (called-is k (settled k z) rows′ (settled-sound k z f) q))
 
   -- SETTLED: the store that the cycle settles to is the one-at-a-time store, word for word
-  pub cycle-settled : (q : Request) → settled k (turning k q z .next) ≡ called k q (settled k z) .words
+  pub cycle-settled : (q : Request) → settled k (ticking k q z .next) ≡ called k q (settled k z) .words
   unfolding settled
   cycle-settled q =
-      ap (λ (y : Step Answer Machine). settled k (y .next)) (turns q)
+      ap (λ (y : Step Answer Machine). settled k (y .next)) (ticks-as q)
       ∙ ap (λ (c : Choice). worked k (c .due) (counted k (c .due) (settled k z))) (chosen-is q)
       ∙ sym (ap (λ (o : Outcome (List ℕ)). o .words) (called-is k (settled k z) rows′ (settled-sound k z f) q))
 
-  pub cycle-flies : (q : Request) → Flying k (turning k q z .next)
+  pub cycle-flies : (q : Request) → Flying k (ticking k q z .next)
   cycle-flies q =
-      subst (λ (y : Step Answer Machine). Flying k (y .next)) (sym (turns q))
+      subst (λ (y : Step Answer Machine). Flying k (y .next)) (sym (ticks-as q))
       (record {
         base = settled k z;
         rows = rows′;
@@ -291,6 +291,6 @@ module _ (k : Rows) (z : Machine) (f : Flying k z) where
       })
 
   -- IDLE: one idle cycle leaves the settled store, and nothing pending
-  pub idle-next : turning k Idle z .next ≡ machine (settled k z) Rest
+  pub idle-next : ticking k Idle z .next ≡ machine (settled k z) Rest
   unfolding choose dueOf counted
-  idle-next = ap (λ (y : Step Answer Machine). y .next) (turns Idle)
+  idle-next = ap (λ (y : Step Answer Machine). y .next) (ticks-as Idle)

@@ -58,10 +58,10 @@ DueFit k w (Take l) = (l < k .lines) × (word w l < k .places)
 DueFit k w (Swap l x) = ((l < k .lines) × InRange k x) × (0 < word w (goal k l x)) × ((l ≡ goal k l x) ⊎ (word w l < k .places))
 
 -- L1 to L4
-unfoldable pub turnOk : Rows → Machine → Bool
-turnOk k m = countsOk k (m .words) && dueOk k (m .words) (m .due) && linesOk k (m .words) (had k (m .words) (m .due)) (m .due)
+unfoldable pub cycleOk : Rows → Machine → Bool
+cycleOk k m = countsOk k (m .words) && dueOk k (m .words) (m .due) && linesOk k (m .words) (had k (m .words) (m .due)) (m .due)
 
-pub record TurnFit (k : Rows) (m : Machine) : Type 0 where
+pub record CycleFit (k : Rows) (m : Machine) : Type 0 where
   pub counts : CountsFit k (m .words)
   pub due : DueFit k (m .words) (m .due)
   pub lines : LinesFit k (m .words) (had k (m .words) (m .due)) (m .due)
@@ -78,8 +78,8 @@ module _ (k : Rows) where
   chosen q m = choose k (word (m .words)) (fronts m) q
 
   -- 3. WRITE: "The lines of step 1 are written back; the counts .. change as one at a time; the record becomes the request's"
-  abbrev pub turn : Due → Machine → Machine
-  turn d m = machine (counted k d (settled k m)) d
+  abbrev pub written : Due → Machine → Machine
+  written d m = machine (counted k d (settled k m)) d
 
   -- "Refusals in this order: 1, 2, 4 (kind 1), 7, then 5 or 6; 3 never"
   abbrev pub clock : Clock Request Machine
@@ -89,11 +89,11 @@ module _ (k : Rows) where
         call = λ q. q;
         shapeOk = λ m. shapeOk k (length (m .words));
         Shape = λ m. Shaped k (length (m .words));
-        soundOk = λ q m. turnOk k m;
-        Torn = λ q m. TurnFit k m → ⊥;
+        soundOk = λ q m. cycleOk k m;
+        Torn = λ q m. CycleFit k m → ⊥;
         late = λ q m. askTable k q (lateTable k (word (m .words)) (fronts m) q);
         gives = λ q m. grants q (fronts m (giver k (word (m .words)) (fronts m)));
-        moves = λ q m. turn (dueAt q m) m;
+        moves = λ q m. written (dueAt q m) m;
         rootOk = λ m. countsOk k (m .words);
         RootTorn = λ m. CountsFit k (m .words) → ⊥;
         held = λ m. total (word (m .words)) (k .lines);
@@ -102,8 +102,8 @@ module _ (k : Rows) where
       }
 
   -- a cycle, clear, held and a drain
-  unfoldable pub turned : Request → Machine → calls.Outcome Machine
-  turned q m = clocks.cycled clock q m
+  unfoldable pub cycled : Request → Machine → calls.Outcome Machine
+  cycled q m = clocks.cycled clock q m
 
   unfoldable pub clockCleared : Machine → calls.Outcome Machine
   clockCleared m = clocks.clearedTo clock m
@@ -115,8 +115,8 @@ module _ (k : Rows) where
   drains b m = drainedBy clock (cycling clock) b m
 
   -- the clock as a step function
-  abbrev pub turning : Request → Machine → Step Answer Machine
-  turning q m = cycling clock q m
+  abbrev pub ticking : Request → Machine → Step Answer Machine
+  ticking q m = cycling clock q m
 
   -- "A cleared machine has nothing pending"
   abbrev pub fresh : Machine → Machine

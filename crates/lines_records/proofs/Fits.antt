@@ -3,14 +3,14 @@ use Rattle.laws.specs.Prelude.{Answer, Bool, Element, Idle, Pop, Push, Refused,
 use Rattle.lines_model.proofs.Acts.{giver-fits}
 use Rattle.lines_model.proofs.Clocked.{ticks}
 use Rattle.lines_model.proofs.Tests.{shape-means}
-use Rattle.lines_model.specs.Clock.{clock, drains, dueAt, fronts, Machine, turned, turning}
+use Rattle.lines_model.specs.Clock.{clock, drains, dueAt, fronts, Machine, cycled, ticking}
 use Rattle.lines_model.specs.Layout.{shapeOk, word}
 use Rattle.lines_model.specs.Rules.{askTable, dueOf, giver, lateTable, taker, total}
 use Rattle.lines_model.specs.declared.Due.{Due}
 use Rattle.lines_model.specs.declared.Due.the-variants.{Rest}
 use Rattle.lines_model.specs.declared.Rows.{Rows}
 use Rattle.lines_records.specs.Lent.{lineIn, recordOf, wordLimit}
-use Rattle.lines_steps.proofs.Finds.{small}
+use Rattle.lines_work.proofs.Finds.{small}
 use Rattle.promise.proofs.Clock.{either, idle-ran}
 use Rattle.promise.proofs.Drains.{drain-ran, drain-state}
 use Rattle.promise.specs.Prelude.{Clear, Outcome, Step, each-any, idled, leaves}
@@ -30,8 +30,8 @@ module _ (k : Rows) (n : ℕ) (s : shapeOk k n ≡ true) (c : ℕ → ℕ) (h : 
   due-fits (Replace x) t = omega (arith, small k n s .lines, giver-fits k n (shape-means k n .says s) c h (eqb-false (total c (k .lines)) 0 (t .1 .1 .0)) .0)
 
 module _ (k : Rows) where
-  pub cycle-fits : (q : Request) (m : Machine) → hasRun (turned k q m .answer) ≡ true → Fit (turned k q m .words .due)
-  unfolding turned
+  pub cycle-fits : (q : Request) (m : Machine) → hasRun (cycled k q m .answer) ≡ true → Fit (cycled k q m .words .due)
+  unfolding cycled
   cycle-fits q m =
       either (ticks k) q m (λ o. hasRun (o .answer) ≡ true → Fit (o .words .due)) (λ e. absurd (false≢true e)) (λ e. absurd (false≢true e)) (λ s f. each-any (λ n. hasRun (Refused n) ≡ true → Fit (dueAt k Idle m)) (λ n e. still) (askTable k q (lateTable k (word (m .words)) (fronts k m) q)))
       (λ s f t e. due-fits k (length (m .words)) s (word (m .words)) (fronts k m) q t)
@@ -40,13 +40,13 @@ module _ (k : Rows) where
       still = unfold dueOf in omega arith
 
   -- so many idle cycles that all ran leave nothing pending
-  idles-rest : (n : ℕ) (m : Machine) → ((j : ℕ) → j < suc n → numberOf (turning k Idle (idled (turning k) j m) .said) ≡ 0) → idled (turning k) (suc n) m .due ≡ Rest
+  idles-rest : (n : ℕ) (m : Machine) → ((j : ℕ) → j < suc n → numberOf (ticking k Idle (idled (ticking k) j m) .said) ≡ 0) → idled (ticking k) (suc n) m .due ≡ Rest
   unfolding leaves
   idles-rest zero m r = ap (λ (s : Step Answer Machine). s .next .due) (idle-ran (ticks k) m (r 0 (omega arith))) ∙ still
     where
       still : dueAt k Idle m ≡ Rest
       still = unfold dueOf in refl
-  idles-rest (suc n) m r = idles-rest n (turning k Idle m .next) (λ j h. r (suc j) (omega arith))
+  idles-rest (suc n) m r = idles-rest n (ticking k Idle m .next) (λ j h. r (suc j) (omega arith))
 
   pub drain-rests : (b : ℕ) (m : Machine) → 0 < drains k b m .cycles → drains k b m .state .due ≡ Rest
   unfolding drains
@@ -55,4 +55,4 @@ module _ (k : Rows) where
       go : (n : ℕ) → drains k b m .cycles ≡ n → drains k b m .state .due ≡ Rest
       go zero e = absurd (omega (arith, e))
       go (suc n) e =
-          ap (λ (z : Machine). z .due) (drain-state (ticks k) b m) ∙ ap (λ (i : ℕ). idled (turning k) i m .due) e ∙ idles-rest n m (λ j l. drain-ran (ticks k) b m j (omega (arith, e)))
+          ap (λ (z : Machine). z .due) (drain-state (ticks k) b m) ∙ ap (λ (i : ℕ). idled (ticking k) i m .due) e ∙ idles-rest n m (λ j l. drain-ran (ticks k) b m j (omega (arith, e)))

@@ -2,7 +2,7 @@
 use Rattle.laws.specs.Prelude.{Answer, BadShape, Bool, Done, Element, Idle, List, Pop, Push, Refused, Replace, Request, [], _<_, _∙_, _≡_, _≤_, and-left, and-true, ap, arith, cond, false, getD, getD-set-same, hasRun, le-leb, leb, leb-true, length, length-set, ltb, ltb-false, refl, set, subst, sym, true, true≢false, zero, ℕ}
 use Rattle.lines_model.proofs.Clocked.{ticks}
 use Rattle.lines_model.specs.Calls.{wipe}
-use Rattle.lines_model.specs.Clock.{clock, clockCleared, drains, fresh, fronts, Machine, machine, turned, turning}
+use Rattle.lines_model.specs.Clock.{clock, clockCleared, drains, fresh, fronts, Machine, machine, cycled, ticking}
 use Rattle.lines_model.specs.Layout.{shapeOk, storeWords, word}
 use Rattle.lines_model.specs.Rules.{askTable, giver, lateTable}
 use Rattle.lines_model.specs.declared.Due.{Due}
@@ -23,8 +23,8 @@ runs-granted Pop e = refl
 runs-granted (Replace x) e = refl
 
 module _ (k : Rows) where
-  left-all : (q : Request) (m : Machine) → hasRun (turned k q m .answer) ≡ false → turned k q m .words ≡ m
-  unfolding turned
+  left-all : (q : Request) (m : Machine) → hasRun (cycled k q m .answer) ≡ false → cycled k q m .words ≡ m
+  unfolding cycled
   left-all q m =
       either (ticks k) q m (λ o. hasRun (o .answer) ≡ false → o .words ≡ m) (λ e. refl) (λ e. refl) (λ s f. late q)
       (λ s f t e. absurd (true≢false (sym (runs-granted q (fronts k m (giver k (word (m .words)) (fronts k m)))) ∙ e)))
@@ -61,9 +61,9 @@ module _ (k : Rows) where
         }
     back false next g = record { read = h .read; due = h .due ∙ ap (λ (z : Machine). z .due) (sym (g refl)); words = refl }
 
-    cycle-is : (q : Request) → lentCycled k rs ws q ≡ lentOf rs (turned k q m)
+    cycle-is : (q : Request) → lentCycled k rs ws q ≡ lentOf rs (cycled k q m)
     unfolding lentCycled
-    cycle-is q = rw (h .read) (ap (λ (z : Machine). lentOf rs (turned k q z)) is)
+    cycle-is q = rw (h .read) (ap (λ (z : Machine). lentOf rs (cycled k q z)) is)
 
     drain-is : (b : ℕ) → lentDrains k rs ws b ≡ drainOf rs (drains k b m)
     unfolding lentDrains
@@ -73,38 +73,38 @@ module _ (k : Rows) where
     unfolding drains leaves
     drain-stood b e =
         let z : drains k b m .cycles ≡ 0 = omega (arith, ltb-false 0 (drains k b m .cycles) e) in
-        drain-state (ticks k) b m ∙ ap (λ (n : ℕ). idled (turning k) n m) z
+        drain-state (ticks k) b m ∙ ap (λ (n : ℕ). idled (ticking k) n m) z
 
     -- SAME: the answer is the by-value call's ..
-    pub one-said : (c : SoleCall) → lentCalls k c (memory rs ws) .said ≡ calls (clock k) (turning k) c m .said
-    unfolding turned drains
+    pub one-said : (c : SoleCall) → lentCalls k c (memory rs ws) .said ≡ calls (clock k) (ticking k) c m .said
+    unfolding cycled drains
     one-said (cycle q) = ap (λ (o : LentOutcome). o .answer) (cycle-is q)
     one-said (drain b) = ap (λ (o : LentDrain). o .answer) (drain-is b)
 
     -- .. and the memory holds what that leaves
-    pub one-next : (c : SoleCall) → Holds (lentCalls k c (memory rs ws) .next) (calls (clock k) (turning k) c m .next)
-    unfolding turned drains
+    pub one-next : (c : SoleCall) → Holds (lentCalls k c (memory rs ws) .next) (calls (clock k) (ticking k) c m .next)
+    unfolding cycled drains
     one-next (cycle q) =
-        subst (λ (o : LentOutcome). Holds (memory (o .records) (o .words)) (turned k q m .words)) (sym (cycle-is q))
-        (back (hasRun (turned k q m .answer)) (turned k q m .words) (left-all q m))
+        subst (λ (o : LentOutcome). Holds (memory (o .records) (o .words)) (cycled k q m .words)) (sym (cycle-is q))
+        (back (hasRun (cycled k q m .answer)) (cycled k q m .words) (left-all q m))
     one-next (drain b) =
         subst (λ (o : LentDrain). Holds (memory (o .records) (o .words)) (drains k b m .state)) (sym (drain-is b))
         (back (ltb 0 (drains k b m .cycles)) (drains k b m .state) (drain-stood b))
 
   -- ---- any list of cycles and drains
   module _ (cs : List SoleCall) (x : Memory) (m : Machine) (h : Holds x m) where
-    said : (c : SoleCall) (x : Memory) (m : Machine) → Holds x m → lentCalls k c x .said ≡ calls (clock k) (turning k) c m .said
+    said : (c : SoleCall) (x : Memory) (m : Machine) → Holds x m → lentCalls k c x .said ≡ calls (clock k) (ticking k) c m .said
     said c x m h = one-said (x .records) (x .words) m h c
 
-    next : (c : SoleCall) (x : Memory) (m : Machine) → Holds x m → Holds (lentCalls k c x .next) (calls (clock k) (turning k) c m .next)
+    next : (c : SoleCall) (x : Memory) (m : Machine) → Holds x m → Holds (lentCalls k c x .next) (calls (clock k) (ticking k) c m .next)
     next c x m h = one-next (x .records) (x .words) m h c
 
     -- LENT: what they are answered is what the by-value calls are answered, and the memory holds the machine that those leave
-    pub lent-answers : answers (lentCalls k) cs x ≡ answers (calls (clock k) (turning k)) cs m
-    lent-answers = answers-same (lentCalls k) (calls (clock k) (turning k)) Holds said next cs x m h
+    pub lent-answers : answers (lentCalls k) cs x ≡ answers (calls (clock k) (ticking k)) cs m
+    lent-answers = answers-same (lentCalls k) (calls (clock k) (ticking k)) Holds said next cs x m h
 
-    pub lent-leaves : Holds (leaves (lentCalls k) cs x) (leaves (calls (clock k) (turning k)) cs m)
-    lent-leaves = leaves-in-step (lentCalls k) (calls (clock k) (turning k)) Holds said next cs x m h
+    pub lent-leaves : Holds (leaves (lentCalls k) cs x) (leaves (calls (clock k) (ticking k)) cs m)
+    lent-leaves = leaves-in-step (lentCalls k) (calls (clock k) (ticking k)) Holds said next cs x m h
 
   -- a cleared memory holds the cleared machine, whatever it was
   module _ (rs : List LineRecord) (ws : List ℕ) (h : 1 ≤ length rs) (s : shapeOk k (length ws) ≡ true) where

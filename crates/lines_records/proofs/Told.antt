@@ -1,7 +1,7 @@
 -- The calls over the lent record, from what their steps have read, made and written.
 use Rattle.laws.specs.Prelude.{Answer, BadShape, Bool, Done, List, Refused, Request, _<_, _∙_, _≡_, _≤_, ap, arith, cond, false, hasRun, le-leb, le-ltb, leb, length, lt-leb, lt-ltb, not, not-false, not-true, refl, set, subst, sym, true, ℕ}
 use Rattle.lines_model.specs.Calls.{wipe}
-use Rattle.lines_model.specs.Clock.{clockCleared, drains, Machine, machine, turned}
+use Rattle.lines_model.specs.Clock.{clockCleared, drains, Machine, machine, cycled}
 use Rattle.lines_model.specs.Layout.{shapeOk, storeWords}
 use Rattle.lines_model.specs.declared.Due.{Due}
 use Rattle.lines_model.specs.declared.Due.the-variants.{Rest}
@@ -31,9 +31,9 @@ module _ (k : Rows) (rs : List LineRecord) (ws : List ℕ) where
     drain-unread budget n = rw (sym e ∙ not-true b n) refl
 
     module _ (n : not b ≡ false) (d : Due) (p : d ≡ pendingOf (firstOf rs)) (a : Answer) (v : List ℕ) (next : Due) where
-      module _ (q : Request) (o : outcome a (machine v next) ≡ turned k q (machine ws d)) (ran : Bool) (g : ran ≡ hasRun a) where
-        whole : outcome a (machine v next) ≡ turned k q (machine ws (pendingOf (firstOf rs)))
-        whole = o ∙ ap (λ (d : Due). turned k q (machine ws d)) p
+      module _ (q : Request) (o : outcome a (machine v next) ≡ cycled k q (machine ws d)) (ran : Bool) (g : ran ≡ hasRun a) where
+        whole : outcome a (machine v next) ≡ cycled k q (machine ws (pendingOf (firstOf rs)))
+        whole = o ∙ ap (λ (d : Due). cycled k q (machine ws d)) p
 
         lent-is : lentOf rs (outcome a (machine v next)) ≡ lentCycled k rs ws q
         unfolding lentCycled

@@ -1,7 +1,7 @@
 -- The clocked lines' calls over a record in the host's own memory: each is the by-value call on what the record holds, and what that leaves is written back. These
 -- are definitions.
 use Rattle.laws.specs.Prelude.{Answer, BadShape, Bool, Element, List, Refused, Request, [], _&&_, _∷_, cond, element, eqb, false, getD, hasRun, leb, length, ltb, set, ℕ}
-use Rattle.lines_model.specs.Clock.{clockCleared, drains, Machine, machine, turned}
+use Rattle.lines_model.specs.Clock.{clockCleared, drains, Machine, machine, cycled}
 use Rattle.lines_model.specs.declared.Due.{Due}
 use Rattle.lines_model.specs.declared.Due.the-variants.{Put, Rest, Swap, Take}
 use Rattle.lines_model.specs.declared.Rows.{Rows}
@@ -89,7 +89,7 @@ module _ (k : Rows) (rs : List LineRecord) (ws : List ℕ) where
   machineIn = machine ws (pendingOf (firstOf rs))
 
   unfoldable pub lentCycled : Request → LentOutcome
-  lentCycled q = cond (readable rs) (lentOf rs (turned k q machineIn)) (lentOutcome (Refused BadShape) ws rs)
+  lentCycled q = cond (readable rs) (lentOf rs (cycled k q machineIn)) (lentOutcome (Refused BadShape) ws rs)
 
   unfoldable pub lentDrains : ℕ → LentDrain
   lentDrains budget = cond (readable rs) (drainOf rs (drains k budget machineIn)) (lentDrain (Refused BadShape) 0 false ws rs)

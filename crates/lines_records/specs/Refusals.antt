@@ -1,6 +1,6 @@
 -- The tables of refusals of the lent calls, and what each refusal leaves behind: words and record. These are definitions.
 use Rattle.laws.specs.Prelude.{BadShape, Idle, Ladder, List, Refusal, Refused, Request, _≤_, length, rung, ℕ}
-use Rattle.lines_model.specs.Clock.{clock, machine, turning}
+use Rattle.lines_model.specs.Clock.{clock, machine, ticking}
 use Rattle.lines_model.specs.declared.Due.the-variants.{Rest}
 use Rattle.lines_model.specs.declared.Rows.{Rows}
 use Rattle.lines_records.specs.Lent.{drainOf, firstOf, kindIn, LentDrain, lentOf, lentOutcome, LentOutcome, LineRecord, machineIn}
@@ -18,7 +18,7 @@ module _ (k : Rows) (rs : List LineRecord) (ws : List ℕ) where
 
   abbrev pub lentDrainRefusals : ℕ → Ladder Refusal
   lentDrainRefusals b =
-      rung BadShape (Readable rs) (drainRefusals (asking (clock k) (turning k)) (clock k .pending) (clock k .Torn Idle) (clock k .Shape) b (machineIn k rs ws))
+      rung BadShape (Readable rs) (drainRefusals (asking (clock k) (ticking k)) (clock k .pending) (clock k .Torn Idle) (clock k .Shape) b (machineIn k rs ws))
 
   -- a clear reads no record, and asks that there is one
   abbrev pub lentClearRefusals : Ladder Refusal
@@ -26,11 +26,11 @@ module _ (k : Rows) (rs : List LineRecord) (ws : List ℕ) where
 
   -- what the by-value refusal leaves, in the host's memory: after 1 and 2 everything, the record too; after the others what the idle cycle leaves
   abbrev pub lentLeft : Refusal → LentOutcome
-  lentLeft n = lentOf rs (cycleLeft (clock k) (turning k) (machineIn k rs ws) n)
+  lentLeft n = lentOf rs (cycleLeft (clock k) (ticking k) (machineIn k rs ws) n)
 
   -- .. of a drain that ran so many cycles
   abbrev pub lentDrainLeft : ℕ → Refusal → LentDrain
-  lentDrainLeft cycles n = drainOf rs (behind (asking (clock k) (turning k)) cycles (machineIn k rs ws) n)
+  lentDrainLeft cycles n = drainOf rs (behind (asking (clock k) (ticking k)) cycles (machineIn k rs ws) n)
 
   -- .. and of a clear everything
   abbrev pub lentClearLeft : Refusal → LentOutcome

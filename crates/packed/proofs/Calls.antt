@@ -8,11 +8,11 @@ use Rattle.packed_model.specs.Calls.{called, cleared, does, heldCount, Outcome,
 use Rattle.packed_model.specs.Causes.{Shape}
 use Rattle.packed_model.specs.Node.{Op, put, sink, size}
 use Rattle.packed_model.specs.Words.{capacity, cutLast, depth, extent, lastIn, lastSlot, Lies, runWords, slotAt, slotIn, slotOf, tagged, towards, wayOk, word, writeSlot, zeroSlot}
-use Rattle.packed_steps.proofs.Putted.{found-done, found-ok, found-ready, ok-is, run-is}
-use Rattle.packed_steps.proofs.Slots.{tagged-is}
-use Rattle.packed_steps.proofs.Sinks.{hole-is, hole-not}
-use Rattle.packed_steps.specs.Put.{PutDone, PutFound, putOk, PutReady, PutSought}
-use Rattle.packed_steps.specs.Sink.{Climbed, Found, Reads, Seat, SinkReady, Sought, top}
+use Rattle.packed_way.proofs.Putted.{found-done, found-ok, found-ready, ok-is, run-is}
+use Rattle.packed_way.proofs.Slots.{tagged-is}
+use Rattle.packed_way.proofs.Sinks.{hole-is, hole-not}
+use Rattle.packed_way.specs.Put.{PutDone, PutFound, putOk, PutReady, PutSought}
+use Rattle.packed_way.specs.Sink.{Climbed, Found, Reads, Seat, SinkReady, Sought, top}
 use Rattle.packed.proofs.Shapes.{Ground, ground, shape-few, shape-is, size-most}
 use Rattle.packed.proofs.Seats.{gets-lies, held-before, held-to, not-top}
 use Rattle.packed.specs.Open.{Opened}

@@ -6,7 +6,7 @@ use Rattle.packed_model.proofs.Slice.{size-is}
 use Rattle.packed_model.proofs.Tests.{size-pos}
 use Rattle.packed_model.specs.Node.{lhs, rhs, size}
 use Rattle.packed_model.specs.Words.{Lies}
-use Rattle.packed_steps.specs.Sink.{Gets, HeldTo, on, Seat, top}
+use Rattle.packed_way.specs.Sink.{Gets, HeldTo, on, Seat, top}
 
 module _ (H h : ℕ) (pos : 0 < H) where
   -- a seat of an earlier level

@@ -10,7 +10,7 @@ use Rattle.packed_model.proofs.Numbers.{size-grow}
 use Rattle.packed_model.proofs.Serve.{shape-lies}
 use Rattle.packed_model.proofs.Slice.{slot-by}
 use Rattle.packed.specs.Open.{Around}
-use Rattle.packed_steps.proofs.Slots.{tagged-is, zero-is}
+use Rattle.packed_way.proofs.Slots.{tagged-is, zero-is}
 
 last : size 17 ≡ 131072
 unfolding size

@@ -1,5 +1,5 @@
 // The packed heap, one operation at a time, over lent words: a forest of heaps, each a queue of its own. A call tests the shape, the heap's number, its held word and
-// its top, then what its request asks; the ways are those of `packed_steps`.
+// its top, then what its request asks; the ways are those of `packed_way`.
 ghost use mathlib.Core.List.{_++_};
 ghost use mathlib.Core.Path.{_≡_};
 ghost use Prim.Native.Nat.{_*_, _+_, _<_, _≤_};
@@ -8,13 +8,13 @@ ghost use Rattle.packed_model.specs.Calls.{called, cleared, heldCount, outcome,
 ghost use Rattle.packed_model.specs.Node.{size};
 ghost use Rattle.packed_model.specs.Words.{capacity, depth, slotAt};
 ghost use Rattle.packed.specs.Open.{Around, Opened};
-use packed_steps::climb;
-use packed_steps::power;
-use packed_steps::put_down;
-use packed_steps::put_from;
-use packed_steps::rest_slot;
-use packed_steps::set_slot;
-use packed_steps::slot;
+use packed_way::climb;
+use packed_way::power;
+use packed_way::put_down;
+use packed_way::put_from;
+use packed_way::rest_slot;
+use packed_way::set_slot;
+use packed_way::slot;
 use strip::Answer;
 use strip::Count;
 use strip::Element;

@@ -2,7 +2,7 @@
 use Rattle.laws.specs.Prelude.{List, _∙_, _≡_, ap, blank, map, refl, replicate, sumTo, untagged, ℕ}
 use Rattle.promise.specs.Prelude.{answers, leaves}
 use Rattle.bitmap.specs.Bits.{bitAt}
-use Rattle.bucket_model.specs.Prelude.{Store, fill, filled, joinedBits, joinedWords, linkAt, marked, nextOf, plainWith, pushFound, pushOk, rankAgrees, roomWith}
+use Rattle.bucket_model.specs.Prelude.{Store, fill, filled, joinedBits, joinedWords, linkAt, signalled, nextOf, plainWith, pushFound, pushOk, rankAgrees, roomWith}
 use Rattle.bucket_model.specs.Calls as bucket
 use Rattle.ports_model.specs.Prelude.{Fair, Shaped, allTo, asked, blankWord, called, cleared, inNumbers, limitsOk, none, onePush, onePushBits, onePushWords, pushed, roomOk, served, shapeOk, sharing, sharingSays, start, tight, tightLimits, tightSays, twoLimits, twoPorts, wholeOk}
 use Rattle.ports_model.proofs.Facts.{limits-mean}
@@ -37,9 +37,9 @@ abbrev nines : Store
 nines = start twoPorts twoLimits (replicate 131 9) (replicate 16401 9)
 
 pub one-push-bits : filled 0 (leaves (called twoPorts) onePush nines .bits) ≡ onePushBits
-unfolding filled leaves called asked marked rankAgrees nextOf pushOk fill bucket.blankWord blankWord cleared shapeOk limitsOk allTo sumTo wholeOk roomOk roomWith linkAt joinedWords joinedBits pushFound pushed untagged bitAt
+unfolding filled leaves called asked signalled rankAgrees nextOf pushOk fill bucket.blankWord blankWord cleared shapeOk limitsOk allTo sumTo wholeOk roomOk roomWith linkAt joinedWords joinedBits pushFound pushed untagged bitAt
 one-push-bits = refl
 
 pub one-push-words : filled 0 (leaves (called twoPorts) onePush nines .words) ≡ onePushWords
-unfolding filled leaves called asked marked rankAgrees nextOf pushOk fill bucket.blankWord blankWord cleared shapeOk limitsOk allTo sumTo wholeOk roomOk roomWith linkAt joinedWords joinedBits pushFound pushed untagged bitAt
+unfolding filled leaves called asked signalled rankAgrees nextOf pushOk fill bucket.blankWord blankWord cleared shapeOk limitsOk allTo sumTo wholeOk roomOk roomWith linkAt joinedWords joinedBits pushFound pushed untagged bitAt
 one-push-words = refl

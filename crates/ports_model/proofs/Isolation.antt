@@ -111,7 +111,7 @@ cons-head a b us vs e = cc
 cons-tail : (a b : Bool) (us vs : List Bool) → a ∷ us ≡ b ∷ vs → us ≡ vs
 cons-tail a b us vs e = cc
 
--- the same step, and the rest of the marks
+-- the same step, and the rest of the signs
 abbrev Same : ℕ → Bool → Bool → Call → List Element → List Bool → List Bool → Type 0
 Same ranks x y c l us vs = (plainWith ranks x c l ≡ plainWith ranks y c l) × (us ≡ vs)
 
@@ -166,7 +166,7 @@ module _ (s : Shape) (lim : List ℕ) (p : ℕ) where
       held-push : (x : Element) → held ≡ ask (Push x) → ⊥
       held-push x i = let z : _≡_ {A = ℕ} 0 1 = cc in omega arith
 
--- ---- all steps, over any marks of what was agreed to
+-- ---- all steps, over any signs of what was agreed to
 
 no-call : (c : Call) (cs : List Call) → [] ≡ c ∷ cs → ⊥
 no-call c cs e = let z : _≡_ {A = ℕ} 0 1 = cc in omega arith
@@ -177,15 +177,15 @@ call-head c d cs ds e = cc
 call-tail : (c d : Call) (cs ds : List Call) → c ∷ cs ≡ d ∷ ds → cs ≡ ds
 call-tail c d cs ds e = cc
 
-module _ (s : Shape) (lim : List ℕ) (p : ℕ) (mark : ℕ → Call → Said → List Bool)
+module _ (s : Shape) (lim : List ℕ) (p : ℕ) (sign : ℕ → Call → Said → List Bool)
     (settles : (c d : ℕ) (q : Call) (l : List Element) (us vs : List Bool)
-    → mark (length l) q (stepAt s lim p c q l .said) ++ us ≡ mark (length l) q (stepAt s lim p d q l .said) ++ vs
+    → sign (length l) q (stepAt s lim p c q l .said) ++ us ≡ sign (length l) q (stepAt s lim p d q l .said) ++ vs
     → (stepAt s lim p c q l ≡ stepAt s lim p d q l) × (us ≡ vs)) where
-  abbrev marks : List Heard → List Bool
-  marks [] = []
-  marks (h ∷ hs) = mark (h .before) (h .call) (h .said) ++ marks hs
+  abbrev signs : List Heard → List Bool
+  signs [] = []
+  signs (h ∷ hs) = sign (h .before) (h .call) (h .said) ++ signs hs
 
-  same : (hs gs : List Heard) (l m n : List Element) → Own s lim p hs l m → Own s lim p gs l n → callsOf hs ≡ callsOf gs → marks hs ≡ marks gs → (hs ≡ gs) × (m ≡ n)
+  same : (hs gs : List Heard) (l m n : List Element) → Own s lim p hs l m → Own s lim p gs l n → callsOf hs ≡ callsOf gs → signs hs ≡ signs gs → (hs ≡ gs) × (m ≡ n)
   same [] [] l m n o u c e = (refl, sym o ∙ u)
   same [] (g ∷ gs) l m n o u c e = absurd (no-call (g .call) (callsOf gs) c)
   same (h ∷ hs) [] l m n o u c e = absurd (no-call (h .call) (callsOf hs) (sym c))
@@ -196,16 +196,16 @@ module _ (s : Shape) (lim : List ℕ) (p : ℕ) (mark : ℕ → Call → Said �
       cq : h .call ≡ g .call
       cq = call-head (h .call) (g .call) (callsOf hs) (callsOf gs) c
 
-      left : mark (h .before) (h .call) (h .said) ++ marks hs ≡ mark (length l) (h .call) (stepAt s lim p (o .0) (h .call) l .said) ++ marks hs
-      left = ap (λ (a : ℕ). mark a (h .call) (h .said) ++ marks hs) (o .1) ∙ ap (λ (x : Said). mark (length l) (h .call) x ++ marks hs) (o .2)
+      left : sign (h .before) (h .call) (h .said) ++ signs hs ≡ sign (length l) (h .call) (stepAt s lim p (o .0) (h .call) l .said) ++ signs hs
+      left = ap (λ (a : ℕ). sign a (h .call) (h .said) ++ signs hs) (o .1) ∙ ap (λ (x : Said). sign (length l) (h .call) x ++ signs hs) (o .2)
 
-      right : mark (g .before) (g .call) (g .said) ++ marks gs ≡ mark (length l) (h .call) (stepAt s lim p (u .0) (h .call) l .said) ++ marks gs
+      right : sign (g .before) (g .call) (g .said) ++ signs gs ≡ sign (length l) (h .call) (stepAt s lim p (u .0) (h .call) l .said) ++ signs gs
       right =
-          ap (λ (a : ℕ). mark a (g .call) (g .said) ++ marks gs) (u .1) ∙ ap (λ (x : Said). mark (length l) (g .call) x ++ marks gs) (u .2)
-          ∙ ap (λ (d : Call). mark (length l) d (stepAt s lim p (u .0) d l .said) ++ marks gs) (sym cq)
+          ap (λ (a : ℕ). sign a (g .call) (g .said) ++ signs gs) (u .1) ∙ ap (λ (x : Said). sign (length l) (g .call) x ++ signs gs) (u .2)
+          ∙ ap (λ (d : Call). sign (length l) d (stepAt s lim p (u .0) d l .said) ++ signs gs) (sym cq)
 
-      both : (stepAt s lim p (o .0) (h .call) l ≡ stepAt s lim p (u .0) (h .call) l) × (marks hs ≡ marks gs)
-      both = settles (o .0) (u .0) (h .call) l (marks hs) (marks gs) (sym left ∙ e ∙ right)
+      both : (stepAt s lim p (o .0) (h .call) l ≡ stepAt s lim p (u .0) (h .call) l) × (signs hs ≡ signs gs)
+      both = settles (o .0) (u .0) (h .call) l (signs hs) (signs gs) (sym left ∙ e ∙ right)
 
       steps : stepAt s lim p (o .0) (h .call) l ≡ stepAt s lim p (u .0) (g .call) l
       steps = both .0 ∙ ap (λ (d : Call). stepAt s lim p (u .0) d l) cq
@@ -235,12 +235,12 @@ module _ (s : Shape) (lim : List ℕ) (p : ℕ) (p< : p < s .ports) (as′ bs : 
   abbrev pub Isolated : Type 0
   Isolated = (heardAt (served s lim) longAt p as′ st ≡ heardAt (served s lim) longAt p bs ts) × (leaves (served s lim) as′ st p ≡ leaves (served s lim) bs ts p)
 
-  by-marks : (mark : ℕ → Call → Said → List Bool)
+  by-signs : (sign : ℕ → Call → Said → List Bool)
       (settles : (c d : ℕ) (q : Call) (l : List Element) (us vs : List Bool)
-      → mark (length l) q (stepAt s lim p c q l .said) ++ us ≡ mark (length l) q (stepAt s lim p d q l .said) ++ vs
-      → (stepAt s lim p c q l ≡ stepAt s lim p d q l) × (us ≡ vs)) → marks s lim p mark settles H ≡ marks s lim p mark settles G → Isolated
-  by-marks mark settles e =
-      same s lim p mark settles H G (st p) (leaves (served s lim) as′ st p) (leaves (served s lim) bs ts p)
+      → sign (length l) q (stepAt s lim p c q l .said) ++ us ≡ sign (length l) q (stepAt s lim p d q l .said) ++ vs
+      → (stepAt s lim p c q l ≡ stepAt s lim p d q l) × (us ≡ vs)) → signs s lim p sign settles H ≡ signs s lim p sign settles G → Isolated
+  by-signs sign settles e =
+      same s lim p sign settles H G (st p) (leaves (served s lim) as′ st p) (leaves (served s lim) bs ts p)
       (own s lim p p< as′ st) (subst (λ (l : List Element). Own s lim p G l (leaves (served s lim) bs ts p)) (sym z) (own s lim p p< bs ts))
       (heard-calls s lim p as′ st ∙ c ∙ sym (heard-calls s lim p bs ts)) e
 
@@ -248,16 +248,16 @@ module _ (s : Shape) (lim : List ℕ) (p : ℕ) (p< : p < s .ports) (as′ bs : 
   yes-settles c d q l us vs e = yes-same (ranksOf s) (room s lim p (length l) c) (room s lim p (length l) d) q l us vs e
 
   pub isolated : yeses (heardAt (served s lim) longAt p as′ st) ≡ yeses (heardAt (served s lim) longAt p bs ts) → Isolated
-  isolated e = by-marks (λ n. yesOf) yes-settles (sym (told H) ∙ e ∙ told G)
+  isolated e = by-signs (λ n. yesOf) yes-settles (sym (told H) ∙ e ∙ told G)
     where
-      told : (hs : List Heard) → yeses hs ≡ marks s lim p (λ n. yesOf) yes-settles hs
+      told : (hs : List Heard) → yeses hs ≡ signs s lim p (λ n. yesOf) yes-settles hs
       told [] = refl
       told (h ∷ hs) = ap (λ (l : List Bool). yesOf (h .call) (h .said) ++ l) (told hs)
 
   -- .. it is enough that those pushes are accepted at the same places that come at or above the floor and below the ceiling
   pub untouched : touched lim p (heardAt (served s lim) longAt p as′ st) ≡ touched lim p (heardAt (served s lim) longAt p bs ts) → Isolated
-  untouched e = by-marks (λ n. touchedIn (open′ lim p n)) (touched-same s lim p) (sym (told H) ∙ e ∙ told G)
+  untouched e = by-signs (λ n. touchedIn (open′ lim p n)) (touched-same s lim p) (sym (told H) ∙ e ∙ told G)
     where
-      told : (hs : List Heard) → touched lim p hs ≡ marks s lim p (λ n. touchedIn (open′ lim p n)) (touched-same s lim p) hs
+      told : (hs : List Heard) → touched lim p hs ≡ signs s lim p (λ n. touchedIn (open′ lim p n)) (touched-same s lim p) hs
       told [] = refl
       told (h ∷ hs) = ap (λ (l : List Bool). touchedIn (open′ lim p (h .before)) (h .call) (h .said) ++ l) (told hs)

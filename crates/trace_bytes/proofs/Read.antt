@@ -1,7 +1,7 @@
 -- The header and a record as they are read: each test and what follows it make what the definitions say.
 use Rattle.laws.specs.Prelude.{Bool, Element, Idle, List, Pop, Push, Replace, _&&_, _+_, _<_, _∙_, _≡_, _≤_, ap, arith, element, false, le-leb, leb, leb-false, leb-true, length, lt-leb, ne-eqb, not, not-false, not-true, refl, sym, true, ℕ}
 use Rattle.tree_node.specs.Room.{Capacity}
-use Rattle.trace_model.specs.Format.{byteAt, entryAt, entryOf, headed, headerOf, lengthAt, markOk, numberAt, onlyBlank, traceLimit, traceShape, versionAt}
+use Rattle.trace_model.specs.Format.{byteAt, entryAt, entryOf, headed, headerOf, lengthAt, signOk, numberAt, onlyBlank, traceLimit, traceShape, versionAt}
 use Rattle.trace_model.specs.declared.Header.{Header}
 use Rattle.trace_model.specs.declared.Header.the-variants.{Shape, Wrong}
 use Rattle.trace_model.specs.declared.Record.{Record}
@@ -30,10 +30,10 @@ module _ (bs : List ℕ) where
   unfolding headerOf
   header-short h = rw (lt-leb 7 (length bs) h)
 
-  module _ (long : 7 ≤ length bs) (t : Bool) (mark : t ≡ markOk bs) where
-    pub header-mark : not t ≡ true → Wrong ≡ headerOf bs
+  module _ (long : 7 ≤ length bs) (t : Bool) (mark : t ≡ signOk bs) where
+    pub header-sign : not t ≡ true → Wrong ≡ headerOf bs
     unfolding headerOf
-    header-mark p = rw (le-leb 7 (length bs) long, ← mark, not-true t p)
+    header-sign p = rw (le-leb 7 (length bs) long, ← mark, not-true t p)
 
     pub header-shape : not t ≡ false → (u : Bool) → u ≡ traceShape (byteAt bs 5) (byteAt bs 6) → not u ≡ true → Wrong ≡ headerOf bs
     unfolding headerOf

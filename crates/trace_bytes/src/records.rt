@@ -2,7 +2,7 @@
 ghost use mathlib.Core.Path.{_≡_};
 ghost use Prim.Native.Nat.{_+_, _<_, _≤_};
 ghost use lib.ListN.{length};
-ghost use Rattle.trace_model.specs.Format.{recordBytes, numberAt, lengthAt, markOk, traceShape, headed, headerOf, onlyBlank, entryAt, entryOf};
+ghost use Rattle.trace_model.specs.Format.{recordBytes, numberAt, lengthAt, signOk, traceShape, headed, headerOf, onlyBlank, entryAt, entryOf};
 use strip::Element;
 use strip::Length;
 use strip::Rank;
@@ -22,9 +22,9 @@ fn wide(b: u8) -> u32
     b as u32
 }
 
-fn mark_ok(bytes: &[u8]) -> bool
+fn sign_ok(bytes: &[u8]) -> bool
     requires { ⌜ 7 ≤ length (now bytes) ⌝ }
-    ensures { λ r. ⌜ r ≡ markOk (now (bytes .entry)) ⌝ }
+    ensures { λ r. ⌜ r ≡ signOk (now (bytes .entry)) ⌝ }
 {
     (bytes[0] == b'P') & ((bytes[1] == b'F') & (bytes[2] == b'T'))
 }
@@ -58,7 +58,7 @@ pub fn read_header(bytes: &[u8]) -> Header
     if bytes.len() < 7 {
         return Header::Wrong;
     }
-    if !mark_ok(bytes) {
+    if !sign_ok(bytes) {
         return Header::Wrong;
     }
     let order = bytes[5] as usize;

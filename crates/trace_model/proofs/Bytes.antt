@@ -6,7 +6,7 @@ use Rattle.tree_clock_model.specs.Prelude.{clearedMachine}
 use Rattle.text.specs.Text.{bytesOf, decimal}
 use Rattle.trace_model.proofs.Pieces.{records-append, records-whole}
 use Rattle.trace_model.specs.Bytes.{fourBytes, headBytes, Headless, idle, idle-with, other, pop, pop-with, push, replace, Said, Says, Taken, versionNumber}
-use Rattle.trace_model.specs.Format.{byteAt, cutRecord, doneWord, entryAt, entryOf, headed, headerBytes, headerOf, lengthAt, lengthWord, lineOf, markOk, numberAt, onlyBlank, outWord, recordBytes, recordsFrom, recordsOf, refusalWord, traceLimit, traceShape, versionAt, wordOf}
+use Rattle.trace_model.specs.Format.{byteAt, cutRecord, doneWord, entryAt, entryOf, headed, headerBytes, headerOf, lengthAt, lengthWord, lineOf, signOk, numberAt, onlyBlank, outWord, recordBytes, recordsFrom, recordsOf, refusalWord, traceLimit, traceShape, versionAt, wordOf}
 use Rattle.trace_model.specs.Program.{emptyStore, storeWords, textFrom, textOf, traceText}
 use Rattle.trace_model.specs.declared.Header.{Header}
 use Rattle.trace_model.specs.declared.Header.the-variants.{Shape, Wrong}
@@ -91,7 +91,7 @@ taken-shape m levels t =
 -- ---- the header
 -- HEADER: these bytes are read as that version, order and levels ..
 pub header-read : (v : Version) (m levels : ℕ) (records : List ℕ) → Taken m levels → headerOf (headBytes v m levels records) ≡ Shape v m levels
-unfolding headerOf markOk headed
+unfolding headerOf signOk headed
 header-read One m levels records t =
     ap₂ (λ (long taken : Bool). cond (long && taken) (Shape One m levels) Wrong) (le-leb headerBytes (length (headBytes One m levels records)) (omega arith)) (taken-shape m levels t)
 header-read Two m levels records t =
@@ -126,15 +126,15 @@ version-bytes One low high e = (omega arith, omega arith)
 version-bytes Two low high e = (omega arith, omega arith)
 
 pub header-only : (bs : List ℕ) (v : Version) (m levels : ℕ) → headerOf bs ≡ Shape v m levels → Taken m levels × (bs ≡ headBytes v m levels (drop 7 bs))
-unfolding headerOf markOk
-header-only bs v m levels e = go (leb headerBytes (length bs) && (markOk bs && traceShape (byteAt bs 5) (byteAt bs 6))) refl e
+unfolding headerOf signOk
+header-only bs v m levels e = go (leb headerBytes (length bs) && (signOk bs && traceShape (byteAt bs 5) (byteAt bs 6))) refl e
   where
-    go : (b : Bool) → (leb headerBytes (length bs) && (markOk bs && traceShape (byteAt bs 5) (byteAt bs 6))) ≡ b
+    go : (b : Bool) → (leb headerBytes (length bs) && (signOk bs && traceShape (byteAt bs 5) (byteAt bs 6))) ≡ b
         → cond b (headed (versionAt bs 3) (byteAt bs 5) (byteAt bs 6)) Wrong ≡ Shape v m levels → Taken m levels × (bs ≡ headBytes v m levels (drop 7 bs))
     go true t p =
-        let rest = and-right (leb headerBytes (length bs)) (markOk bs && traceShape (byteAt bs 5) (byteAt bs 6)) t in
-        let long = leb-true headerBytes (length bs) (and-left (leb headerBytes (length bs)) (markOk bs && traceShape (byteAt bs 5) (byteAt bs 6)) t) in
-        let mark = and-left (markOk bs) (traceShape (byteAt bs 5) (byteAt bs 6)) rest in
+        let rest = and-right (leb headerBytes (length bs)) (signOk bs && traceShape (byteAt bs 5) (byteAt bs 6)) t in
+        let long = leb-true headerBytes (length bs) (and-left (leb headerBytes (length bs)) (signOk bs && traceShape (byteAt bs 5) (byteAt bs 6)) t) in
+        let mark = and-left (signOk bs) (traceShape (byteAt bs 5) (byteAt bs 6)) rest in
         let second = and-right (eqb (byteAt bs 0) 80) (eqb (byteAt bs 1) 70 && eqb (byteAt bs 2) 84) mark in
         let b0 : byteAt bs 0 ≡ 80 = eqb-true (byteAt bs 0) 80 (and-left (eqb (byteAt bs 0) 80) (eqb (byteAt bs 1) 70 && eqb (byteAt bs 2) 84) mark) in
         let b1 : byteAt bs 1 ≡ 70 = eqb-true (byteAt bs 1) 70 (and-left (eqb (byteAt bs 1) 70) (eqb (byteAt bs 2) 84) second) in
@@ -145,7 +145,7 @@ header-only bs v m levels e = go (leb headerBytes (length bs) && (markOk bs && t
         let b4 : byteAt bs 4 ≡ 0 = ver .1 in
         let b5 : byteAt bs 5 ≡ m = is .0 in
         let b6 : byteAt bs 6 ≡ levels = is .1 in (
-          shape-taken m levels (sym (ap₂ traceShape b5 b6) ∙ and-right (markOk bs) (traceShape (byteAt bs 5) (byteAt bs 6)) rest),
+          shape-taken m levels (sym (ap₂ traceShape b5 b6) ∙ and-right (signOk bs) (traceShape (byteAt bs 5) (byteAt bs 6)) rest),
           seven bs long ∙ (λ i. b0 i ∷ b1 i ∷ b2 i ∷ b3 i ∷ b4 i ∷ b5 i ∷ b6 i ∷ drop 7 bs),
         )
     go false t p = let z : _≡_ {A = ℕ} 0 1 = cc in absurd (omega arith)

@@ -6,7 +6,7 @@ use lib.ListN.{List·getD-append, take-append-drop}
 use lib.Seq.{getD-append-add, getD-take, length-take-le, take-all}
 use Rattle.trace_model.proofs.Runs.{after-after, after-stands, closing-ended, played-append, played-ended, played-version, stands-after}
 use Rattle.trace_model.proofs.Sizes.{lot, lots-room, lots-whole, more-records, records-step, size-least, whole-records}
-use Rattle.trace_model.specs.Format.{cutRecord, entryAt, entryOf, headed, headerBytes, headerOf, lengthAt, longestLine, markOk, numberAt, recordBytes, recordsFrom, recordsOf, traceShape}
+use Rattle.trace_model.specs.Format.{cutRecord, entryAt, entryOf, headed, headerBytes, headerOf, lengthAt, longestLine, signOk, numberAt, recordBytes, recordsFrom, recordsOf, traceShape}
 use Rattle.trace_model.specs.Play.{after, begun, closing, ending, inPieces, opening, outBytes, pieceBytes, pieceOf, pieceRun, piecesText, played, programLots, run, Run, shut, stands, Step, turn, whileLive}
 use Rattle.trace_model.specs.Program.{emptyStore, endOf, textFrom, textOf, traceText}
 use Rattle.trace_model.specs.declared.Header.{Header}
@@ -218,7 +218,7 @@ text-from (Good r ∷ es) p ws e =
     ∙ ap (λ (t : List ℕ). turn (Good r) p ws .text ++ t) (text-from es (turn (Good r) p ws .play) (turn (Good r) p ws .words) refl)
 
 header-long : (bs : List ℕ) → headerBytes ≤ length bs → headerOf (take headerBytes bs) ≡ headerOf bs
-unfolding headerOf markOk
+unfolding headerOf signOk
 header-long bs h =
     let same : (i : ℕ) → i < headerBytes → getD (take headerBytes bs) i 0 ≡ getD bs i 0 = λ i l. getD-take headerBytes bs i 0 l in
     let long : leb headerBytes (length (take headerBytes bs)) ≡ leb headerBytes (length bs) =

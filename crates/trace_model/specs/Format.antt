@@ -76,8 +76,8 @@ byteAt bs i = getD bs i 0
 abbrev pub traceLimit : ℕ
 traceLimit = 4094
 
-unfoldable pub markOk : List ℕ → Bool
-markOk bs = eqb (byteAt bs 0) 80 && (eqb (byteAt bs 1) 70 && eqb (byteAt bs 2) 84)
+unfoldable pub signOk : List ℕ → Bool
+signOk bs = eqb (byteAt bs 0) 80 && (eqb (byteAt bs 1) 70 && eqb (byteAt bs 2) 84)
 
 unfoldable pub traceShape : ℕ → ℕ → Bool
 traceShape m levels = orderOk m && (leb 1 levels && leb (room m levels) traceLimit)
@@ -90,7 +90,7 @@ unfoldable pub headed : ℕ → ℕ → ℕ → Header
 headed n m levels = cond (eqb n 1) (Shape One m levels) (cond (eqb n 2) (Shape Two m levels) Wrong)
 
 unfoldable pub headerOf : List ℕ → Header
-headerOf bs = cond (leb headerBytes (length bs) && (markOk bs && traceShape (byteAt bs 5) (byteAt bs 6))) (headed (versionAt bs 3) (byteAt bs 5) (byteAt bs 6)) Wrong
+headerOf bs = cond (leb headerBytes (length bs) && (signOk bs && traceShape (byteAt bs 5) (byteAt bs 6))) (headed (versionAt bs 3) (byteAt bs 5) (byteAt bs 6)) Wrong
 
 -- ---- records "of 9 bytes: code, rank, tag, low bytes first"; "Trace version 2 has 13-byte records" (02 [9])
 abbrev pub recordBytes : Version → ℕ

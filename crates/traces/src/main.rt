@@ -49,7 +49,7 @@ fn cut_headers() {
 }
 
 // Wrong first bytes and versions.
-fn wrong_marks() {
+fn wrong_signs() {
     run(b"XFT\x01\x00\x02\x02");
     run(b"PXT\x01\x00\x02\x02");
     run(b"PFX\x01\x00\x02\x02");
@@ -290,7 +290,7 @@ fn formats() {
 
 fn main() {
     cut_headers();
-    wrong_marks();
+    wrong_signs();
     wrong_shapes();
     edges();
     cut_records();

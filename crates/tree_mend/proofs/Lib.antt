@@ -4,4 +4,4 @@ pub mod Walk
 pub mod Descent
 pub mod Mends
 pub mod Settles
-pub mod Turns
+pub mod Paths

@@ -11,4 +11,4 @@ pub mod History
 pub mod Follows
 pub mod Drained
 pub mod Exactly
-pub mod Turns
+pub mod AfterRead

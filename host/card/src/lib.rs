@@ -79,8 +79,7 @@ pub use ports::{Limits, Port, Ports};
 pub use queue::{Clear, Lent, Machine, Queue, Replace};
 pub use sizes::{
     bucket_bits, bucket_ranks, bucket_words, cluster_places, cluster_words, fair_words, lines_room, lines_words,
-    packed_slots, packed_words,
-    ports_bits, ports_words, record_count, tree_slots, tree_words,
+    packed_slots, packed_words, ports_bits, ports_words, record_count, tree_slots, tree_words,
 };
 pub use tree::Tree;
 

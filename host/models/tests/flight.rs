@@ -20,7 +20,14 @@ fn none() -> Element {
 
 /// Order 2, levels 2, as after a cycle that lifted 3/30: it stands where it went and where it was.
 fn lifted(count: u32, below: (Element, u32)) -> Vec<u32> {
-    slots(&[(element(5, 50, 500), 2), (element(3, 30, 300), count), (element(8, 80, 800), 1), (none(), 0), below, (none(), 0)])
+    slots(&[
+        (element(5, 50, 500), 2),
+        (element(3, 30, 300), count),
+        (element(8, 80, 800), 1),
+        (none(), 0),
+        below,
+        (none(), 0),
+    ])
 }
 
 /// Pushed 5/50, 3/30, 8/80 and 1/10, and 1/10 answered out.
@@ -65,8 +72,14 @@ fn a_swap_in_the_middle() {
 
 #[test]
 fn of_equal_ranks_the_lower_tag_is_struck_out() {
-    let store =
-        slots(&[(none(), 0), (element(5, 3, 500), 2), (none(), 0), (none(), 0), (element(5, 9, 500), 1), (element(5, 3, 500), 1)]);
+    let store = slots(&[
+        (none(), 0),
+        (element(5, 3, 500), 2),
+        (none(), 0),
+        (none(), 0),
+        (element(5, 9, 500), 1),
+        (element(5, 3, 500), 1),
+    ]);
     let mut flight = Flight::new(2, 2);
     flight.accepted(element(5, 9, 500));
     flight.accepted(element(5, 3, 500));

@@ -3,7 +3,7 @@ use Rattle.laws.specs.Prelude.{_∙_, ap, arith, needs, sym}
 use Rattle.card_lines.proofs.Sized.{words-none, words-some}
 use Rattle.lines_model.specs.Layout.{shapeOk, storeWords}
 use Rattle.lines_model.specs.declared.Rows.{Rows}
-use Rattle.lines_steps.proofs.Finds.{small, told-no, told-yes}
+use Rattle.lines_work.proofs.Finds.{small, told-no, told-yes}
 use Rattle.card_lines.proofs.card_lines_words.Statement.{statement}
 use Rattle.card_lines.proofs.card_lines_words.Tie as tie
 

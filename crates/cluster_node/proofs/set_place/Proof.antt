@@ -1,11 +1,11 @@
 -- `cluster_node::set_place` meets its contract.
-use Rattle.cluster_model.specs.Prelude.{markOf, writePlace}
+use Rattle.cluster_model.specs.Prelude.{flagOf, writePlace}
 use Rattle.laws.specs.Prelude.{needs}
 use Rattle.cluster_node.proofs.set_place.Statement.{statement}
 use Rattle.cluster_node.proofs.set_place.Tie as tie
 
 returns : tie.Need-returns
-unfolding writePlace markOf
+unfolding writePlace flagOf
 returns c = rw (← c .before .before .write-element .ensures)
 
 pub set-place-spec : {M : Type 1} → statement M

@@ -1,8 +1,8 @@
 use Rattle.laws.specs.Prelude.{_∙_, arith, length, needs, sym}
 use Rattle.lines_model.specs.Layout.{shapeOk}
 use Rattle.lines_model.specs.Rules.{rankFit}
-use Rattle.lines_steps.proofs.Finds.{room, small, told-no, told-yes}
-use Rattle.lines_steps.proofs.Ready.{standing-in}
+use Rattle.lines_work.proofs.Finds.{room, small, told-no, told-yes}
+use Rattle.lines_work.proofs.Ready.{standing-in}
 use Rattle.lines.proofs.Calls.{call-done, call-line, call-rank, call-shape, call-tag, call-torn, counts-yes, due-ready, sizes-fit, sum-is, work-ready}
 use Rattle.lines.proofs.call.Tie as tie
 use Rattle.lines.proofs.call.Statement.{statement}

@@ -1,6 +1,6 @@
 use Rattle.laws.specs.Prelude.{arith, length, needs}
 use Rattle.lines_model.specs.Layout.{shapeOk}
-use Rattle.lines_steps.proofs.Finds.{room, small, told-no, told-yes}
+use Rattle.lines_work.proofs.Finds.{room, small, told-no, told-yes}
 use Rattle.lines.proofs.Calls.{clear-no, clear-yes}
 use Rattle.lines.proofs.clear.Tie as tie
 use Rattle.lines.proofs.clear.Statement.{statement}

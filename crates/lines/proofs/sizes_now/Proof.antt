@@ -1,5 +1,5 @@
 use Rattle.laws.specs.Prelude.{arith, length, needs, subst}
-use Rattle.lines_steps.specs.Sizes.{Standing}
+use Rattle.lines_work.specs.Sizes.{Standing}
 use Rattle.lines.proofs.Calls.{sizes-put, sizes-rest, sizes-swap, sizes-take}
 use Rattle.lines.proofs.sizes_now.Tie as tie
 use Rattle.lines.proofs.sizes_now.Statement.{statement}

@@ -1,7 +1,7 @@
 use Rattle.laws.specs.Prelude.{needs}
 use Rattle.lines_clock.proofs.Cycles.{choose-come, choose-rank, choose-tag}
 use Rattle.lines_model.specs.Rules.{rankFit}
-use Rattle.lines_steps.proofs.Finds.{told-yes}
+use Rattle.lines_work.proofs.Finds.{told-yes}
 use Rattle.lines_clock.proofs.choose.Tie as tie
 use Rattle.lines_clock.proofs.choose.Statement.{statement}
 

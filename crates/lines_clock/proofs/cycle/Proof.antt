@@ -2,7 +2,7 @@ use Rattle.laws.specs.Prelude.{arith, length, needs}
 use Rattle.lines_clock.proofs.Cycles.{counts-no, counts-yes, cycle-answered, cycle-counts, cycle-done, cycle-due, cycle-line, cycle-shape, due-fits, due-in, look-passed, next-countable, work-shape, work-total}
 use Rattle.lines_model.specs.Clock.{dueOk}
 use Rattle.lines_model.specs.Layout.{shapeOk}
-use Rattle.lines_steps.proofs.Finds.{room, small, told-no, told-yes}
+use Rattle.lines_work.proofs.Finds.{room, small, told-no, told-yes}
 use Rattle.lines_clock.proofs.cycle.Tie as tie
 use Rattle.lines_clock.proofs.cycle.Statement.{statement}
 

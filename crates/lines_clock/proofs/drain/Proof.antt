@@ -2,7 +2,7 @@ use Rattle.laws.specs.Prelude.{_∙_, length, needs, sym}
 use Rattle.lines_clock.proofs.Drained.{drain-answered, drain-none, drain-one, drain-shape, drain-still, drain-torn}
 use Rattle.lines_model.specs.Clock.{isPending}
 use Rattle.lines_model.specs.Layout.{shapeOk}
-use Rattle.lines_steps.proofs.Finds.{told-no, told-yes}
+use Rattle.lines_work.proofs.Finds.{told-no, told-yes}
 use Rattle.lines_clock.proofs.drain.Tie as tie
 use Rattle.lines_clock.proofs.drain.Statement.{statement}
 

@@ -1,6 +1,6 @@
 use Rattle.laws.specs.Prelude.{arith, length}
 use Rattle.lines_clock.proofs.Cycles.{take-no, take-yes}
-use Rattle.lines_steps.proofs.Choices.{at-line}
+use Rattle.lines_work.proofs.Choices.{at-line}
 use Rattle.lines_clock.proofs.take_ok.Tie as tie
 use Rattle.lines_clock.proofs.take_ok.Statement.{statement}
 

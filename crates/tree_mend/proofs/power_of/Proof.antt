@@ -1,5 +1,5 @@
 -- `tree_mend::power_of` meets its contract.
-use Rattle.tree_mend.proofs.Turns.{power-three}
+use Rattle.tree_mend.proofs.Paths.{power-three}
 use Rattle.laws.specs.Prelude.{needs}
 use Rattle.tree_mend.proofs.power_of.Statement.{statement}
 use Rattle.tree_mend.proofs.power_of.Tie as tie

@@ -3,7 +3,7 @@ use Rattle.laws.specs.Prelude.{Element, _*_, _+_, _-_, _/_, _<_, _^_, _∙_, _�
 use native.Mathlib.Nat.{div-le-self, div-mul-le-self, mod-eq-sub-div-mul, mod-lt}
 use Rattle.tree_mend.specs.Settle.{slot}
 use Rattle.tree_mend.proofs.Settles.{high}
-use Rattle.tree_mend.proofs.Turns.{Bounds, settle-begins, settle-bounds, settle-ends, settle-goes, Settling}
+use Rattle.tree_mend.proofs.Paths.{Bounds, settle-begins, settle-bounds, settle-ends, settle-goes, Settling}
 use Rattle.tree_mend.proofs.settle.Statement.{statement}
 use Rattle.tree_mend.proofs.settle.Tie as tie
 

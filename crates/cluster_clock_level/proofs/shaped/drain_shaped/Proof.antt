@@ -1,5 +1,5 @@
 use Rattle.cluster_clock_level.proofs.Drains.{drain-goes, drain-quiet, drain-runs, drain-spent, drain-starts, drain-stops, Draining}
-use Rattle.cluster_clock_level.proofs.Turns.{shape-records}
+use Rattle.cluster_clock_level.proofs.Cycles.{shape-records}
 use Rattle.laws.specs.Prelude.{_-_, _∙_, _≡_, _≤_, ap, arith, length, needs, refl, suc}
 use Rattle.cluster_model.specs.Prelude.{shapeOk}
 use Rattle.cluster_clock_level.proofs.shaped.drain_shaped.Statement.{statement}

@@ -1,5 +1,5 @@
 -- `cluster_records::calls::clear_beside` meets its contract.
-use Rattle.cluster_records.proofs.Turns.{clear-cycled, clear-unread}
+use Rattle.cluster_records.proofs.AfterRead.{clear-cycled, clear-unread}
 use Rattle.laws.specs.Prelude.{needs}
 use Rattle.cluster_records.proofs.calls.clear_beside.Statement.{statement}
 use Rattle.cluster_records.proofs.calls.clear_beside.Tie as tie

@@ -1,5 +1,5 @@
 -- `cluster_records::calls::cycle_read` meets its contract.
-use Rattle.cluster_records.proofs.Turns.{cycle-cycled, cycle-unread}
+use Rattle.cluster_records.proofs.AfterRead.{cycle-cycled, cycle-unread}
 use Rattle.laws.specs.Prelude.{needs}
 use Rattle.cluster_records.proofs.calls.cycle_read.Statement.{statement}
 use Rattle.cluster_records.proofs.calls.cycle_read.Tie as tie

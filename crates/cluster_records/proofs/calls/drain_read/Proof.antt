@@ -1,5 +1,5 @@
 -- `cluster_records::calls::drain_read` meets its contract.
-use Rattle.cluster_records.proofs.Turns.{drain-cycled, drain-unread}
+use Rattle.cluster_records.proofs.AfterRead.{drain-cycled, drain-unread}
 use Rattle.laws.specs.Prelude.{needs}
 use Rattle.cluster_records.proofs.calls.drain_read.Statement.{statement}
 use Rattle.cluster_records.proofs.calls.drain_read.Tie as tie

@@ -1,5 +1,5 @@
 -- `tree_records::calls::clear_beside` meets its contract.
-use Rattle.tree_records.proofs.Turns.{clear-ended, clear-unread, unread-is}
+use Rattle.tree_records.proofs.AfterRead.{clear-ended, clear-unread, unread-is}
 use Rattle.laws.specs.Prelude.{needs}
 use Rattle.tree_records.proofs.calls.clear_beside.Statement.{statement}
 use Rattle.tree_records.proofs.calls.clear_beside.Tie as tie

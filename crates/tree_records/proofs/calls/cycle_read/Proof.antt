@@ -1,5 +1,5 @@
 -- `tree_records::calls::cycle_read` meets its contract.
-use Rattle.tree_records.proofs.Turns.{cycle-ended, cycle-unread}
+use Rattle.tree_records.proofs.AfterRead.{cycle-ended, cycle-unread}
 use Rattle.laws.specs.Prelude.{needs}
 use Rattle.tree_records.proofs.calls.cycle_read.Statement.{statement}
 use Rattle.tree_records.proofs.calls.cycle_read.Tie as tie

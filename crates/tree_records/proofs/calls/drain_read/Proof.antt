@@ -1,5 +1,5 @@
 -- `tree_records::calls::drain_read` meets its contract.
-use Rattle.tree_records.proofs.Turns.{drain-ended, drain-unread}
+use Rattle.tree_records.proofs.AfterRead.{drain-ended, drain-unread}
 use Rattle.laws.specs.Prelude.{needs}
 use Rattle.tree_records.proofs.calls.drain_read.Statement.{statement}
 use Rattle.tree_records.proofs.calls.drain_read.Tie as tie
