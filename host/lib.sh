@@ -91,21 +91,21 @@ kit() {
 # Proves and builds FILE with `rt WORDS`, and keeps the module of it: kept MODULE FILE WORDS.. The kit is the same one by links, but for its
 # clang, which keeps what it is handed and then is the kit's.
 kept() {
-    kept_module=$1 kept_file=$2 kept_kit=$(pwd)/$1.kit kept_new=$1.new
+    kept_module=$1 kept_file=$2 kept_kit=$(pwd)/$LIB/kit
     shift 2
     kit
-    rm -rf "$kept_kit" "$kept_module" "$kept_file" "$kept_new"
+    rm -rf "$kept_kit" "$kept_module" "$kept_file" "$LIB/new.bc"
     all_but on "$kit" "$kept_kit" && all_but toolchain "$kit/$on" "$kept_kit/$on" &&
         all_but bin "$kit/$on/toolchain" "$kept_kit/$on/toolchain" && all_but clang "$tools" "$kept_kit/$on/toolchain/bin" ||
         fail 'the kit cannot be linked to'
     {
-        printf '#!/bin/sh\nfor word; do case $word in *.bc) cp "$word" "%s" || exit 1 ;; esac; done\n' "$(pwd)/$kept_new"
+        printf '#!/bin/sh\nfor word; do case $word in *.bc) cp "$word" "%s" || exit 1 ;; esac; done\n' "$(pwd)/$LIB/new.bc"
         printf 'exec "%s/clang" "$@"\n' "$tools"
     } >"$kept_kit/$on/toolchain/bin/clang"
     chmod +x "$kept_kit/$on/toolchain/bin/clang"
     RATTLE_HOME=$kept_kit made "$kept_file" lib "$@" || exit 1
     rm -rf "$kept_kit"
-    mv "$kept_new" "$kept_module" || fail "the prover's compiler was handed no module"
+    mv "$LIB/new.bc" "$kept_module" || fail "the prover's compiler was handed no module"
 }
 
 # Compiles a module for a target: compiled MODULE TARGET OBJECT. Its lines about x86-64 go, and nothing else in it is about a
@@ -149,37 +149,14 @@ sum_of() {
     done | LC_ALL=C sort | sha256sum
 }
 
-# Has a boundary crate proved and built, with its module kept beside: target/staticlib/libCRATE.a and $LIB/CRATE.bc.
+# Has a boundary crate proved and built, with its module kept beside: target/staticlib/libCRATE.a and $LIB/CRATE.bc. A crate of which
+# nothing changed since then is left alone.
 proved() {
+    proved_sum=$(sum_of "$1") proved_archive=target/staticlib/lib$1.a
+    if [ -e "$proved_archive" ] && [ -e "$LIB/$1.bc" ] && [ "$(cat "$LIB/$1.sum" 2>/dev/null)" = "$proved_sum" ]; then return; fi
     rm -f "$LIB/$1.sum"
-    kept "$LIB/$1.bc" "target/staticlib/lib$1.a" staticlib "$1"
-    sum_of "$1" >"$LIB/$1.sum"
-}
-
-# .. those of these crates that changed since, two at a time. What they stand on is proved before, since two provers must not prove one crate.
-all_proved() {
-    stale='' below=''
-    for crate; do
-        if [ ! -e "target/staticlib/lib$crate.a" ] || [ ! -e "$LIB/$crate.bc" ] || [ "$(cat "$LIB/$crate.sum" 2>/dev/null)" != "$(sum_of "$crate")" ]; then
-            stale="$stale $crate" below="$below $(sed -n "s/^$crate: *//p" crates.txt)"
-        fi
-    done
-    # shellcheck disable=SC2086
-    [ -z "${below# }" ] || shown lib check $below || exit 1
-    # shellcheck disable=SC2086
-    set -- $stale
-    while [ $# -gt 0 ]; do
-        (proved "$1") &
-        one=$! other=
-        shift
-        if [ $# -gt 0 ]; then
-            (proved "$1") &
-            other=$!
-            shift
-        fi
-        wait "$one" || exit 1
-        [ -z "$other" ] || wait "$other" || exit 1
-    done
+    kept "$LIB/$1.bc" "$proved_archive" staticlib "$1"
+    printf '%s\n' "$proved_sum" >"$LIB/$1.sum"
 }
 
 # The object of a boundary crate for a target: object CRATE TARGET FILE. That for x86-64 is the one in its archive.
@@ -200,8 +177,7 @@ for_target() {
     [ -n "$crates" ] || fail 'no crate has a function that host/card.h declares'
     kit
     mkdir -p "$folder" || exit 1
-    # shellcheck disable=SC2086
-    all_proved $crates
+    for crate in $crates; do proved "$crate"; done
     [ "$1" = x86_64-linux ] ||
         printf 'lib: %s: the proved modules through another back end of the compiler, which is trusted as the one for x86-64 is\n' "$1" >&2
     rm -f "$made_lib.new"

@@ -70,33 +70,22 @@ library() {
 # Whether what `rt` made is there and no source is newer.
 fresh() { [ -e "$1" ] && [ -z "$(find crates crates.txt -newer "$1" -print -quit)" ]; }
 
-# Runs `rt WORDS`, and shows on standard error how far it is; what else it said only where it fails: shown NAME WORDS..
-shown() {
-    shown_name=$1
-    shift
-    printf '%s: proving and building first: `rt %s`. From nothing this takes some minutes; a line is shown for each crate.\n' "$shown_name" "$*" >&2
-    shown_log=$(mktemp) || return 1
-    { rt "$@" 2>&1 || echo "$shown_log failed"; } | tee "$shown_log" | grep --line-buffered '^rt: ' >&2
-    shown_status=0
-    if grep -q "^$shown_log failed\$" "$shown_log"; then
-        grep -v '^rt: ' "$shown_log" >&2
-        printf '%s: `rt %s` failed\n' "$shown_name" "$*" >&2
-        shown_status=1
-    fi
-    rm -f "$shown_log"
-    return $shown_status
-}
-
-# Proves and builds FILE with `rt WORDS`, if that was not done yet: made FILE NAME WORDS..
+# Proves and builds FILE with `rt WORDS`, if that was not done yet, and shows on standard error how far it is: made FILE NAME WORDS..
 made() {
     made_file=$1
-    shift
+    made_name=$2
+    shift 2
     if fresh "$made_file"; then return 0; fi
-    shown "$@" || return 1
-    if [ ! -e "$made_file" ]; then
-        printf '%s: `rt` did not make %s\n' "$1" "$made_file" >&2
+    printf '%s: proving and building first: `rt %s`. From nothing this takes some minutes; a line is shown for each crate.\n' "$made_name" "$*" >&2
+    made_log=$(mktemp) || return 1
+    { rt "$@" 2>&1 || echo "$made_log failed"; } | tee "$made_log" | grep --line-buffered '^rt: ' >&2
+    if grep -q "^$made_log failed\$" "$made_log" || [ ! -e "$made_file" ]; then
+        grep -v '^rt: ' "$made_log" >&2
+        rm -f "$made_log"
+        printf '%s: `rt %s` failed\n' "$made_name" "$*" >&2
         return 1
     fi
+    rm -f "$made_log"
     # rt leaves a file alone that is still right: now it is newer than the sources
     touch "$made_file"
 }

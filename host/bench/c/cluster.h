@@ -14,7 +14,7 @@
 
 typedef struct {
     strip x;
-    uint32_t mark;
+    uint32_t flag;
 } place;
 
 /* The counts of left and right, and the places behind them. */
@@ -61,7 +61,7 @@ static inline uint32_t high(cluster c, uint32_t k) {
 /* The first empty place; k where there is none. */
 static inline uint32_t empty(cluster c, uint32_t k) {
     uint32_t best = k;
-    for (uint32_t j = k; j-- > 0;) best = c.places[j].mark == 0 ? j : best;
+    for (uint32_t j = k; j-- > 0;) best = c.places[j].flag == 0 ? j : best;
     return best;
 }
 
@@ -97,7 +97,7 @@ static inline uint32_t put_at(cluster c, uint32_t k, strip *x) {
 static inline uint32_t rooted(uint32_t *store, uint32_t k) {
     cluster root = node_at(store, k, 0);
     uint32_t sum = root.counts[0] + root.counts[1];
-    for (uint32_t j = 0; j < k; j++) sum += root.places[j].mark;
+    for (uint32_t j = 0; j < k; j++) sum += root.places[j].flag;
     return sum;
 }
 

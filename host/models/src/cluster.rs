@@ -5,7 +5,7 @@ use crate::{Element, No};
 /// The highest capacity that is taken.
 pub const MOST: u64 = 5_460;
 
-/// The words of a place: rank, tag, length, mark.
+/// The words of a place: rank, tag, length, flag.
 const PLACE: usize = 4;
 
 /// A number of places a node and a number of levels that are taken.
@@ -15,7 +15,7 @@ pub struct Shape {
     pub levels: u32,
 }
 
-/// A place that is marked and its element, or nothing.
+/// A place that is flagged and its element, or nothing.
 pub type Place = Option<Element>;
 
 /// What is done at a node.
@@ -72,8 +72,8 @@ impl Shape {
         Shape::nodes(self.levels) * self.node_words()
     }
 
-    /// Reads a node that has so many levels below it. A mark is 0 or 1, an unmarked place is all 0, no count is above the room of a
-    /// child, and with something below no more than so many places are not marked: none, or one that may wait to be filled.
+    /// Reads a node that has so many levels below it. A flag is 0 or 1, an unflagged place is all 0, no count is above the room of a
+    /// child, and with something below no more than so many places are not flagged: none, or one that may wait to be filled.
     pub fn read(&self, store: &[u32], number: usize, below: u32, gaps: usize) -> Result<Node, No> {
         let at = number * self.node_words();
         let counts = [store[at], store[at + 1]];
@@ -108,20 +108,20 @@ impl Shape {
 
 impl Node {
     pub fn held(&self) -> u64 {
-        let marked = self.places.iter().filter(|p| p.is_some()).count() as u64;
-        marked + self.counts[0] as u64 + self.counts[1] as u64
+        let flagged = self.places.iter().filter(|p| p.is_some()).count() as u64;
+        flagged + self.counts[0] as u64 + self.counts[1] as u64
     }
 
     /// The place of lowest rank, then of lowest tag, then the first.
     pub fn low(&self) -> Option<usize> {
-        let marked = (0..self.places.len()).filter(|&j| self.places[j].is_some());
-        marked.min_by_key(|&j| self.places[j].map(|e| (e.rank, e.tag, j)))
+        let flagged = (0..self.places.len()).filter(|&j| self.places[j].is_some());
+        flagged.min_by_key(|&j| self.places[j].map(|e| (e.rank, e.tag, j)))
     }
 
     /// The place of highest rank, the last on a tie.
     pub fn high(&self) -> usize {
-        let marked = (0..self.places.len()).filter(|&j| self.places[j].is_some());
-        marked.max_by_key(|&j| self.places[j].map(|e| (e.rank, j))).expect("a full node")
+        let flagged = (0..self.places.len()).filter(|&j| self.places[j].is_some());
+        flagged.max_by_key(|&j| self.places[j].map(|e| (e.rank, j))).expect("a full node")
     }
 }
 
@@ -154,7 +154,7 @@ impl Way<'_> {
             }
             let child = self.shape.read(self.store, 2 * number + 1 + side, below - 1, 0)?;
             let j = child.low().ok_or(No::Damaged(1))?;
-            let e = child.places[j].expect("a marked place");
+            let e = child.places[j].expect("a flagged place");
             if best.map_or(true, |(_, b)| e.rank < b.rank) {
                 best = Some((side, e));
             }
@@ -176,7 +176,7 @@ impl Way<'_> {
                 }
                 let side = (node.counts[1] < node.counts[0]) as usize;
                 let j = node.high();
-                let met = node.places[j].expect("a marked place");
+                let met = node.places[j].expect("a flagged place");
                 let (stays, goes) = if x.rank < met.rank { (x, met) } else { (met, x) };
                 self.write_place(number, j, Some(stays));
                 self.write_count(number, side, node.counts[side] + 1);

@@ -16,9 +16,9 @@ pub mod cause {
     pub const PUT: Causes = 8;
     pub const WAITING: Causes = 16;
     pub const CHILD: Causes = 32;
-    /// C3: a fill's place is marked, a swap's is not, or nothing lies below.
-    pub const MARKED: Causes = 64;
-    pub const UNMARKED: Causes = 128;
+    /// C3: a fill's place is flagged, a swap's is not, or nothing lies below.
+    pub const FLAGGED: Causes = 64;
+    pub const UNFLAGGED: Causes = 128;
     pub const BARE: Causes = 256;
     /// C4: a put finds no room.
     pub const FULL: Causes = 512;
@@ -32,8 +32,8 @@ pub mod cause {
         (PUT, "a put's node"),
         (WAITING, "a waiting node"),
         (CHILD, "a child of a waiting node"),
-        (MARKED, "a fill's place is marked"),
-        (UNMARKED, "a swap's place is not marked"),
+        (FLAGGED, "a fill's place is flagged"),
+        (UNFLAGGED, "a swap's place is not flagged"),
         (BARE, "nothing below a waiting node"),
         (FULL, "a put finds no room"),
         (EMPTY, "a child with nothing to give"),
@@ -168,8 +168,8 @@ impl Start<'_> {
         }
         let waiting = self.node(upper, node, cause::WAITING)?;
         match (on_trial, waiting.places[place as usize]) {
-            (None, Some(_)) => return Err(No::Damaged(cause::MARKED)),
-            (Some(_), None) => return Err(No::Damaged(cause::UNMARKED)),
+            (None, Some(_)) => return Err(No::Damaged(cause::FLAGGED)),
+            (Some(_), None) => return Err(No::Damaged(cause::UNFLAGGED)),
             _ => {}
         }
         let (side, low) = self.choice(&waiting, upper, node)?;
@@ -192,7 +192,7 @@ fn begin(node: &mut Node, low: Option<usize>, work: Work, number: u32) -> Due {
                 return Due::Nothing;
             }
             let high = node.high();
-            let met = node.places[high].expect("a marked place");
+            let met = node.places[high].expect("a flagged place");
             let (stays, goes) = if y.rank < met.rank { (y, met) } else { (met, y) };
             let side = (node.counts[1] < node.counts[0]) as usize;
             node.places[high] = Some(stays);

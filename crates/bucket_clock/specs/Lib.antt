@@ -1,0 +1,2 @@
+-- What the functions ask for.
+pub mod Rules

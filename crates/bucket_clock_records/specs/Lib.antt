@@ -1,0 +1,2 @@
+-- What the host's records say.
+pub mod Lent

@@ -1,0 +1,3 @@
+pub mod Storeys
+pub mod Linking
+pub mod Rounds
