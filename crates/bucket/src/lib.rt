@@ -7,6 +7,8 @@
 //
 // Push and pop go through the depths one by one, and do their call at the one that is asked for: the compiler unrolls such a
 // loop, so that each depth has code of its own with its numbers in it. Replace is too long for that.
+#![tactic(auto)]
+
 ghost use Rattle.std.specs.Prelude.{◌≡◌};
 ghost use Rattle.bucket_model.specs.Layout.{queue};
 ghost use Rattle.bucket_model.specs.Calls.{outcome, cleared, pushed, popped, replaced, held_count};

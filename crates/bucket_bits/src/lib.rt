@@ -3,6 +3,8 @@
 // The words are numbered from the top one, 0, on, and past the last of them the ranks: with `tower` words, rank r is number
 // tower + r. Bit k of word w tells of number 64 w + k + 1, so the way up from number i leads to bit (i - 1) % 64 of word
 // (i - 1) / 64, however many storeys there are.
+#![tactic(auto)]
+
 ghost use Rattle.std.specs.Prelude.{◌≡◌, true, false, cond, ◌&&◌, ◌+◌, ◌≤◌, ◌<◌, ◌^◌, length, set};
 ghost use Rattle.bucket_model.specs.Layout.{word};
 ghost use Rattle.bucket_model.specs.Storeys.{storeys_from, switched, tells_above, edit};
@@ -10,7 +12,7 @@ ghost use Rattle.bucket_model.specs.Calls.{fill};
 ghost use Rattle.bucket_bits.specs.Climbs.{Tall, Switchable, Switching, Signalling, Leads, Agreed, climbed, Climbable};
 
 // The lowest rank: whether no word on the way down to it is 0, and the rank (0 where one is).
-#[derive(Drop)]
+#[derive(Clone, Copy)]
 pub struct LowestRank {
     pub open: bool,
     pub rank: u32,
@@ -18,7 +20,7 @@ pub struct LowestRank {
 
 // The way up from a rank, on the bits as after a pop: whether the pop clears a bit in the next storey; whether what is below
 // the next bit is empty; whether all bits so far agreed with what is below them; and the last word read.
-#[derive(Drop)]
+#[derive(Clone, Copy)]
 pub struct Climb {
     pub clears: bool,
     pub empty: bool,

@@ -1,5 +1,7 @@
 // The bucket queue by clock cycles, over three lent slices, words of 64 bits, words of 32 and the counts, with records that go by value: one behind each
 // storey. An operation may be asked for in every cycle: nothing is ever too soon, and what leaves belongs to the request of `storeys` cycles ago.
+#![tactic(auto)]
+
 ghost use Rattle.std.specs.Prelude.{cond, ◌&&◌, ◌≡◌, ◌≤◌, leb, length};
 ghost use Rattle.strip.specs.declared.Refusal.TheVariants.{Damaged};
 ghost use Rattle.bucket_clock_model.specs.Clock.{held_after};
@@ -22,7 +24,7 @@ use strip::{Answer, Count, Element, Refusal, Request, asks_something, is_untagge
 // ---- a request
 
 // What a request comes to: its answer, and what goes into the top storey.
-#[derive(Drop)]
+#[derive(Clone, Copy)]
 pub struct Ruled {
     pub answer: Answer,
     pub op: Request,

@@ -1,5 +1,7 @@
 // The host's own records of the clocked bucket queue, read and written back. A record as the host keeps it is five words: kind 0 nothing, 1 push, 2 pop,
 // 3 replace; the way that a pop or replace has come; an element's rank, tag and length.
+#![tactic(auto)]
+
 ghost use Rattle.std.specs.Prelude.{cond, ◌≡◌, ◌≤◌, leb, length};
 ghost use Rattle.bucket_clock_model.specs.Desk.{no_work, record_count};
 ghost use Rattle.bucket_clock_records.specs.Lent.{bare_record, kind_in, laden_record, lends, read_of, record_of, waiting_of, works_back};
@@ -8,7 +10,7 @@ use bucket_clock_model::{RECORDS, Waiting};
 use strip::{Element, Request, element_of};
 
 // What was read of the records: what each holds, and whether there are enough of them and all the kinds are kinds.
-#[derive(Drop)]
+#[derive(Clone, Copy)]
 pub struct WorksRead {
     pub works: [Waiting; RECORDS],
     pub ok: bool,

@@ -12,7 +12,7 @@ use bucket_clock_model::{Maybe, RECORDS, Waiting};
 use bucket_model::Lay;
 
 // What the stages leave: what leaves the queue, and the records.
-#[derive(Drop)]
+#[derive(Clone, Copy)]
 pub struct Ran {
     pub leaves: Maybe,
     pub records: [Waiting; RECORDS],

@@ -1,10 +1,11 @@
 // The bucket queue's types. Its rules are in specs/, what follows from them in proofs/.
+#![tactic(auto)]
 
 // Where the words of a bucket queue stand. Of the words of 64 bits: how many storeys there are, how many words they have,
 // and where they begin. Of the words of 32 bits: how many ranks there are, and where the heads begin, one for each rank,
 // with as many tails behind them; where the node that link 0 would name would begin; where the free link and the held
 // count stand. And how many nodes there are.
-#[derive(Drop)]
+#[derive(Clone, Copy)]
 pub struct Lay {
     pub storeys: usize,
     pub tower: usize,
@@ -18,7 +19,7 @@ pub struct Lay {
 }
 
 // The lowest bucket as a pop finds it: whether it passes the tests, its rank, and the links read. next is its head's.
-#[derive(Drop)]
+#[derive(Clone, Copy)]
 pub struct Lowest {
     pub good: bool,
     pub rank: u32,
@@ -29,7 +30,7 @@ pub struct Lowest {
 
 // What a push reads: how many nodes of the pool are in use; whether its rank's bits agree with what is below them; its bucket's head and tail,
 // and what stands behind the tail; the free link, and the next of the node that it names.
-#[derive(Drop)]
+#[derive(Clone, Copy)]
 pub struct Reads {
     pub held: u32,
     pub agrees: bool,
@@ -41,7 +42,7 @@ pub struct Reads {
 }
 
 // The bucket that a push joins: whether it passes the tests, its tail, and the next of the node taken.
-#[derive(Drop)]
+#[derive(Clone, Copy)]
 pub struct Room {
     pub good: bool,
     pub tail: u32,

@@ -1,6 +1,8 @@
 // The bucket queue's words of 32 bits: heads, tails, nodes, the free link and the held count, wherever they stand.
 //
 // A link is a node's number plus one, and 0 is "none". Each function takes the layout and touches no other word.
+#![tactic(auto)]
+
 ghost use Rattle.std.specs.Prelude.{◌≡◌, ◌+◌, ◌≤◌, ◌<◌, length};
 ghost use Rattle.bucket_model.specs.Layout.{store_words, word, head_at, tail_at, load_in, loaded};
 ghost use Rattle.bucket_model.specs.Layout as layout;

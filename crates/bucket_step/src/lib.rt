@@ -1,4 +1,6 @@
 // What the bucket queue's calls write, once every test holds: a bucket's words and its bits.
+#![tactic(auto)]
+
 ghost use Rattle.std.specs.Prelude.{◌≡◌};
 ghost use Rattle.bucket_model.specs.Calls.{taken_bits, taken_words, joined_bits, joined_words};
 ghost use Rattle.bucket_step.specs.Tested.{Freeing};

@@ -1,5 +1,7 @@
 // The clocked bucket queue for C and Rust: numbers and slices. The host lends its pending records, structs of five words each. A cycle reads the records, has
 // the cycle made on what was read, and writes the records back.
+#![tactic(auto)]
+
 ghost use Rattle.std.specs.Prelude.{cond, ◌≡◌};
 ghost use Rattle.card_words.specs.Out.{count_after, Long};
 ghost use Rattle.card_bucket_clock.specs.Calls.{clock_after, clock_after_out, clock_clear, clock_counts, clock_cycle, clock_held_at, leaves_out, leaves_told, leave_words};

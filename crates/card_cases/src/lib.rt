@@ -1,1 +1,2 @@
 // No code: calls through C in plain numbers, and the one table of them: see specs/ and proofs/.
+#![tactic(auto)]

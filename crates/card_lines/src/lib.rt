@@ -1,4 +1,6 @@
 // Lines for C and Rust: numbers and slices. One operation at a time here, by clock cycles in `clock`.
+#![tactic(auto)]
+
 ghost use Rattle.std.specs.Prelude.{◌≡◌};
 ghost use Rattle.card_words.specs.Out.{count_after};
 ghost use Rattle.card_lines.specs.Lines.{lines_clear, lines_held, lines_pop, lines_push, lines_replace, lines_words, rows};

@@ -1,4 +1,6 @@
 // The packed heap for C and Rust: numbers and slices.
+#![tactic(auto)]
+
 ghost use Rattle.std.specs.Prelude.{◌≡◌};
 ghost use Rattle.card_words.specs.Out.{count_after};
 ghost use Rattle.card_words.specs.Store.{store_after, store_after_out};

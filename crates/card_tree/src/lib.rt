@@ -1,5 +1,7 @@
 // The static library for C and Rust, the tree over numbers and slices. Each function returns 01's number, 0 where nothing is
 // refused, and writes what it answers to `out`, zeros on a refusal. An `out` that is too short is refusal 1, and nothing changes.
+#![tactic(auto)]
+
 ghost use Rattle.std.specs.Prelude.{◌≡◌};
 ghost use Rattle.card_words.specs.Out.{count_after};
 ghost use Rattle.card_words.specs.Sizes.{tree_words};

@@ -1,5 +1,7 @@
 // The clocked tree's calls: the host lends its pending records as structs and the mark as one word. Each call over records is proved by a walk of its
 // code by hand, so it is thin: it reads the records, has the call made on what was read, and writes the records back.
+#![tactic(auto)]
+
 ghost use Rattle.std.specs.Prelude.{◌≡◌};
 ghost use Rattle.card_words.specs.Out.{count_after};
 ghost use Rattle.card_tree_clock.specs.Clocked.{clocked_after, clocked_after_out, none_ended, told, told_out, clear_told, cycle_told, drain_told, clocked_clear, clocked_cycle, clocked_drain, clocked_held};

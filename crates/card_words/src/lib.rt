@@ -1,4 +1,6 @@
 // Under the boundary: what `out` receives, and the request and the mark as numbers.
+#![tactic(auto)]
+
 ghost use Rattle.std.specs.Prelude.{◌≡◌, cond, set};
 ghost use Rattle.strip.specs.Answers.{number_of, count_number, count_of};
 ghost use Rattle.card_words.specs.Out.{Long, answer_out, answer_words, drain_out, drain_words, refused_out};

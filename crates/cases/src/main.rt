@@ -1,5 +1,7 @@
 // 01's worked cases and those that 02 adds, run: what each call answers, as number, rank, tag and length, and the words it leaves. The calls of a case
 // are written as text, each with a space behind it: + push, - pop, * replace, . idle, = drain, ! clear, and the element as rank/tag/length.
+#![tactic(auto)]
+
 use strip::{Answer, Element, Length, Rank, Request, Tag};
 use tree_clock_model::State;
 
@@ -34,7 +36,7 @@ fn say_words(words: &[u32]) {
 
 // ---- a call as it is read, byte by byte
 
-#[derive(Drop)]
+#[derive(Clone, Copy)]
 struct Call {
     sign: u8,
     rank: u32,

@@ -1,5 +1,7 @@
 // The cluster heap, one operation at a time, over lent words. Node m begins at word m * (2 + 4k): left, right, then k places of rank, tag, length, flag.
 // Its children are nodes 2m + 1 and 2m + 2. Every node of a path is tested on the way down and written on the way back.
+#![tactic(auto)]
+
 ghost use Rattle.std.specs.Prelude.{◌≡◌, ◌++◌, ◌+◌, ◌*◌, ◌<◌, ◌≤◌, length, drop, replicate};
 ghost use Rattle.cluster_model.specs.Words.{width};
 ghost use Rattle.cluster_model.specs.Heap.{room};

@@ -1,5 +1,7 @@
 // The cluster heap worked by clock cycles, over lent words and records that go by value. Each call tests the shape and hands on to the steps. An operation may
 // be asked for in every cycle: nothing is ever too soon.
+#![tactic(auto)]
+
 ghost use Rattle.std.specs.Prelude.{◌≡◌, ◌≤◌};
 ghost use Rattle.cluster.specs.Coded.{nodes_of};
 ghost use Rattle.cluster_clock_model.specs.Calls.{clock_cleared, clock_held, drain_outcome, drains, cycled, cycle_outcome};

@@ -1,5 +1,7 @@
 // One level of the cluster heap in a clock cycle: what is pending between it and the next is tested and settled, then the level's work is begun. The level's
 // first node is number a of the store, node n of it number a + n.
+#![tactic(auto)]
+
 ghost use Rattle.std.specs.Prelude.{◌≡◌, ◌&&◌, eqb, ltb, length, ◌+◌, ◌<◌};
 ghost use Rattle.std.specs.Bool.{beq};
 ghost use Rattle.cluster_clock_model.specs.Stage.{below, filled, handed, no_stage};
@@ -20,7 +22,7 @@ use cluster_node::{
 use strip::{Element, goes_down, lower, stays};
 
 // What a level has to do in a cycle.
-#[derive(Drop)]
+#[derive(Clone, Copy)]
 pub enum Job {
     Rest,
     Put(Element),
@@ -29,7 +31,7 @@ pub enum Job {
 }
 
 // .. at which node of it and, for a take and a swap, the place that gives: the level above has read it.
-#[derive(Drop)]
+#[derive(Clone, Copy)]
 pub struct Task {
     pub job: Job,
     pub node: usize,

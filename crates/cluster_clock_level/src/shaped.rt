@@ -15,7 +15,7 @@ use strip::{Answer, Element, Refusal, Request, asks_something, is_refused, is_un
 // ---- the root
 
 // Whether the root is in order, how many the heap holds, and the root's lowest place with its element.
-#[derive(Drop)]
+#[derive(Clone, Copy)]
 pub struct Root {
     pub ok: bool,
     pub held: usize,
@@ -51,7 +51,7 @@ pub fn open_root(s: &[u32], k: usize, top: usize) -> Root
 // ---- a request
 
 // What a request comes to: whether the root is in order where it is read, the answer, and the root's task.
-#[derive(Drop)]
+#[derive(Clone, Copy)]
 pub struct Ruled {
     pub ok: bool,
     pub answer: Answer,

@@ -1,4 +1,6 @@
 // The types of the clocked cluster heap that go by value. Its rules are in specs/, the theorems in proofs/.
+#![tactic(auto)]
+
 use strip::{Answer, Element};
 
 // How many records there are: one for each level from 2, as many as two places a node need, that have the most levels, 11.
@@ -6,7 +8,7 @@ pub const STAGES: usize = 10;
 
 // What is left to be done between a level and the next: put onto a node of the next level; fill a place of a node of this one, that is a gap; or the element
 // in a place of it is on trial.
-#[derive(Drop)]
+#[derive(Clone, Copy)]
 pub enum Due {
     Nothing,
     Put(Element),
@@ -15,21 +17,21 @@ pub enum Due {
 }
 
 // A pending record: what is due, and at which node.
-#[derive(Drop)]
+#[derive(Clone, Copy)]
 pub struct Stage {
     pub due: Due,
     pub node: usize,
 }
 
 // What a cycle answers, and the records that it leaves, that of level 2 first.
-#[derive(Drop)]
+#[derive(Clone, Copy)]
 pub struct ClusterCycled {
     pub answer: Answer,
     pub records: [Stage; STAGES],
 }
 
 // What a drain reports: done or a refusal, the number of cycles run, whether work is left, and the records that it leaves.
-#[derive(Drop)]
+#[derive(Clone, Copy)]
 pub struct ClusterDrained {
     pub answer: Answer,
     pub cycles: usize,

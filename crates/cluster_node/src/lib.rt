@@ -1,5 +1,7 @@
 // One node of the cluster heap on its words: reading a place, one scan of all of them, the tests of a node, the lower of two children, and the writes of a
 // place and of a count. A function that reads or writes a node asks that it lies within the words.
+#![tactic(auto)]
+
 ghost use Rattle.std.specs.Prelude.{◌≡◌, true, false, cond, ◌&&◌, leb, pred, ◌+◌, ◌*◌, ◌<◌, ◌≤◌, length};
 ghost use Rattle.cluster_model.specs.Node.{gap, has};
 ghost use Rattle.cluster_model.specs.Calls.{place_limit};
@@ -12,7 +14,7 @@ ghost use Rattle.cluster_node.specs.Leaf.{elem_at, under_of, bare_at, ok_by, rai
 use strip::{ELEMENT_WORDS, Element, element_at, is_blank, no_element, turn_of, write_element};
 
 // One scan of a node: whether all places seen are neat, how many are flagged, the first that is not, the lowest and the highest.
-#[derive(Drop)]
+#[derive(Clone, Copy)]
 pub struct Seen {
     pub neat: bool,
     pub count: usize,
@@ -51,7 +53,7 @@ pub const FOUR_LEFT: usize = FOUR_WORDS + COUNTS;
 pub const FOUR_RIGHT: usize = FOUR_LEFT + FOUR_WORDS;
 
 // A scan that takes every place for occupied: whether all flags are 1, the best place and the number that it is the best by.
-#[derive(Drop)]
+#[derive(Clone, Copy)]
 pub struct Lead {
     pub full: bool,
     pub place: usize,
@@ -59,7 +61,7 @@ pub struct Lead {
 }
 
 // A child read for its lowest: whether it is in order, the place and the rank there.
-#[derive(Drop)]
+#[derive(Clone, Copy)]
 pub struct Found {
     pub ok: bool,
     pub place: usize,
@@ -68,7 +70,7 @@ pub struct Found {
 
 // The lower of two children: whether both are in order, whether it is the right one, the word where it begins, its lowest place and the
 // element there.
-#[derive(Drop)]
+#[derive(Clone, Copy)]
 pub struct Chosen {
     pub ok: bool,
     pub right: bool,

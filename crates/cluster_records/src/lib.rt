@@ -1,5 +1,7 @@
 // The steps between a lent slice of pending records and the by-value calls of the clocked cluster heap: what is read of a record, and what is written. A
 // record as the host keeps it is six words: kind 0 nothing, 1 put, 2 fill, 3 swap; a node and a place of it; an element's rank, tag and length.
+#![tactic(auto)]
+
 ghost use Rattle.std.specs.Prelude.{◌≡◌, false, leb};
 ghost use Rattle.cluster_clock_model.specs.Stage.{no_stage};
 ghost use Rattle.cluster_records.specs.Lent.{kind_in, stage_of, bare_record, laden_record, record_of};
@@ -12,14 +14,14 @@ use cluster_clock_model::{Due, STAGES, Stage};
 use strip::{Answer, Element, Length, Rank, Refusal, Tag};
 
 // What was read of the records: what each holds, and whether all the kinds are kinds.
-#[derive(Drop)]
+#[derive(Clone, Copy)]
 pub struct ClusterRead {
     pub stages: [Stage; STAGES],
     pub ok: bool,
 }
 
 // What a by-value call has left: the records, its report, and how many records are to be written.
-#[derive(Drop)]
+#[derive(Clone, Copy)]
 pub struct ClusterEnded {
     pub stages: [Stage; STAGES],
     pub answer: Answer,

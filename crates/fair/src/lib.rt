@@ -1,4 +1,6 @@
 // Weighted fair ranks above the one-at-a-time tree. Lent are the state (the clock, then the last finish of each flow) and the tree's store.
+#![tactic(auto)]
+
 ghost use Rattle.std.specs.Prelude.{◌≡◌, ◌+◌, ◌≤◌, ◌<◌, length};
 ghost use Rattle.tree_model.specs.Calls.{held_count};
 ghost use Rattle.fair_model.specs.Ranks.{Good, cells, finish};

@@ -1,4 +1,6 @@
 // The step sizes of the weights: one constant table (02 [10]), its quotient rule tested once over the whole table.
+#![tactic(auto)]
+
 ghost use Rattle.std.specs.Prelude.{◌≡◌, ◌≤◌};
 ghost use Rattle.fair_model.specs.Ranks.{step};
 

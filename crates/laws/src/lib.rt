@@ -1,1 +1,2 @@
 // No code: laws of lists, sums and tests that every model uses, in specs/.
+#![tactic(auto)]

@@ -1,4 +1,6 @@
 // The lines, one operation at a time.
+#![tactic(auto)]
+
 ghost use Rattle.std.specs.Prelude.{true, ◌≡◌, length};
 ghost use Rattle.lines_model.specs.Calls.{called, cleared, held_count, outcome};
 ghost use Rattle.lines_model.specs.Layout.{power_of_two, word};

@@ -1,4 +1,6 @@
 // The lines by clock cycles: the counts change in the request's own cycle, the line in the next. What is pending is a value that goes in and comes back.
+#![tactic(auto)]
+
 ghost use Rattle.std.specs.Prelude.{true, ◌≡◌, length};
 ghost use Rattle.lines_model.specs.Calls.{heads};
 ghost use Rattle.lines_model.specs.Clock.{clock_cleared, clock_held, drains, due_ok, had, is_pending, machine, cycled};
@@ -19,14 +21,14 @@ use lines_work::{
 use strip::{Answer, Count, Element, Refusal, Request, number};
 
 // What a cycle answers, and what is pending after it.
-#[derive(Drop)]
+#[derive(Clone, Copy)]
 pub struct Cycled {
     pub answer: Answer,
     pub due: Due,
 }
 
 // What a drain reports: its answer, the cycles that it ran, whether work is left; and what is pending after it.
-#[derive(Drop)]
+#[derive(Clone, Copy)]
 pub struct Report {
     pub answer: Answer,
     pub cycles: u32,

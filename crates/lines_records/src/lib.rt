@@ -1,5 +1,7 @@
 // The clocked lines' calls over a record in the host's own memory: what is read of it, the by-value call on that, and what is written back. A
 // record as the host keeps it is five words: kind 0 nothing, 1 push, 2 pop, 3 replace; a line; an element's rank, tag and length.
+#![tactic(auto)]
+
 ghost use Rattle.std.specs.Prelude.{◌≡◌, ◌<◌};
 ghost use Rattle.lines_records.specs.Lent.{bare_record, laden_record, lent_cleared, lent_cycled, lent_drain, lent_drains, lent_outcome, line_in, pending_of, readable, record_of, word_limit};
 
@@ -8,7 +10,7 @@ use lines_model::{Due, Rows};
 use strip::{Answer, Element, Refusal, Request, element_of, has_run};
 
 // What a drain reports: its answer, the cycles that it ran, whether work is left.
-#[derive(Drop)]
+#[derive(Clone, Copy)]
 pub struct LinesReport {
     pub answer: Answer,
     pub cycles: u32,

@@ -1,4 +1,6 @@
 // The lines' own work: a line's words, the test of a line, which line, and what is done for a request. One operation at a time and the clock both use it.
+#![tactic(auto)]
+
 ghost use Rattle.std.specs.Prelude.{true, ◌≡◌, ◌*◌, ◌+◌, ◌≤◌, ◌<◌, ltb, length};
 ghost use Rattle.lines_model.specs.Calls.{heads, wipe};
 ghost use Rattle.lines_model.specs.Layout.{line_of, power_of_two, put_in, row_at, row_in, shape_ok, without, word};
@@ -22,21 +24,21 @@ const PLACE: usize = 3;
 const NONE: u64 = 4294967296;
 
 // The counts seen: whether none is above the places of a line, and their sum.
-#[derive(Drop)]
+#[derive(Clone, Copy)]
 pub struct Totals {
     pub ok: bool,
     pub sum: usize,
 }
 
 // What the test of a line tells: whether it passes, and how many of its ranks are at most the newcomer's, which is the place where that goes.
-#[derive(Drop)]
+#[derive(Clone, Copy)]
 pub struct Look {
     pub ok: bool,
     pub spot: usize,
 }
 
 // How many elements the line has that gives, and the one that x goes into, before the work.
-#[derive(Drop)]
+#[derive(Clone, Copy)]
 pub struct Sizes {
     pub gives: usize,
     pub takes: usize,

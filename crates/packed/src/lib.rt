@@ -1,5 +1,7 @@
 // The packed heap, one operation at a time, over lent words: a forest of heaps, each a queue of its own. A call tests the shape, the heap's number, its held word and
 // its top, then what its request asks; the ways are those of `packed_way`.
+#![tactic(auto)]
+
 ghost use Rattle.std.specs.Prelude.{◌++◌, ◌≡◌, ◌*◌, ◌+◌, ◌<◌, ◌≤◌, drop, length, replicate};
 ghost use Rattle.packed_model.specs.Calls.{called, cleared, held_count, outcome, root_ok, served, shape_ok};
 ghost use Rattle.packed_model.specs.Node.{size};

@@ -1,6 +1,8 @@
 // The ways of the packed heap over lent words: first the heaps' held words, then the slots, three words each. Slot m's children are slots 2m + heaps and
 // 2m + heaps + 1, so m + heaps is numbered as a heap of its own is: one above is half of it; the top of heap h is slot h. A way is walked twice, once to test it and
 // once to write it, so that every test comes before the first write.
+#![tactic(auto)]
+
 ghost use Rattle.std.specs.Prelude.{cond, ◌≡◌, ◌*◌, ◌+◌, ◌<◌, ◌≤◌, leb, ltb, length};
 ghost use Rattle.strip.specs.Words.{keep, pass};
 ghost use Rattle.packed_model.specs.Node.{size};

@@ -1,6 +1,8 @@
 // Plays a trace from standard input to standard output, in pieces of whole records of either version, whatever the input's length. The
 // work is `trace`'s, with every choice in it; here it is read and written. Where a read or a write fails nothing more is read, and
 // standard error says so.
+#![tactic(auto)]
+
 ghost use Rattle.std.specs.Prelude.{◌≤◌, ◌≡◌, ltb, length};
 ghost use Rattle.io.specs.Counts.{IsPrefixLen};
 ghost use Rattle.trace_model.specs.Play.{Makes, out_bytes, piece_bytes, piece_run, program_lots};
@@ -19,7 +21,7 @@ const BYTES: usize = 36855;
 const OUT: usize = 393216;
 
 // How many bytes were read, and whether no read failed.
-#[derive(Drop)]
+#[derive(Clone, Copy)]
 struct Filled {
     bytes: usize,
     good: bool,

@@ -7,6 +7,8 @@
 //
 // Push and pop go through the depths one by one, and do their call at the one that is asked for: the compiler unrolls such a
 // loop, so that each depth has code of its own with its numbers in it.
+#![tactic(auto)]
+
 ghost use Rattle.std.specs.Prelude.{◌≡◌, ◌+◌, ◌*◌, ◌≤◌, length};
 ghost use Rattle.bucket_model.specs.Calls.{outcome, fill};
 ghost use Rattle.ports_model.specs.Calls.{cleared, pushed, popped, replaced, held_count};

@@ -1,5 +1,7 @@
 // What a ports call reads and tests of its pool, before anything is written: the shape, the limits that clear is handed, and
 // the words of all ports, in one pass.
+#![tactic(auto)]
+
 ghost use Rattle.std.specs.Prelude.{◌≡◌, cond, not, ◌&&◌, ◌+◌, ◌*◌, ◌≤◌, ◌<◌, max, ltb, eqb, length};
 ghost use Rattle.strip.specs.declared.Refusal.TheVariants.{BadShape, BadPort, Damaged};
 ghost use Rattle.bucket_model.specs.Layout.{word};
@@ -34,7 +36,7 @@ const LIMITS: usize = 2;
 
 // Over all ports: how many nodes are in use; how many are in use or kept for a floor; and whether no port's floor, and nothing
 // that a port holds, is above its ceiling. The sums have 64 bits, so that no words can make them wrap.
-#[derive(Drop)]
+#[derive(Clone, Copy)]
 pub struct Totals {
     pub used: u64,
     pub claimed: u64,

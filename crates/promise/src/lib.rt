@@ -1,1 +1,2 @@
 // The words in which every queue's promises are said: see specs/. No code.
+#![tactic(auto)]

@@ -1,22 +1,24 @@
 // What every queue of the card takes in and answers.
+#![tactic(auto)]
+
 ghost use Rattle.std.specs.Prelude.{◌≡◌, cond, ◌+◌, ◌-◌, ◌≤◌, ltb, length};
 ghost use Rattle.strip.specs.Answers.{element, blank, key, untagged, turn, refusal_number, number_of, is_refused, element_of, count_number, count_of, asks, runs_idle, has_run};
 ghost use Rattle.strip.specs.Words.{element_words, element_in, write_element, is_blank, keep, pass};
 
 // When a strip must leave. A lower rank leaves first.
-#[derive(Drop)]
+#[derive(Clone, Copy)]
 pub struct Rank(pub u32);
 
 // Which strip it is.
-#[derive(Drop)]
+#[derive(Clone, Copy)]
 pub struct Tag(pub u32);
 
 // How many bytes it has. It travels with the strip and decides nothing.
-#[derive(Drop)]
+#[derive(Clone, Copy)]
 pub struct Length(pub u32);
 
 // An element: rank, tag and length are numbers of three different kinds, so that none can be passed where another is meant.
-#[derive(Drop)]
+#[derive(Clone, Copy)]
 pub struct Element {
     pub rank: Rank,
     pub tag: Tag,
@@ -24,7 +26,7 @@ pub struct Element {
 }
 
 // Why a queue says no.
-#[derive(Drop)]
+#[derive(Clone, Copy)]
 pub enum Refusal {
     BadShape,
     Damaged,
@@ -38,7 +40,7 @@ pub enum Refusal {
 }
 
 // What a call answers: that it is done, an element, or a refusal.
-#[derive(Drop)]
+#[derive(Clone, Copy)]
 pub enum Answer {
     Done,
     Out(Element),
@@ -46,14 +48,14 @@ pub enum Answer {
 }
 
 // What the call held answers: how many are held, or a refusal.
-#[derive(Drop)]
+#[derive(Clone, Copy)]
 pub enum Count {
     Held(u32),
     Unknown(Refusal),
 }
 
 // What may be asked of a queue. Idle asks for nothing.
-#[derive(Drop)]
+#[derive(Clone, Copy)]
 pub enum Request {
     Idle,
     Push(Element),

@@ -1,4 +1,6 @@
 // Text laid into a lent buffer: bytes as they are, and numbers in decimal.
+#![tactic(auto)]
+
 ghost use Rattle.std.specs.Prelude.{◌≡◌, ◌+◌, ◌≤◌, length};
 ghost use Rattle.text.specs.Text.{overlay, decimal_by, decimal, longest};
 

@@ -1,4 +1,6 @@
 // The trace program's work, all but reading and writing: a trace played piece by piece into a buffer.
+#![tactic(auto)]
+
 ghost use Rattle.std.specs.Prelude.{◌≡◌, ◌+◌, ◌*◌, ◌/◌, ◌≤◌, false, length};
 ghost use Rattle.text.specs.Text.{Laid};
 ghost use Rattle.trace_model.specs.Format.{longest_line, record_bytes, entry_at, records_from, cut_record, bad_line};

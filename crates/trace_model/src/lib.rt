@@ -1,23 +1,25 @@
 // The trace program's types. Its definition, from input to output bytes, is in specs/, what follows from it in proofs/.
+#![tactic(auto)]
+
 use strip::Request;
 use tree_clock_model::State;
 
 // The version of a trace: its records are without a length, or with one.
-#[derive(Drop)]
+#[derive(Clone, Copy)]
 pub enum Version {
     One,
     Two,
 }
 
 // What a trace's first bytes say: nothing that is a header, or version, order and levels.
-#[derive(Drop)]
+#[derive(Clone, Copy)]
 pub enum Header {
     Wrong,
     Shape(Version, usize, usize),
 }
 
 // What a record's bytes say.
-#[derive(Drop)]
+#[derive(Clone, Copy)]
 pub enum Record {
     Bad,
     Good(Request),
@@ -25,7 +27,7 @@ pub enum Record {
 
 // What is carried from piece to piece: the version, the shape, the machine's state, how many records were played, and whether the play
 // goes on.
-#[derive(Drop)]
+#[derive(Clone, Copy)]
 pub struct Playing {
     pub version: Version,
     pub order: usize,
@@ -36,7 +38,7 @@ pub struct Playing {
 }
 
 // .. and how many bytes of text a call has put into its buffer.
-#[derive(Drop)]
+#[derive(Clone, Copy)]
 pub struct Piece {
     pub play: Playing,
     pub written: usize,

@@ -1,4 +1,5 @@
 // Traces of every kind, good and bad, played through the library; what they give is held to what an independent model gives.
+#![tactic(auto)]
 
 fn write_first(out: &[u8], n: usize) {
     if n <= out.len() {

@@ -1,4 +1,6 @@
 // The multi-way tree's calls, one operation at a time, over lent words.
+#![tactic(auto)]
+
 ghost use Rattle.std.specs.Prelude.{◌≡◌};
 ghost use Rattle.tree_model.specs.Calls.{outcome, called, cleared, held_count};
 ghost use Rattle.tree.specs.Untagged.{Bars};

@@ -1,5 +1,7 @@
 // The multi-way tree worked by clock cycles, over lent words and a state that goes by value. Each call tests the shape and hands on to
 // the steps.
+#![tactic(auto)]
+
 ghost use Rattle.std.specs.Prelude.{◌≡◌};
 ghost use Rattle.tree_model.specs.Calls.{held_count};
 ghost use Rattle.tree_clock_model.specs.Calls.{cycle_outcome, cycled, fresh, clocked_cleared, drain_outcome, drains};

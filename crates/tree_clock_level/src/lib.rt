@@ -1,4 +1,6 @@
 // The levels: each does one step a cycle, by what stood at the cycle's start. `under` is the room below a slot of the next level.
+#![tactic(auto)]
+
 ghost use Rattle.std.specs.Prelude.{◌≡◌, cond, false, ◌+◌, ◌*◌, ◌<◌, ◌≤◌};
 ghost use Rattle.tree_model.specs.Calls.{slot_limit};
 ghost use Rattle.tree_model.specs.Node.{is_nothing};
@@ -23,7 +25,7 @@ use tree_plan::plan_of;
 const LEVELS: usize = RECORDS + 1;
 
 // A level: its first slot, how many nodes it has, and the room below a slot of it.
-#[derive(Drop)]
+#[derive(Clone, Copy)]
 pub struct AtLevel {
     pub base: usize,
     pub nodes: usize,
@@ -58,14 +60,14 @@ fn next_level(order: usize, at: AtLevel) -> AtLevel
 }
 
 // A slot and where it is written.
-#[derive(Drop)]
+#[derive(Clone, Copy)]
 pub struct Write {
     pub at: usize,
     pub slot: Slot,
 }
 
 // A level's step: whether all that it reads is in order and, where it is, what it writes and what it leaves for the next level's record.
-#[derive(Drop)]
+#[derive(Clone, Copy)]
 pub struct Step {
     pub ok: bool,
     pub write: Write,

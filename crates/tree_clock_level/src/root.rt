@@ -12,7 +12,7 @@ use tree_node::scan::node_ok;
 use tree_plan::{Plan, choose_least, choose_low, no_plan, plan_put, plan_swap, plan_take};
 
 // What a request comes to: its answer, the operation at the root, and the plan of that operation's step.
-#[derive(Drop)]
+#[derive(Clone, Copy)]
 pub struct RootStep {
     pub answer: Answer,
     pub op: Op,

@@ -1,4 +1,6 @@
 // The types of the clocked tree that go by value. Its rules are in specs/, the theorems in proofs/.
+#![tactic(auto)]
+
 use strip::Answer;
 use tree_model::Work;
 
@@ -7,21 +9,21 @@ pub const RECORDS: usize = 14;
 
 // What stands beside the store between two cycles: the pending records, that of level 2 first, and whether the last cycle's operation was
 // answered without refusal.
-#[derive(Drop)]
+#[derive(Clone, Copy)]
 pub struct State {
     pub records: [Work; RECORDS],
     pub mark: bool,
 }
 
 // What a cycle answers, and the state that it leaves.
-#[derive(Drop)]
+#[derive(Clone, Copy)]
 pub struct Cycled {
     pub answer: Answer,
     pub state: State,
 }
 
 // What a drain reports: done or a refusal, the number of cycles run, whether work is left, and the state that it leaves.
-#[derive(Drop)]
+#[derive(Clone, Copy)]
 pub struct Drained {
     pub answer: Answer,
     pub cycles: usize,

@@ -1,5 +1,7 @@
 // The check of a tree's store, by loops and by descent, and the mender. Slots and nodes go by their numbers in the slice: node q begins with
 // slot q * order, and the node under slot p is node p + 1.
+#![tactic(auto)]
+
 ghost use Rattle.std.specs.Prelude.{◌≡◌, ◌⊎◌, ℕ, suc, ◌*◌, ◌+◌, ◌^◌, ◌≤◌, ◌<◌, length};
 ghost use Rattle.promise.specs.Queue.{leaves};
 ghost use Rattle.promise.specs.Served.{hit};
@@ -214,7 +216,7 @@ fn settle(to: &mut [u32], order: usize, power: usize, n: usize, x: Element)
 }
 
 // How many were pushed, and how many skipped.
-#[derive(Drop)]
+#[derive(Clone, Copy)]
 pub struct Tally {
     pub pushed: usize,
     pub skipped: usize,

@@ -1,8 +1,10 @@
 // The types that the tree's rules, its steps and its pending work share. The rules are in specs/, the theorems in proofs/.
+#![tactic(auto)]
+
 use strip::Element;
 
 // What is to be done at a node.
-#[derive(Drop)]
+#[derive(Clone, Copy)]
 pub enum Op {
     Nothing,
     Put(Element),
@@ -11,14 +13,14 @@ pub enum Op {
 }
 
 // A slot: its element, and how many it covers, its own and all below it.
-#[derive(Drop)]
+#[derive(Clone, Copy)]
 pub struct Slot {
     pub element: Element,
     pub count: u32,
 }
 
 // One step at a node: the slot at this place is rewritten, and the rest is to be done at the node below that place.
-#[derive(Drop)]
+#[derive(Clone, Copy)]
 pub struct Move {
     pub place: usize,
     pub slot: Slot,
@@ -26,7 +28,7 @@ pub struct Move {
 }
 
 // What is to be done, and at which node of a level.
-#[derive(Drop)]
+#[derive(Clone, Copy)]
 pub struct Work {
     pub op: Op,
     pub node: usize,

@@ -11,7 +11,7 @@ use strip::turn_of;
 use tree_model::Slot;
 
 // The winner among some places of a node: its place, the number that it wins by, and the most that is below any of these places.
-#[derive(Drop)]
+#[derive(Clone, Copy)]
 pub struct Winner {
     pub place: usize,
     pub key: u64,

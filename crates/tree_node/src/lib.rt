@@ -1,5 +1,7 @@
 // What is known of a tree by its order and levels: its capacity, its shape, the room below a slot. A node's slots and scans are
 // modules of their own.
+#![tactic(auto)]
+
 ghost use Rattle.std.specs.Prelude.{◌≡◌, ◌<◌, ◌^◌, ◌≤◌};
 ghost use Rattle.tree_model.specs.Calls.{order_ok, shape_ok};
 ghost use Rattle.tree_node.specs.Room.{Capacity, Capped, RoomUnder, slots_counted};

@@ -28,7 +28,7 @@ fn slot_ok(a: Slot, room: usize) -> bool
 }
 
 // Whether no slot of the node is damaged, and the chosen place.
-#[derive(Drop)]
+#[derive(Clone, Copy)]
 pub struct Look {
     pub ok: bool,
     pub place: usize,

@@ -7,7 +7,7 @@ use crate::slot::SLOT_WORDS;
 use crate::{SLOT_LIMIT, capacity, order_ok, room_under};
 
 // How many slots a tree has, how many levels are below its root, and the room below a root's slot; all 0 where there is no such tree.
-#[derive(Drop)]
+#[derive(Clone, Copy)]
 pub struct Shape {
     pub slots: usize,
     pub below: usize,

@@ -1,5 +1,7 @@
 // The three operations of the multi-way tree on their paths, over lent words: own step, then the same rule one level down, with the levels
 // left falling.
+#![tactic(auto)]
+
 ghost use Rattle.tree_path.specs.Down.{Carried, Looked, Stands};
 
 use strip::{Element, goes_down, lower, no_element, stays};

@@ -1,5 +1,7 @@
 // A step at one node looked at before anything is written: whether all that it reads is in order, and what it would do. Each node is
 // scanned once.
+#![tactic(auto)]
+
 ghost use Rattle.std.specs.Prelude.{◌≡◌, ◌&&◌, true, ◌+◌, ◌*◌, ◌<◌, ◌≤◌, ℕ};
 ghost use Rattle.tree_model.specs.Node.{least_count, lowest, move};
 ghost use Rattle.tree_model.specs.Words.{node_of};
@@ -17,7 +19,7 @@ use tree_node::slot::slot_at;
 // ---- choices
 
 // The slot that a step chooses, its place, and whether the node is in order for that step. Where it is not, the slot says nothing.
-#[derive(Drop)]
+#[derive(Clone, Copy)]
 pub struct Choice {
     pub ok: bool,
     pub place: usize,
@@ -68,7 +70,7 @@ pub fn choose_low(s: &[u32], at: usize, order: usize, room: usize) -> Choice
 // ---- plans
 
 // Whether all that a step reads is in order and, where it is, the step.
-#[derive(Drop)]
+#[derive(Clone, Copy)]
 pub struct Plan {
     pub ok: bool,
     pub step: Move,

@@ -9,7 +9,7 @@ use types.Logic.{Logic}
 use denote.RattleType.{RattleType}
 use denote.Laws.{Is, Tells, Makes, Copy}
 use denote.Struct.Laws as LL
-pub use Rattle.laws.proofs.Told.{fails, holds, one_more, told}
+pub use Rattle.laws.proofs.Told.{fails, holds, one_more}
 use Rattle.tree_records.specs.declared.Record.{Record}
 use Rattle.tree_records.specs.contracts.Record as T
 use Rattle.tree_records.proofs.Record.TheLaws as T'

@@ -1,5 +1,7 @@
 // The steps between a lent slice of pending records and the by-value calls of the clocked tree: a record as the host keeps it, what is read of
 // the records, how many are to be written after a call, and what each becomes.
+#![tactic(auto)]
+
 ghost use Rattle.std.specs.Prelude.{◌≡◌, cond, false, ◌-◌, ◌<◌, leb};
 ghost use Rattle.strip.specs.Answers.{number_of};
 ghost use Rattle.tree_model.specs.Levels.{idle};
@@ -15,7 +17,7 @@ use tree_model::{Op, Work};
 
 // A pending record as the host keeps it: kind 0 nothing, 1 put, 2 take, 3 swap; a node; an element's rank, tag and length.
 #[repr(C)]
-#[derive(Drop)]
+#[derive(Clone, Copy)]
 pub struct Record {
     pub kind: u32,
     pub node: u32,
@@ -25,7 +27,7 @@ pub struct Record {
 }
 
 // What was read of the records: the work of each, and whether all the kinds are kinds.
-#[derive(Drop)]
+#[derive(Clone, Copy)]
 pub struct Read {
     pub works: [Work; RECORDS],
     pub ok: bool,
@@ -33,7 +35,7 @@ pub struct Read {
 
 // What a by-value call has left: the state as it came back, its report, and how many records are to be written. The state stands in it as it is,
 // so that it is copied once.
-#[derive(Drop)]
+#[derive(Clone, Copy)]
 pub struct Ended {
     pub state: State,
     pub answer: Answer,

@@ -1,0 +1,13 @@
+-- `strip::goes_down` meets its contract.
+use mathlib.Core.Path.{◌∙◌, sym}
+use Rattle.strip.specs.Words.{pass}
+use borrow.Author.Rules.{rules}
+use Rattle.strip.proofs.goes_down.Goals as goal
+
+pub returns-then-lower : goal.returns-then-lower
+unfolding pass
+returns-then-lower c = rw (← sym c.if-lower.true ∙ c.lower.ensures)
+
+pub returns : goal.returns
+unfolding pass
+returns c = rw (← sym c.if-lower.false ∙ c.lower.ensures)
