@@ -1,0 +1,13 @@
+-- `tree_node::full::below_of` meets its contract.
+use Rattle.laws.specs.Prelude.{eq-eqb, ne_eqb, rules, refl}
+use Rattle.tree_model.specs.Prelude.{is_empty}
+use Rattle.tree_node.specs.Full.{below}
+use Rattle.tree_node.proofs.full.below_of.Goals as goal
+
+pub returns-then-count-eq0 : goal.returns-then-count-eq0
+unfolding below is_empty
+returns-then-count-eq0 c = rw (eq-eqb c.args.a.count 0 c.if-count-eq0.true) refl
+
+pub returns : goal.returns
+unfolding below is_empty
+returns c = rw (ne_eqb c.args.a.count 0 c.if-count-eq0.false) refl

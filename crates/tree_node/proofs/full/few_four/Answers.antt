@@ -1,0 +1,11 @@
+-- `tree_node::full::few_four` meets its contract.
+use Rattle.laws.specs.Prelude.{◌+◌, ◌≡◌, arith, rules}
+use Rattle.tree_node.proofs.Winners.{wins-to}
+use Rattle.tree_node.specs.Full.{by_count}
+use Rattle.tree_node.proofs.full.few_four.Goals as goal
+
+pub returns : goal.returns
+returns c =
+    let j = c.args.j in
+    let end : j + 2 + 2 ≡ j + 4 = omega arith in
+    wins-to _ _ _ _ _ _ _ end (c.winner_of.ensures by_count _ _ j (j + 2) (j + 2 + 2) c.few_two-left.ensures c.few_two-right.ensures)

@@ -1,0 +1,11 @@
+-- `tree_node::full::few_two` meets its contract.
+use Rattle.laws.specs.Prelude.{◌+◌, ◌≡◌, arith, rules}
+use Rattle.tree_node.proofs.Winners.{wins-to}
+use Rattle.tree_node.specs.Full.{by_count}
+use Rattle.tree_node.proofs.full.few_two.Goals as goal
+
+pub returns : goal.returns
+returns c =
+    let j = c.args.j in
+    let end : j + 1 + 1 ≡ j + 2 = omega arith in
+    wins-to _ _ _ _ _ _ _ end (c.winner_of.ensures by_count _ _ j (j + 1) (j + 1 + 1) c.few_one-left.ensures c.few_one-right.ensures)
