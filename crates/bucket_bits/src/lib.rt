@@ -85,9 +85,9 @@ pub fn signal(
     tower: usize,
     rank: u32,
 )
-    requires fact_1 { Tall bits.old base storeys tower }
-    requires fact_2 { rank < 64 ^ storeys }
-    requires fact_3 { Signalling on changes bits.old (storeys_from base storeys) rank }
+    requires tall { Tall bits.old base storeys tower }
+    requires rank_in { rank < 64 ^ storeys }
+    requires signalling { Signalling on changes bits.old (storeys_from base storeys) rank }
     ensures { bits.new ≡ cond changes (edit on bits.old (storeys_from base storeys) rank) bits.old }
 {
     let low = tower + rank as usize - 1;
@@ -155,10 +155,10 @@ pub fn agreement(
     empty: bool,
     own: u32,
 ) -> Climb
-    requires fact_1 { Tall bits.now base storeys tower }
-    requires fact_2 { gone < 64 ^ storeys }
-    requires fact_3 { own < 64 ^ storeys }
-    requires fact_4 { (clears ≡ true → Switchable false bits.now (storeys_from base storeys) gone) }
+    requires tall { Tall bits.now base storeys tower }
+    requires gone_in { gone < 64 ^ storeys }
+    requires own_in { own < 64 ^ storeys }
+    requires switchable { (clears ≡ true → Switchable false bits.now (storeys_from base storeys) gone) }
     ensures { Agreed bits.now base storeys clears gone empty own result.agrees result.top }
 {
     let mut c = Climb {

@@ -135,8 +135,8 @@ fn record_of(g: Waiting) -> [u32; 5]
 
 // Writes the first n records.
 pub fn hand_back(records: &mut [[u32; 5]], works: [Waiting; RECORDS], n: usize)
-    requires fact_1 { n ≤ record_count }
-    requires fact_2 { n ≤ length records.old }
+    requires few { n ≤ record_count }
+    requires long { n ≤ length records.old }
     ensures { records.new ≡ works_back n works records.old }
 {
     let mut i = 0;

@@ -19,8 +19,8 @@ use strip::{Element, Request};
 
 // A rank's bucket, as a pop finds it.
 fn find_head(words: &[u32], k: Lay, rank: u32) -> Lowest
-    requires fact_1 { Fits k words.now }
-    requires fact_2 { rank < k.ranks }
+    requires fits { Fits k words.now }
+    requires rank_in { rank < k.ranks }
     ensures { result ≡ lowest_in k words.now rank }
 {
     let n = k.nodes;
@@ -94,8 +94,8 @@ fn put_ok(words: &[u32], k: Lay, rank: u32) -> bool
 
 // The head of a rank as after the pop of low, which is not done yet.
 fn head_after(words: &[u32], k: Lay, low: Lowest, rank: u32) -> u32
-    requires fact_1 { Leaves k words.now low }
-    requires fact_2 { rank < k.ranks }
+    requires leaves { Leaves k words.now low }
+    requires rank_in { rank < k.ranks }
     ensures { result ≡ word (bucket_take k low.rank words.now) (head_at k rank) }
 {
     if rank == low.rank {
@@ -106,8 +106,8 @@ fn head_after(words: &[u32], k: Lay, low: Lowest, rank: u32) -> u32
 
 // .. and its tail.
 fn tail_after(words: &[u32], k: Lay, low: Lowest, rank: u32) -> u32
-    requires fact_1 { Leaves k words.now low }
-    requires fact_2 { rank < k.ranks }
+    requires leaves { Leaves k words.now low }
+    requires rank_in { rank < k.ranks }
     ensures { result ≡ word (bucket_take k low.rank words.now) (tail_at k rank) }
 {
     if rank == low.rank {
@@ -216,8 +216,8 @@ fn put_in(words: &mut [u32], k: Lay, e: Element)
 
 // The buckets work at what waits for them. Answers what leaves.
 pub fn work_buckets(words: &mut [u32], k: Lay, g: Waiting) -> Maybe
-    requires fact_1 { Fits k words.old }
-    requires fact_2 { bucket_ok k g.does g.way words.old ≡ true }
+    requires fits { Fits k words.old }
+    requires passes { bucket_ok k g.does g.way words.old ≡ true }
     ensures { (words.new ≡ bucket_stage k g.does g.way words.old) × (result ≡ bucket_leaves k (takes g.does) g.way words.old) }
 {
     let does = g.does;

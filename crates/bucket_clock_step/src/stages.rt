@@ -56,8 +56,8 @@ pub fn run_stages(
     g: Waiting,
     records: [Waiting; RECORDS],
 ) -> Ran
-    requires fact_1 { Ready k (length bits.old) (length counts.old) (length words.old) }
-    requires fact_2 { stages_ok k 0 k.storeys g (desk bits.old counts.old words.old records) ≡ true }
+    requires ready { Ready k (length bits.old) (length counts.old) (length words.old) }
+    requires passes { stages_ok k 0 k.storeys g (desk bits.old counts.old words.old records) ≡ true }
     ensures is { step result.leaves (desk bits.new counts.new words.new result.records) ≡ stages k 0 k.storeys g (desk bits.old counts.old words.old records) }
     ensures held { word words.new k.held ≡ word words.old k.held }
 {

@@ -45,8 +45,8 @@ fn take_ok(bits: &[u64], counts: &[u32], n: u32, base: usize, words: usize, way:
 
 // D2: a push below bit j.
 fn put_ok(bits: &[u64], counts: &[u32], n: u32, base: usize, words: usize, j: usize) -> bool
-    requires fact_1 { Floored base words (length bits.now) (length counts.now) }
-    requires fact_2 { j < 64 * words }
+    requires floored { Floored base words (length bits.now) (length counts.now) }
+    requires place_in { j < 64 * words }
     ensures { result ≡ put_ok n (place base words) j (floor bits.now counts.now) }
 {
     let c = counts[64 * base + j];
@@ -86,9 +86,9 @@ fn put_after_ok(
     way: usize,
     j: usize,
 ) -> bool
-    requires fact_1 { Floored base words (length bits.now) (length counts.now) }
-    requires fact_2 { j < 64 * words }
-    requires fact_3 { Falls (place base words) way (floor bits.now counts.now) }
+    requires floored { Floored base words (length bits.now) (length counts.now) }
+    requires place_in { j < 64 * words }
+    requires falls { Falls (place base words) way (floor bits.now counts.now) }
     ensures { result ≡ put_ok n (place base words) j (storey_take (place base words) (way_below (place base words) bits.now way) (floor bits.now counts.now)) }
 {
     let word = bits[base + way];
@@ -175,8 +175,8 @@ pub fn storey_ok(
 
 // The lowest set bit of the word that the way names: its count falls by one, and at 0 the bit is cleared. Answers the way below.
 fn storey_take(bits: &mut [u64], counts: &mut [u32], base: usize, words: usize, way: usize) -> usize
-    requires fact_1 { Floored base words (length bits.old) (length counts.old) }
-    requires fact_2 { Falls (place base words) way (floor bits.old counts.old) }
+    requires floored { Floored base words (length bits.old) (length counts.old) }
+    requires falls { Falls (place base words) way (floor bits.old counts.old) }
     ensures { (floor bits.new counts.new ≡ storey_take (place base words) (way_below (place base words) bits.old way) (floor bits.old counts.old)) × (result ≡ way_below (place base words) bits.old way) × (result < 64 * words) }
 {
     let word = bits[base + way];
@@ -191,9 +191,9 @@ fn storey_take(bits: &mut [u64], counts: &mut [u32], base: usize, words: usize, 
 
 // The count of bit j rises by one, and the bit is set.
 fn storey_put(bits: &mut [u64], counts: &mut [u32], base: usize, words: usize, j: usize)
-    requires fact_1 { Floored base words (length bits.old) (length counts.old) }
-    requires fact_2 { j < 64 * words }
-    requires fact_3 { Rises (place base words) j (floor bits.old counts.old) }
+    requires floored { Floored base words (length bits.old) (length counts.old) }
+    requires place_in { j < 64 * words }
+    requires rises { Rises (place base words) j (floor bits.old counts.old) }
     ensures { floor bits.new counts.new ≡ storey_put (place base words) j (floor bits.old counts.old) }
 {
     let n = counts[64 * base + j];
@@ -212,8 +212,8 @@ pub fn work_storey(
     d: usize,
     g: Waiting,
 ) -> Waiting
-    requires fact_1 { Here k base words d (length bits.old) (length counts.old) }
-    requires fact_2 { storey_ok k (place base words) d g.does g.way (floor bits.old counts.old) ≡ true }
+    requires here { Here k base words d (length bits.old) (length counts.old) }
+    requires passes { storey_ok k (place base words) d g.does g.way (floor bits.old counts.old) ≡ true }
     ensures { Worked (place base words) d g (floor bits.old counts.old) (floor bits.new counts.new) result }
 {
     let does = g.does;

@@ -60,8 +60,8 @@ fn lay_of(storeys: usize, tower: usize, ranks: u32, n: u32) -> Lay
 
 // .. of a depth that there is: every number but n is then known where the depth is.
 pub fn queue_of(storeys: usize, n: u32) -> Lay
-    requires fact_1 { layout.least_storeys ≤ storeys }
-    requires fact_2 { storeys ≤ layout.most_storeys }
+    requires least { layout.least_storeys ≤ storeys }
+    requires most { storeys ≤ layout.most_storeys }
     ensures { result ≡ layout.queue storeys n }
 {
     if storeys == LEAST_STOREYS {
@@ -145,8 +145,8 @@ pub fn tail_left(next: u32, tail: u32) -> u32
 
 // The next of the node that link names, of n: the node after it, and of the last none.
 fn blank_next(n: u32, link: u32) -> u32
-    requires fact_1 { n ≤ layout.pool }
-    requires fact_2 { link ≤ n }
+    requires pool_in { n ≤ layout.pool }
+    requires link_in { link ≤ n }
     ensures { result ≡ blank_cell n link layout.load_words }
 {
     if link == n {
@@ -169,9 +169,9 @@ fn zero_words(words: &mut [u32], end: usize)
 
 // The heads and tails, the chain of free nodes, and the free link, which names its first.
 pub fn wipe_lists(words: &mut [u32], k: Lay)
-    requires fact_1 { layout.Laid k }
-    requires fact_2 { k.free < length words.old }
-    requires fact_3 { k.nodes ≤ layout.pool }
+    requires laid { layout.Laid k }
+    requires free_in { k.free < length words.old }
+    requires pool_in { k.nodes ≤ layout.pool }
     ensures { words.new ≡ fill (blank_word k) (k.free + 1) words.old }
 {
     let mut node = k.stem + NODE;
@@ -189,8 +189,8 @@ pub fn wipe_lists(words: &mut [u32], k: Lay)
 
 // .. and what is behind them, all 0.
 pub fn wipe_words(words: &mut [u32], k: Lay)
-    requires fact_1 { Fits k words.old }
-    requires fact_2 { k.nodes ≤ layout.pool }
+    requires fits { Fits k words.old }
+    requires pool_in { k.nodes ≤ layout.pool }
     ensures { words.new ≡ fill (blank_word k) (store_words k) words.old }
 {
     wipe_lists(words, k);

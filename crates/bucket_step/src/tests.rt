@@ -199,8 +199,8 @@ fn node_fits(n: u32, used: u32, next: u32) -> bool
 
 // What a push tests of its bucket's links, where the node at link free is to join it.
 fn links_fit(words: &[u32], k: Lay, head: u32, tail: u32, free: u32) -> bool
-    requires fact_1 { Fits k words.now }
-    requires fact_2 { 1 ≤ free }
+    requires fits { Fits k words.now }
+    requires free_some { 1 ≤ free }
     ensures { result ≡ links_ok k.nodes head tail (next_of k words.now tail) free }
 {
     if tail == 0 {
@@ -230,9 +230,9 @@ fn no_room() -> Room
 
 // Its links, where so many nodes of the pool are in use.
 pub fn find_room(words: &[u32], k: Lay, used: u32, rank: u32) -> Room
-    requires fact_1 { Fits k words.now }
-    requires fact_2 { rank < k.ranks }
-    requires fact_3 { Roomy k used words.now }
+    requires fits { Fits k words.now }
+    requires rank_in { rank < k.ranks }
+    requires roomy { Roomy k used words.now }
     ensures { FoundLinks k words.now rank (join_ok k used words.now rank) result }
 {
     let free = free_link(words, k);
@@ -251,8 +251,8 @@ pub fn find_room(words: &[u32], k: Lay, used: u32, rank: u32) -> Room
 
 // Its bits: whether they agree with what is below them, a bucket that is empty or not and then the words.
 pub fn agrees(bits: &[u64], k: Lay, rank: u32, empty: bool) -> bool
-    requires fact_1 { Tall bits.now k.bits k.storeys k.tower }
-    requires fact_2 { rank < 64 ^ k.storeys }
+    requires tall { Tall bits.now k.bits k.storeys k.tower }
+    requires rank_in { rank < 64 ^ k.storeys }
     ensures { result ≡ rank_agrees k bits.now rank empty }
 {
     let up = agreement(bits, k.bits, k.storeys, k.tower, false, rank, empty, rank);
@@ -262,8 +262,8 @@ pub fn agrees(bits: &[u64], k: Lay, rank: u32, empty: bool) -> bool
 // ---- a replace: what will stand after the pop of low, which is not done yet
 
 fn head_after(words: &[u32], k: Lay, low: Lowest, rank: u32) -> u32
-    requires fact_1 { Takable k words.now low }
-    requires fact_2 { rank < k.ranks }
+    requires takable { Takable k words.now low }
+    requires rank_in { rank < k.ranks }
     ensures { result ≡ word (taken_words k words.now low) (head_at k rank) }
 {
     if rank == low.rank {
@@ -273,8 +273,8 @@ fn head_after(words: &[u32], k: Lay, low: Lowest, rank: u32) -> u32
 }
 
 fn tail_after(words: &[u32], k: Lay, low: Lowest, rank: u32) -> u32
-    requires fact_1 { Takable k words.now low }
-    requires fact_2 { rank < k.ranks }
+    requires takable { Takable k words.now low }
+    requires rank_in { rank < k.ranks }
     ensures { result ≡ word (taken_words k words.now low) (tail_at k rank) }
 {
     if rank == low.rank {
@@ -286,8 +286,8 @@ fn tail_after(words: &[u32], k: Lay, low: Lowest, rank: u32) -> u32
 // The links of rank's bucket. The node to be taken is then the freed one, and its next the free link of today; so none of the
 // node's tests is new.
 pub fn room_after(words: &[u32], k: Lay, low: Lowest, rank: u32) -> Room
-    requires fact_1 { Takable k words.now low }
-    requires fact_2 { rank < k.ranks }
+    requires takable { Takable k words.now low }
+    requires rank_in { rank < k.ranks }
     ensures { FoundLinks k (taken_words k words.now low) rank (links_in k (taken_words k words.now low) rank) result }
 {
     let head = head_after(words, k, low, rank);
@@ -301,10 +301,10 @@ pub fn room_after(words: &[u32], k: Lay, low: Lowest, rank: u32) -> Room
 
 // Its bits, and of the tests of the whole queue the only one that is new, the top word's; so many are held before the pop.
 pub fn agrees_after(bits: &[u64], k: Lay, low: Lowest, rank: u32, empty: bool, held: u32) -> bool
-    requires fact_1 { Tall bits.now k.bits k.storeys k.tower }
-    requires fact_2 { low.rank < 64 ^ k.storeys }
-    requires fact_3 { rank < 64 ^ k.storeys }
-    requires fact_4 { Switchable false bits.now (storeys_at k) low.rank }
+    requires tall { Tall bits.now k.bits k.storeys k.tower }
+    requires low_in { low.rank < 64 ^ k.storeys }
+    requires rank_in { rank < 64 ^ k.storeys }
+    requires switchable { Switchable false bits.now (storeys_at k) low.rank }
     ensures { result ≡ (rank_agrees k (taken_bits k bits.now low) rank empty && beq (eqb (word (taken_bits k bits.now low) k.bits) 0) (eqb held 1)) }
 {
     let up = agreement(

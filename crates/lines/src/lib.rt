@@ -48,8 +48,8 @@ pub fn held(s: &[u32], k: Rows) -> Count
 
 // How many elements the lines of what is to be done have now.
 fn sizes_now(s: &[u32], k: Rows, due: Due) -> Sizes
-    requires fact_1 { power_of_two k.lines ≡ true }
-    requires fact_2 { Standing k (length s.now) due }
+    requires power { power_of_two k.lines ≡ true }
+    requires standing { Standing k (length s.now) due }
     ensures { result ≡ sizes_by k (word s.now) due }
 {
     match due {

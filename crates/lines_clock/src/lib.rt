@@ -132,9 +132,9 @@ fn take_ok(s: &[u32], k: Rows, l: usize) -> bool
 
 // How many elements the lines of what is pending had before.
 fn sizes_had(s: &[u32], k: Rows, due: Due) -> Sizes
-    requires fact_1 { power_of_two k.lines ≡ true }
-    requires fact_2 { Standing k (length s.now) due }
-    requires fact_3 { due_ok k s.now due ≡ true }
+    requires power { power_of_two k.lines ≡ true }
+    requires standing { Standing k (length s.now) due }
+    requires passes { due_ok k s.now due ≡ true }
     ensures { result ≡ sizes_by k (had k s.now due) due }
 {
     match due {
@@ -172,8 +172,8 @@ fn sizes_had(s: &[u32], k: Rows, due: Due) -> Sizes
 
 // Step 2: what the request comes to, by the counts and the first places as they stand.
 fn choose(s: &[u32], k: Rows, q: Request, held: usize) -> Choice
-    requires fact_1 { shape_ok k (length s.now) ≡ true }
-    requires fact_2 { held ≡ total (word s.now) k.lines }
+    requires shaped { shape_ok k (length s.now) ≡ true }
+    requires counted { held ≡ total (word s.now) k.lines }
     ensures { result ≡ rules.choose k (word s.now) (heads k s.now) q }
 {
     let ranked = rank_fit(k, q);

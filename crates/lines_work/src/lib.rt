@@ -77,8 +77,8 @@ fn shift_down(s: &mut [u32], a: usize, n: usize)
 
 // x is put into the line of c elements that begins at word a, at its spot.
 fn put_at(s: &mut [u32], a: usize, c: usize, spot: usize, x: Element)
-    requires fact_1 { a + 3 * c + 3 ≤ length s.old }
-    requires fact_2 { Seated s.old a c spot x }
+    requires words_in { a + 3 * c + 3 ≤ length s.old }
+    requires seated { Seated s.old a c spot x }
     ensures { s.new ≡ put_in s.old a c x }
 {
     let b = a + PLACE * spot;
@@ -101,8 +101,8 @@ fn take_out(s: &mut [u32], a: usize, c: usize)
 
 // Both in one line: only the places before x's own move.
 fn swap_at(s: &mut [u32], a: usize, c: usize, spot: usize, x: Element)
-    requires fact_1 { (1 ≤ c) × (a + 3 * c ≤ length s.old) }
-    requires fact_2 { Seated s.old a c spot x }
+    requires words_in { (1 ≤ c) × (a + 3 * c ≤ length s.old) }
+    requires seated { Seated s.old a c spot x }
     ensures { s.new ≡ lined s.old a c true true x }
 {
     let place = if 0 < spot { spot - 1 } else { 0 };
@@ -258,8 +258,8 @@ fn own_rank(k: Rows, l: usize, rank: u32) -> bool
 
 // Do the first and the last of c ranks from word a on belong to line l? Where they ascend, all do then.
 fn ends_own(s: &[u32], k: Rows, l: usize, a: usize, c: usize) -> bool
-    requires fact_1 { power_of_two k.lines ≡ true }
-    requires fact_2 { (c ≤ 1024) × (a + 3 * c ≤ length s.now) }
+    requires power { power_of_two k.lines ≡ true }
+    requires words_in { (c ≤ 1024) × (a + 3 * c ≤ length s.now) }
     ensures { result ≡ ends_own k l s.now a c }
 {
     if c == 0 {
@@ -297,8 +297,8 @@ fn blank_end(s: &[u32], k: Rows, a: usize, c: usize) -> bool
 
 // The test of line l with c elements, and the place of a newcomer of this rank.
 fn look_line(s: &[u32], k: Rows, l: usize, c: usize, rank: u32) -> Look
-    requires fact_1 { shape_ok k (length s.now) ≡ true }
-    requires fact_2 { (l < k.lines) × (c ≤ k.places) }
+    requires shaped { shape_ok k (length s.now) ≡ true }
+    requires line_in { (l < k.lines) × (c ≤ k.places) }
     ensures { result ≡ seen k s.now l c rank }
 {
     let a = row_at(k, l);
@@ -313,8 +313,8 @@ fn look_line(s: &[u32], k: Rows, l: usize, c: usize, rank: u32) -> Look
 
 // The lines of what is to be done.
 pub fn look_lines(s: &[u32], k: Rows, due: Due, size: Sizes) -> Look
-    requires fact_1 { shape_ok k (length s.now) ≡ true }
-    requires fact_2 { Fits k size due }
+    requires shaped { shape_ok k (length s.now) ≡ true }
+    requires fits { Fits k size due }
     ensures { result ≡ looked k s.now size due }
 {
     match due {
@@ -327,8 +327,8 @@ pub fn look_lines(s: &[u32], k: Rows, due: Due, size: Sizes) -> Look
 
 // The line that gives, and the one that x goes into.
 fn look_two(s: &[u32], k: Rows, l: usize, x: Element, size: Sizes) -> Look
-    requires fact_1 { shape_ok k (length s.now) ≡ true }
-    requires fact_2 { (l < k.lines) × (goal k l x < k.lines) × (size.gives ≤ k.places) × (size.takes ≤ k.places) }
+    requires shaped { shape_ok k (length s.now) ≡ true }
+    requires line_in { (l < k.lines) × (goal k l x < k.lines) × (size.gives ≤ k.places) × (size.takes ≤ k.places) }
     ensures { result ≡ looked k s.now size (Swap l x) }
 {
     let g = goal_of(k, l, x);
@@ -376,8 +376,8 @@ fn first_some(s: &[u32], n: usize) -> usize
 
 // The rank at the front of line l, above all ranks where it is empty.
 fn front_of(s: &[u32], k: Rows, l: usize) -> u64
-    requires fact_1 { shape_ok k (length s.now) ≡ true }
-    requires fact_2 { l < k.lines }
+    requires shaped { shape_ok k (length s.now) ≡ true }
+    requires line_in { l < k.lines }
     ensures { result ≡ front k s.now l }
 {
     let c = s[l];
@@ -531,8 +531,8 @@ fn come_push(s: &[u32], k: Rows, x: Element) -> Choice
 
 // Pop.
 fn come_pop(s: &[u32], k: Rows, held: usize) -> Choice
-    requires fact_1 { shape_ok k (length s.now) ≡ true }
-    requires fact_2 { held ≡ total (word s.now) k.lines }
+    requires shaped { shape_ok k (length s.now) ≡ true }
+    requires counted { held ≡ total (word s.now) k.lines }
     ensures { result ≡ come_to k (word s.now) (heads k s.now) Pop }
 {
     if held == 0 {
@@ -549,9 +549,9 @@ fn come_pop(s: &[u32], k: Rows, held: usize) -> Choice
 
 // Replace.
 fn come_replace(s: &[u32], k: Rows, x: Element, held: usize) -> Choice
-    requires fact_1 { shape_ok k (length s.now) ≡ true }
-    requires fact_2 { held ≡ total (word s.now) k.lines }
-    requires fact_3 { in_range k x ≡ true }
+    requires shaped { shape_ok k (length s.now) ≡ true }
+    requires counted { held ≡ total (word s.now) k.lines }
+    requires ranged { in_range k x ≡ true }
     ensures { result ≡ come_to k (word s.now) (heads k s.now) (Replace x) }
 {
     if held == 0 {
@@ -573,9 +573,9 @@ fn come_replace(s: &[u32], k: Rows, x: Element, held: usize) -> Choice
 
 // What a request comes to by the counts, whose sum is held, and the lines' first places.
 pub fn come_to(s: &[u32], k: Rows, q: Request, held: usize) -> Choice
-    requires fact_1 { shape_ok k (length s.now) ≡ true }
-    requires fact_2 { held ≡ total (word s.now) k.lines }
-    requires fact_3 { rank_fit k q ≡ true }
+    requires shaped { shape_ok k (length s.now) ≡ true }
+    requires counted { held ≡ total (word s.now) k.lines }
+    requires fitting { rank_fit k q ≡ true }
     ensures { result ≡ come_to k (word s.now) (heads k s.now) q }
 {
     match q {
@@ -593,8 +593,8 @@ pub fn come_to(s: &[u32], k: Rows, q: Request, held: usize) -> Choice
 
 // The counts.
 pub fn count(s: &mut [u32], k: Rows, due: Due)
-    requires fact_1 { power_of_two k.lines ≡ true }
-    requires fact_2 { Countable k s.old due }
+    requires power { power_of_two k.lines ≡ true }
+    requires countable { Countable k s.old due }
     ensures { s.new ≡ counted k due s.old }
 {
     match due {
@@ -619,9 +619,9 @@ pub fn count(s: &mut [u32], k: Rows, due: Due)
 
 // The lines, of so many elements.
 pub fn work(s: &mut [u32], k: Rows, due: Due, size: Sizes, spot: usize)
-    requires fact_1 { shape_ok k (length s.old) ≡ true }
-    requires fact_2 { Fits k size due }
-    requires fact_3 { Passed (looked k s.old size due) spot }
+    requires shaped { shape_ok k (length s.old) ≡ true }
+    requires fits { Fits k size due }
+    requires passed { Passed (looked k s.old size due) spot }
     ensures { s.new ≡ worked_by k size due s.old }
 {
     let none = no_element();
@@ -641,9 +641,9 @@ pub fn work(s: &mut [u32], k: Rows, due: Due, size: Sizes, spot: usize)
 
 // The line that gives and the one that x goes into, which may be one.
 fn work_two(s: &mut [u32], k: Rows, l: usize, x: Element, size: Sizes, spot: usize)
-    requires fact_1 { shape_ok k (length s.old) ≡ true }
-    requires fact_2 { Fits k size (Swap l x) }
-    requires fact_3 { Passed (looked k s.old size (Swap l x)) spot }
+    requires shaped { shape_ok k (length s.old) ≡ true }
+    requires fits { Fits k size (Swap l x) }
+    requires passed { Passed (looked k s.old size (Swap l x)) spot }
     ensures { s.new ≡ worked_by k size (Swap l x) s.old }
 {
     let g = goal_of(k, l, x);

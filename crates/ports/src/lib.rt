@@ -32,8 +32,8 @@ use strip::{Answer, Count, Element, Refusal};
 
 // Up to the free link as the bucket queue's, and behind it for each port held 0, its floor and its ceiling.
 fn wipe_words(words: &mut [u32], k: Lay, limits: &[u32], ports: usize)
-    requires fact_1 { Wiping k ports limits.now }
-    requires fact_2 { k.free + (1 + 3 * ports) ≤ length words.old }
+    requires wiping { Wiping k ports limits.now }
+    requires words_in { k.free + (1 + 3 * ports) ≤ length words.old }
     ensures { words.new ≡ fill (blank_at k limits.now) (k.free + (1 + 3 * ports)) words.old }
 {
     wipe_lists(words, k);

@@ -58,8 +58,8 @@ pub fn is_numbered(s: Shape) -> bool
 
 // Where the words of a port stand. Its depth's numbers are those of a queue of its own.
 pub fn seat_of(s: Shape, port: u32) -> Lay
-    requires fact_1 { Numbers s }
-    requires fact_2 { port < s.ports }
+    requires numbers { Numbers s }
+    requires port_in { port < s.ports }
     ensures { result ≡ seat s port }
 {
     let alone = queue_of(s.storeys, s.nodes);
@@ -261,8 +261,8 @@ fn room_left(t: Totals, mine: u32, floor: u32, ceiling: u32, n: u32) -> bool
 
 // Whole, and the port may.
 pub fn has_room(bits: &[u64], words: &[u32], k: Lay, t: Totals) -> bool
-    requires fact_1 { Stands k bits.now words.now }
-    requires fact_2 { k.held + 2 < length words.now }
+    requires stands { Stands k bits.now words.now }
+    requires held_in { k.held + 2 < length words.now }
     ensures { result ≡ (whole_by k t bits.now words.now && room_by k t words.now) }
 {
     let at = k.held;

@@ -224,9 +224,9 @@ pub struct Tally {
 
 // One slot's part: its element is pushed, unless the slot is empty or its tag is 0, which is skipped.
 fn mend_slot(to: &mut [u32], order: usize, power: usize, t: Tally, a: Slot) -> Tally
-    requires fact_1 { Settles order power t.pushed to.old }
-    requires fact_2 { t.pushed ≤ slot_limit }
-    requires fact_3 { t.skipped ≤ slot_limit }
+    requires settles { Settles order power t.pushed to.old }
+    requires pushed_in { t.pushed ≤ slot_limit }
+    requires skipped_in { t.skipped ≤ slot_limit }
     ensures counts { (result.pushed ≡ t.pushed + hit (keeps a)) × (result.skipped ≡ t.skipped + hit (skips a)) }
     ensures words { (k : ℕ) → t.pushed < room order (suc k) → to.new ≡ settled_if order k t.pushed a to.old }
 {

@@ -1,0 +1,7 @@
+use Rattle.laws.specs.Prelude.{rules, refl}
+use Rattle.cluster_node.specs.Leaf.{counts_ok}
+use Rattle.cluster_node.proofs.counts_ok.Goals as goal
+
+pub returns : goal.returns
+unfolding counts_ok
+returns c = rw (c.wide-l.ensures, c.wide-r.ensures) refl

@@ -1,0 +1,10 @@
+use Rattle.laws.specs.Prelude.{◌-◌, ◌≡◌, ◌≤◌, arith, le-ltb, lt-ltb, ltb, ⊎_elim}
+use Rattle.cluster_node.specs.Full.{full_to, low_to, turns}
+use Rattle.cluster_node.proofs.Fulls.{full-first, full-next, low_first, low_end, best-taken, best-stays}
+use Rattle.cluster_node.proofs.low_each.Given as goal
+
+abbrev pub invariant-loop-j : goal.invariant-loop-j
+invariant-loop-j l = (l.j ≤ l.n) × (l.full ≡ full_to l.s l.at l.j) × (l.place ≡ low_to l.s l.at l.j) × (l.best ≡ turns l.s l.at (low_to l.s l.at l.j))
+
+abbrev pub decreases-loop-j : goal.decreases-loop-j
+decreases-loop-j l = l.n - l.j

@@ -1,0 +1,12 @@
+use Rattle.cluster_node.proofs.ScanCode.{lower-none, lower-over, lower-both}
+use Rattle.laws.specs.Prelude.{rules}
+use Rattle.cluster_node.proofs.lower_than.Goals as goal
+
+pub returns-then-s-i-eq0 : goal.returns-then-s-i-eq0
+returns-then-s-i-eq0 c = lower-none _ _ _ c.if-s-i-eq0.true
+
+pub returns-then-s-k-eq0 : goal.returns-then-s-k-eq0
+returns-then-s-k-eq0 c = lower-over _ _ _ c.if-s-i-eq0.false c.if-s-k-eq0.true
+
+pub returns : goal.returns
+returns c = lower-both _ _ _ c.if-s-i-eq0.false c.if-s-k-eq0.false
