@@ -3,6 +3,7 @@ use Rattle.laws.specs.Prelude.{◌-◌, ◌<◌, ◌∙◌, ap, arith, ⊎_elim}
 use Rattle.tree_mend_model.specs.declared.Check.TheVariants.{Broken}
 use Rattle.tree_mend.proofs.Walk.{AtLevel, AtSlot, level-begins, level-ends, level-fits, slot-found, slot-in, slot-passed, slot_small, walk_begins, walk_ends}
 use Rattle.tree_mend.proofs.first_broken.Goals as goal
+use Rattle.tree_mend.proofs.first_broken.Goals.{else-walk-test, then-walk-test+then-loop-p-test+then-broken_at}
 
 pub walk-init : goal.walk-init
 walk-init c = walk_begins _ _ _ _ c.requires
@@ -38,15 +39,17 @@ pub walk-preserved : goal.walk-preserved
 walk-preserved c = level-ends _ _ _ _ _ _ _ _ c.loop-p.invariant c.loop-p-test.false
 
 pub returns-then-left-eq0 : goal.returns-then-left-eq0
-returns-then-left-eq0 c = ⊎_elim (λ w. walk_ends _ _ _ _ _ _ _ c.walk.invariant c.if-left-eq0.true) (λ w. absurd (omega (arith, w.0.taken, c.if-left-eq0.true))) c.walk-test.branch
+returns-then-left-eq0 c = elim c.walk-test.branch [ else-walk-test w ↦ walk_ends _ _ _ _ _ _ _ c.walk.invariant c.if-left-eq0.true | then-walk-test+then-loop-p-test+then-broken_at w ↦ absurd (omega (arith, w.walk-test.true, c.if-left-eq0.true)) ]
 
 pub overflow_cast-slot : goal.overflow_cast-slot
 overflow_cast-slot c =
     let fits : c.walk-test.p < 4294967296 =
-    ⊎_elim (λ w. absurd (c.if-left-eq0.false (omega (arith, w.0.left)))) (λ w. slot_small _ _ _ _ w.5 w.1.inv w.2.taken) c.walk-test.branch in
+    elim c.walk-test.branch [ else-walk-test w ↦ absurd (c.if-left-eq0.false (omega (arith, w.walk-test.false))) | then-walk-test+then-loop-p-test+then-broken_at w ↦ slot_small _ _ _ _ w.p-is w.loop-p.invariant w.loop-p-test.true ] in
     omega arith
 
 pub returns : goal.returns
 returns c =
-    ⊎_elim (λ w. absurd (c.if-left-eq0.false (omega (arith, w.0.left))))
-    (λ w. ap Broken w.5 ∙ slot-found _ _ _ _ _ _ _ _ w.1.inv w.2.taken _ w.3.ensures w.4.taken) c.walk-test.branch
+    elim c.walk-test.branch [
+      | else-walk-test w ↦ absurd (c.if-left-eq0.false (omega (arith, w.walk-test.false)))
+      | then-walk-test+then-loop-p-test+then-broken_at w ↦ ap Broken w.p-is ∙ slot-found _ _ _ _ _ _ _ _ w.loop-p.invariant w.loop-p-test.true _ w.broken_at.ensures w.if-broken_at.true
+    ]
