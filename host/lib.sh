@@ -128,16 +128,22 @@ compiled() {
     rm -f "$3.x86.ll" "$3.sed" "$3.ll"
 }
 
-# Has the library proved and built for every x86-64: ARCHIVE.
+# Has the library proved and built for every x86-64: ARCHIVE. (`rt lib` by itself builds it for newer ones.)
 ARCHIVE=crates/card_c/out/libcard_c.a
 archive() { built "$ARCHIVE" lib card_c lib --cpu=x86-64; }
 
-# The library's object for a target: object TARGET FILE. That for x86-64 is the one in its archive. The archive is built before the module
-# is asked for, so that the kit's own rt proves what stands below it.
+# The object of that archive, $LIB/card.o, made where that was not done yet.
+proved() {
+    if fresh "$LIB/card.o"; then return; fi
+    archive || exit 1
+    [ "$("$tools/llvm-ar" t "$ARCHIVE" | wc -l)" -eq 1 ] && "$tools/llvm-ar" p "$ARCHIVE" >"$LIB/card.o" || fail "$ARCHIVE has not one object"
+}
+
+# The library's object for a target: object TARGET FILE. The module is kept once what stands below the library is proved, by the kit's own rt.
 object() {
-    fresh "$ARCHIVE" || archive || exit 1
+    proved
     if [ "$1" = x86_64-linux ]; then
-        [ "$("$tools/llvm-ar" t "$ARCHIVE" | wc -l)" -eq 1 ] && "$tools/llvm-ar" p "$ARCHIVE" >"$2"
+        cp "$LIB/card.o" "$2"
     else
         fresh "$LIB/card.bc" || kept "$LIB/card.bc"
         compiled "$LIB/card.bc" "$1" "$2"
