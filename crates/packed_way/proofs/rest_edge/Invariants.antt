@@ -7,7 +7,7 @@ use Rattle.packed_way.specs.Sink.{HeldTo, Reads, slot_but, Walk}
 use Rattle.packed_way.proofs.rest_edge.Given as goal
 
 abbrev pub invariant-loop-k : goal.invariant-loop-k
-invariant-loop-k l = (l.k ≤ l.left) × Lies l.heaps (suc l.k) l.at (length l.s) × (l.last ≤ l.at + l.at + l.heaps) × ((l h n : ℕ) → HeldTo l.heaps h n l.last → (us : List ℕ) → Reads l.heaps l.p l.s us → Walk l.heaps l l.x h us n l.left l.m → Walk l.heaps l l.x h us n l.k l.at)
+invariant-loop-k v = (v.k ≤ v.left) × Lies v.heaps (suc v.k) v.at (length v.s) × (v.last ≤ v.at + v.at + v.heaps) × ((l h n : ℕ) → HeldTo v.heaps h n v.last → (us : List ℕ) → Reads v.heaps v.p v.s us → Walk v.heaps l v.x h us n v.left v.m → Walk v.heaps l v.x h us n v.k v.at)
 
 abbrev pub decreases-loop-k : goal.decreases-loop-k
 decreases-loop-k l = l.k

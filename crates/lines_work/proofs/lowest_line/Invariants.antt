@@ -1,0 +1,15 @@
+use Rattle.laws.specs.Prelude.{◌-◌, ◌<◌, ◌∙◌, ◌≡◌, ◌≤◌, ap, arith, inl, inr, length, ⊎_elim}
+use Rattle.lines_model.proofs.Which.{spans}
+use Rattle.lines_model.specs.Calls.{heads}
+use Rattle.lines_model.specs.Layout.{word}
+use Rattle.lines_model.specs.Rules.{lowest}
+use Rattle.lines_work.proofs.Choices.{lowest-in, lowest-none, lowest-again}
+use Rattle.lines_work.proofs.Finds.{small}
+use Rattle.lines_work.specs.Work.{front}
+use Rattle.lines_work.proofs.lowest_line.Given as goal
+
+abbrev pub invariant-loop-i : goal.invariant-loop-i
+invariant-loop-i l = (l.j ≡ lowest (word l.s) (heads l.k l.s) l.i) × (l.i ≤ l.k.lines) × (l.j < l.k.lines) × (l.best ≡ front l.k l.s l.j)
+
+abbrev pub decreases-loop-i : goal.decreases-loop-i
+decreases-loop-i l = l.k.lines - l.i

@@ -1,0 +1,11 @@
+-- `packed::depth_of` meets its contract.
+use Rattle.laws.specs.Prelude.{◌≡◌, ◌≤◌, arith, refl}
+use Rattle.packed_model.specs.Words.{depth}
+use Rattle.packed.proofs.Shapes.{depth-here, depth-less, depth-none}
+use Rattle.packed.proofs.depth_of.Given as goal
+
+abbrev pub invariant-loop-k : goal.invariant-loop-k
+invariant-loop-k l = (l.k ≤ l.levels) × (depth l.k l.t ≡ depth l.levels l.t)
+
+abbrev pub decreases-loop-k : goal.decreases-loop-k
+decreases-loop-k l = l.k

@@ -1,0 +1,13 @@
+-- `packed::pop` meets its contract.
+use Rattle.packed.proofs.Calls.{opened, called-refused, called-open}
+use Rattle.laws.specs.Prelude.{◌∙◌, rules, sym}
+use Rattle.packed.proofs.pop.Goals as goal
+
+pub pop_open-requires : goal.pop_open-requires
+pop_open-requires c = opened _ _ _ _ _ (sym c.in-Held.is ∙ c.held-c.ensures)
+
+pub returns-in-Unknown : goal.returns-in-Unknown
+returns-in-Unknown c = called-refused _ _ _ _ _ _ (sym c.in-Unknown.is ∙ c.held-c.ensures)
+
+pub returns-in-Held : goal.returns-in-Held
+returns-in-Held c = c.pop_open.ensures ∙ called-open _ _ _ _ _ _ (opened _ _ _ _ _ (sym c.in-Held.is ∙ c.held-c.ensures))

@@ -1,0 +1,9 @@
+-- `trace_bytes::lines::put_out` meets its contract.
+use Rattle.laws.specs.Prelude.{rules}
+use Rattle.text.proofs.Laws.{laid_then}
+use Rattle.trace_model.specs.Format.{out_word}
+use Rattle.trace_bytes.proofs.lines.put_out.Goals as goal
+
+pub returns : goal.returns
+unfolding out_word
+returns c = laid_then _ _ _ _ _ _ _ _ c.put_bytes-a.ensures (laid_then _ _ _ _ _ _ _ _ (c.put_number-b.ensures.0, c.put_number-b.ensures.2) (laid_then _ _ _ _ _ _ _ _ c.put_bytes-c.ensures (laid_then _ _ _ _ _ _ _ _ (c.put_number-d.ensures.0, c.put_number-d.ensures.2) c.put_length.ensures)))

@@ -1,0 +1,24 @@
+-- `tree_clock::cycle` meets its contract.
+use Rattle.tree_clock.proofs.Public.{cycle-shape, shape-yes}
+use Rattle.tree_clock_level.proofs.Cycles.{cycle-levels, shape-below}
+use Rattle.laws.specs.Prelude.{rules}
+use Rattle.tree_clock.proofs.cycle.Goals as goal
+
+pub shape_fits-requires : goal.shape_fits-requires
+shape_fits-requires c = c.shape_of-shape.ensures.most
+
+pub returns-then-not-shape_fits : goal.returns-then-not-shape_fits
+returns-then-not-shape_fits c = cycle-shape _ _ _ _ (c.shape_fits.ensures _ _ c.shape_of-shape.ensures) _ c.if-not-shape_fits.true-raw _ _ _ c.left_as.ensures
+
+pub cycle_shaped-requires : goal.cycle_shaped-requires
+cycle_shaped-requires c =
+    let a = c.args in
+    shape-below a.order a.levels a.store.now c.shape_of-shape.result c.shape_of-shape.ensures
+    (shape-yes a.order a.levels a.store.now c.shape_fits.result (c.shape_fits.ensures _ _ c.shape_of-shape.ensures) c.if-not-shape_fits.false-raw)
+
+pub returns : goal.returns
+returns c =
+    let a = c.args in
+    cycle-levels a.order a.levels a.store.now c.shape_of-shape.result c.shape_of-shape.ensures
+    (shape-yes a.order a.levels a.store.now c.shape_fits.result (c.shape_fits.ensures _ _ c.shape_of-shape.ensures) c.if-not-shape_fits.false-raw)
+    _ _ _ c.cycle_shaped.ensures
