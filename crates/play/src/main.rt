@@ -3,9 +3,12 @@
 // standard error says so.
 #![tactic(auto)]
 
-ghost use Rattle.std.specs.Prelude.{◌≤◌, ◌≡◌, ltb, length};
+ghost use Rattle.std.specs.Prelude.{◌≤◌, ◌≡◌, ltb, length, take, List, ℕ, IfOk, OnOk};
 ghost use Rattle.std.specs.Io.{ReadsAtMost};
-ghost use Rattle.trace_model.specs.Play.{Makes, out_bytes, piece_bytes, piece_run, program_lots};
+ghost use Rattle.std.specs.Io.KnownBytes.{Appends};
+ghost use Rattle.trace_model.specs.Format.{header_bytes};
+ghost use Rattle.play.specs.Input.{Gave, Took, WritesTrace};
+ghost use Rattle.trace_model.specs.Play.{begun, Makes, out_bytes, piece_bytes, piece_run, program_lots};
 
 use std::fmt;
 use std::io::{Read, Write};
@@ -39,22 +42,25 @@ impl fmt::Display for Fault {
 }
 
 // Reads until the buffer is full or the input ends, and answers how many bytes were read.
-fn fill(input: &mut impl Read, buf: &mut [u8]) -> Result<usize, Fault>
-    ensures { ReadsAtMost result buf.new }
+fn fill<R: Read>(input: &mut R, buf: &mut [u8]) -> Result<usize, Fault>
+    ensures bound { ReadsAtMost result buf.new }
+    ensures took { IfOk result (λ n. Took (length buf.new) (R.remaining input.old) (R.remaining input.new) (take n buf.new)) }
 {
     let mut bytes = 0;
     while bytes < buf.len() {
-        let n = input.read(&mut buf[bytes..]).map_err(|_| Fault::Read)?;
-        if n == 0 {
-            break;
+        match input.read(&mut buf[bytes..]) {
+            Ok(0) => break,
+            Ok(n) => bytes += n,
+            Err(_) => return Err(Fault::Read),
         }
-        bytes += n;
     }
     Ok(bytes)
 }
 
 // Writes all the lines.
-fn put(output: &mut impl Write, lines: &[u8]) -> Result<(), Fault> {
+fn put<W: Write>(output: &mut W, lines: &[u8]) -> Result<(), Fault>
+    ensures { OnOk result (Appends (W.contents output.old) (W.contents output.new) lines.now) }
+{
     output.write_all(lines).map_err(|_| Fault::Write)
 }
 
@@ -68,9 +74,9 @@ fn play_read(store: &mut [u32], play: Playing, bytes: &[u8], out: &mut [u8]) -> 
 }
 
 // Reads a piece, plays it and writes its lines.
-fn piece(
-    input: &mut impl Read,
-    output: &mut impl Write,
+fn piece<R: Read, W: Write>(
+    input: &mut R,
+    output: &mut W,
     store: &mut [u32],
     play: Playing,
     bytes: &mut [u8],
@@ -78,6 +84,8 @@ fn piece(
 ) -> Result<Playing, Fault>
     requires piece { length bytes.old ≡ piece_bytes program_lots }
     requires room { length out.old ≡ out_bytes program_lots }
+    ensures { IfOk result (λ next. (bs : List ℕ) × Took (piece_bytes program_lots) (R.remaining input.old) (R.remaining input.new) bs
+        × Gave (piece_run bs (ltb (length bs) (piece_bytes program_lots)) play store.old) next store.new (W.contents output.old) (W.contents output.new)) }
 {
     let n = fill(input, bytes)?;
     let done = play_read(store, play, &bytes[..n], out);
@@ -86,12 +94,15 @@ fn piece(
 }
 
 // Reads the header, begins the play and writes what it says.
-fn begin(
-    input: &mut impl Read,
-    output: &mut impl Write,
+fn begin<R: Read, W: Write>(
+    input: &mut R,
+    output: &mut W,
     store: &mut [u32],
     out: &mut [u8],
-) -> Result<Playing, Fault> {
+) -> Result<Playing, Fault>
+    ensures { IfOk result (λ next. (bs : List ℕ) × Took header_bytes (R.remaining input.old) (R.remaining input.new) bs
+        × Gave (begun bs (length out.old) store.old) next store.new (W.contents output.old) (W.contents output.new)) }
+{
     let mut head = [0u8; HEAD];
     let n = fill(input, &mut head)?;
     let done = trace::begin(store, &head[..n], out);
@@ -99,8 +110,11 @@ fn begin(
     Ok(done.play)
 }
 
-// Plays the whole input. What bounds the loop is a number of pieces that no input reaches.
-fn play_input(input: &mut impl Read, output: &mut impl Write) -> Result<(), Fault> {
+// Plays the whole input: what is written is the text of the trace that was read. What bounds the loop is a number of pieces that no input
+// reaches.
+fn play_input<R: Read, W: Write>(input: &mut R, output: &mut W) -> Result<(), Fault>
+    ensures { OnOk result (WritesTrace (R.remaining input.old) (W.contents output.old) (W.contents output.new)) }
+{
     let mut store = [0u32; STORE];
     let mut bytes = [0u8; BYTES];
     let mut out = [0u8; OUT];
