@@ -6,35 +6,35 @@ use Rattle.cluster.proofs.+take.Goals.{Else-left-eq0, Joined-k-eq4, Joined-not-c
 
 -- the node lies within the words
 
-lies : (t : ℕ) (c : Start (cs t) (take_at t) take.Post) → Lies c.args.k c.args.at (length c.args.s.now)
+lies : (t : ℕ) (c : Start t) → Lies c.args.k c.args.at (length c.args.s.now)
 lies t c = take_within _ _ _ _ _ c.requires
 
 -- .. and there are levels left: so do its children
 
-under : (t : ℕ) (c : Else-left-eq0 (cs t) (take_at t) take.Post) → Under c.args.k c.args.at (length c.args.s.now)
+under : (t : ℕ) (c : Else-left-eq0 t) → Under c.args.k c.args.at (length c.args.s.now)
 under t c = take-under _ _ _ _ _ c.requires c.if-left-eq0.false
 
 -- a choice of two full children, if one was made
 
-first : (t : ℕ) (c : Joined-k-eq4 (cs t) (take_at t) take.Post) → c.if-k-eq4.c.ok ≡ true → ChoiceFrom c.args.k c.room_under-below.result c.args.s.now c.args.at c.if-k-eq4.c
-first t c = elim c.if-k-eq4.branch [ then-k-eq4 w ↦ choice-four _ _ _ _ _ _ w.if-k-eq4.true w.6.ensures w.7 | else-k-eq4 w ↦ choice-none _ _ _ _ _ _ c.no_choice-c.ensures w.1 ]
+first : (t : ℕ) (c : Joined-k-eq4 t) → c.if-k-eq4.c.ok ≡ true → ChoiceFrom c.args.k c.room_under-below.result c.args.s.now c.args.at c.if-k-eq4.c
+first t c = elim c.if-k-eq4.branch [ then-k-eq4 w ↦ choice-four _ _ _ _ _ _ w.if-k-eq4.true w.choice_full-c.ensures w.c-is | else-k-eq4 w ↦ choice-none _ _ _ _ _ _ c.no_choice-c.ensures w.c-is ]
 
 -- .. or else of any
 
-chosen : (t : ℕ) (c : Joined-not-c (cs t) (take_at t) take.Post) → ChoiceFrom c.args.k c.room_under-below.result c.args.s.now c.args.at c.if-not-c.c
-chosen t c = elim c.if-not-c.branch [ then-not-c w ↦ choice-any _ _ _ _ _ _ w.2.ensures w.3 | else-not-c w ↦ choice-first _ _ _ _ _ _ (first t (goal.at.Joined-not-c c).Joined-k-eq4) w.if-not-c.false w.1 ]
+chosen : (t : ℕ) (c : Joined-not-c t) → ChoiceFrom c.args.k c.room_under-below.result c.args.s.now c.args.at c.if-not-c.c
+chosen t c = elim c.if-not-c.branch [ then-not-c w ↦ choice-any _ _ _ _ _ _ w.choice-c.ensures w.c-is | else-not-c w ↦ choice-first _ _ _ _ _ _ (first t (goal.at.Joined-not-c t c).Joined-k-eq4) w.if-not-c.false w.c-is ]
 
 pub overflow_add-i : goal.overflow_add-i
-overflow_add-i t c = omega (arith, lies t (goal.at.overflow_add-i c).Start)
+overflow_add-i t c = omega (arith, lies t (goal.at.overflow_add-i t c).Start)
 
 pub overflow_mul-i : goal.overflow_mul-i
-overflow_mul-i t c = omega (arith, lies t (goal.at.overflow_mul-i c).Start, c.requires.place)
+overflow_mul-i t c = omega (arith, lies t (goal.at.overflow_mul-i t c).Start, c.requires.place)
 
 pub overflow_add-i-2 : goal.overflow_add-i-2
-overflow_add-i-2 t c = omega (arith, lies t (goal.at.overflow_add-i-2 c).Start, c.requires.place)
+overflow_add-i-2 t c = omega (arith, lies t (goal.at.overflow_add-i-2 t c).Start, c.requires.place)
 
 pub clear_place-requires : goal.clear_place-requires
-clear_place-requires t c = omega (arith, lies t (goal.at.clear_place-requires c).Start, c.requires.place)
+clear_place-requires t c = omega (arith, lies t (goal.at.clear_place-requires t c).Start, c.requires.place)
 
 pub shape_of-s-then-left-eq0 : goal.shape_of-s-then-left-eq0
 shape_of-s-then-left-eq0 t c = c.clear_place.auto.s
@@ -43,10 +43,10 @@ pub returns-then-left-eq0 : goal.returns-then-left-eq0
 returns-then-left-eq0 t c = λ m e. take-zero _ _ m _ _ _ _ e _ c.if-left-eq0.true c.clear_place.ensures
 
 pub bare_at-requires : goal.bare_at-requires
-bare_at-requires t c = omega (arith, lies t c.before.before.before)
+bare_at-requires t c = omega (arith, lies t (goal.at.bare_at-requires t c).Start)
 
 pub clear_place-requires-then-bare_at : goal.clear_place-requires-then-bare_at
-clear_place-requires-then-bare_at t c = omega (arith, lies t c.before.before.before.before.before.before, c.requires.place)
+clear_place-requires-then-bare_at t c = omega (arith, lies t (goal.at.clear_place-requires-then-bare_at t c).Start, c.requires.place)
 
 pub shape_of-s-then-bare_at : goal.shape_of-s-then-bare_at
 shape_of-s-then-bare_at t c = c.clear_place-then-bare_at.auto.s
@@ -55,70 +55,70 @@ pub returns-then-bare_at : goal.returns-then-bare_at
 returns-then-bare_at t c = λ m e. take_bare _ _ m _ _ _ _ e c.if-left-eq0.false _ c.bare_at.ensures _ c.if-bare_at.true c.clear_place-then-bare_at.ensures
 
 pub overflow_add-at : goal.overflow_add-at
-overflow_add-at t c = omega (arith, under t (goal.at.overflow_add-at c).Start)
+overflow_add-at t c = omega (arith, under t (goal.at.overflow_add-at t c).Else-left-eq0)
 
 pub overflow_add-at-then-k-eq4 : goal.overflow_add-at-then-k-eq4
-overflow_add-at-then-k-eq4 t c = omega (arith, under t (goal.at.overflow_add-at-then-k-eq4 c).Start, c.if-k-eq4.true)
+overflow_add-at-then-k-eq4 t c = omega (arith, under t (goal.at.overflow_add-at-then-k-eq4 t c).Else-left-eq0, c.if-k-eq4.true)
 
 pub low_four-p-requires : goal.low_four-p-requires
-low_four-p-requires t c = omega (arith, under t (goal.at.low_four-p-requires c).Start, c.if-k-eq4.true)
+low_four-p-requires t c = omega (arith, under t (goal.at.low_four-p-requires t c).Else-left-eq0, c.if-k-eq4.true)
 
 pub overflow_add-at-then-k-eq4-2 : goal.overflow_add-at-then-k-eq4-2
-overflow_add-at-then-k-eq4-2 t c = omega (arith, under t c.before.before.before.before.before.before.before.before.before)
+overflow_add-at-then-k-eq4-2 t c = omega (arith, under t (goal.at.overflow_add-at-then-k-eq4-2 t c).Else-left-eq0)
 
 pub overflow_add-at-then-k-eq4-3 : goal.overflow_add-at-then-k-eq4-3
-overflow_add-at-then-k-eq4-3 t c = omega (arith, under t c.before.before.before.before.before.before.before.before.before, c.if-k-eq4.true)
+overflow_add-at-then-k-eq4-3 t c = omega (arith, under t (goal.at.overflow_add-at-then-k-eq4-3 t c).Else-left-eq0, c.if-k-eq4.true)
 
 pub low_four-q-requires : goal.low_four-q-requires
-low_four-q-requires t c = omega (arith, under t c.before.before.before.before.before.before.before.before.before, c.if-k-eq4.true)
+low_four-q-requires t c = omega (arith, under t (goal.at.low_four-q-requires t c).Else-left-eq0, c.if-k-eq4.true)
 
 pub choice_full-c-requires : goal.choice_full-c-requires
-choice_full-c-requires t c = scanned _ _ _ _ _ (under t c.before.before.before.before.before.before.before.before.before.before.before) c.if-k-eq4.true c.low_four-p.ensures c.low_four-q.ensures
+choice_full-c-requires t c = scanned _ _ _ _ _ (under t (goal.at.choice_full-c-requires t c).Else-left-eq0) c.if-k-eq4.true c.low_four-p.ensures c.low_four-q.ensures
 
 pub choice-c-requires : goal.choice-c-requires
-choice-c-requires t c = under t (goal.at.choice-c-requires c).Start
+choice-c-requires t c = under t (goal.at.choice-c-requires t c).Else-left-eq0
 
 pub shape_of-s-then-not-c-2 : goal.shape_of-s-then-not-c-2
 shape_of-s-then-not-c-2 t c = refl
 
 pub returns-then-not-c-2 : goal.returns-then-not-c-2
-returns-then-not-c-2 t c = λ m e. take-bad _ _ m _ _ _ _ e c.if-left-eq0.false _ c.bare_at.ensures c.if-bare_at.false _ c.room_under-below.ensures _ (chosen t (goal.at.returns-then-not-c-2 c).Joined-not-c) c.if-not-c-2.true
+returns-then-not-c-2 t c = λ m e. take-bad _ _ m _ _ _ _ e c.if-left-eq0.false _ c.bare_at.ensures c.if-bare_at.false _ c.room_under-below.ensures _ (chosen t (goal.at.returns-then-not-c-2 t c).Joined-not-c) c.if-not-c-2.true
 
 pub offset_bounds-s-at : goal.offset_bounds-s-at
-offset_bounds-s-at t c = omega (arith, lies t c.before.before.before.before.before.before.before.before.before.before.before.before)
+offset_bounds-s-at t c = omega (arith, lies t (goal.at.offset_bounds-s-at t c).Start)
 
 pub bounds-s-at : goal.bounds-s-at
-bounds-s-at t c = omega (arith, lies t c.before.before.before.before.before.before.before.before.before.before.before.before.before)
+bounds-s-at t c = omega (arith, lies t (goal.at.bounds-s-at t c).Start)
 
 pub overflow_add-r : goal.overflow_add-r
-overflow_add-r t c = omega (arith, lies t c.before.before.before.before.before.before.before.before.before.before.before.before.before)
+overflow_add-r t c = omega (arith, lies t (goal.at.overflow_add-r t c).Start)
 
 pub offset_bounds-s-at-2 : goal.offset_bounds-s-at-2
-offset_bounds-s-at-2 t c = omega (arith, lies t c.before.before.before.before.before.before.before.before.before.before.before.before.before)
+offset_bounds-s-at-2 t c = omega (arith, lies t (goal.at.offset_bounds-s-at-2 t c).Start)
 
 pub bounds-s-at-2 : goal.bounds-s-at-2
-bounds-s-at-2 t c = omega (arith, lies t c.before.before.before.before.before.before.before.before.before.before.before.before.before.before)
+bounds-s-at-2 t c = omega (arith, lies t (goal.at.bounds-s-at-2 t c).Start)
 
 pub overflow_sub-left : goal.overflow_sub-left
 overflow_sub-left t c = let h : c.args.left ≡ 0 → ⊥ = c.if-left-eq0.false in omega arith
 
 pub take-done-requires : goal.take-done-requires
-take-done-requires t c = (let h : c.args.left ≡ 0 → ⊥ = c.if-left-eq0.false in omega (arith, c.decreases), child-ready _ _ _ _ _ c.requires _ _ c.if-left-eq0.false (chosen t (goal.at.take-done-requires c).Joined-not-c))
+take-done-requires t c = (let h : c.args.left ≡ 0 → ⊥ = c.if-left-eq0.false in omega (arith, c.decreases), child-ready _ _ _ _ _ c.requires _ _ c.if-left-eq0.false (chosen t (goal.at.take-done-requires t c).Joined-not-c))
 
 pub shape_of-s-then-not-done : goal.shape_of-s-then-not-done
 shape_of-s-then-not-done t c = c.take-done.auto.s
 
 pub returns-then-not-done : goal.returns-then-not-done
-returns-then-not-done t c = λ m e. take-stop _ _ m _ _ _ _ e c.if-left-eq0.false _ c.bare_at.ensures c.if-bare_at.false _ c.room_under-below.ensures _ (chosen t (goal.at.returns-then-not-done c).Joined-not-c) c.if-not-c-2.false _ _ c.take-done.ensures c.if-not-done.true-raw
+returns-then-not-done t c = λ m e. take-stop _ _ m _ _ _ _ e c.if-left-eq0.false _ c.bare_at.ensures c.if-bare_at.false _ c.room_under-below.ensures _ (chosen t (goal.at.returns-then-not-done t c).Joined-not-c) c.if-not-c-2.false _ _ c.take-done.ensures c.if-not-done.true-raw
 
 pub sink-requires : goal.sink-requires
-sink-requires t c = omega (arith, lies t c.before.before.before.before.before.before.before.before.before.before.before.before.before.before.before.before.before.before.before.before, c.take-done.auto.0)
+sink-requires t c = omega (arith, lies t (goal.at.sink-requires t c).Start, c.take-done.auto.s)
 
 pub set_place-requires : goal.set_place-requires
-set_place-requires t c = omega (arith, lies t c.before.before.before.before.before.before.before.before.before.before.before.before.before.before.before.before.before.before.before.before.before.before.before.before.before, c.requires.place, c.take-done.auto.0, c.sink.auto.0)
+set_place-requires t c = omega (arith, lies t (goal.at.set_place-requires t c).Start, c.requires.place, c.take-done.auto.s, c.sink.auto.s)
 
 pub shape_of-s : goal.shape_of-s
 shape_of-s t c = c.set_place.auto.s ∙ c.sink.auto.s ∙ c.take-done.auto.s
 
 pub returns : goal.returns
-returns t c = λ m e. take_done _ _ m _ _ _ _ e c.if-left-eq0.false _ c.bare_at.ensures c.if-bare_at.false _ c.room_under-below.ensures _ (chosen t (goal.at.returns c).Joined-not-c) c.if-not-c-2.false _ _ c.take-done.ensures c.if-not-done.false-raw _ _ refl refl _ _ c.sink.ensures c.set_place.ensures
+returns t c = λ m e. take_done _ _ m _ _ _ _ e c.if-left-eq0.false _ c.bare_at.ensures c.if-bare_at.false _ c.room_under-below.ensures _ (chosen t (goal.at.returns t c).Joined-not-c) c.if-not-c-2.false _ _ c.take-done.ensures c.if-not-done.false-raw _ _ refl refl _ _ c.sink.ensures c.set_place.ensures

@@ -4,7 +4,7 @@ use Rattle.cluster.proofs.Opened.{bad-shape, put-ready}
 use Rattle.cluster.proofs.Pushed.{push-done, push-root, push-over, push-below}
 use Rattle.cluster.proofs.Shapes.{Passed, shape-here, nodes-here, nodes-less}
 use Rattle.cluster.proofs.push_tagged.Goals as goal
-use Rattle.cluster.proofs.push_tagged.Goals.{After-shape_ok, Else-not-shape_ok}
+use Rattle.cluster.proofs.push_tagged.Goals.{Else-not-shape_ok}
 
 -- the shape is tested
 
@@ -34,13 +34,13 @@ pub returns-then-put : goal.returns-then-put
 returns-then-put c = push-done _ _ (words (goal.at.returns-then-put c).Else-not-shape_ok) _ c.shape_ok.ensures c.if-not-shape_ok.false-raw _ c.capacity-limit.ensures _ _ _ c.put.ensures c.if-put.true
 
 pub capacity-requires : goal.capacity-requires
-capacity-requires c = ((shaped (goal.at.capacity-requires c).After-shape_ok).few, nodes-here _ _ (words (goal.at.capacity-requires c).After-shape_ok) _ c.shape_ok.ensures c.if-not-shape_ok.false-raw)
+capacity-requires c = ((shaped (goal.at.capacity-requires c).Else-not-shape_ok).few, nodes-here _ _ (words (goal.at.capacity-requires c).Else-not-shape_ok) _ c.shape_ok.ensures c.if-not-shape_ok.false-raw)
 
 pub returns-then-n-capacity : goal.returns-then-n-capacity
-returns-then-n-capacity c = push-over _ _ (words (goal.at.returns-then-n-capacity c).After-shape_ok) _ c.shape_ok.ensures c.if-not-shape_ok.false-raw _ c.capacity-limit.ensures _ _ _ c.put.ensures c.if-put.false _ (sym c.in-Held.is ∙ c.held-all.ensures) _ c.capacity.ensures c.if-n-capacity.true
+returns-then-n-capacity c = push-over _ _ (words (goal.at.returns-then-n-capacity c).Else-not-shape_ok) _ c.shape_ok.ensures c.if-not-shape_ok.false-raw _ c.capacity-limit.ensures _ _ _ c.put.ensures c.if-put.false _ (sym c.in-Held.is ∙ c.held-all.ensures) _ c.capacity.ensures c.if-n-capacity.true
 
 pub returns-in-Unknown : goal.returns-in-Unknown
-returns-in-Unknown c = push-root _ _ (words (goal.at.returns-in-Unknown c).After-shape_ok) _ c.shape_ok.ensures c.if-not-shape_ok.false-raw _ c.capacity-limit.ensures _ _ _ c.put.ensures c.if-put.false _ (sym c.in-Unknown.is ∙ c.held-all.ensures)
+returns-in-Unknown c = push-root _ _ (words (goal.at.returns-in-Unknown c).Else-not-shape_ok) _ c.shape_ok.ensures c.if-not-shape_ok.false-raw _ c.capacity-limit.ensures _ _ _ c.put.ensures c.if-put.false _ (sym c.in-Unknown.is ∙ c.held-all.ensures)
 
 pub returns-else-n-capacity : goal.returns-else-n-capacity
-returns-else-n-capacity c = push-below _ _ (words (goal.at.returns-else-n-capacity c).After-shape_ok) _ c.shape_ok.ensures c.if-not-shape_ok.false-raw _ c.capacity-limit.ensures _ _ _ c.put.ensures c.if-put.false _ (sym c.in-Held.is ∙ c.held-all.ensures) _ c.capacity.ensures c.if-n-capacity.false
+returns-else-n-capacity c = push-below _ _ (words (goal.at.returns-else-n-capacity c).Else-not-shape_ok) _ c.shape_ok.ensures c.if-not-shape_ok.false-raw _ c.capacity-limit.ensures _ _ _ c.put.ensures c.if-put.false _ (sym c.in-Held.is ∙ c.held-all.ensures) _ c.capacity.ensures c.if-n-capacity.false

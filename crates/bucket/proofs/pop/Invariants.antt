@@ -1,0 +1,16 @@
+-- `bucket::pop` meets its contract.
+use Rattle.laws.specs.Prelude.{List, ◌+◌, ◌-◌, ◌∙◌, ◌≡◌, ◌≤◌, ap, arith, length, refl, ℕ, ⊎_elim}
+use Rattle.bucket_model.specs.Prelude.{Outcome, least_storeys, most_storeys, outcome, popped, queue}
+use Rattle.bucket_model.proofs.Laws.{pop-bad}
+use Rattle.bucket.proofs.Steps.{queue-placed}
+use Rattle.bucket_step.proofs.Depths.{undeep, at-lay, Gone, none-gone, gone-here, gone-on, all-gone}
+use Rattle.bucket.proofs.pop.Given as goal
+
+abbrev pub call : ℕ → ℕ → List ℕ → List ℕ → Outcome
+call n d b w = popped (queue d n) b w
+
+abbrev pub invariant-loop-d : goal.invariant-loop-d
+invariant-loop-d l = (least_storeys ≤ l.d) × (l.d ≤ most_storeys + 1) × (length l.bits ≡ length l.initial.bits) × (length l.words ≡ length l.initial.words) × Gone (call l.n) l.storeys l.initial.bits l.initial.words l.d (outcome l.answer l.bits l.words)
+
+abbrev pub decreases-loop-d : goal.decreases-loop-d
+decreases-loop-d l = most_storeys + 1 - l.d

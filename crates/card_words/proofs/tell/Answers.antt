@@ -1,0 +1,6 @@
+-- `card_words::tell` meets its contract.
+use Rattle.laws.specs.Prelude.{rules}
+use Rattle.card_words.proofs.tell.Goals as goal
+
+pub returns : goal.returns
+returns c = (c.number.ensures, rw (← c.given-e.ensures) c.write_element.ensures)

@@ -1,0 +1,6 @@
+-- `card_words::tell_count` meets its contract.
+use Rattle.laws.specs.Prelude.{rules}
+use Rattle.card_words.proofs.tell_count.Goals as goal
+
+pub returns : goal.returns
+returns c = (c.count_number.ensures, rw c.count_of.ensures)

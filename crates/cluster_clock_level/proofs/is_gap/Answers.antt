@@ -1,0 +1,6 @@
+use Rattle.cluster_clock_level.proofs.Testing.{gap_is}
+use Rattle.laws.specs.Prelude.{rules}
+use Rattle.cluster_clock_level.proofs.is_gap.Goals as goal
+
+pub returns : goal.returns
+returns c = gap_is _ _ _ _ c.requires.1

@@ -1,0 +1,12 @@
+-- `ports_step::limits_fit` meets its contract.
+use Rattle.laws.specs.Prelude.{◌&&◌, ◌*◌, ◌-◌, ◌∙◌, ◌≡◌, ◌≤◌, arith, leb, length, sym}
+use Rattle.ports_model.specs.Prelude.{all_to, ceiling_of, floor_of}
+use Rattle.ports_step.specs.Sums.{Floors}
+use Rattle.ports_step.proofs.Sums.{all_none, all_more, floors-none, floors-more, limits-short, limits-are}
+use Rattle.ports_step.proofs.limits_fit.Given as goal
+
+abbrev pub invariant-loop-q : goal.invariant-loop-q
+invariant-loop-q l = (l.q ≤ l.ports) × (2 * l.ports ≤ length l.limits) × (l.orderly ≡ all_to l.q (λ q. leb (floor_of l.limits q) (ceiling_of l.limits q))) × Floors l.limits l.q l.sum
+
+abbrev pub decreases-loop-q : goal.decreases-loop-q
+decreases-loop-q l = l.ports - l.q

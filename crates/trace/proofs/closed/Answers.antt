@@ -1,0 +1,7 @@
+-- `trace::closed` meets its contract.
+use Rattle.laws.specs.Prelude.{rules, refl}
+use Rattle.trace_model.proofs.Laws.{closed-made}
+use Rattle.trace.proofs.closed.Goals as goal
+
+pub returns : goal.returns
+returns c = (closed-made _ c.fresh_state-state.ensures, refl)

@@ -1,0 +1,13 @@
+-- `trace::play_record` meets its contract.
+use Rattle.laws.specs.Prelude.{rules}
+use Rattle.trace_model.proofs.Laws.{record-bad, record-ended, record-good}
+use Rattle.trace.proofs.play_record.Goals as goal
+
+pub returns-then-not-play : goal.returns-then-not-play
+returns-then-not-play c = record-ended _ _ _ c.requires.1 _ c.if-not-play.true
+
+pub returns-in-Bad : goal.returns-in-Bad
+returns-in-Bad c = record-bad _ _ _ c.requires.1 _ _ c.if-not-play.false _ c.record_at-found.ensures _ _ c.in-Bad.is c.play_bad.ensures
+
+pub returns-in-Good : goal.returns-in-Good
+returns-in-Good c = record-good _ _ _ c.requires.1 _ _ c.if-not-play.false _ c.record_at-found.ensures _ _ _ _ c.in-Good.is c.play_good.ensures
