@@ -1,7 +1,3 @@
--- What the walks share.
-pub mod Recs
-pub mod Shared
-pub mod Works
 pub mod Records
 pub mod Nodes
 pub mod Back

@@ -1,0 +1,34 @@
+-- `ports::push` meets its contract.
+use Rattle.laws.specs.Prelude.{Element, List, ◌+◌, ◌-◌, ◌∙◌, ◌≡◌, ◌≤◌, ap, arith, length, rules, refl, ℕ, ⊎_elim}
+use Rattle.bucket_model.specs.Prelude.{Outcome, least_storeys, most_storeys, outcome}
+use Rattle.bucket_step.proofs.Depths.{Gone, none-gone, gone-here, gone-on, all-gone}
+use Rattle.ports_model.specs.declared.Shape.{Shape}
+use Rattle.ports_model.specs.Prelude.{pushed}
+use Rattle.ports.proofs.Returns.{push-undeep}
+use Rattle.ports.proofs.push.Goals as goal
+use Rattle.ports.proofs.push.Invariants.{call}
+use Rattle.ports.proofs.push.Goals.{else-d-s, then-d-s}
+
+-- what is done at the depth asked for
+
+pub loop-d-init : goal.loop-d-init
+loop-d-init c =
+    let a = c.args in
+    (omega arith, omega arith, refl, refl, none-gone (call a.e a.s a.port) a.s.storeys _ _)
+
+pub loop-d-preserved : goal.loop-d-preserved
+loop-d-preserved c =
+    let inv = c.loop-d.invariant in
+    let a = c.args in
+    elim c.if-d-s.branch [ then-d-s w ↦ (omega arith, omega arith, ap length w.bits-is ∙ w.push_at-answer.auto.bits ∙ inv.2, ap length w.words-is ∙ w.push_at-answer.auto.words ∙ inv.3, gone-here (call a.e a.s a.port) a.s.storeys _ _ _ _ _ _ _ _ _ _ _ _ inv.0 w.if-d-s.true inv.4 w.push_at-answer.ensures w.bits-is w.words-is w.answer-is) | else-d-s w ↦ (omega arith, omega arith, ap length w.1 ∙ inv.2, ap length w.2 ∙ inv.3, gone-on (call a.e a.s a.port) a.s.storeys _ _ _ _ _ _ _ _ _ w.if-d-s.false inv.4 w.1 w.2 w.3) ]
+
+pub shape_of-bits : goal.shape_of-bits
+shape_of-bits c = c.loop-d.invariant.2
+
+pub shape_of-words : goal.shape_of-words
+shape_of-words c = c.loop-d.invariant.3
+
+pub returns : goal.returns
+returns c =
+    let a = c.args in
+    all-gone (call a.e a.s a.port) a.s.storeys _ _ c.loop-d.d _ (omega arith) (λ e. push-undeep a.s a.port a.bits.now a.words.now a.e e) c.loop-d.invariant.4
