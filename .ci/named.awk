@@ -54,17 +54,17 @@ part == 1 { next }
 /^[^ ]*:[0-9]+:[0-9]+: error: / {
     file = $0
     sub(/:[0-9]+:[0-9]+: error: .*/, "", file)
+    sub(/^\.\//, "", file)
     text = $0
     sub(/^[^ ]*:[0-9]+:[0-9]+: error: /, "", text)
-    at = index(file, "/" label "/")
-    if (at) file = substr(file, at + length(label) + 2)
     law = ""
     if (match(text, /^`[^`]*`: /)) {
         law = substr(text, 2, RLENGTH - 4)
         text = substr(text, RLENGTH + 1)
     }
-    if (text ~ /was not admitted/) next
-    if (text ~ / has no `|has no (field|member|such|child|module|constructor|clause|case|implicit)|not in scope/) kind = "shape"
+    # what cites a law that failed
+    if (text ~ /was not admitted|^[0-9]+ declarations? that depends? on `.*, (was|were) not checked/) next
+    if (law == "" && file ~ /^(src|specs)\// || text ~ / has no `|has no (field|member|such|child|module|constructor|clause|case|implicit)|not in scope|is no name|operand is missing|expected the end|cannot continue/) kind = "shape"
     else kind = "fact"
     if (first == "") {
         first = kind
@@ -74,6 +74,8 @@ part == 1 { next }
     folder = file
     sub(/\/[^\/]*$/, "", folder)
     if (!(folder in error)) error[folder] = kind
+    # of functions that call each other the goals stand in one folder, each goal with its function's name
+    if (folder ~ /(^|\/)\+[^\/]*$/ && !((folder "/" law) in goal)) goal[folder "/" law] = kind
 }
 /^fn [^ ]*: (not proved|no proof)/ {
     name = $2
@@ -81,22 +83,29 @@ part == 1 { next }
     verdict[name] = $0
 }
 
+# Whether the line on a function says that a goal of its own was not proved. CYCLE is the folder of those that call each other, if it is one.
+function goal_left(line, f,    cycle) {
+    if (line !~ /`search` did not prove/) return 0
+    if (!match(line, /\/\+[^\/]*\/Answers\.antt/)) return 1
+    cycle = substr(line, RSTART + 2, RLENGTH - 15)
+    sub(/^.*`search` did not prove/, "", line)
+    return cycle == f || index(line, "`" f "-") > 0
+}
+
 # What became of function F: "fact", "shape", or "" where it did not fail by itself.
-function function_failed(f,    name, path, folder, where, i, k, names) {
+function function_failed(f,    name, path, where, one) {
     for (name in verdict) {
         path = substr(name, length(crate) + 1)
         if (substr(path, length(path) - length(f) - 1) != "::" f) continue
-        if (verdict[name] ~ /`search` does not close/) return "fact"
-        # crate::a::f has its proofs in proofs/a/f/, or with those that call each other in proofs/a/+f+g/
+        # crate::a::f has its proofs in proofs/a/f/; if it calls itself in proofs/a/+f/, or with others in a folder with their cycle's name
         gsub(/::/, "/", path)
-        where = path
+        where = "proofs" path
         sub(/[^\/]*$/, "", where)
         sub(/.*\//, "", path)
-        for (folder in error) {
-            if (index(folder, "proofs" where) != 1) continue
-            k = split(substr(folder, length("proofs" where) + 1), names, "+")
-            for (i = 1; i <= k; i++) if (names[i] == path) return error[folder]
-        }
+        if (goal_left(verdict[name], path)) return "fact"
+        if ((where path) in error) return error[where path]
+        if ((where "+" path) in error) return error[where "+" path]
+        for (one in goal) if (index(one, where "+") == 1 && index(one, "/" path "-") > 0) return goal[one]
     }
     return ""
 }

@@ -13,14 +13,5 @@ cd "$(dirname "$0")/.." || exit 2
 tools || exit 1
 [ -z "${CARD_LIB:-}" ] || printf 'bench: the static library is taken from CARD_LIB: %s\n' "$CARD_LIB" >&2
 library . || exit 1
-if [ -n "${PLAY:-}" ]; then
-    runner || exit 1
-elif [ "$(uname -m)" = x86_64 ]; then
-    made target/bin/play bench check play || exit 1
-    PLAY=target/bin/play
-else
-    PLAY=$(host/lib.sh --play "$(uname -m)-linux") || exit 1
-    RUNNER=
-    export RUNNER
-fi
+runner && trace_program bench || exit 1
 exec $CARGO run --release --offline --quiet --manifest-path host/Cargo.toml -p bench -- --play "$PLAY" "$@"

@@ -5,14 +5,14 @@
 #   host/lib.sh --check [-Oz] TARGET ..    makes it, and runs on it the soak, the example and the measure of the stack
 #   host/lib.sh --stack [-Oz] TARGET ..    makes it, and prints the table of the stack as docs/FIRMWARE.md has it
 #   host/lib.sh --size [-Oz] TARGET ..     makes it, and prints the bytes of code of each queue, linked without what it does not call
-#   host/lib.sh --play TARGET              makes the trace program for it, a static one, and prints its name
+#   host/lib.sh --play TARGET              makes the trace program for it, a static one, and prints its name: for x86_64-linux alone
 #
 # TARGET is x86_64-linux, aarch64-linux, riscv64-linux, armv7-linux, thumbv7em-none (Cortex-M4) or riscv32-none. -Oz is for little code; the
 # library is then that of TARGET-Oz, and a target may be named so too.
 #
-# The library is made of the boundary crates, those with a function that host/card.h declares: a crate is in it once one of its functions is
-# declared there. Each is proved and built by `rt staticlib`. x86_64-linux has the objects of those archives themselves. While a crate is
-# built, the module is kept that the prover's compiler hands to its back end; every other library is these modules, compiled by the same
+# The library is the crate card_c, an export for each function that host/card.h declares: a thin call of the function that is proved below
+# it. `rt lib` proves it and builds it for every x86-64: x86_64-linux has the object of that archive itself. For another target it is built
+# once more, and the module is kept that the prover's compiler hands to its back end; the library is this module, compiled by the same
 # compiler for another processor. So it is the code that is proved, and what is trusted is another back end; --check holds what it makes to
 # the lines that all libraries must write, under an emulator where the processor is another one. Compilers and emulators that a check lacks
 # are installed from Debian's packages (as root).
@@ -71,41 +71,42 @@ target() {
 # The target that is the machine at hand.
 here() { echo "$(uname -m)-linux"; }
 
-# Makes a folder that has what another has, by links, but for one name: all_but NAME FROM TO.
-all_but() {
-    mkdir -p "$3" || return 1
-    for all_one in "$2"/*; do
-        [ "${all_one##*/}" = "$1" ] || ln -sfn "$all_one" "$3/" || return 1
-    done
-}
-
-# The kit's folder, its part for this machine, and the folder of its compiler.
+# The kit's folder, and that of its compiler.
 kit() {
     have rt || fail 'the library is proved and built by rt, the command of the Rattle kit, and rt is not on the path'
-    kit=$(dirname "$(dirname "$(rt doc)")")
-    on=on/$(uname -m)
-    tools=$kit/$on/toolchain/bin
+    kit=$(dirname "$(rt doc)")
+    tools=$kit/toolchain/bin
     [ -x "$tools/clang" ] || fail "there is no compiler $tools/clang in the Rattle kit"
 }
 
-# Proves and builds FILE with `rt WORDS`, and keeps the module of it: kept MODULE FILE WORDS.. The kit is the same one by links, but for its
-# clang, which keeps what it is handed and then is the kit's.
-kept() {
-    kept_module=$1 kept_file=$2 kept_kit=$(pwd)/$LIB/kit
+# Links in a folder to what another has, but for some names: linked FROM TO NAME ..
+linked() {
+    linked_from=$1 linked_to=$2
     shift 2
+    mkdir -p "$linked_to" || return 1
+    for linked_one in "$linked_from"/*; do
+        case " $* " in *" ${linked_one##*/} "*) ;; *) ln -s "$linked_one" "$linked_to/" || return 1 ;; esac
+    done
+}
+
+# Has the library built once more, and keeps the module of it: kept MODULE. The kit is then another folder, of links to the kit's own, but
+# for its clang, which keeps what it is handed and is then the kit's, and for rt's own two files, by whose place rt knows its kit.
+kept() {
     kit
-    rm -rf "$kept_kit" "$kept_module" "$kept_file" "$LIB/new.bc"
-    all_but on "$kit" "$kept_kit" && all_but toolchain "$kit/$on" "$kept_kit/$on" &&
-        all_but bin "$kit/$on/toolchain" "$kept_kit/$on/toolchain" && all_but clang "$tools" "$kept_kit/$on/toolchain/bin" ||
+    room=$(mktemp -d) || exit 1
+    trap 'rm -rf "$room"' EXIT
+    linked "$kit" "$room/kit" bin toolchain && linked "$kit/bin" "$room/kit/bin" rt rtlib.py && cp "$kit/bin/rt" "$kit/bin/rtlib.py" "$room/kit/bin/" &&
+        linked "$kit/toolchain" "$room/kit/toolchain" bin && linked "$tools" "$room/kit/toolchain/bin" clang ||
         fail 'the kit cannot be linked to'
     {
-        printf '#!/bin/sh\nfor word; do case $word in *.bc) cp "$word" "%s" || exit 1 ;; esac; done\n' "$(pwd)/$LIB/new.bc"
+        printf '#!/bin/sh\nfor word; do case $word in *.bc) cp "$word" "%s" || exit 1 ;; esac; done\n' "$room/new.bc"
         printf 'exec "%s/clang" "$@"\n' "$tools"
-    } >"$kept_kit/$on/toolchain/bin/clang"
-    chmod +x "$kept_kit/$on/toolchain/bin/clang"
-    RATTLE_HOME=$kept_kit made "$kept_file" lib "$@" || exit 1
-    rm -rf "$kept_kit"
-    mv "$LIB/new.bc" "$kept_module" || fail "the prover's compiler was handed no module"
+    } >"$room/kit/toolchain/bin/clang"
+    chmod +x "$room/kit/toolchain/bin/clang"
+    RT=$room/kit/bin/rt archive || exit 1
+    mv "$room/new.bc" "$1" || fail "the prover's compiler was handed no module"
+    rm -rf "$room"
+    trap - EXIT
 }
 
 # Compiles a module for a target: compiled MODULE TARGET OBJECT. Its lines about x86-64 go, and nothing else in it is about a
@@ -127,44 +128,25 @@ compiled() {
     rm -f "$3.x86.ll" "$3.sed" "$3.ll"
 }
 
-# The boundary crates: those with a function for C that the header declares.
-boundary() {
-    find crates -path '*/src/*' -name '*.rt' -exec grep -l '^#\[no_mangle\]' {} + | LC_ALL=C sort | xargs awk '
-        FILENAME == "host/card.h" { if (sub(/^(uint32_t|card_len) /, "") && sub(/\(.*/, "")) declared[$0] = 1; next }
-        /^pub extern "C" fn / { split($5, name, /[(<]/); split(FILENAME, path, "/"); if (name[1] in declared && !seen[path[2]]++) print path[2] }' host/card.h
-}
+# Has the library proved and built for every x86-64: ARCHIVE. (`rt lib` by itself builds it for newer ones.)
+ARCHIVE=crates/card_c/out/libcard_c.a
+archive() { built "$ARCHIVE" lib card_c lib --cpu=x86-64; }
 
-# What a crate is made of: a sum over its files and those of every crate below it, edits that must fail apart.
-sum_of() {
-    awk -v crate="$1" '
-        function below(name, i, n, names) {
-            if (seen[name]++) return
-            print name
-            n = split(under[name], names, " ")
-            for (i = 1; i <= n; i++) below(names[i])
-        }
-        /^[a-z]/ { name = $1; sub(/:$/, "", name); $1 = ""; under[name] = $0 }
-        END { below(crate) }' crates.txt | LC_ALL=C sort | while read -r sum_one; do
-        [ ! -d "crates/$sum_one" ] || find "crates/$sum_one" -type f ! -path '*/must-fail/*' -exec sha256sum {} +
-    done | LC_ALL=C sort | sha256sum
-}
-
-# Has a boundary crate proved and built, with its module kept beside: target/staticlib/libCRATE.a and $LIB/CRATE.bc. A crate of which
-# nothing changed since then is left alone.
+# The object of that archive, $LIB/card.o, made where that was not done yet.
 proved() {
-    proved_sum=$(sum_of "$1") proved_archive=target/staticlib/lib$1.a
-    if [ -e "$proved_archive" ] && [ -e "$LIB/$1.bc" ] && [ "$(cat "$LIB/$1.sum" 2>/dev/null)" = "$proved_sum" ]; then return; fi
-    rm -f "$LIB/$1.sum"
-    kept "$LIB/$1.bc" "$proved_archive" staticlib "$1"
-    printf '%s\n' "$proved_sum" >"$LIB/$1.sum"
+    if fresh "$LIB/card.o"; then return; fi
+    archive || exit 1
+    [ "$("$tools/llvm-ar" t "$ARCHIVE" | wc -l)" -eq 1 ] && "$tools/llvm-ar" p "$ARCHIVE" >"$LIB/card.o" || fail "$ARCHIVE has not one object"
 }
 
-# The object of a boundary crate for a target: object CRATE TARGET FILE. That for x86-64 is the one in its archive.
+# The library's object for a target: object TARGET FILE. The module is kept once what stands below the library is proved, by the kit's own rt.
 object() {
-    if [ "$2" = x86_64-linux ]; then
-        [ "$("$tools/llvm-ar" t "target/staticlib/lib$1.a" | wc -l)" -eq 1 ] && "$tools/llvm-ar" p "target/staticlib/lib$1.a" >"$3"
+    proved
+    if [ "$1" = x86_64-linux ]; then
+        cp "$LIB/card.o" "$2"
     else
-        compiled "$LIB/$1.bc" "$2" "$3"
+        fresh "$LIB/card.bc" || kept "$LIB/card.bc"
+        compiled "$LIB/card.bc" "$1" "$2"
     fi
 }
 
@@ -173,19 +155,13 @@ for_target() {
     folder=$LIB/$1
     made_lib=$folder/libcard.a
     if fresh "$made_lib" && [ -z "$(find host/lib.sh host/card.h -newer "$made_lib")" ]; then return; fi
-    crates=$(boundary)
-    [ -n "$crates" ] || fail 'no crate has a function that host/card.h declares'
     kit
     mkdir -p "$folder" || exit 1
-    for crate in $crates; do proved "$crate"; done
     [ "$1" = x86_64-linux ] ||
-        printf 'lib: %s: the proved modules through another back end of the compiler, which is trusted as the one for x86-64 is\n' "$1" >&2
+        printf 'lib: %s: the proved module through another back end of the compiler, which is trusted as the one for x86-64 is\n' "$1" >&2
     rm -f "$made_lib.new"
-    for crate in $crates; do
-        object "$crate" "$1" "$folder/$crate.o" && "$tools/llvm-ar" rcs "$made_lib.new" "$folder/$crate.o" ||
-            fail "$crate is not compiled for $1"
-        rm "$folder/$crate.o"
-    done
+    object "$1" "$folder/card.o" && "$tools/llvm-ar" rcs "$made_lib.new" "$folder/card.o" || fail "the library is not compiled for $1"
+    rm "$folder/card.o"
     mv "$made_lib.new" "$made_lib"
 }
 
@@ -197,26 +173,18 @@ ready() { # TARGET
     [ -z "$run" ] || have "${run%% *}" || install_packages "$emulator" || fail "$1: there is no emulator ${run%% *} (Debian's package: $emulator)"
 }
 
-# The trace program for a target with a system under it, from the object that `rt check play` leaves, or from its module: that is kept
-# while it is proved, which is done once more where it was not kept then.
+# The trace program as a static one, of the object that `rt run` leaves and of the C code that the kit has for its programs. Both are for
+# x86-64 alone: the kit has that C code for no other processor.
 play() {
+    [ "$1" = x86_64-linux ] || fail "$1: the trace program is made for x86_64-linux alone, since the kit has the C code of its programs for no other processor"
     ready "$1"
-    [ -z "$bare" ] || fail "$1 has no system under it, and the trace program needs one"
+    kit
     folder=$LIB/$1
     mkdir -p "$folder" || exit 1
-    object=target/obj/play.o
-    if [ "$1" = x86_64-linux ]; then
-        made target/bin/play lib check play || exit 1
-    else
-        if ! fresh "$LIB/play.bc"; then
-            # else rt takes it for done
-            rm -f target/stamp/play
-            kept "$LIB/play.bc" target/bin/play check play
-        fi
-        object=$folder/play.o
-        compiled "$LIB/play.bc" "$1" "$object" || fail "the trace program is not compiled for $1"
+    if ! fresh "$folder/play"; then
+        built crates/play/out/play lib play run --cpu=x86-64 || exit 1
+        $cc crates/play/out/play.o "$kit/c/libos_c.a" "$kit/c/liblibc_c.a" -o "$folder/play" || fail "the trace program is not linked for $1"
     fi
-    $cc "$object" -o "$folder/play" || fail "the trace program is not linked for $1"
     echo "$folder/play"
 }
 

@@ -27,10 +27,7 @@ if [ "$trace" != - ]; then
 fi
 cd "$here/.." || exit 2
 . host/tools.sh
-if [ -z "${PLAY:-}" ]; then
-    made target/bin/play play check play || exit 1
-    PLAY=target/bin/play
-fi
+trace_program play || exit 1
 runner || fail "there is no emulator for an x86-64 program"
 if [ "$trace" = - ]; then exec $RUNNER "$PLAY"; fi
 exec $RUNNER "$PLAY" <"$trace"

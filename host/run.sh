@@ -33,14 +33,9 @@ counter || echo 'host: there is no valgrind, and the budget of a call is not hel
 # what needs no library is compiled while the library is proved
 (cd host && $CARGO test --offline --no-run -p models -p trace_text -p checks >/dev/null 2>&1) &
 library . || exit 1
-if [ -n "${PLAY:-}" ]; then
-    echo "host: the trace program is taken from PLAY: $PLAY"
-else
-    made target/bin/play host check play || exit 1
-    PLAY=$(pwd)/target/bin/play
-fi
+[ -z "${PLAY:-}" ] || echo "host: the trace program is taken from PLAY: $PLAY"
+trace_program host || exit 1
 [ $# -eq 0 ] || export CARD_SEED="$1"
-export PLAY
 
 wait
 root=$(pwd)

@@ -67,25 +67,35 @@ library() {
     export CARD_LIB
 }
 
-# Whether what `rt` made is there and no source is newer.
-fresh() { [ -e "$1" ] && [ -z "$(find crates crates.txt -newer "$1" -print -quit)" ]; }
+# Whether what `rt` made is there and no source is newer. What rt leaves beside the sources (crates/*/out) is none.
+fresh() { [ -e "$1" ] && [ -z "$(find crates/*/src crates/*/specs crates/*/proofs crates.txt -newer "$1" -print -quit 2>/dev/null)" ]; }
 
-# Proves and builds FILE with `rt WORDS`, if that was not done yet, and shows on standard error how far it is: made FILE NAME WORDS..
-made() {
-    made_file=$1
-    made_name=$2
-    shift 2
-    if fresh "$made_file"; then return 0; fi
-    printf '%s: proving and building first: `rt %s`. From nothing this takes some minutes; a line is shown for each crate.\n' "$made_name" "$*" >&2
-    made_log=$(mktemp) || return 1
-    { rt "$@" 2>&1 || echo "$made_log failed"; } | tee "$made_log" | grep --line-buffered '^rt: ' >&2
-    if grep -q "^$made_log failed\$" "$made_log" || [ ! -e "$made_file" ]; then
-        grep -v '^rt: ' "$made_log" >&2
-        rm -f "$made_log"
-        printf '%s: `rt %s` failed\n' "$made_name" "$*" >&2
+# Runs `rt WORDS` in a crate's folder, which proves and builds FILE, and shows on standard error how far it is: built FILE NAME CRATE WORDS..
+# RT names another rt than the one on the path.
+built() {
+    built_file=$1
+    built_name=$2
+    built_crate=$3
+    shift 3
+    printf '%s: proving and building first: `rt %s` in crates/%s. From nothing this takes some minutes; a line is shown for each crate.\n' "$built_name" "$*" "$built_crate" >&2
+    built_log=$(mktemp) || return 1
+    rm -f "$built_file"
+    { (cd "crates/$built_crate" && "${RT:-rt}" "$@" </dev/null 2>&1) || echo "$built_log failed"; } | tee "$built_log" | grep --line-buffered '^crate ' >&2
+    if grep -q "^$built_log failed\$" "$built_log" || [ ! -e "$built_file" ]; then
+        grep -v -e '^crate ' -e '^checked ' -e '^statements ' -e '^library ' -e ': proved$' "$built_log" >&2
+        rm -f "$built_log"
+        printf '%s: `rt %s` in crates/%s failed\n' "$built_name" "$*" "$built_crate" >&2
         return 1
     fi
-    rm -f "$made_log"
-    # rt leaves a file alone that is still right: now it is newer than the sources
-    touch "$made_file"
+    rm -f "$built_log"
+}
+
+# PLAY: the trace program, proved and built first if that was not done yet, or the one that PLAY names already: trace_program NAME, in the
+# repository's folder. `rt ci` leaves it built; `rt run` builds it, and then runs it on nothing.
+trace_program() {
+    if [ -z "${PLAY:-}" ]; then
+        PLAY=$(pwd)/crates/play/out/play
+        fresh "$PLAY" || built "$PLAY" "$1" play run || return 1
+    fi
+    export PLAY
 }

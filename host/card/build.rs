@@ -53,8 +53,16 @@ fn main() {
             path.canonicalize().expect("a file that is there")
         }
         None => {
-            for made_of in ["crates", "crates.txt", "host/card.h", "host/lib.sh"] {
+            for made_of in ["crates.txt", "host/card.h", "host/lib.sh"] {
                 println!("cargo:rerun-if-changed={}", root.join(made_of).display());
+            }
+            // of a crate its sources: what rt makes stands beside them
+            for entry in std::fs::read_dir(root.join("crates")).expect("the crates") {
+                let folder = entry.expect("a crate").path();
+                for part in ["src", "specs", "proofs"].iter().map(|part| folder.join(part)).filter(|part| part.is_dir())
+                {
+                    println!("cargo:rerun-if-changed={}", part.display());
+                }
             }
             own(&root, &std::env::var("TARGET").unwrap_or_default())
         }

@@ -4,8 +4,7 @@
 
 ghost use Rattle.std.specs.Prelude.{◌≡◌};
 
-#[unsafe(no_mangle)]
-pub extern "C" fn card_version() -> u32
+pub fn card_version() -> u32
     ensures { result ≡ 1 }
 {
     1

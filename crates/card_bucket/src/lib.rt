@@ -1,4 +1,4 @@
-// The static library for C and Rust, the bucket queue over numbers and slices. Each function returns 01's number, 0 where nothing is
+// The boundary for C and Rust, the bucket queue over numbers and slices. Each function returns 01's number, 0 where nothing is
 // refused, and writes what it answers to `out`, zeros on a refusal. An `out` that is too short is refusal 1, and nothing changes.
 #![tactic(auto)]
 
@@ -13,20 +13,13 @@ use card_words::sizes::{bucket_bit_words, bucket_words};
 use card_words::{OUT, tell, tell_count};
 use strip::{Element, Length, Rank, Tag, number};
 
-#[unsafe(no_mangle)]
-pub extern "C" fn card_bucket_clear(
-    bits: &mut [u64],
-    words: &mut [u32],
-    storeys: u32,
-    nodes: u32,
-) -> u32
+pub fn card_bucket_clear(bits: &mut [u64], words: &mut [u32], storeys: u32, nodes: u32) -> u32
     ensures { bucket_after result bits.new words.new ≡ bucket_clear bits.old words.old storeys nodes }
 {
     number(bucket::clear(bits, words, storeys as usize, nodes))
 }
 
-#[unsafe(no_mangle)]
-pub extern "C" fn card_bucket_push(
+pub fn card_bucket_push(
     bits: &mut [u64],
     words: &mut [u32],
     storeys: u32,
@@ -45,8 +38,7 @@ pub extern "C" fn card_bucket_push(
     number(bucket::push(bits, words, storeys as usize, nodes, e))
 }
 
-#[unsafe(no_mangle)]
-pub extern "C" fn card_bucket_pop(
+pub fn card_bucket_pop(
     bits: &mut [u64],
     words: &mut [u32],
     storeys: u32,
@@ -62,8 +54,7 @@ pub extern "C" fn card_bucket_pop(
     tell(out, answer)
 }
 
-#[unsafe(no_mangle)]
-pub extern "C" fn card_bucket_replace(
+pub fn card_bucket_replace(
     bits: &mut [u64],
     words: &mut [u32],
     storeys: u32,
@@ -87,8 +78,7 @@ pub extern "C" fn card_bucket_replace(
     tell(out, answer)
 }
 
-#[unsafe(no_mangle)]
-pub extern "C" fn card_bucket_held(
+pub fn card_bucket_held(
     bits: &[u64],
     words: &[u32],
     storeys: u32,
@@ -107,16 +97,14 @@ pub extern "C" fn card_bucket_held(
 // ---- how many words a store needs: the least length that the calls take, and 0 for a bad shape
 
 // The words of 64 bits.
-#[unsafe(no_mangle)]
-pub extern "C" fn card_bucket_bits(storeys: u32) -> u32
+pub fn card_bucket_bits(storeys: u32) -> u32
     ensures { result ≡ bucket_bits storeys }
 {
     bucket_bit_words(storeys)
 }
 
 // The words of 32 bits.
-#[unsafe(no_mangle)]
-pub extern "C" fn card_bucket_words(storeys: u32, nodes: u32) -> u32
+pub fn card_bucket_words(storeys: u32, nodes: u32) -> u32
     ensures { result ≡ bucket_words storeys nodes }
 {
     bucket_words(storeys, nodes)

@@ -20,8 +20,7 @@ fn shape_of(storeys: u32, nodes: u32, ports: u32) -> Shape
 }
 
 // limits: for each port its floor, and then its ceiling.
-#[unsafe(no_mangle)]
-pub extern "C" fn card_ports_clear(
+pub fn card_ports_clear(
     bits: &mut [u64],
     words: &mut [u32],
     storeys: u32,
@@ -35,8 +34,7 @@ pub extern "C" fn card_ports_clear(
     number(ports::clear(bits, words, s, limits))
 }
 
-#[unsafe(no_mangle)]
-pub extern "C" fn card_ports_push(
+pub fn card_ports_push(
     bits: &mut [u64],
     words: &mut [u32],
     storeys: u32,
@@ -58,8 +56,7 @@ pub extern "C" fn card_ports_push(
     number(ports::push(bits, words, s, port, e))
 }
 
-#[unsafe(no_mangle)]
-pub extern "C" fn card_ports_pop(
+pub fn card_ports_pop(
     bits: &mut [u64],
     words: &mut [u32],
     storeys: u32,
@@ -78,8 +75,7 @@ pub extern "C" fn card_ports_pop(
     tell(out, answer)
 }
 
-#[unsafe(no_mangle)]
-pub extern "C" fn card_ports_replace(
+pub fn card_ports_replace(
     bits: &mut [u64],
     words: &mut [u32],
     storeys: u32,
@@ -106,8 +102,7 @@ pub extern "C" fn card_ports_replace(
     tell(out, answer)
 }
 
-#[unsafe(no_mangle)]
-pub extern "C" fn card_ports_held(
+pub fn card_ports_held(
     bits: &[u64],
     words: &[u32],
     storeys: u32,
@@ -129,8 +124,7 @@ pub extern "C" fn card_ports_held(
 // ---- how many words a store needs, and 0 for a bad shape
 
 // The words of 64 bits, as many whatever the nodes.
-#[unsafe(no_mangle)]
-pub extern "C" fn card_ports_bits(storeys: u32, ports: u32) -> u32
+pub fn card_ports_bits(storeys: u32, ports: u32) -> u32
     ensures { result ≡ ports_bits storeys ports }
 {
     let s = shape_of(storeys, 1, ports);
@@ -141,8 +135,7 @@ pub extern "C" fn card_ports_bits(storeys: u32, ports: u32) -> u32
 }
 
 // The words of 32 bits.
-#[unsafe(no_mangle)]
-pub extern "C" fn card_ports_words(storeys: u32, nodes: u32, ports: u32) -> u32
+pub fn card_ports_words(storeys: u32, nodes: u32, ports: u32) -> u32
     ensures { result ≡ ports_words storeys nodes ports }
 {
     let s = shape_of(storeys, nodes, ports);

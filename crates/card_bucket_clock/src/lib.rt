@@ -54,8 +54,7 @@ fn records_due(ran: bool, storeys: usize) -> usize
 // ---- the calls
 
 // The least number of counts, and 0 where no queue has so many storeys.
-#[unsafe(no_mangle)]
-pub extern "C" fn card_bucket_clock_counts(storeys: u32) -> u32
+pub fn card_bucket_clock_counts(storeys: u32) -> u32
     ensures { result ≡ clock_counts storeys }
 {
     if storeys == 2 {
@@ -68,8 +67,7 @@ pub extern "C" fn card_bucket_clock_counts(storeys: u32) -> u32
 }
 
 // It reads no record.
-#[unsafe(no_mangle)]
-pub extern "C" fn card_bucket_clock_clear(
+pub fn card_bucket_clock_clear(
     bits: &mut [u64],
     words: &mut [u32],
     counts: &mut [u32],
@@ -92,8 +90,7 @@ pub extern "C" fn card_bucket_clock_clear(
     number(answer)
 }
 
-#[unsafe(no_mangle)]
-pub extern "C" fn card_bucket_clock_cycle(
+pub fn card_bucket_clock_cycle(
     bits: &mut [u64],
     words: &mut [u32],
     counts: &mut [u32],
@@ -130,8 +127,7 @@ pub extern "C" fn card_bucket_clock_cycle(
 }
 
 // Reads the held word alone, and no record.
-#[unsafe(no_mangle)]
-pub extern "C" fn card_bucket_clock_held(
+pub fn card_bucket_clock_held(
     bits: &[u64],
     words: &[u32],
     counts: &[u32],

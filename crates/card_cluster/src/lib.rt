@@ -1,4 +1,4 @@
-// The static library for C and Rust, the cluster heap over numbers and slices. Each function returns 01's number, 0 where nothing is
+// The boundary for C and Rust, the cluster heap over numbers and slices. Each function returns 01's number, 0 where nothing is
 // refused, and writes what it answers to `out`, zeros on a refusal. An `out` that is too short is refusal 1, and nothing changes.
 #![tactic(auto)]
 
@@ -8,21 +8,19 @@ ghost use Rattle.card_words.specs.Sizes.{cluster_words};
 ghost use Rattle.card_words.specs.Store.{store_after, store_after_out};
 ghost use Rattle.card_cluster.specs.Cluster.{cluster_clear, cluster_push, cluster_pop, cluster_replace, cluster_held};
 
-mod stages;
+pub mod stages;
 
 use card_words::sizes::cluster_words;
 use card_words::{OUT, tell, tell_count};
 use strip::{Element, Length, Rank, Tag, number};
 
-#[unsafe(no_mangle)]
-pub extern "C" fn card_cluster_clear(store: &mut [u32], places: u32, levels: u32) -> u32
+pub fn card_cluster_clear(store: &mut [u32], places: u32, levels: u32) -> u32
     ensures { store_after result store.new ≡ cluster_clear places levels store.old }
 {
     number(cluster::clear(store, places as usize, levels as usize))
 }
 
-#[unsafe(no_mangle)]
-pub extern "C" fn card_cluster_push(
+pub fn card_cluster_push(
     store: &mut [u32],
     places: u32,
     levels: u32,
@@ -40,13 +38,7 @@ pub extern "C" fn card_cluster_push(
     number(cluster::push(store, places as usize, levels as usize, x))
 }
 
-#[unsafe(no_mangle)]
-pub extern "C" fn card_cluster_pop(
-    store: &mut [u32],
-    places: u32,
-    levels: u32,
-    out: &mut [u32],
-) -> u32
+pub fn card_cluster_pop(store: &mut [u32], places: u32, levels: u32, out: &mut [u32]) -> u32
     ensures { store_after_out result store.new out.new ≡ cluster_pop places levels store.old out.old }
 {
     if out.len() < OUT {
@@ -56,8 +48,7 @@ pub extern "C" fn card_cluster_pop(
     tell(out, answer)
 }
 
-#[unsafe(no_mangle)]
-pub extern "C" fn card_cluster_replace(
+pub fn card_cluster_replace(
     store: &mut [u32],
     places: u32,
     levels: u32,
@@ -80,8 +71,7 @@ pub extern "C" fn card_cluster_replace(
     tell(out, answer)
 }
 
-#[unsafe(no_mangle)]
-pub extern "C" fn card_cluster_held(store: &[u32], places: u32, levels: u32, out: &mut [u32]) -> u32
+pub fn card_cluster_held(store: &[u32], places: u32, levels: u32, out: &mut [u32]) -> u32
     ensures { count_after result out.new ≡ cluster_held places levels store.now out.old }
 {
     if out.len() < 1 {
@@ -92,8 +82,7 @@ pub extern "C" fn card_cluster_held(store: &[u32], places: u32, levels: u32, out
 }
 
 // How many words a store needs: the least length that the calls take, and 0 for a bad shape.
-#[unsafe(no_mangle)]
-pub extern "C" fn card_cluster_words(places: u32, levels: u32) -> u32
+pub fn card_cluster_words(places: u32, levels: u32) -> u32
     ensures { result ≡ cluster_words places levels }
 {
     cluster_words(places, levels)

@@ -82,8 +82,7 @@ fn drain_told(
 
 // ---- the calls
 
-#[unsafe(no_mangle)]
-pub extern "C" fn card_clocked_cluster_clear(
+pub fn card_clocked_cluster_clear(
     store: &mut [u32],
     places: u32,
     levels: u32,
@@ -95,8 +94,7 @@ pub extern "C" fn card_clocked_cluster_clear(
     hand_back(records, ended)
 }
 
-#[unsafe(no_mangle)]
-pub extern "C" fn card_clocked_cluster_cycle(
+pub fn card_clocked_cluster_cycle(
     store: &mut [u32],
     places: u32,
     levels: u32,
@@ -125,8 +123,7 @@ pub extern "C" fn card_clocked_cluster_cycle(
     hand_back(records, ended)
 }
 
-#[unsafe(no_mangle)]
-pub extern "C" fn card_clocked_cluster_drain(
+pub fn card_clocked_cluster_drain(
     store: &mut [u32],
     places: u32,
     levels: u32,
@@ -142,13 +139,7 @@ pub extern "C" fn card_clocked_cluster_drain(
 }
 
 // Reads the root alone, and no record.
-#[unsafe(no_mangle)]
-pub extern "C" fn card_clocked_cluster_held(
-    store: &[u32],
-    places: u32,
-    levels: u32,
-    out: &mut [u32],
-) -> u32
+pub fn card_clocked_cluster_held(store: &[u32], places: u32, levels: u32, out: &mut [u32]) -> u32
     ensures { count_after result out.new ≡ clocked_cluster_held places levels store.now out.old }
 {
     if out.len() < 1 {

@@ -9,8 +9,7 @@ use lines_clock::held;
 use lines_records::{clear_lent, cycle_lent, drain_lent};
 use strip::number;
 
-#[unsafe(no_mangle)]
-pub extern "C" fn card_lines_clock_clear(
+pub fn card_lines_clock_clear(
     store: &mut [u32],
     kind: u32,
     lines: u32,
@@ -23,8 +22,7 @@ pub extern "C" fn card_lines_clock_clear(
     number(clear_lent(store, k, records))
 }
 
-#[unsafe(no_mangle)]
-pub extern "C" fn card_lines_clock_cycle(
+pub fn card_lines_clock_cycle(
     store: &mut [u32],
     kind: u32,
     lines: u32,
@@ -51,8 +49,7 @@ pub extern "C" fn card_lines_clock_cycle(
     tell(out, answer)
 }
 
-#[unsafe(no_mangle)]
-pub extern "C" fn card_lines_clock_drain(
+pub fn card_lines_clock_drain(
     store: &mut [u32],
     kind: u32,
     lines: u32,
@@ -74,8 +71,7 @@ pub extern "C" fn card_lines_clock_drain(
 }
 
 // Reads the counts alone, and no record.
-#[unsafe(no_mangle)]
-pub extern "C" fn card_lines_clock_held(
+pub fn card_lines_clock_held(
     store: &[u32],
     kind: u32,
     lines: u32,

@@ -25,16 +25,14 @@ fn rows_of(kind: u32, lines: u32, places: u32) -> Rows
     }
 }
 
-#[unsafe(no_mangle)]
-pub extern "C" fn card_lines_clear(store: &mut [u32], kind: u32, lines: u32, places: u32) -> u32
+pub fn card_lines_clear(store: &mut [u32], kind: u32, lines: u32, places: u32) -> u32
     ensures { store_after result store.new ≡ lines_clear kind lines places store.old }
 {
     let k = rows_of(kind, lines, places);
     number(clear(store, k))
 }
 
-#[unsafe(no_mangle)]
-pub extern "C" fn card_lines_push(
+pub fn card_lines_push(
     store: &mut [u32],
     kind: u32,
     lines: u32,
@@ -50,14 +48,7 @@ pub extern "C" fn card_lines_push(
     number(push(store, k, x))
 }
 
-#[unsafe(no_mangle)]
-pub extern "C" fn card_lines_pop(
-    store: &mut [u32],
-    kind: u32,
-    lines: u32,
-    places: u32,
-    out: &mut [u32],
-) -> u32
+pub fn card_lines_pop(store: &mut [u32], kind: u32, lines: u32, places: u32, out: &mut [u32]) -> u32
     ensures { store_after_out result store.new out.new ≡ lines_pop kind lines places store.old out.old }
 {
     if out.len() < OUT {
@@ -68,8 +59,7 @@ pub extern "C" fn card_lines_pop(
     tell(out, answer)
 }
 
-#[unsafe(no_mangle)]
-pub extern "C" fn card_lines_replace(
+pub fn card_lines_replace(
     store: &mut [u32],
     kind: u32,
     lines: u32,
@@ -90,14 +80,7 @@ pub extern "C" fn card_lines_replace(
     tell(out, answer)
 }
 
-#[unsafe(no_mangle)]
-pub extern "C" fn card_lines_held(
-    store: &[u32],
-    kind: u32,
-    lines: u32,
-    places: u32,
-    out: &mut [u32],
-) -> u32
+pub fn card_lines_held(store: &[u32], kind: u32, lines: u32, places: u32, out: &mut [u32]) -> u32
     ensures { count_after result out.new ≡ lines_held kind lines places store.now out.old }
 {
     if out.len() < 1 {
@@ -111,8 +94,7 @@ pub extern "C" fn card_lines_held(
 // The most words that a store needs: 512 counts, and 3 words for each of 524,288 places.
 const MOST: usize = 1573376;
 
-#[unsafe(no_mangle)]
-pub extern "C" fn card_lines_words(kind: u32, lines: u32, places: u32) -> u32
+pub fn card_lines_words(kind: u32, lines: u32, places: u32) -> u32
     ensures { result ≡ lines_words kind lines places }
 {
     let k = rows_of(kind, lines, places);

@@ -10,15 +10,13 @@ use card_words::{OUT, tell, tell_count};
 use packed_way::power;
 use strip::{Element, Length, Rank, Tag, number};
 
-#[unsafe(no_mangle)]
-pub extern "C" fn card_packed_clear(store: &mut [u32], heaps: u32, levels: u32) -> u32
+pub fn card_packed_clear(store: &mut [u32], heaps: u32, levels: u32) -> u32
     ensures { store_after result store.new ≡ packed_clear heaps levels store.old }
 {
     number(packed::clear(store, heaps as usize, levels as usize))
 }
 
-#[unsafe(no_mangle)]
-pub extern "C" fn card_packed_push(
+pub fn card_packed_push(
     store: &mut [u32],
     heaps: u32,
     levels: u32,
@@ -37,8 +35,7 @@ pub extern "C" fn card_packed_push(
     number(packed::push(store, heaps as usize, levels as usize, heap as usize, x))
 }
 
-#[unsafe(no_mangle)]
-pub extern "C" fn card_packed_pop(
+pub fn card_packed_pop(
     store: &mut [u32],
     heaps: u32,
     levels: u32,
@@ -54,8 +51,7 @@ pub extern "C" fn card_packed_pop(
     tell(out, answer)
 }
 
-#[unsafe(no_mangle)]
-pub extern "C" fn card_packed_replace(
+pub fn card_packed_replace(
     store: &mut [u32],
     heaps: u32,
     levels: u32,
@@ -79,14 +75,7 @@ pub extern "C" fn card_packed_replace(
     tell(out, answer)
 }
 
-#[unsafe(no_mangle)]
-pub extern "C" fn card_packed_held(
-    store: &[u32],
-    heaps: u32,
-    levels: u32,
-    heap: u32,
-    out: &mut [u32],
-) -> u32
+pub fn card_packed_held(store: &[u32], heaps: u32, levels: u32, heap: u32, out: &mut [u32]) -> u32
     ensures { count_after result out.new ≡ packed_held heaps levels heap store.now out.old }
 {
     if out.len() < 1 {
@@ -97,8 +86,7 @@ pub extern "C" fn card_packed_held(
 }
 
 // The words of a store, and 0 for a bad shape: 256 held words and 131,071 slots are enough for any.
-#[unsafe(no_mangle)]
-pub extern "C" fn card_packed_words(heaps: u32, levels: u32) -> u32
+pub fn card_packed_words(heaps: u32, levels: u32) -> u32
     ensures { result ≡ packed_words heaps levels }
 {
     let h = heaps as usize;

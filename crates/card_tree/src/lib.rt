@@ -1,4 +1,4 @@
-// The static library for C and Rust, the tree over numbers and slices. Each function returns 01's number, 0 where nothing is
+// The boundary for C and Rust, the tree over numbers and slices. Each function returns 01's number, 0 where nothing is
 // refused, and writes what it answers to `out`, zeros on a refusal. An `out` that is too short is refusal 1, and nothing changes.
 #![tactic(auto)]
 
@@ -15,15 +15,13 @@ use card_words::sizes::tree_words;
 use card_words::{OUT, tell, tell_count};
 use strip::{Element, Length, Rank, Tag, number};
 
-#[unsafe(no_mangle)]
-pub extern "C" fn card_tree_clear(store: &mut [u32], order: u32, levels: u32) -> u32
+pub fn card_tree_clear(store: &mut [u32], order: u32, levels: u32) -> u32
     ensures { store_after result store.new ≡ tree_clear order levels store.old }
 {
     number(tree::clear(store, order as usize, levels as usize))
 }
 
-#[unsafe(no_mangle)]
-pub extern "C" fn card_tree_push(
+pub fn card_tree_push(
     store: &mut [u32],
     order: u32,
     levels: u32,
@@ -41,8 +39,7 @@ pub extern "C" fn card_tree_push(
     number(tree::push(store, order as usize, levels as usize, x))
 }
 
-#[unsafe(no_mangle)]
-pub extern "C" fn card_tree_pop(store: &mut [u32], order: u32, levels: u32, out: &mut [u32]) -> u32
+pub fn card_tree_pop(store: &mut [u32], order: u32, levels: u32, out: &mut [u32]) -> u32
     ensures { store_after_out result store.new out.new ≡ tree_pop order levels store.old out.old }
 {
     if out.len() < OUT {
@@ -52,8 +49,7 @@ pub extern "C" fn card_tree_pop(store: &mut [u32], order: u32, levels: u32, out:
     tell(out, answer)
 }
 
-#[unsafe(no_mangle)]
-pub extern "C" fn card_tree_replace(
+pub fn card_tree_replace(
     store: &mut [u32],
     order: u32,
     levels: u32,
@@ -76,8 +72,7 @@ pub extern "C" fn card_tree_replace(
     tell(out, answer)
 }
 
-#[unsafe(no_mangle)]
-pub extern "C" fn card_tree_held(store: &[u32], order: u32, levels: u32, out: &mut [u32]) -> u32
+pub fn card_tree_held(store: &[u32], order: u32, levels: u32, out: &mut [u32]) -> u32
     ensures { count_after result out.new ≡ tree_held order levels store.now out.old }
 {
     if out.len() < 1 {
@@ -88,8 +83,7 @@ pub extern "C" fn card_tree_held(store: &[u32], order: u32, levels: u32, out: &m
 }
 
 // How many words a store needs: the least length that the calls take, and 0 for a bad shape.
-#[unsafe(no_mangle)]
-pub extern "C" fn card_tree_words(order: u32, levels: u32) -> u32
+pub fn card_tree_words(order: u32, levels: u32) -> u32
     ensures { result ≡ tree_words order levels }
 {
     tree_words(order, levels)

@@ -31,8 +31,7 @@ fn tell_mend(out: &mut [u32], a: Mend) -> u32
     mend_number(a)
 }
 
-#[unsafe(no_mangle)]
-pub extern "C" fn card_tree_check(store: &[u32], order: u32, levels: u32, out: &mut [u32]) -> u32
+pub fn card_tree_check(store: &[u32], order: u32, levels: u32, out: &mut [u32]) -> u32
     ensures { count_after result out.new ≡ tree_check order levels store.now out.old }
 {
     if out.len() < CHECK_OUT {
@@ -42,14 +41,7 @@ pub extern "C" fn card_tree_check(store: &[u32], order: u32, levels: u32, out: &
     tell_check(out, c)
 }
 
-#[unsafe(no_mangle)]
-pub extern "C" fn card_tree_mend(
-    from: &[u32],
-    to: &mut [u32],
-    order: u32,
-    levels: u32,
-    out: &mut [u32],
-) -> u32
+pub fn card_tree_mend(from: &[u32], to: &mut [u32], order: u32, levels: u32, out: &mut [u32]) -> u32
     ensures { store_after_out result to.new out.new ≡ tree_mend order levels from.now to.old out.old }
 {
     if out.len() < 1 {

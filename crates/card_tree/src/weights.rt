@@ -11,8 +11,7 @@ use fair_model::{FairAnswer, Flow, Weight};
 use strip::{Length, Tag};
 
 // How many words a state has.
-#[unsafe(no_mangle)]
-pub extern "C" fn card_fair_words() -> usize
+pub fn card_fair_words() -> usize
     ensures { result ≡ fair_words }
 {
     STATE_WORDS
@@ -33,15 +32,13 @@ fn tell_served(out: &mut [u32], answer: FairAnswer) -> u32
     number(answer)
 }
 
-#[unsafe(no_mangle)]
-pub extern "C" fn card_fair_reset(state: &mut [u32], store: &[u32], order: u32, levels: u32) -> u32
+pub fn card_fair_reset(state: &mut [u32], store: &[u32], order: u32, levels: u32) -> u32
     ensures { fair_after result state.new store.now ≡ fair_reset order levels state.old store.now }
 {
     number(fair::reset(state, store, order as usize, levels as usize))
 }
 
-#[unsafe(no_mangle)]
-pub extern "C" fn card_fair_push(
+pub fn card_fair_push(
     state: &mut [u32],
     store: &mut [u32],
     order: u32,
@@ -65,8 +62,7 @@ pub extern "C" fn card_fair_push(
     ))
 }
 
-#[unsafe(no_mangle)]
-pub extern "C" fn card_fair_pop(
+pub fn card_fair_pop(
     state: &mut [u32],
     store: &mut [u32],
     order: u32,
@@ -82,8 +78,7 @@ pub extern "C" fn card_fair_pop(
     tell_served(out, answer)
 }
 
-#[unsafe(no_mangle)]
-pub extern "C" fn card_fair_held(store: &[u32], order: u32, levels: u32, out: &mut [u32]) -> u32
+pub fn card_fair_held(store: &[u32], order: u32, levels: u32, out: &mut [u32]) -> u32
     ensures { count_after result out.new ≡ fair_held order levels store.now out.old }
 {
     if out.len() < 1 {

@@ -1,6 +1,5 @@
 -- What the proofs of the calls share.
 pub mod Clocked
-pub mod Lends
 pub mod Zeros
 pub mod Pinned
 pub mod History

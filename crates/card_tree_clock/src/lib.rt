@@ -110,8 +110,7 @@ fn drain_told(
 
 // ---- the calls
 
-#[unsafe(no_mangle)]
-pub extern "C" fn card_clocked_clear(
+pub fn card_clocked_clear(
     store: &mut [u32],
     order: u32,
     levels: u32,
@@ -124,8 +123,7 @@ pub extern "C" fn card_clocked_clear(
     hand_back(records, ended)
 }
 
-#[unsafe(no_mangle)]
-pub extern "C" fn card_clocked_cycle(
+pub fn card_clocked_cycle(
     store: &mut [u32],
     order: u32,
     levels: u32,
@@ -156,8 +154,7 @@ pub extern "C" fn card_clocked_cycle(
     hand_back(records, ended)
 }
 
-#[unsafe(no_mangle)]
-pub extern "C" fn card_clocked_drain(
+pub fn card_clocked_drain(
     store: &mut [u32],
     order: u32,
     levels: u32,
@@ -173,8 +170,7 @@ pub extern "C" fn card_clocked_drain(
     hand_back(records, ended)
 }
 
-#[unsafe(no_mangle)]
-pub extern "C" fn card_clocked_held(store: &[u32], order: u32, levels: u32, out: &mut [u32]) -> u32
+pub fn card_clocked_held(store: &[u32], order: u32, levels: u32, out: &mut [u32]) -> u32
     ensures { count_after result out.new ≡ clocked_held order levels store.now out.old }
 {
     if out.len() < 1 {

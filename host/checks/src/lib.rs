@@ -6,7 +6,7 @@
 pub mod budget;
 pub mod table;
 
-use std::collections::BTreeMap;
+use std::collections::{BTreeMap, BTreeSet};
 use std::path::{Path, PathBuf};
 use std::process::{Command, Output};
 
@@ -29,7 +29,7 @@ fn made(variable: &str, usual: &str, by: &str) -> PathBuf {
 
 /// The trace program.
 pub fn play() -> PathBuf {
-    made("PLAY", "target/bin/play", "rt check play")
+    made("PLAY", "crates/play/out/play", "host/play.sh")
 }
 
 /// The static library, that for this machine where none is named.
@@ -117,20 +117,30 @@ pub fn text(path: &Path) -> String {
     std::fs::read_to_string(path).unwrap_or_else(|error| panic!("{}: {error}", path.display()))
 }
 
-/// The boundary crates, whose functions for C the header declares, and the text of each: what `host/lib.sh` makes the library of.
+/// What stands before the name of a function for C.
+pub const EXPORT: &str = "#[unsafe(no_mangle)]\npub extern \"C\" fn ";
+
+/// The text of the static library's crate, whose functions for C the header declares: what `host/lib.sh` makes the library of.
+pub fn exports() -> String {
+    source(&root().join("crates/card_c/src"))
+}
+
+/// The boundary crates, which the static libraries hand on to C: those with a public function of the name of an export. The text of each.
 pub fn boundary() -> BTreeMap<String, String> {
-    let header = text(&root().join(table::HEADER));
     let crates = std::fs::read_dir(root().join("crates")).expect("the crates").map(|entry| entry.unwrap().path());
     let named =
         crates.map(|folder| (folder.file_name().unwrap().to_string_lossy().into_owned(), source(&folder.join("src"))));
-    let exports = |text: &str| {
-        let functions = text.split("\n#[no_mangle]\npub extern \"C\" fn ").skip(1);
-        let mut names = functions.filter_map(|rest| rest.split(|c| "(<".contains(c)).next());
-        names.any(|name| {
-            header.contains(&format!("\nuint32_t {name}(")) || header.contains(&format!("\ncard_len {name}("))
-        })
-    };
-    named.filter(|(_, text)| exports(text)).collect()
+    let all: BTreeMap<String, String> = named.collect();
+    let exported: BTreeSet<&str> = all.values().flat_map(|text| behind(text, EXPORT)).collect();
+    let hands_on = |text: &str| behind(text, "pub fn ").any(|name| exported.contains(name));
+    all.iter().filter(|(_, text)| hands_on(text)).map(|(name, text)| (name.clone(), text.clone())).collect()
+}
+
+/// What stands in a text behind some words at the start of a line, up to a parenthesis.
+fn behind<'a>(text: &'a str, words: &'a str) -> impl Iterator<Item = &'a str> {
+    let at_a_line = move |(at, _): &(usize, &str)| *at == 0 || text.as_bytes()[*at - 1] == b'\n';
+    let found = text.match_indices(words).filter(at_a_line).map(move |(at, _)| &text[at + words.len()..]);
+    found.filter_map(|rest| rest.split('(').next())
 }
 
 /// The text of all modules of a crate's source, one after the other.

@@ -5,7 +5,7 @@
 //! header; the source's `usize`, of 64 bits, is `card_len` in C. The header's declarations are written from the list, to the byte.
 
 use checks::table::{calls, of_list, written, Call, Kind, HEADER, LIST};
-use checks::{boundary, root, text};
+use checks::{boundary, exports, root, text};
 use std::collections::{BTreeMap, BTreeSet};
 
 /// A function: its parameters as `name: type`, and what it answers.
@@ -115,8 +115,8 @@ fn of_source(text: &str) -> Result<Functions, String> {
         let (parameters, after) = to_the_end(after).ok_or("no closing parenthesis")?;
         // lifetimes are no part of what C sees
         let name = name.split('<').next().unwrap_or("").trim().to_string();
-        if !before.ends_with("#[no_mangle] pub") {
-            return Err(format!("{name} is not marked #[no_mangle] pub"));
+        if !before.ends_with("#[unsafe(no_mangle)] pub") {
+            return Err(format!("{name} is not marked #[unsafe(no_mangle)] pub"));
         }
         let answer = match after.trim_start().strip_prefix("->") {
             Some(after) => {
@@ -224,12 +224,8 @@ fn of_header(text: &str) -> Result<Functions, String> {
 
 #[test]
 fn header_declarations_and_source_agree() {
-    // every module of every crate that the library is made of
-    let crates = boundary();
-    let names = crates.keys().map(String::as_str).collect::<Vec<_>>().join(", ");
-    let paths = [HEADER, LIST, &format!("the source of {names}")];
-    let source = crates.into_values().collect::<Vec<_>>().join("\n");
-    let tables = [of_header(&text(&root().join(paths[0]))), Ok(of_calls(&calls())), of_source(&source)];
+    let paths = [HEADER, LIST, "the source of card_c"];
+    let tables = [of_header(&text(&root().join(paths[0]))), Ok(of_calls(&calls())), of_source(&exports())];
     let tables: Vec<Functions> =
         tables.into_iter().zip(paths).map(|(t, path)| t.unwrap_or_else(|e| panic!("{path}: {e}"))).collect();
     let names: BTreeSet<&String> = tables.iter().flat_map(|t| t.keys()).collect();
@@ -255,10 +251,30 @@ fn one_version() {
         found[0].trim().parse::<u32>().unwrap_or_else(|_| panic!("{path}: {} is no number", found[0]))
     };
     let number = |path: &str, before: &str, after: &str| number_in(path, &text(&root().join(path)), before, after);
-    let source = boundary().into_values().collect::<String>();
-    let version = number_in("the source", &source, "fn card_version() -> u32\n    ensures { λ r. ⌜ r ≡ ", " ⌝");
+    let version = number_in("card_c", &exports(), "fn card_version() -> u32\n    ensures { result ≡ ", " }");
     assert_eq!(number("host/card.h", "#define CARD_VERSION ", "u\n"), version);
     assert_eq!(number("host/card/src/lib.rs", "pub const VERSION: u32 = ", ";"), version);
+}
+
+/// A function from its name to its body: parameters, answer and clauses.
+fn stated(text: &str, before: &str, name: &str) -> Vec<String> {
+    let start = format!("\n{before}{name}(");
+    let starts = text.split(&start).skip(1);
+    starts.map(|rest| squeezed(rest.split("\n{").next().unwrap_or(""))).collect()
+}
+
+/// The static library states of each function what the boundary crates state of it, word for word, and they state it once.
+#[test]
+fn the_library_states_what_is_proved_below_it() {
+    let (library, below) = (exports(), boundary().into_values().collect::<Vec<_>>().join("\n"));
+    for name in of_source(&library).unwrap().keys() {
+        let (ours, theirs) = (stated(&library, "pub extern \"C\" fn ", name), stated(&below, "pub fn ", name));
+        assert!(ours.len() == 1 && ours[0].contains(" ensures "), "{name}: {ours:?}");
+        // a trailing comma is a matter of layout
+        let flat =
+            |all: Vec<String>| all.into_iter().map(|it| it.replace(", )", ")").replace("( ", "(")).collect::<Vec<_>>();
+        assert_eq!(flat(ours), flat(theirs), "{name}");
+    }
 }
 
 /// What the list's declarations would be stands in the header, to the byte, comments and all.

@@ -2,7 +2,7 @@
 //! with public functions, every edit that the prover must refuse is named, and every name and file in backticks is there. The names of
 //! the other pages that go by definitions are there too.
 
-use checks::{boundary, root, text};
+use checks::{boundary, root, text, EXPORT};
 use std::collections::{BTreeMap, BTreeSet};
 use std::path::Path;
 use std::sync::Mutex;
@@ -22,7 +22,9 @@ fn walk(folder: &Path, path: &str, files: &mut BTreeMap<String, String>) {
     for entry in std::fs::read_dir(folder).expect("a folder of crates/") {
         let entry = entry.unwrap();
         let name = format!("{path}{}", entry.file_name().to_string_lossy());
-        if entry.file_type().unwrap().is_dir() {
+        if name.ends_with("/out") {
+            // what rt makes
+        } else if entry.file_type().unwrap().is_dir() {
             walk(&entry.path(), &format!("{name}/"), files);
         } else {
             files.insert(name, String::from_utf8_lossy(&std::fs::read(entry.path()).unwrap()).into_owned());
@@ -175,10 +177,11 @@ fn told(wrong: &[String]) {
 fn public_functions_are_those_of_the_sources() {
     let (page, sources) = (page(), sources());
     let part = section(&page, "Every public function");
+    let boundary = boundary();
     let (mut wrong, mut listed) = (Vec::new(), Names::new());
     for row in rows(part) {
         let owner = words(row[0])[0].to_string();
-        if !boundary().contains_key(&owner) {
+        if !boundary.contains_key(&owner) {
             let named = words(row[1]).into_iter().filter(|word| !word.contains("::")).map(String::from).collect();
             differ(&format!("public functions of `{owner}`"), &named, &sources.public(&owner), &mut wrong);
         }
@@ -186,7 +189,8 @@ fn public_functions_are_those_of_the_sources() {
     }
     let helpers = part.split("\n\n").find(|text| text.starts_with("Helpers ")).expect("a list of helpers");
     let helpers = words(helpers.split(". ").next().unwrap()).into_iter().map(String::from).collect();
-    let others = |name: &String| !listed.contains(name) && !sources.public(name).is_empty();
+    let others =
+        |name: &String| !listed.contains(name) && !boundary.contains_key(name) && !sources.public(name).is_empty();
     differ("helpers", &helpers, &sources.crates().into_iter().filter(others).collect(), &mut wrong);
     told(&wrong);
 }
@@ -212,8 +216,7 @@ fn exported_functions_are_those_of_the_sources() {
             }
         }
     }
-    let exported = |name: &String| sources.behind(name, "#[no_mangle]\npub extern \"C\" fn ");
-    differ("static library", &named, &boundary().keys().flat_map(exported).collect(), &mut wrong);
+    differ("static library", &named, &sources.behind("card_c", EXPORT), &mut wrong);
     told(&wrong);
 }
 
@@ -229,7 +232,7 @@ fn every_edit_is_named() {
 
 /// A name as a declaration has it.
 fn is_name(word: &str) -> bool {
-    word.starts_with(char::is_alphabetic) && word.chars().all(|c| c.is_alphanumeric() || "_-′·".contains(c))
+    word.starts_with(char::is_alphabetic) && word.chars().all(|c| c.is_alphanumeric() || "_-'·".contains(c))
 }
 
 /// A text without what stands in its parentheses, up to one that closes nothing.

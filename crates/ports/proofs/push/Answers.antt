@@ -20,7 +20,7 @@ pub loop-d-preserved : goal.loop-d-preserved
 loop-d-preserved c =
     let inv = c.loop-d.invariant in
     let a = c.args in
-    elim c.if-d-s.branch [ then-d-s w ↦ (omega arith, omega arith, ap length w.bits-is ∙ w.push_at-answer.auto.bits ∙ inv.2, ap length w.words-is ∙ w.push_at-answer.auto.words ∙ inv.3, gone-here (call a.e a.s a.port) a.s.storeys _ _ _ _ _ _ _ _ _ _ _ _ inv.0 w.if-d-s.true inv.4 w.push_at-answer.ensures w.bits-is w.words-is w.answer-is) | else-d-s w ↦ (omega arith, omega arith, ap length w.1 ∙ inv.2, ap length w.2 ∙ inv.3, gone-on (call a.e a.s a.port) a.s.storeys _ _ _ _ _ _ _ _ _ w.if-d-s.false inv.4 w.1 w.2 w.3) ]
+    elim c.if-d-s.branch [ then-d-s w ↦ (omega arith, omega arith, ap length w.bits-is ∙ w.push_at-answer.auto.bits ∙ inv.2, ap length w.words-is ∙ w.push_at-answer.auto.words ∙ inv.3, gone-here (call a.e a.s a.port) a.s.storeys _ _ _ _ _ _ _ _ _ _ _ _ inv.0 w.if-d-s.true inv.4 w.push_at-answer.ensures w.bits-is w.words-is w.answer-is) | else-d-s w ↦ (omega arith, omega arith, ap length w.bits-is ∙ inv.2, ap length w.words-is ∙ inv.3, gone-on (call a.e a.s a.port) a.s.storeys _ _ _ _ _ _ _ _ _ w.if-d-s.false inv.4 w.bits-is w.words-is w.answer-is) ]
 
 pub shape_of-bits : goal.shape_of-bits
 shape_of-bits c = c.loop-d.invariant.2

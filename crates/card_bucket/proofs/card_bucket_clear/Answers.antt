@@ -1,0 +1,7 @@
+-- `card_bucket::card_bucket_clear` meets its contract.
+use Rattle.laws.specs.Prelude.{rules}
+use Rattle.card_bucket.proofs.Calls.{bucket-done}
+use Rattle.card_bucket.proofs.card_bucket_clear.Goals as goal
+
+pub returns : goal.returns
+returns c = bucket-done _ _ _ _ _ c.number.ensures c.clear.ensures

@@ -1,0 +1,10 @@
+-- `card_tree::card_tree_pop` meets its contract.
+use Rattle.laws.specs.Prelude.{rules}
+use Rattle.card_words.proofs.Store.{store-short, store_told}
+use Rattle.card_tree.proofs.card_tree_pop.Goals as goal
+
+pub returns-then-out-lt-OUT : goal.returns-then-out-lt-OUT
+returns-then-out-lt-OUT c = store-short _ _ _ c.if-out-lt-OUT.true
+
+pub returns : goal.returns
+returns c = store_told _ _ _ _ _ _ _ c.if-out-lt-OUT.false c.pop-answer.ensures c.tell.ensures
