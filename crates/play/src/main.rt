@@ -6,11 +6,11 @@
 #[cfg(test)]
 mod tests;
 
-ghost use Rattle.std.specs.Prelude.{◌≤◌, ◌≡◌, ltb, length, take, List, ℕ, IfOk, OnOk};
+ghost use Rattle.std.specs.Prelude.{◌≤◌, ◌≡◌, ltb, length, take, List, ℕ, Some, IfOk, IfErr, OnOk};
 ghost use Rattle.std.specs.Io.{ReadsAtMost};
 ghost use Rattle.std.specs.Io.KnownBytes.{Appends};
 ghost use Rattle.trace_model.specs.Format.{header_bytes};
-ghost use Rattle.play.specs.Input.{Gave, Took, WritesTrace};
+ghost use Rattle.play.specs.Input.{Gave, Took, WritesTrace, fault_text};
 ghost use Rattle.trace_model.specs.Play.{begun, Makes, out_bytes, piece_bytes, piece_run, program_lots};
 
 use std::fmt;
@@ -36,6 +36,8 @@ enum Fault {
 }
 
 impl fmt::Display for Fault {
+    ghost output = { λ fault. Some (fault_text fault) };
+
     fn fmt<W: fmt::Write>(&self, f: &mut fmt::Formatter<W>) -> fmt::Result {
         match self {
             Fault::Read => write!(f, "a read failed"),
@@ -47,6 +49,7 @@ impl fmt::Display for Fault {
 // Reads until the buffer is full or the input ends, and answers how many bytes were read.
 fn fill<R: Read>(input: &mut R, buf: &mut [u8]) -> Result<usize, Fault>
     ensures bound { ReadsAtMost result buf.new }
+    ensures fault { IfErr result (λ fault. fault ≡ Fault.Read) }
     ensures took { IfOk result (λ n. Took (length buf.new) (R.remaining input.old) (R.remaining input.new) (take n buf.new)) }
 {
     let mut bytes = 0;
@@ -62,7 +65,8 @@ fn fill<R: Read>(input: &mut R, buf: &mut [u8]) -> Result<usize, Fault>
 
 // Writes all the lines.
 fn put<W: Write>(output: &mut W, lines: &[u8]) -> Result<(), Fault>
-    ensures { OnOk result (Appends (W.contents output.old) (W.contents output.new) lines.now) }
+    ensures fault { IfErr result (λ fault. fault ≡ Fault.Write) }
+    ensures text { OnOk result (Appends (W.contents output.old) (W.contents output.new) lines.now) }
 {
     output.write_all(lines).map_err(|_| Fault::Write)
 }
