@@ -1,5 +1,6 @@
 -- A plain list of ranks, the lowest first: what "lower rank leaves first" comes to where nothing is refused; and with its refusals, where it has room for so many.
-use Rattle.laws.specs.Prelude.{All, Answer, Idle, List, Pop, Push, Replace, Request, [], ◌∷◌, ◌≡◌, cond, eqb, length, ltb, number_of, rank_of, suc, untagged, zero, ℕ}
+use Rattle.std.specs.Prelude.{◌∷◌, ◌≡◌}
+use Rattle.laws.specs.Prelude.{All, Answer, Idle, List, Pop, Push, Replace, Request, [], cond, eqb, length, ltb, number_of, rank_of, suc, untagged, zero, ℕ}
 use Rattle.promise.specs.Prelude.{Step, step}
 
 unfoldable pub insert : ℕ → List ℕ → List ℕ

@@ -1,5 +1,5 @@
 -- What the calls ask of a layout. These are definitions.
-use Rattle.laws.specs.Prelude.{◌≤◌}
+use Rattle.std.specs.Prelude.{◌≤◌}
 use Rattle.bucket_model.specs.declared.Lay.{Lay}
 use Rattle.bucket_model.specs.Prelude.{Laid, bit_words}
 

@@ -1,5 +1,6 @@
 -- What the functions on the bits ask of their callers, and what they promise. These are definitions.
-use Rattle.laws.specs.Prelude.{Bool, Bool·beq, List, [], ◌%◌, ◌&&◌, ◌+◌, ◌/◌, ◌<◌, ◌^◌, ◌∷◌, ◌≡◌, ◌≤◌, cond, eqb, false, length, not, true, ℕ}
+use Rattle.std.specs.Prelude.{◌%◌, ◌&&◌, ◌+◌, ◌/◌, ◌<◌, ◌^◌, ◌∷◌, ◌≡◌, ◌≤◌}
+use Rattle.laws.specs.Prelude.{Bool, Bool·beq, List, [], cond, eqb, false, length, not, true, ℕ}
 use Rattle.bitmap.specs.Bits.{bit_at}
 use Rattle.bucket_model.specs.Prelude.{Storey, agree, bit_for, bit_no, edit, find, opens, storeys_from, switched, tells_above, word, word_of, words_of}
 use Rattle.bucket_bits.specs.declared.Climb.{Climb}

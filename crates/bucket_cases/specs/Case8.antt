@@ -1,5 +1,6 @@
 -- Case 8 of the paper as a list of requests and the answers that it wants. These are definitions.
-use Rattle.laws.specs.Prelude.{Answer, BadRank, Done, Empty, Full, List, Out, Pop, Push, Refused, Request, [], ◌∷◌, element}
+use Rattle.std.specs.Prelude.{◌∷◌}
+use Rattle.laws.specs.Prelude.{Answer, BadRank, Done, Empty, Full, List, Out, Pop, Push, Refused, Request, [], element}
 
 -- "Bucket, N = 3: push 7/1, 7/2, 4095/3; push 0/4 refused 5; 4096/4 refused 4; pops 7/1, 7/2, 4095/3, then 6"
 abbrev pub case8 : List Request

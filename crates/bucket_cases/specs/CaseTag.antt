@@ -1,5 +1,6 @@
 -- Elements without a tag in the bucket queue, as lists of requests and the answers that they want. These are definitions.
-use Rattle.laws.specs.Prelude.{Answer, BadRank, Damaged, Done, Empty, Full, List, NoTag, Out, Pop, Push, Refused, Replace, Request, [], ◌∷◌, element, replicate}
+use Rattle.std.specs.Prelude.{◌∷◌}
+use Rattle.laws.specs.Prelude.{Answer, BadRank, Damaged, Done, Empty, Full, List, NoTag, Out, Pop, Push, Refused, Replace, Request, [], element, replicate}
 use Rattle.bucket_model.specs.Prelude.{Store, store}
 
 -- N = 3, cleared: 4 comes before 7, and 7 before 6 and 5; rank 0 is a rank like any other

@@ -1,5 +1,6 @@
 -- The words that a few calls leave, to read off. These are definitions.
-use Rattle.laws.specs.Prelude.{Answer, Done, List, Out, Pop, Push, Replace, Request, [], ◌*◌, ◌++◌, ◌+◌, ◌∷◌, element, map, replicate, ℕ}
+use Rattle.std.specs.Prelude.{◌*◌, ◌++◌, ◌+◌, ◌∷◌}
+use Rattle.laws.specs.Prelude.{Answer, Done, List, Out, Pop, Push, Replace, Request, [], element, map, replicate, ℕ}
 use Rattle.bucket_model.specs.Prelude.{Store, after, ask, queue, start}
 
 -- what requests leave of slices of nines, each one word longer than it need be, that were cleared for n nodes

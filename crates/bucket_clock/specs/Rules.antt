@@ -1,5 +1,6 @@
 -- What a request comes to, and what held says. These are definitions.
-use Rattle.laws.specs.Prelude.{Count, Done, Idle, List, Pop, Push, Refused, Replace, Request, ◌<◌, ◌≡◌, ℕ}
+use Rattle.std.specs.Prelude.{◌<◌, ◌≡◌}
+use Rattle.laws.specs.Prelude.{Count, Done, Idle, List, Pop, Push, Refused, Replace, Request, ℕ}
 use Rattle.promise.specs.Prelude.{Ruling, decided, ruling}
 use Rattle.bucket_model.specs.declared.Lay.{Lay}
 use Rattle.bucket_clock_model.specs.Clock.{late_table}

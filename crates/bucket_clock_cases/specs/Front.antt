@@ -1,5 +1,6 @@
 -- The rules' table of the front, on its words, to be computed. These are definitions.
-use Rattle.laws.specs.Prelude.{Answer, Done, Idle, List, Out, Pop, Push, Replace, Request, [], ◌∷◌, element, replicate, ℕ}
+use Rattle.std.specs.Prelude.{◌∷◌}
+use Rattle.laws.specs.Prelude.{Answer, Done, Idle, List, Out, Pop, Push, Replace, Request, [], element, replicate, ℕ}
 use Rattle.bucket_clock_model.specs.declared.Waiting.{Waiting}
 use Rattle.bucket_clock_model.specs.Desk.{desk, no_work, waiting}
 use Rattle.bucket_model.specs.Prelude.{filled, queue}

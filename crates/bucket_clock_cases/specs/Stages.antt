@@ -1,6 +1,7 @@
 -- The rules' table of stages, to be computed: what leaves, and every word that is not 0, cycle by cycle; and the counts' places in plain numbers. These
 -- are definitions.
-use Rattle.laws.specs.Prelude.{Done, Idle, List, Pop, Push, Replace, Request, [], ◌∷◌, element, replicate, ℕ}
+use Rattle.std.specs.Prelude.{◌∷◌}
+use Rattle.laws.specs.Prelude.{Done, Idle, List, Pop, Push, Replace, Request, [], element, replicate, ℕ}
 use Rattle.bucket_model.specs.Prelude.{filled, queue}
 use Rattle.promise.specs.Prelude.{leaves}
 use Rattle.bucket_clock_model.specs.declared.Maybe.{Maybe}

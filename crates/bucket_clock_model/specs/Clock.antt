@@ -1,5 +1,6 @@
 -- The bucket queue by clock cycles, over its pipeline: what a request is answered, and what leaves. These are definitions.
-use Rattle.laws.specs.Prelude.{All, Answer, BadRank, Done, Element, Idle, List, Out, Pop, Push, Refused, Replace, Request, [], ◌<◌, ◌∷◌, ◌≡◌, length, ltb, number_of, pred, suc, ℕ}
+use Rattle.std.specs.Prelude.{◌<◌, ◌∷◌, ◌≡◌}
+use Rattle.laws.specs.Prelude.{All, Answer, BadRank, Done, Element, Idle, List, Out, Pop, Push, Refused, Replace, Request, [], length, ltb, number_of, pred, suc, ℕ}
 use Rattle.bucket_model.specs.declared.Lay.{Lay}
 use Rattle.bucket_model.specs.Prelude.{Said, Sorted, answered, ask, counted, plain}
 use Rattle.promise.specs.Prelude.{Step, Table, decided, last_table, needs, step}

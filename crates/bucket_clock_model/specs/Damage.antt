@@ -1,5 +1,6 @@
 -- "A cycle is damaged exactly if a test fails": what D1 to D5 ask, in facts. These are definitions.
-use Rattle.laws.specs.Prelude.{Bool, Idle, Iff, List, Pop, Push, Replace, Request, ◌+◌, ◌<◌, ◌≡◌, ◌≤◌, false, length, suc, true, zero, ℕ}
+use Rattle.std.specs.Prelude.{◌+◌, ◌<◌, ◌≡◌, ◌≤◌}
+use Rattle.laws.specs.Prelude.{Bool, Idle, Iff, List, Pop, Push, Replace, Request, false, length, suc, true, zero, ℕ}
 use Rattle.bucket_model.specs.Prelude.{Shaped, Storey, bit_no, head_at, next_of, storey, tail_at, word}
 use Rattle.bucket_model.specs.declared.Lay.{Lay}
 use Rattle.bucket_clock_model.specs.declared.Maybe.{Maybe}

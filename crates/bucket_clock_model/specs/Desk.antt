@@ -1,7 +1,8 @@
 -- The clocked bucket queue on its words: its stages and its calls, as functions of every word that they are lent to what they answer and every word that
 -- they leave.
 -- These are definitions, and the contracts cite them.
-use Rattle.laws.specs.Prelude.{Answer, BadShape, Bool, Count, Damaged, Done, Held, Idle, List, Pop, Push, Refusal, Refused, Replace, Request, Unknown, ◌&&◌, ◌*◌, cond, get_or, leb, length, pred, replicate, set, suc, true, zero, ℕ}
+use Rattle.std.specs.Prelude.{◌&&◌, ◌*◌}
+use Rattle.laws.specs.Prelude.{Answer, BadShape, Bool, Count, Damaged, Done, Held, Idle, List, Pop, Push, Refusal, Refused, Replace, Request, Unknown, cond, get_or, leb, length, pred, replicate, set, suc, true, zero, ℕ}
 use Rattle.bucket_model.specs.Prelude.{Storey, bit_words, blank_word, fill, shape_ok, store_words, storey, word}
 use Rattle.bucket_model.specs.declared.Lay.{Lay}
 use Rattle.promise.specs.Prelude.{Ruling, Step, decided, ruling, step}

@@ -1,5 +1,6 @@
 -- The bucket stage on the words: the writes of one at a time, but for the held count, which changes in the request's own cycle. These are definitions.
-use Rattle.laws.specs.Prelude.{Bool, Bool·beq, Element, List, Request, [], ◌&&◌, ◌++◌, ◌∷◌, eqb, false, leb, ltb, not, true, ℕ}
+use Rattle.std.specs.Prelude.{◌&&◌, ◌++◌, ◌∷◌}
+use Rattle.laws.specs.Prelude.{Bool, Bool·beq, Element, List, Request, [], eqb, false, leb, ltb, not, true, ℕ}
 use Rattle.bucket_model.specs.Prelude.{head_at, link_at, load_in, load_of, load_writes, loaded, lowest_in, next_at, next_of, no_load, tail_at, tail_left, word, write}
 use Rattle.bucket_model.specs.declared.Lay.{Lay}
 use Rattle.bucket_clock_model.specs.declared.Maybe.{Maybe}

@@ -1,5 +1,6 @@
 -- Lists of elements: what is taken and what is placed, how many pass a test; and a way, on which what joins it arrives later. These are definitions.
-use Rattle.laws.specs.Prelude.{Bool, Element, Idle, List, Pop, Push, Replace, Request, [], ◌++◌, ◌+◌, ◌∷◌, false, suc, true, zero, ℕ}
+use Rattle.std.specs.Prelude.{◌++◌, ◌+◌, ◌∷◌}
+use Rattle.laws.specs.Prelude.{Bool, Element, Idle, List, Pop, Push, Replace, Request, [], false, suc, true, zero, ℕ}
 use Rattle.bucket_model.specs.Prelude.{insert}
 use Rattle.promise.specs.Prelude.{hit}
 use Rattle.bucket_clock_model.specs.declared.Maybe.{Maybe}

@@ -1,6 +1,7 @@
 -- The storeys as a pipeline, to any depth: each a stage with its counts, and behind each the operation that waits for the next. Behind the last are the
 -- buckets. These are definitions.
-use Rattle.laws.specs.Prelude.{Bool, Element, Idle, List, Request, [], ◌*◌, ◌++◌, ◌/◌, ◌∷◌, ◌≡◌, cond, eqb, false, pred, suc, true, upd, zero, ℕ}
+use Rattle.std.specs.Prelude.{◌*◌, ◌++◌, ◌/◌, ◌∷◌, ◌≡◌}
+use Rattle.laws.specs.Prelude.{Bool, Element, Idle, List, Request, [], cond, eqb, false, pred, suc, true, upd, zero, ℕ}
 use Rattle.bucket_model.specs.Prelude.{Sorted, of_rank}
 use Rattle.promise.specs.Prelude.{Step, step}
 use Rattle.bucket_clock_model.specs.declared.Maybe.{Maybe}

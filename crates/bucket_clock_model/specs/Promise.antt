@@ -1,7 +1,8 @@
 -- What is promised of the clocked bucket queue is said in these words: what a refused cycle leaves, the table of refusals, and the promises (1) to (5)
 -- against the bucket queue of one
 -- operation at a time. These are definitions.
-use Rattle.laws.specs.Prelude.{BadShape, Bool, Damaged, Element, Idle, List, Refusal, Refused, Request, [], ◌*◌, ◌++◌, ◌+◌, ◌-◌, ◌<◌, ◌^◌, ◌∷◌, ◌≡◌, ◌≤◌, cond, leb, length, map, number_of, replicate, runs_idle, suc, zero, ℕ}
+use Rattle.std.specs.Prelude.{◌*◌, ◌++◌, ◌+◌, ◌-◌, ◌<◌, ◌^◌, ◌∷◌, ◌≡◌, ◌≤◌}
+use Rattle.laws.specs.Prelude.{BadShape, Bool, Damaged, Element, Idle, List, Refusal, Refused, Request, [], cond, leb, length, map, number_of, replicate, runs_idle, suc, zero, ℕ}
 use Rattle.bucket_model.specs.Prelude.{Store, ask, bit_words, held_count, of_rank, queue, said_number, says, start, store_words, stored, storey, times, word, words_of}
 use Rattle.bucket_model.specs.declared.Lay.{Lay}
 use Rattle.bucket_model.specs.Plain as stores

@@ -1,5 +1,6 @@
 -- A storey on the words: its bits, a count for each bit, and its tests. These are definitions.
-use Rattle.laws.specs.Prelude.{Bool, Bool·beq, List, Request, ◌%◌, ◌&&◌, ◌*◌, ◌+◌, ◌-◌, ◌/◌, ◌^◌, eqb, false, leb, ltb, not, pred, set, suc, true, zero, ℕ}
+use Rattle.std.specs.Prelude.{◌%◌, ◌&&◌, ◌*◌, ◌+◌, ◌-◌, ◌/◌, ◌^◌}
+use Rattle.laws.specs.Prelude.{Bool, Bool·beq, List, Request, eqb, false, leb, ltb, not, pred, set, suc, true, zero, ℕ}
 use Rattle.std.specs.Int.Count.{count_trailing_zeros}
 use Rattle.bucket_model.specs.declared.Lay.{Lay}
 use Rattle.bucket_model.specs.Prelude.{Storey, bit_of, word}

@@ -1,5 +1,6 @@
 -- What the buckets' functions ask of their callers, and what is found. These are definitions.
-use Rattle.laws.specs.Prelude.{Bool, List, ◌≡◌, true, ℕ}
+use Rattle.std.specs.Prelude.{◌≡◌}
+use Rattle.laws.specs.Prelude.{Bool, List, true, ℕ}
 use Rattle.bucket_model.specs.declared.Lay.{Lay}
 use Rattle.bucket_model.specs.declared.Lowest.{Lowest}
 use Rattle.bucket_model.specs.Prelude.{head_at, next_of, tail_at, word}

@@ -1,5 +1,6 @@
 -- What the stages ask of their callers. These are definitions.
-use Rattle.laws.specs.Prelude.{◌≤◌, ℕ}
+use Rattle.std.specs.Prelude.{◌≤◌}
+use Rattle.laws.specs.Prelude.{ℕ}
 use Rattle.bucket_model.specs.declared.Lay.{Lay}
 use Rattle.bucket_model.specs.Prelude.{Laid, bit_words, pool, store_words}
 use Rattle.bucket_clock_model.specs.Desk.{count_words, record_count}

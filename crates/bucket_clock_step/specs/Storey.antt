@@ -1,5 +1,6 @@
 -- What a storey's functions ask of their callers, and what its work leaves. These are definitions.
-use Rattle.laws.specs.Prelude.{◌*◌, ◌+◌, ◌<◌, ◌≡◌, ◌≤◌, true, ℕ}
+use Rattle.std.specs.Prelude.{◌*◌, ◌+◌, ◌<◌, ◌≡◌, ◌≤◌}
+use Rattle.laws.specs.Prelude.{true, ℕ}
 use Rattle.bucket_model.specs.declared.Lay.{Lay}
 use Rattle.bucket_model.specs.Prelude.{Storey, bit_no, pool, word}
 use Rattle.bucket_clock_model.specs.declared.Waiting.{Waiting}

@@ -1,5 +1,6 @@
 -- The five calls as functions of every word that they are lent, to their answer and every word that they leave, wherever these words stand. These are definitions, and the contracts cite them.
-use Rattle.laws.specs.Prelude.{Answer, BadRank, BadShape, Bool, Count, Damaged, Done, Element, Empty, Full, Held, List, NoTag, Out, Refusal, Refused, Unknown, [], ◌%◌, ◌&&◌, ◌++◌, ◌+◌, ◌-◌, ◌/◌, ◌∷◌, cond, eqb, false, length, ltb, not, suc, true, untagged, zero, ℕ}
+use Rattle.std.specs.Prelude.{◌%◌, ◌&&◌, ◌++◌, ◌+◌, ◌-◌, ◌/◌, ◌∷◌}
+use Rattle.laws.specs.Prelude.{Answer, BadRank, BadShape, Bool, Count, Damaged, Done, Element, Empty, Full, Held, List, NoTag, Out, Refusal, Refused, Unknown, [], cond, eqb, false, length, ltb, not, suc, true, untagged, zero, ℕ}
 use Rattle.bucket_model.specs.Layout.{Lay, load_words, node_words, bit_words, store_words, word, write, head_at, tail_at, next_at, load_in, load_writes, load_of, loaded, no_load}
 use Rattle.bucket_model.specs.Storeys.{signalled, lowest_rank, lowest_open, rank_agrees}
 use Rattle.bucket_model.specs.Checks.{shape_ok, whole_ok, next_of, pop_ok, Reads, push_ok}

@@ -1,5 +1,6 @@
 -- The table "When a queue says no" in facts: what a sound call may count on, and for each call what it asks in turn, with the refusal where it does not hold. These are definitions.
-use Rattle.laws.specs.Prelude.{BadRank, BadShape, Count, Damaged, Element, Empty, Full, Idle, Iff, List, NoTag, Pop, Push, Refusal, Replace, Request, Unknown, [], ◌%◌, ◌+◌, ◌/◌, ◌<◌, ◌∷◌, ◌≡◌, ◌≤◌, count_number, eqb, fine, length, ltb, not, number_of, untagged, ℕ}
+use Rattle.std.specs.Prelude.{◌%◌, ◌+◌, ◌/◌, ◌<◌, ◌∷◌, ◌≡◌, ◌≤◌}
+use Rattle.laws.specs.Prelude.{BadRank, BadShape, Count, Damaged, Element, Empty, Full, Idle, Iff, List, NoTag, Pop, Push, Refusal, Replace, Request, Unknown, [], count_number, eqb, fine, length, ltb, not, number_of, untagged, ℕ}
 use Rattle.laws.specs.Ladder as laws
 use Rattle.bitmap.specs.Bits.{bit_at}
 use Rattle.promise.specs.Prelude.{Table, Untagged, ends, grants, ladder, needs}

@@ -1,5 +1,6 @@
 -- What a call tests, as computed yes or no. Causes.antt says the same in facts. These are definitions.
-use Rattle.laws.specs.Prelude.{Bool, Bool·beq, List, ◌&&◌, ◌+◌, cond, eqb, leb, ltb, not, ℕ}
+use Rattle.std.specs.Prelude.{◌&&◌, ◌+◌}
+use Rattle.laws.specs.Prelude.{Bool, Bool·beq, List, cond, eqb, leb, ltb, not, ℕ}
 use Rattle.bucket_model.specs.Layout.{Lay, pool, least_storeys, most_storeys, bit_words, word, next_at}
 pub use Rattle.bucket_model.specs.declared.Reads.{Reads}
 

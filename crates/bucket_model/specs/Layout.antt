@@ -1,5 +1,6 @@
 -- Where a bucket queue's words stand, as a value; what a node carries; and the queue of a store of its own, two storeys deep or three. These are definitions.
-use Rattle.laws.specs.Prelude.{Element, List, [], ◌*◌, ◌+◌, ◌-◌, ◌<◌, ◌^◌, ◌∷◌, ◌≡◌, ◌≤◌, element, get_or, set, suc, zero, ℕ}
+use Rattle.std.specs.Prelude.{◌*◌, ◌+◌, ◌-◌, ◌<◌, ◌^◌, ◌∷◌, ◌≡◌, ◌≤◌}
+use Rattle.laws.specs.Prelude.{Element, List, [], element, get_or, set, suc, zero, ℕ}
 pub use Rattle.bucket_model.specs.declared.Lay.{Lay}
 
 -- the word at a place

@@ -1,5 +1,6 @@
 -- The plain queue, one list in leaving order, and lists of calls on it and on the words. These are definitions.
-use Rattle.laws.specs.Prelude.{All, Answer, BadRank, Bool, Count, Done, Element, Empty, Full, Held, Idle, List, NoTag, Out, Pop, Push, Refused, Replace, Request, [], ◌++◌, ◌+◌, ◌∷◌, ◌≡◌, ◌≤◌, cond, count_number, element_of, eqb, length, ltb, not, number_of, replicate, suc, untagged, zero, ℕ}
+use Rattle.std.specs.Prelude.{◌++◌, ◌+◌, ◌∷◌, ◌≡◌, ◌≤◌}
+use Rattle.laws.specs.Prelude.{All, Answer, BadRank, Bool, Count, Done, Element, Empty, Full, Held, Idle, List, NoTag, Out, Pop, Push, Refused, Replace, Request, [], cond, count_number, element_of, eqb, length, ltb, not, number_of, replicate, suc, untagged, zero, ℕ}
 use Rattle.bucket_model.specs.Layout.{Lay, bit_words, store_words, word, head_at, tail_at, next_in, Load, load_in, loaded}
 use Rattle.bucket_model.specs.Calls.{Outcome, outcome, cleared, pushed, popped, replaced, held_count}
 use Rattle.bucket_model.specs.Causes.{Shaped}

@@ -1,5 +1,6 @@
 -- What is promised of the bucket queue's words, beside the plain queue. These are definitions.
-use Rattle.laws.specs.Prelude.{All, Answer, Bool, Done, Element, Iff, List, Pop, Request, [], ◌%◌, ◌*◌, ◌+◌, ◌/◌, ◌<◌, ◌∷◌, ◌≡◌, ◌≤◌, length, map, ℕ}
+use Rattle.std.specs.Prelude.{◌%◌, ◌*◌, ◌+◌, ◌/◌, ◌<◌, ◌∷◌, ◌≡◌, ◌≤◌}
+use Rattle.laws.specs.Prelude.{All, Answer, Bool, Done, Element, Iff, List, Pop, Request, [], length, map, ℕ}
 use Rattle.bitmap.specs.Bits.{bit_at}
 use Rattle.promise.specs.Queue as served
 use Rattle.promise.specs.Prelude.{short, short_answer, short_request}

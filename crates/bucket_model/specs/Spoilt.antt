@@ -1,5 +1,6 @@
 -- One spoilt word for each damage test of 01, in a small store: what the calls say then, in 01's numbers. These are definitions.
-use Rattle.laws.specs.Prelude.{List, Pop, Push, Replace, Request, [], ◌∷◌, ◌≡◌, count_number, element, map, number_of, replicate, set, ℕ}
+use Rattle.std.specs.Prelude.{◌∷◌, ◌≡◌}
+use Rattle.laws.specs.Prelude.{List, Pop, Push, Replace, Request, [], count_number, element, map, number_of, replicate, set, ℕ}
 use Rattle.bucket_model.specs.Layout.{Lay, lay_of, words_of, write}
 use Rattle.bucket_model.specs.Calls.{held_count}
 use Rattle.bucket_model.specs.Plain.{Store, store, asked}

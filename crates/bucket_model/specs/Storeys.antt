@@ -1,5 +1,6 @@
 -- The bits, as storeys of words above one another to any depth. These are definitions.
-use Rattle.laws.specs.Prelude.{Bool, Bool·beq, List, [], ◌%◌, ◌&&◌, ◌*◌, ◌+◌, ◌-◌, ◌/◌, ◌^◌, ◌∷◌, cond, eqb, false, not, set, suc, true, zero, ℕ}
+use Rattle.std.specs.Prelude.{◌%◌, ◌&&◌, ◌*◌, ◌+◌, ◌-◌, ◌/◌, ◌^◌, ◌∷◌}
+use Rattle.laws.specs.Prelude.{Bool, Bool·beq, List, [], cond, eqb, false, not, set, suc, true, zero, ℕ}
 use Rattle.std.specs.Int.Count.{count_trailing_zeros}
 use Rattle.bitmap.specs.Bits.{bit_at}
 use Rattle.bucket_model.specs.Layout.{Lay, word, words_of}

@@ -1,5 +1,6 @@
 -- What the functions on the words ask of their callers. These are definitions.
-use Rattle.laws.specs.Prelude.{List, ◌<◌, ◌≡◌, ◌≤◌, length, ℕ}
+use Rattle.std.specs.Prelude.{◌<◌, ◌≡◌, ◌≤◌}
+use Rattle.laws.specs.Prelude.{List, length, ℕ}
 use Rattle.bucket_model.specs.declared.Lay.{Lay}
 use Rattle.bucket_model.specs.declared.Lowest.{Lowest}
 use Rattle.bucket_model.specs.declared.Room.{Room}

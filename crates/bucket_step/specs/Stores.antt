@@ -1,5 +1,6 @@
 -- What the writes ask of a store. These are definitions.
-use Rattle.laws.specs.Prelude.{List, ◌<◌, ◌^◌, eqb, true, ℕ}
+use Rattle.std.specs.Prelude.{◌<◌, ◌^◌}
+use Rattle.laws.specs.Prelude.{List, eqb, true, ℕ}
 use Rattle.bucket_model.specs.declared.Lay.{Lay}
 use Rattle.bucket_model.specs.declared.Lowest.{Lowest}
 use Rattle.bucket_model.specs.declared.Room.{Room}

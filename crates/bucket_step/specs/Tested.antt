@@ -1,5 +1,6 @@
 -- What the functions ask of their callers, and what they promise. These are definitions.
-use Rattle.laws.specs.Prelude.{Bool, Bool·beq, List, ◌&&◌, ◌+◌, ◌<◌, ◌≡◌, ◌≤◌, eqb, false, leb, not, true, ℕ}
+use Rattle.std.specs.Prelude.{◌&&◌, ◌+◌, ◌<◌, ◌≡◌, ◌≤◌}
+use Rattle.laws.specs.Prelude.{Bool, Bool·beq, List, eqb, false, leb, not, true, ℕ}
 use Rattle.bucket_model.specs.declared.Lay.{Lay}
 use Rattle.bucket_model.specs.declared.Lowest.{Lowest}
 use Rattle.bucket_model.specs.declared.Room.{Room}

@@ -1,6 +1,7 @@
 -- Calls through C in plain numbers. The stores of the bucket queue and of the ports are thousands of words long: their rows are in `card_cases`. These are definitions;
 -- the claim over the rows is in proofs/.
-use Rattle.laws.specs.Prelude.{List, [], ◌∷◌}
+use Rattle.std.specs.Prelude.{◌∷◌}
+use Rattle.laws.specs.Prelude.{List, []}
 use Rattle.bucket_model.specs.Prelude.{filled}
 use Rattle.card_bucket.specs.Bucket.{BucketAfter, BucketAfterOut}
 use Rattle.card_bucket.specs.Ports.{ports_bits, ports_words}

@@ -1,6 +1,7 @@
 -- The calls of the clocked bucket queue as C sees them: total functions of all numbers, words and records handed in, to the number returned and all words
 -- and records afterwards.
-use Rattle.laws.specs.Prelude.{Element, List, ◌&&◌, blank, cond, has_run, leb, length, number_of, set, ℕ}
+use Rattle.std.specs.Prelude.{◌&&◌}
+use Rattle.laws.specs.Prelude.{Element, List, blank, cond, has_run, leb, length, number_of, set, ℕ}
 use Rattle.card_words.specs.Asked.{request_of}
 use Rattle.card_words.specs.Out.{bad_shape, CountAfter, count_answered}
 use Rattle.bucket_model.specs.Prelude.{depth_ok, queue}

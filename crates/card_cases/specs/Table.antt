@@ -1,5 +1,6 @@
 -- The bucket queue's and the ports' calls through C in plain numbers, and the table of all families. These are definitions; the claim is in proofs/.
-use Rattle.laws.specs.Prelude.{List, [], ◌++◌, ◌∷◌, replicate, ℕ}
+use Rattle.std.specs.Prelude.{◌++◌, ◌∷◌}
+use Rattle.laws.specs.Prelude.{List, [], replicate, ℕ}
 use Rattle.card_bucket.specs.Bucket.{bucket_clear, bucket_held, bucket_pop, bucket_push, bucket_replace}
 use Rattle.card_bucket.specs.Cases as bucket
 use Rattle.card_bucket.specs.Cases.{bucket_got, bucket_out_got}

@@ -1,5 +1,6 @@
 -- Lists of calls through C, each on what the one before left: what a call answers is the number returned and `out`. These are definitions.
-use Rattle.laws.specs.Prelude.{Answer, Bool, Element, List, Refusal, Request, [], ◌∷◌, ◌≡◌, cond, eqb, number_of, refusal_number, ℕ}
+use Rattle.std.specs.Prelude.{◌∷◌, ◌≡◌}
+use Rattle.laws.specs.Prelude.{Answer, Bool, Element, List, Refusal, Request, [], cond, eqb, number_of, refusal_number, ℕ}
 use Rattle.bucket_model.specs.Prelude.{Said, Store, answered, ask, store}
 use Rattle.card_bucket.specs.Bucket.{bucket_pop, bucket_push, bucket_replace}
 use Rattle.card_cluster.specs.ClockedCluster.{clocked_cluster_cycle, clocked_cluster_drain}

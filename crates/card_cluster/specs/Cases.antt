@@ -1,6 +1,7 @@
 -- Calls through C in plain numbers: the number returned, the words left and the words of `out`, with rank, tag and length all different (5, 50, 500). These are
 -- definitions; the claim over the rows is in proofs/.
-use Rattle.laws.specs.Prelude.{List, [], ◌++◌, ◌∷◌, replicate, ℕ}
+use Rattle.std.specs.Prelude.{◌++◌, ◌∷◌}
+use Rattle.laws.specs.Prelude.{List, [], replicate, ℕ}
 use Rattle.bucket_model.specs.Prelude.{filled}
 use Rattle.card_cluster.specs.ClockedCluster.{ClockedClusterAfter, ClockedClusterAfterOut, clocked_cluster_clear, clocked_cluster_cycle, clocked_cluster_drain, clocked_cluster_held}
 use Rattle.card_cluster.specs.Cluster.{cluster_clear, cluster_held, cluster_pop, cluster_push, cluster_replace}

@@ -1,6 +1,7 @@
 -- The calls of the clocked cluster heap as C sees them: total functions of all numbers, words and records handed in, to the number returned and all words
 -- and records afterwards.
-use Rattle.laws.specs.Prelude.{BadShape, List, Refused, ◌&&◌, cond, false, leb, length, number_of, ℕ}
+use Rattle.std.specs.Prelude.{◌&&◌}
+use Rattle.laws.specs.Prelude.{BadShape, List, Refused, cond, false, leb, length, number_of, ℕ}
 use Rattle.card_words.specs.Out.{drain_out, answer_out, answer_words, bad_shape, CountAfter, count_answered, drain_words, refused_out}
 use Rattle.card_words.specs.Asked.{request_of}
 use Rattle.cluster_clock_model.specs.Prelude.{CycleOutcome, DrainOutcome, clock_held}

@@ -1,6 +1,7 @@
 -- Calls through C in plain numbers: for each the number returned, every word of the store and every word of `out`, with rank, tag and length all different (5, 50, 500); and
 -- a list of calls, each on what the one before left. These are definitions; the claims are in proofs/.
-use Rattle.laws.specs.Prelude.{List, [], ◌++◌, ◌∷◌, element, replicate, ℕ}
+use Rattle.std.specs.Prelude.{◌++◌, ◌∷◌}
+use Rattle.laws.specs.Prelude.{List, [], element, replicate, ℕ}
 use Rattle.card_packed.specs.Packed.{packed_clear, packed_held, packed_pop, packed_push, packed_replace, packed_words}
 use Rattle.card_packed.specs.Through.{HeapAsk, at, packed_c}
 use Rattle.card_words.specs.Heard.{pop, push, replace}

@@ -1,6 +1,7 @@
 -- Calls through C in plain numbers: the number returned, the words left and the words of `out`, with rank, tag and length all different (5, 50, 500). These are
 -- definitions; the claim over the rows is in proofs/.
-use Rattle.laws.specs.Prelude.{List, [], ◌++◌, ◌∷◌, replicate, ℕ}
+use Rattle.std.specs.Prelude.{◌++◌, ◌∷◌}
+use Rattle.laws.specs.Prelude.{List, [], replicate, ℕ}
 use Rattle.bucket_model.specs.Prelude.{filled}
 use Rattle.card_tree.specs.Fair.{FairAfter, FairAfterOut, fair_held, fair_pop, fair_push, fair_reset, fair_words}
 use Rattle.card_tree.specs.Mend.{tree_check, tree_mend}

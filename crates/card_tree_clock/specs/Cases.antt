@@ -1,6 +1,7 @@
 -- Calls through C in plain numbers: the number returned, the words left and the words of `out`, with rank, tag and length all different (5, 50, 500). These are
 -- definitions; the claim over the rows is in proofs/.
-use Rattle.laws.specs.Prelude.{List, [], ◌++◌, ◌∷◌, replicate, suc, ℕ}
+use Rattle.std.specs.Prelude.{◌++◌, ◌∷◌}
+use Rattle.laws.specs.Prelude.{List, [], replicate, suc, ℕ}
 use Rattle.bucket_model.specs.Prelude.{filled}
 use Rattle.card_tree_clock.specs.Clocked.{ClockedAfter, ClockedAfterOut, clocked_clear, clocked_cycle, clocked_drain, clocked_held}
 use Rattle.card_words.specs.Cases.{count_got, got, Got, out4, row, Row}

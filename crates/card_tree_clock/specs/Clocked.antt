@@ -1,6 +1,7 @@
 -- The calls of the clocked tree as C sees them: total functions of all numbers, words and records handed in, to the number returned and all words and
 -- records afterwards.
-use Rattle.laws.specs.Prelude.{BadShape, List, Refused, ◌&&◌, cond, eqb, false, leb, length, number_of, ℕ}
+use Rattle.std.specs.Prelude.{◌&&◌}
+use Rattle.laws.specs.Prelude.{BadShape, List, Refused, cond, eqb, false, leb, length, number_of, ℕ}
 use Rattle.card_words.specs.Out.{answer_out, answer_words, bad_shape, CountAfter, count_answered, drain_out, drain_words, refused_out}
 use Rattle.card_words.specs.Asked.{asked, marked, mark_in, mark_out, request_of}
 use Rattle.tree_clock_model.specs.Prelude.{CycleOutcome, DrainOutcome, fresh}

@@ -1,5 +1,6 @@
 -- A list of clocked calls through the boundary, and the same list of by-value cycles and drains.
-use Rattle.laws.specs.Prelude.{Element, Idle, List, Pop, Push, Replace, Request, ◌≡◌, blank, number_of, true, ℕ}
+use Rattle.std.specs.Prelude.{◌≡◌}
+use Rattle.laws.specs.Prelude.{Element, Idle, List, Pop, Push, Replace, Request, blank, number_of, true, ℕ}
 use Rattle.card_tree_clock.specs.Clocked.{clocked_clear, clocked_cycle, clocked_drain}
 use Rattle.card_words.specs.Out.{drain_out, answer_out, CountAfter, count_after}
 use Rattle.card_words.specs.Asked.{marked, mark_in}

@@ -1,5 +1,6 @@
 -- The numbers handed in: the request of a cycle, and the mark.
-use Rattle.laws.specs.Prelude.{Bool, Idle, List, Pop, Push, Replace, Request, ◌&&◌, cond, element, eqb, get_or, leb, length, set, ℕ}
+use Rattle.std.specs.Prelude.{◌&&◌}
+use Rattle.laws.specs.Prelude.{Bool, Idle, List, Pop, Push, Replace, Request, cond, element, eqb, get_or, leb, length, set, ℕ}
 
 -- the request of a number: 0 idle, 1 push, 2 pop, 3 replace
 unfoldable pub request_of : ℕ → ℕ → ℕ → ℕ → Request

@@ -1,5 +1,6 @@
 -- Calls through C in plain numbers: what each of them is said by. The rows are with each queue's calls, with rank, tag and length all different (5, 50, 500).
-use Rattle.laws.specs.Prelude.{List, [], ◌∷◌, ◌≡◌, ℕ}
+use Rattle.std.specs.Prelude.{◌∷◌, ◌≡◌}
+use Rattle.laws.specs.Prelude.{List, [], ℕ}
 use Rattle.bucket_model.specs.Prelude.{filled}
 use Rattle.card_words.specs.Out.{CountAfter}
 use Rattle.card_words.specs.Store.{StoreAfter, StoreAfterOut}

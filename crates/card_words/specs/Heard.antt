@@ -1,5 +1,6 @@
 -- What a caller in C hears: the number returned and the words of `out`, and the answer that these stand for. What is promised of a list of calls through C is said of what is heard.
-use Rattle.laws.specs.Prelude.{Answer, Bool, Done, Element, Idle, List, Out, Pop, Push, Refused, Replace, Request, [], ◌∷◌, cond, element_in, eqb, map, ℕ}
+use Rattle.std.specs.Prelude.{◌∷◌}
+use Rattle.laws.specs.Prelude.{Answer, Bool, Done, Element, Idle, List, Out, Pop, Push, Refused, Replace, Request, [], cond, element_in, eqb, map, ℕ}
 use Rattle.card_words.specs.Out.{CountAfter}
 use Rattle.promise.specs.Prelude.{Holds, Least, Step, answers, leaves, refusal_of}
 

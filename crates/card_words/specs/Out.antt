@@ -1,5 +1,6 @@
 -- What `out` receives.
-use Rattle.laws.specs.Prelude.{Answer, BadShape, Bool, Count, List, ◌≤◌, cond, count_number, count_of, element_of, element_words, leb, length, refusal_number, set, suc, write_element, zero, ℕ}
+use Rattle.std.specs.Prelude.{◌≤◌}
+use Rattle.laws.specs.Prelude.{Answer, BadShape, Bool, Count, List, cond, count_number, count_of, element_of, element_words, leb, length, refusal_number, set, suc, write_element, zero, ℕ}
 
 -- how many words an answer writes: rank, tag and length; how many a drain's: the cycles run, and whether work is left
 abbrev pub answer_words : ℕ

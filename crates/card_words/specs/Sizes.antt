@@ -1,5 +1,6 @@
 -- How many words a store needs, so that a caller can allocate it: the least length that the calls take, and 0 for a bad shape.
-use Rattle.laws.specs.Prelude.{◌*◌, cond, ℕ}
+use Rattle.std.specs.Prelude.{◌*◌}
+use Rattle.laws.specs.Prelude.{cond, ℕ}
 use Rattle.bucket_model.specs.Checks as bucket
 use Rattle.bucket_model.specs.Prelude.{bit_words, queue, store_words}
 use Rattle.cluster_model.specs.Calls as cluster

@@ -1,5 +1,6 @@
 -- 01's worked cases that are marked (P), those that 02 adds, case 9 and the worked traces, as one table.
-use Rattle.laws.specs.Prelude.{Answer, Count, List, Pop, Push, Replace, Request, [], ◌++◌, ◌∷◌, ◌≡◌, count_number, count_of, element, get_or, length, length_of, map, number_of, rank_of, replicate, tag_of, ℕ}
+use Rattle.std.specs.Prelude.{◌++◌, ◌∷◌, ◌≡◌}
+use Rattle.laws.specs.Prelude.{Answer, Count, List, Pop, Push, Replace, Request, [], count_number, count_of, element, get_or, length, length_of, map, number_of, rank_of, replicate, tag_of, ℕ}
 use Rattle.bucket_cases.specs.Case8.{case8, case8_three}
 use Rattle.bucket_cases.specs.CaseTag.{spoilt, spoilt_case, tag_case}
 use Rattle.bucket_model.specs.Prelude.{Store, answers_from, bucket_answers, filled, queue}

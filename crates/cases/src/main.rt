@@ -2,36 +2,30 @@
 // are written as text, each with a space behind it: + push, - pop, * replace, . idle, = drain, ! clear, and the element as rank/tag/length.
 #![tactic(auto)]
 
+use std::io;
+use std::io::{BufWriter, Write};
 use strip::{Answer, Element, Length, Rank, Request, Tag};
 use tree_clock_model::State;
 
 // Writes a number and a space.
-fn say(n: u32) {
-    let mut out = [0u8; 32];
-    let end = text::put_number(&mut out, 0, n as u64);
-    io::write_all(1, &out[..end]);
-    io::write_all(1, b" ");
+fn say(output: &mut impl Write, n: u32) -> io::Result<()> {
+    write!(output, "{n} ")
 }
 
-fn say_answer(a: Answer) {
+fn say_answer(output: &mut impl Write, a: Answer) -> io::Result<()> {
     let e = strip::given(a);
-    let rank = e.rank;
-    let tag = e.tag;
-    let length = e.length;
-    say(strip::number(a));
-    say(rank.0);
-    say(tag.0);
-    say(length.0);
-    io::write_all(1, b"\n");
+    say(output, strip::number(a))?;
+    say(output, e.rank.0)?;
+    say(output, e.tag.0)?;
+    say(output, e.length.0)?;
+    writeln!(output)
 }
 
-fn say_words(words: &[u32]) {
-    let mut i = 0;
-    while i < words.len() {
-        say(words[i]);
-        i += 1;
+fn say_words(output: &mut impl Write, words: &[u32]) -> io::Result<()> {
+    for word in words {
+        say(output, *word)?;
     }
-    io::write_all(1, b"\n");
+    writeln!(output)
 }
 
 // ---- a call as it is read, byte by byte
@@ -80,9 +74,9 @@ fn read(c: Call, b: u8) -> Call {
 }
 
 // Writes the byte too, so that a call stands before its answer.
-fn read_aloud(c: Call, b: u8) -> Call {
-    io::write_all(1, &[b]);
-    read(c, b)
+fn read_aloud(output: &mut impl Write, c: Call, b: u8) -> io::Result<Call> {
+    output.write_all(&[b])?;
+    Ok(read(c, b))
 }
 
 fn no_call() -> Call {
@@ -109,27 +103,24 @@ fn tree_call(store: &mut [u32], c: Call) -> Answer {
     tree::clear(store, 2, 2)
 }
 
-fn tree_byte(store: &mut [u32], c: Call, b: u8) -> Call {
-    let next = read_aloud(c, b);
+fn tree_byte(output: &mut impl Write, store: &mut [u32], c: Call, b: u8) -> io::Result<Call> {
+    let next = read_aloud(output, c, b)?;
     if b == b' ' {
-        say_answer(tree_call(store, c));
+        say_answer(output, tree_call(store, c))?;
     }
-    next
+    Ok(next)
 }
 
 // Calls on a store of nines, the words that they leave, and how many are held then.
-fn trees(calls: &[u8]) {
+fn trees(output: &mut impl Write, calls: &[u8]) -> io::Result<()> {
     let mut store = [9u32; 26];
     let mut c = no_call();
-    let mut i = 0;
-    while i < calls.len() {
-        c = tree_byte(&mut store, c, calls[i]);
-        i += 1;
+    for b in calls {
+        c = tree_byte(output, &mut store, c, *b)?;
     }
-    say_words(&store);
-    io::write_all(1, b"held ");
-    say(strip::count_of(tree::held(&store, 2, 2)));
-    io::write_all(1, b"\n");
+    say_words(output, &store)?;
+    let held = strip::count_of(tree::held(&store, 2, 2));
+    writeln!(output, "held {held} ")
 }
 
 // ---- the same by cycles
@@ -147,48 +138,51 @@ fn request(c: Call) -> Request {
     Request::Idle
 }
 
-fn drained(store: &mut [u32], state: State) -> State {
+fn drained(output: &mut impl Write, store: &mut [u32], state: State) -> io::Result<State> {
     let d = tree_clock::drain(store, 2, 2, state, 2);
-    let answer = d.answer;
-    say(strip::number(answer));
-    say((d.cycles % 4294967296) as u32);
-    io::write_all(1, b"\n");
-    d.state
+    let number = strip::number(d.answer);
+    let cycles = d.cycles;
+    writeln!(output, "{number} {cycles} ")?;
+    Ok(d.state)
 }
 
 // A cycle and the words that it leaves, or a drain.
-fn cycle(store: &mut [u32], state: State, c: Call) -> State {
+fn cycle(output: &mut impl Write, store: &mut [u32], state: State, c: Call) -> io::Result<State> {
     if c.sign == b'=' {
-        return drained(store, state);
+        return drained(output, store, state);
     }
     let done = tree_clock::cycle(store, 2, 2, state, request(c));
-    let answer = done.answer;
-    say_answer(answer);
-    say_words(store);
-    done.state
+    say_answer(output, done.answer)?;
+    say_words(output, store)?;
+    Ok(done.state)
 }
 
-fn cycle_byte(store: &mut [u32], state: State, c: Call, b: u8) -> State {
+fn cycle_byte(
+    output: &mut impl Write,
+    store: &mut [u32],
+    state: State,
+    c: Call,
+    b: u8,
+) -> io::Result<State> {
     if b == b' ' {
-        return cycle(store, state, c);
+        return cycle(output, store, state, c);
     }
-    state
+    Ok(state)
 }
 
 // Calls on a cleared machine.
-fn cycles(calls: &[u8]) {
+fn cycles(output: &mut impl Write, calls: &[u8]) -> io::Result<()> {
     let mut store = [9u32; 26];
     let none = tree_clock::fresh_state();
     let cleared = tree_clock::clear(&mut store, 2, 2, none);
     let mut state = cleared.state;
     let mut c = no_call();
-    let mut i = 0;
-    while i < calls.len() {
-        let next = read_aloud(c, calls[i]);
-        state = cycle_byte(&mut store, state, c, calls[i]);
+    for b in calls {
+        let next = read_aloud(output, c, *b)?;
+        state = cycle_byte(output, &mut store, state, c, *b)?;
         c = next;
-        i += 1;
     }
+    Ok(())
 }
 
 // ---- the bucket queue
@@ -207,157 +201,199 @@ fn bucket_call(bits: &mut [u64], words: &mut [u32], storeys: usize, nodes: u32, 
 }
 
 fn bucket_byte(
+    output: &mut impl Write,
     bits: &mut [u64],
     words: &mut [u32],
     storeys: usize,
     nodes: u32,
     c: Call,
     b: u8,
-) -> Call {
-    let next = read_aloud(c, b);
+) -> io::Result<Call> {
+    let next = read_aloud(output, c, b)?;
     if b == b' ' {
-        say_answer(bucket_call(bits, words, storeys, nodes, c));
+        say_answer(output, bucket_call(bits, words, storeys, nodes, c))?;
     }
-    next
+    Ok(next)
 }
 
-fn bucket_calls(bits: &mut [u64], words: &mut [u32], storeys: usize, nodes: u32, calls: &[u8]) {
+fn bucket_calls(
+    output: &mut impl Write,
+    bits: &mut [u64],
+    words: &mut [u32],
+    storeys: usize,
+    nodes: u32,
+    calls: &[u8],
+) -> io::Result<()> {
     let mut c = no_call();
-    let mut i = 0;
-    while i < calls.len() {
-        c = bucket_byte(bits, words, storeys, nodes, c, calls[i]);
-        i += 1;
+    for b in calls {
+        c = bucket_byte(output, bits, words, storeys, nodes, c, *b)?;
     }
+    Ok(())
 }
 
 // Calls on a store of nines, of two storeys.
-fn buckets(nodes: u32, calls: &[u8]) {
+fn buckets(output: &mut impl Write, nodes: u32, calls: &[u8]) -> io::Result<()> {
     let mut bits = [9u64; 65];
     let mut words = [9u32; 8206];
-    bucket_calls(&mut bits, &mut words, 2, nodes, calls);
+    bucket_calls(output, &mut bits, &mut words, 2, nodes, calls)
 }
 
 // ---- the cases
 
-fn tree_cases() {
-    io::write_all(1, b"cases 1 to 5\n");
-    trees(b"! +5/50/0 +3/30/0 +8/80/0 +1/10/0 ");
-    trees(b"! +5/50/0 +3/30/0 +8/80/0 +1/10/0 - - - - - ");
-    trees(b"! +5/50/0 +3/30/0 +8/80/0 +1/10/0 *0/7/0 ");
-    trees(b"! +5/50/0 +3/30/0 +8/80/0 +1/10/0 *1/7/0 ");
-    trees(b"! +5/50/0 +3/30/0 +8/80/0 +1/10/0 *4/7/0 ");
-    io::write_all(1, b"case 7\n");
-    trees(b"! +1/1/0 +1/1/0 +1/1/0 +1/1/0 +1/1/0 +1/1/0 +1/1/0 ");
+fn tree_cases(output: &mut impl Write) -> io::Result<()> {
+    writeln!(output, "cases 1 to 5")?;
+    trees(output, b"! +5/50/0 +3/30/0 +8/80/0 +1/10/0 ")?;
+    trees(output, b"! +5/50/0 +3/30/0 +8/80/0 +1/10/0 - - - - - ")?;
+    trees(output, b"! +5/50/0 +3/30/0 +8/80/0 +1/10/0 *0/7/0 ")?;
+    trees(output, b"! +5/50/0 +3/30/0 +8/80/0 +1/10/0 *1/7/0 ")?;
+    trees(output, b"! +5/50/0 +3/30/0 +8/80/0 +1/10/0 *4/7/0 ")?;
+    writeln!(output, "case 7")?;
+    trees(
+        output,
+        b"! +1/1/0 +1/1/0 +1/1/0 +1/1/0 +1/1/0 +1/1/0 +1/1/0 ",
+    )
 }
 
-fn more_tree_cases() {
-    io::write_all(1, b"a replace with nothing held\n");
-    trees(b"! *5/50/0 ");
-    io::write_all(1, b"equal ranks\n");
-    trees(b"! +5/9/0 +5/3/0 - ");
-    io::write_all(1, b"tag 0\n");
-    trees(b"! +5/0/0 *5/0/0 ");
-    trees(b"! +5/50/0 +3/30/0 +8/80/0 +1/10/0 +5/0/0 *0/0/0 ");
-    io::write_all(1, b"lengths\n");
-    trees(b"! +5/50/500 +3/30/300 +8/80/800 +1/10/100 *4/7/70 - ");
+fn more_tree_cases(output: &mut impl Write) -> io::Result<()> {
+    writeln!(output, "a replace with nothing held")?;
+    trees(output, b"! *5/50/0 ")?;
+    writeln!(output, "equal ranks")?;
+    trees(output, b"! +5/9/0 +5/3/0 - ")?;
+    writeln!(output, "tag 0")?;
+    trees(output, b"! +5/0/0 *5/0/0 ")?;
+    trees(output, b"! +5/50/0 +3/30/0 +8/80/0 +1/10/0 +5/0/0 *0/0/0 ")?;
+    writeln!(output, "lengths")?;
+    trees(
+        output,
+        b"! +5/50/500 +3/30/300 +8/80/800 +1/10/100 *4/7/70 - ",
+    )
 }
 
-fn cycle_cases() {
-    io::write_all(1, b"case 6\n");
-    cycles(b"+5/50/0 +3/30/0 +8/80/0 +1/10/0 = - . ");
-    io::write_all(1, b"case 10\n");
-    cycles(b"+5/50/0 . - +1/10/0 +2/20/0 - - ");
-    io::write_all(
-        1,
-        b"a replace with nothing held is as idle, and a lower newcomer is taken in\n",
-    );
-    cycles(b"*5/50/0 - +1/10/0 *0/7/0 *0/7/0 . - ");
-    io::write_all(1, b"tag 0 is as idle, and after too soon\n");
-    cycles(b"+5/0/0 - +5/50/0 *1/0/0 *1/0/0 +1/0/0 - ");
-    io::write_all(
-        1,
-        b"2/2 is still on its way, and a pop just after it too soon\n",
-    );
-    cycles(b"+1/1/0 +9/9/0 +2/2/0 - - ");
-    io::write_all(1, b"lengths\n");
-    cycles(b"+5/50/500 +3/30/300 +8/80/800 +1/10/100 . *4/7/70 . - . ");
+fn cycle_cases(output: &mut impl Write) -> io::Result<()> {
+    writeln!(output, "case 6")?;
+    cycles(output, b"+5/50/0 +3/30/0 +8/80/0 +1/10/0 = - . ")?;
+    writeln!(output, "case 10")?;
+    cycles(output, b"+5/50/0 . - +1/10/0 +2/20/0 - - ")?;
+    writeln!(
+        output,
+        "a replace with nothing held is as idle, and a lower newcomer is taken in"
+    )?;
+    cycles(output, b"*5/50/0 - +1/10/0 *0/7/0 *0/7/0 . - ")?;
+    writeln!(output, "tag 0 is as idle, and after too soon")?;
+    cycles(output, b"+5/0/0 - +5/50/0 *1/0/0 *1/0/0 +1/0/0 - ")?;
+    writeln!(
+        output,
+        "2/2 is still on its way, and a pop just after it too soon"
+    )?;
+    cycles(output, b"+1/1/0 +9/9/0 +2/2/0 - - ")?;
+    writeln!(output, "lengths")?;
+    cycles(
+        output,
+        b"+5/50/500 +3/30/300 +8/80/800 +1/10/100 . *4/7/70 . - . ",
+    )
 }
 
-fn bucket_cases() {
-    io::write_all(1, b"case 8\n");
-    buckets(3, b"! +7/1/0 +7/2/0 +4095/3/0 +0/4/0 +4096/4/0 - - - - ");
-    io::write_all(1, b"tag 0: after 4, before 6 and 5\n");
+fn bucket_cases(output: &mut impl Write) -> io::Result<()> {
+    writeln!(output, "case 8")?;
     buckets(
+        output,
+        3,
+        b"! +7/1/0 +7/2/0 +4095/3/0 +0/4/0 +4096/4/0 - - - - ",
+    )?;
+    writeln!(output, "tag 0: after 4, before 6 and 5")?;
+    buckets(
+        output,
         3,
         b"! +4096/0/0 +7/0/0 *7/0/0 +0/1/0 +7/2/0 +7/3/0 +7/0/0 +7/4/0 *0/0/0 - - - - ",
-    );
-    io::write_all(1, b".. and before 2, on a damaged store\n");
-    buckets(3, b"+7/1/0 +7/0/0 +4096/0/0 *7/0/0 *7/1/0 - ");
-    io::write_all(1, b"lengths\n");
+    )?;
+    writeln!(output, ".. and before 2, on a damaged store")?;
+    buckets(output, 3, b"+7/1/0 +7/0/0 +4096/0/0 *7/0/0 *7/1/0 - ")?;
+    writeln!(output, "lengths")?;
     buckets(
+        output,
         4,
         b"! +7/1/64 +7/2/1500 +7/3/40 - *70/5/9000 *3/6/4294967295 - - ",
-    );
-    io::write_all(1, b"case 9, N = 0\n");
-    buckets(0, b"! ");
+    )?;
+    writeln!(output, "case 9, N = 0")?;
+    buckets(output, 0, b"! ")
 }
 
 // .. of a store that is long enough for three storeys and N = 3, and for two and N = 65,536.
-fn deep_buckets(storeys: usize, nodes: u32, calls: &[u8]) {
+fn deep_buckets(
+    output: &mut impl Write,
+    storeys: usize,
+    nodes: u32,
+    calls: &[u8],
+) -> io::Result<()> {
     let mut bits = [9u64; 4161];
     let mut words = [9u32; 524299];
-    bucket_calls(&mut bits, &mut words, storeys, nodes, calls);
+    bucket_calls(output, &mut bits, &mut words, storeys, nodes, calls)
 }
 
 // Three storeys; and the limits of a shape: N, and the depth.
-fn deep_cases() {
-    io::write_all(1, b"case 8, three storeys\n");
+fn deep_cases(output: &mut impl Write) -> io::Result<()> {
+    writeln!(output, "case 8, three storeys")?;
     deep_buckets(
+        output,
         3,
         3,
         b"! +7/1/0 +7/2/0 +262143/3/0 +0/4/0 +262144/4/0 - - - - ",
-    );
-    io::write_all(1, b"N = 65,536 and 65,537; storeys 1 and 4\n");
-    deep_buckets(2, 65536, b"! ");
-    deep_buckets(2, 65537, b"! ");
-    deep_buckets(1, 3, b"! ");
-    deep_buckets(4, 3, b"! ");
+    )?;
+    writeln!(output, "N = 65,536 and 65,537; storeys 1 and 4")?;
+    deep_buckets(output, 2, 65536, b"! ")?;
+    deep_buckets(output, 2, 65537, b"! ")?;
+    deep_buckets(output, 1, 3, b"! ")?;
+    deep_buckets(output, 4, 3, b"! ")
 }
 
 // Clears a slice of a shape, and says the answer.
-fn shaped(store: &mut [u32], order: usize, levels: usize) {
-    say_answer(tree::clear(store, order, levels));
+fn shaped(
+    output: &mut impl Write,
+    store: &mut [u32],
+    order: usize,
+    levels: usize,
+) -> io::Result<()> {
+    say_answer(output, tree::clear(store, order, levels))
 }
 
 // Three numbers of levels of one order.
-fn three(store: &mut [u32], order: usize, few: usize, most: usize, more: usize) {
-    shaped(store, order, few);
-    shaped(store, order, most);
-    shaped(store, order, more);
+fn three(
+    output: &mut impl Write,
+    store: &mut [u32],
+    order: usize,
+    few: usize,
+    most: usize,
+    more: usize,
+) -> io::Result<()> {
+    shaped(output, store, order, few)?;
+    shaped(output, store, order, most)?;
+    shaped(output, store, order, more)
 }
 
 // 01's largest shape of each order and today's are taken, one level more is refused.
-fn edges(store: &mut [u32]) {
-    io::write_all(1, b"case 9\n");
-    three(store, 4, 6, 8, 9);
-    three(store, 2, 11, 15, 16);
-    three(store, 8, 4, 5, 6);
-    shaped(store, 3, 2);
-    shaped(store, 2, 0);
-    shaped(store, 2, 18446744073709551615);
+fn edges(output: &mut impl Write, store: &mut [u32]) -> io::Result<()> {
+    writeln!(output, "case 9")?;
+    three(output, store, 4, 6, 8, 9)?;
+    three(output, store, 2, 11, 15, 16)?;
+    three(output, store, 8, 4, 5, 6)?;
+    shaped(output, store, 3, 2)?;
+    shaped(output, store, 2, 0)?;
+    shaped(output, store, 2, 18446744073709551615)
 }
 
 // The slice would hold order 4 with 9 levels, 349,524 slots, and so all the others: where a shape is refused, the slice is not the cause.
-fn shapes() {
+fn shapes(output: &mut impl Write) -> io::Result<()> {
     let mut store = [0u32; 1398096];
-    edges(&mut store);
+    edges(output, &mut store)
 }
 
-fn main() {
-    tree_cases();
-    more_tree_cases();
-    cycle_cases();
-    shapes();
-    bucket_cases();
-    deep_cases();
+fn main(rt: HostRuntime) -> io::Result<()> {
+    let mut output = BufWriter::new(rt.alloc(), rt.stdout())?;
+    tree_cases(&mut output)?;
+    more_tree_cases(&mut output)?;
+    cycle_cases(&mut output)?;
+    shapes(&mut output)?;
+    bucket_cases(&mut output)?;
+    deep_cases(&mut output)?;
+    output.flush()
 }

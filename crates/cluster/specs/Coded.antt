@@ -1,5 +1,6 @@
 -- The calls in the code's own shape.
-use Rattle.laws.specs.Prelude.{Answer, BadShape, Bool, Count, Damaged, Done, Element, Empty, Full, Held, List, Out, Push, Refused, Replace, Unknown, ◌*◌, ◌+◌, ◌-◌, ◌≡◌, cond, eqb, length, ltb, suc, true, untagged, zero, ℕ}
+use Rattle.std.specs.Prelude.{◌*◌, ◌+◌, ◌-◌, ◌≡◌}
+use Rattle.laws.specs.Prelude.{Answer, BadShape, Bool, Count, Damaged, Done, Element, Empty, Full, Held, List, Out, Push, Refused, Replace, Unknown, cond, eqb, length, ltb, suc, true, untagged, zero, ℕ}
 use Rattle.cluster_node.specs.declared.Seen.{Seen}
 use Rattle.cluster_model.specs.Prelude.{Outcome, called, outcome, room, shape_ok, width, word}
 use Rattle.cluster_node.specs.Leaf.{elem_at, ok_by, look_node, place_in}

@@ -1,5 +1,6 @@
 -- The recursions in the code's own shape: a node is tested before its child, and written once the child is done.
-use Rattle.laws.specs.Prelude.{Bool, Element, List, ◌&&◌, ◌*◌, ◌+◌, ◌<◌, ◌≡◌, ◌≤◌, cond, false, key, leb, length, ltb, suc, true, zero, ℕ}
+use Rattle.std.specs.Prelude.{◌&&◌, ◌*◌, ◌+◌, ◌<◌, ◌≡◌, ◌≤◌}
+use Rattle.laws.specs.Prelude.{Bool, Element, List, cond, false, key, leb, length, ltb, suc, true, zero, ℕ}
 use Rattle.cluster_model.specs.Prelude.{gap, has, keep, pass, place_words, width, word, write_place}
 use Rattle.cluster_node.specs.declared.Seen.{Seen}
 use Rattle.cluster_node.specs.declared.Chosen.{Chosen}

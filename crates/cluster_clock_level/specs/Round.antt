@@ -1,5 +1,6 @@
 -- What the two passes over the levels ask: where the levels lie, and a level's task that finds its node in order.
-use Rattle.laws.specs.Prelude.{List, ◌*◌, ◌+◌, ◌<◌, ◌≡◌, ◌≤◌, length, suc, true, zero, ℕ}
+use Rattle.std.specs.Prelude.{◌*◌, ◌+◌, ◌<◌, ◌≡◌, ◌≤◌}
+use Rattle.laws.specs.Prelude.{List, length, suc, true, zero, ℕ}
 use Rattle.cluster_clock_model.specs.Prelude.{Passed, below, sane_at, stage_count, stages_ok}
 use Rattle.cluster_clock_model.specs.declared.Stage.{Stage}
 use Rattle.cluster_model.specs.Prelude.{room, width, works}

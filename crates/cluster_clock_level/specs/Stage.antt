@@ -1,6 +1,7 @@
 -- What a level does in a cycle, as the code hands it on, and what the two halves of a level's cycle ask and leave. A level's first node is number a of the
 -- store, and it has a + 1 of them.
-use Rattle.laws.specs.Prelude.{Bool, List, ◌&&◌, ◌*◌, ◌+◌, ◌<◌, ◌≡◌, ◌≤◌, eqb, false, length, not, suc, ℕ}
+use Rattle.std.specs.Prelude.{◌&&◌, ◌*◌, ◌+◌, ◌<◌, ◌≡◌, ◌≤◌}
+use Rattle.laws.specs.Prelude.{Bool, List, eqb, false, length, not, suc, ℕ}
 use Rattle.promise.specs.Prelude.{always}
 use Rattle.cluster_clock_model.specs.Prelude.{Work, below, child_of, gives_ok, loaded, sane_at, settled, stage_ok, work}
 use Rattle.cluster_clock_model.specs.declared.Due.{Due}

@@ -1,5 +1,6 @@
 -- What the root is read for, and what a request comes to there.
-use Rattle.laws.specs.Prelude.{Element, List, Request, ◌<◌, ◌≡◌, ◌≤◌, length, suc, true, ℕ}
+use Rattle.std.specs.Prelude.{◌<◌, ◌≡◌, ◌≤◌}
+use Rattle.laws.specs.Prelude.{Element, List, Request, length, suc, true, ℕ}
 use Rattle.cluster_clock_model.specs.Prelude.{asked_ok, sane_at, work}
 use Rattle.cluster_model.specs.Prelude.{low_elem, node_in, room, root_held, rule, rule_at}
 use Rattle.cluster_node.specs.Leaf.{Here}

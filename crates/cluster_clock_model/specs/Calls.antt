@@ -1,5 +1,6 @@
 -- The calls of the clocked cluster heap, each a total function of K, levels, records and words to what it answers and leaves.
-use Rattle.laws.specs.Prelude.{Answer, BadShape, Bool, Count, Damaged, Done, Held, Idle, List, Refused, Request, Unknown, ◌&&◌, ◌||◌, asks, cond, false, is_refused, length, not, pred, replicate, suc, true, zero, ℕ}
+use Rattle.std.specs.Prelude.{◌&&◌, ◌||◌}
+use Rattle.laws.specs.Prelude.{Answer, BadShape, Bool, Count, Damaged, Done, Held, Idle, List, Refused, Request, Unknown, asks, cond, false, is_refused, length, not, pred, replicate, suc, true, zero, ℕ}
 use Rattle.cluster_clock_model.specs.declared.Due.{Due}
 use Rattle.cluster_clock_model.specs.declared.Due.TheVariants.{Fill, Nothing, Put, Swap}
 use Rattle.cluster_clock_model.specs.declared.Stage.{Stage}

@@ -1,6 +1,7 @@
 -- Worked machines in the middle of their work, with K = 2: the records, each as six numbers (kind, node, place, rank, tag, length), and the words. At levels 2,
 -- 5/50, 3/30, 8/80, 1/10 pushed, then a pop, a push, a replace; at levels 3 with two operations in flight.
-use Rattle.laws.specs.Prelude.{Answer, Done, Empty, Idle, List, NoTag, Out, Pop, Push, Refused, Replace, Request, [], ◌++◌, ◌∷◌, element, replicate, ℕ}
+use Rattle.std.specs.Prelude.{◌++◌, ◌∷◌}
+use Rattle.laws.specs.Prelude.{Answer, Done, Empty, Idle, List, NoTag, Out, Pop, Push, Refused, Replace, Request, [], element, replicate, ℕ}
 use Rattle.cluster_clock_model.specs.Promise.{ran, cycle_answers}
 use Rattle.cluster_clock_model.specs.Stage.{stage_at, stage_numbers}
 

@@ -1,6 +1,7 @@
 -- What is promised of the clocked cluster heap is said in these words: the machine over a list of cycles, the causes of refusal, each level's one step, and what
 -- is held in the middle of any work.
-use Rattle.laws.specs.Prelude.{Answer, BadShape, Bool, Damaged, Element, Idle, Ladder, List, NoTag, Refusal, Refused, Request, ◌&&◌, ◌*◌, ◌+◌, ◌<◌, ◌≡◌, ◌≤◌, ◌⊎◌, cond, false, fine, length, ltb, not, pred, replicate, rung, runs_idle, stop, suc, sum_to, zero, ℕ}
+use Rattle.std.specs.Prelude.{◌&&◌, ◌*◌, ◌+◌, ◌<◌, ◌≡◌, ◌≤◌, ◌⊎◌}
+use Rattle.laws.specs.Prelude.{Answer, BadShape, Bool, Damaged, Element, Idle, Ladder, List, NoTag, Refusal, Refused, Request, cond, false, fine, length, ltb, not, pred, replicate, rung, runs_idle, stop, suc, sum_to, zero, ℕ}
 use Rattle.promise.specs.Prelude.{Asks, Clock, SoleCall as Call, Step, Stuck as StuckAt, Untagged, answers, cycle, drain, grants, hit, is_bad_shape, last_table, leaves, limits, step}
 use Rattle.cluster_clock_model.specs.declared.Due.{Due}
 use Rattle.cluster_clock_model.specs.declared.Due.TheVariants.{Fill, Nothing, Put, Swap}

@@ -1,6 +1,7 @@
 -- One cycle over the words and the records: one pass in place, from the root down. A level is read before it is written, the level below is read as it
 -- stood at the cycle's start, and each level writes its own nodes and loads the record below it.
-use Rattle.laws.specs.Prelude.{Bool, Element, List, ◌+◌, ◌∷◌, blank, element_numbers, false, get_or, set, suc, true, zero, ℕ}
+use Rattle.std.specs.Prelude.{◌+◌, ◌∷◌}
+use Rattle.laws.specs.Prelude.{Bool, Element, List, blank, element_numbers, false, get_or, set, suc, true, zero, ℕ}
 use Rattle.cluster_clock_model.specs.declared.Due.{Due}
 use Rattle.cluster_clock_model.specs.declared.Due.TheVariants.{Fill, Nothing, Put, Swap}
 use Rattle.cluster_clock_model.specs.declared.Stage.{Stage}

@@ -1,5 +1,6 @@
 -- The tests for damage: of a node, of a record with what it reads, and of all that a cycle reads. All come before the first write.
-use Rattle.laws.specs.Prelude.{Bool, List, ◌&&◌, ◌+◌, ◌||◌, eqb, false, leb, length, ltb, not, suc, true, zero, ℕ}
+use Rattle.std.specs.Prelude.{◌&&◌, ◌+◌, ◌||◌}
+use Rattle.laws.specs.Prelude.{Bool, List, eqb, false, leb, length, ltb, not, suc, true, zero, ℕ}
 use Rattle.cluster_clock_model.specs.declared.Due.{Due}
 use Rattle.cluster_clock_model.specs.declared.Due.TheVariants.{Fill, Nothing, Put, Swap}
 use Rattle.cluster_clock_model.specs.declared.Stage.{Stage}

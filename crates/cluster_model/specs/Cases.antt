@@ -1,5 +1,6 @@
 -- A worked store, K = 2, levels 2, capacity 6: push 5/50, 3/30, 8/80, 1/10, 9/90 with lengths, then replace 4/7, pop and pop.
-use Rattle.laws.specs.Prelude.{Answer, Done, Empty, Full, List, NoTag, Out, Pop, Push, Refused, Replace, Request, [], ◌++◌, ◌∷◌, element, replicate, ℕ}
+use Rattle.std.specs.Prelude.{◌++◌, ◌∷◌}
+use Rattle.laws.specs.Prelude.{Answer, Done, Empty, Full, List, NoTag, Out, Pop, Push, Refused, Replace, Request, [], element, replicate, ℕ}
 use Rattle.promise.specs.Prelude.{answers}
 use Rattle.cluster_model.specs.Promise.{after, cluster_queue, start}
 

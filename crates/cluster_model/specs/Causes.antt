@@ -1,5 +1,6 @@
 -- The causes of refusal in 02 [2]'s words, and what stands in a store.
-use Rattle.laws.specs.Prelude.{Bool, Element, List, Zeros, ◌*◌, ◌+◌, ◌<◌, ◌≡◌, ◌≤◌, ◌⊎◌, element_in, suc, sum_to, zero, ℕ}
+use Rattle.std.specs.Prelude.{◌*◌, ◌+◌, ◌<◌, ◌≡◌, ◌≤◌, ◌⊎◌}
+use Rattle.laws.specs.Prelude.{Bool, Element, List, Zeros, element_in, suc, sum_to, zero, ℕ}
 use Rattle.promise.specs.Prelude.{always}
 use Rattle.cluster_model.specs.Heap.{room}
 use Rattle.cluster_model.specs.Node.{inside, lhs, Node, none, Op, put, rhs, swap, take}

@@ -1,5 +1,6 @@
 -- A shape of the cluster heap at the edge of the limits: "K from 2 to 16; .. capacity K times (2^L − 1), at most 5,460".
-use Rattle.laws.specs.Prelude.{List, ◌≡◌, ◌≤◌, length, number_of, ℕ}
+use Rattle.std.specs.Prelude.{◌≡◌, ◌≤◌}
+use Rattle.laws.specs.Prelude.{List, length, number_of, ℕ}
 use Rattle.cluster_model.specs.Calls.{cleared}
 use Rattle.cluster_model.specs.Heap.{room}
 use Rattle.cluster_model.specs.Way.{extent}

@@ -1,5 +1,6 @@
 -- The heap as a tree of nodes: an operation done to its end, what the heap holds, and when it is sound.
-use Rattle.laws.specs.Prelude.{Bool, Element, List, ◌+◌, ◌<◌, ◌≡◌, ◌≤◌, blank, length, set, suc, zero, ℕ}
+use Rattle.std.specs.Prelude.{◌+◌, ◌<◌, ◌≡◌, ◌≤◌}
+use Rattle.laws.specs.Prelude.{Bool, Element, List, blank, length, set, suc, zero, ℕ}
 use Rattle.promise.specs.Prelude.{always, hit}
 use Rattle.cluster_model.specs.Node.{Bag, under, above, Place, gap, has, inside, place_at, low, low_elem, Node, lhs, rhs, Op, none, put, take, swap, Note, nothing, fill, trial, onto, begin, finish, to_left, to_right}
 

@@ -1,6 +1,7 @@
 -- A place, a node; the choice of a place; the two halves of an operation at one node: what it does at the node alone, and what is settled with the
 -- children.
-use Rattle.laws.specs.Prelude.{Bool, Element, List, [], ◌&&◌, ◌+◌, ◌||◌, ◌∷◌, blank, cond, eqb, false, get_or, key, leb, length, ltb, not, precedes, pred, set, suc, true, ℕ}
+use Rattle.std.specs.Prelude.{◌&&◌, ◌+◌, ◌||◌, ◌∷◌}
+use Rattle.laws.specs.Prelude.{Bool, Element, List, [], blank, cond, eqb, false, get_or, key, leb, length, ltb, not, precedes, pred, set, suc, true, ℕ}
 use Rattle.promise.specs.Prelude.{hit}
 unfoldable pub use Rattle.strip.specs.Words.{keep, pass}
 

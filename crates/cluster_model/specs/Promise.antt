@@ -1,5 +1,6 @@
 -- What is promised of the cluster heap is said in these words: the tables of refusal, and what a list of requests leaves.
-use Rattle.laws.specs.Prelude.{Answer, BadShape, Damaged, Element, Ladder, List, NoTag, Refusal, Request, ◌<◌, ◌≡◌, ◌≤◌, ◌⊎◌, fine, get_or, length, pred, rung, stop, ℕ}
+use Rattle.std.specs.Prelude.{◌<◌, ◌≡◌, ◌≤◌, ◌⊎◌}
+use Rattle.laws.specs.Prelude.{Answer, BadShape, Damaged, Element, Ladder, List, NoTag, Refusal, Request, fine, get_or, length, pred, rung, stop, ℕ}
 use Rattle.promise.specs.Calls as calls
 use Rattle.promise.specs.Prelude.{Step, Untagged, leaves, limits}
 use Rattle.cluster_model.specs.Calls.{called, cleared, held_in, rule_at}

@@ -1,5 +1,6 @@
 -- The rules in 02's own words: the three choices of a place, the two of a child, and the steps of put, take and swap at a node.
-use Rattle.laws.specs.Prelude.{Element, List, Request, ◌+◌, ◌<◌, ◌≡◌, ◌≤◌, ◌⊎◌, length, ℕ}
+use Rattle.std.specs.Prelude.{◌+◌, ◌<◌, ◌≡◌, ◌≤◌, ◌⊎◌}
+use Rattle.laws.specs.Prelude.{Element, List, Request, length, ℕ}
 use Rattle.promise.specs.Calls as calls
 pub use Rattle.promise.specs.Calls.{empty, full, idles, lacks, no-tag, puts, swaps, takes}
 use Rattle.cluster_model.specs.Calls.{Ruling}

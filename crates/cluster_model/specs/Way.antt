@@ -1,6 +1,7 @@
 -- An operation over the words, by node number: nodes lie level by level, so node m begins at word m times the width, and its children are nodes
 -- 2m + 1 and 2m + 2. The tests for damage: of a node, of a step, and of an operation's whole path.
-use Rattle.laws.specs.Prelude.{Bool, Element, List, ◌&&◌, ◌*◌, ◌+◌, ◌||◌, ◌≤◌, blank, eqb, false, leb, length, ltb, suc, true, zero, ℕ}
+use Rattle.std.specs.Prelude.{◌&&◌, ◌*◌, ◌+◌, ◌||◌, ◌≤◌}
+use Rattle.laws.specs.Prelude.{Bool, Element, List, blank, eqb, false, leb, length, ltb, suc, true, zero, ℕ}
 use Rattle.promise.specs.Prelude.{always}
 use Rattle.cluster_model.specs.Node.{inside, low, low_elem, nothing_below, Node, Side, lhs, rhs, Op, none, put, take, swap, begin, Finished, finish}
 use Rattle.cluster_model.specs.Heap.{Heap, room}

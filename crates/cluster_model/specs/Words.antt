@@ -1,5 +1,6 @@
 -- The lent words: a node is the left and the right count, then K places, each rank, tag, length and flag; nodes lie level by level, node by node.
-use Rattle.laws.specs.Prelude.{Bool, Element, List, [], ◌&&◌, ◌*◌, ◌+◌, ◌<◌, ◌||◌, ◌∷◌, ◌≡◌, ◌≤◌, ◌⊎◌, element_in, element_words, eqb, false, get_or, set, suc, true, write_element, zero, ℕ}
+use Rattle.std.specs.Prelude.{◌&&◌, ◌*◌, ◌+◌, ◌<◌, ◌||◌, ◌∷◌, ◌≡◌, ◌≤◌, ◌⊎◌}
+use Rattle.laws.specs.Prelude.{Bool, Element, List, [], element_in, element_words, eqb, false, get_or, set, suc, true, write_element, zero, ℕ}
 unfoldable pub use Rattle.strip.specs.Words.{is_blank}
 use Rattle.cluster_model.specs.Node.{Place, gap, has, elem_of, Node}
 

@@ -1,5 +1,6 @@
 -- A node all of whose flags are 1 is scanned without a look at what is empty: the best number so far is kept, not its place's words read again.
-use Rattle.laws.specs.Prelude.{Bool, List, ◌&&◌, ◌*◌, ◌+◌, cond, element_in, element_words, eqb, leb, ltb, suc, true, turn, zero, ℕ}
+use Rattle.std.specs.Prelude.{◌&&◌, ◌*◌, ◌+◌}
+use Rattle.laws.specs.Prelude.{Bool, List, cond, element_in, element_words, eqb, leb, ltb, suc, true, turn, zero, ℕ}
 use Rattle.cluster_node.specs.declared.Lead.{Lead}
 use Rattle.cluster_model.specs.Prelude.{place_words, word}
 

@@ -1,5 +1,6 @@
 -- What the code of one node computes: the tests of a node once it has been scanned, the lower of two children, a count one more or less.
-use Rattle.laws.specs.Prelude.{Bool, Element, List, ◌&&◌, ◌*◌, ◌+◌, ◌-◌, ◌/◌, ◌<◌, ◌||◌, ◌≡◌, ◌≤◌, cond, element_in, eqb, key, leb, length, ltb, not, pred, set, true, ℕ}
+use Rattle.std.specs.Prelude.{◌&&◌, ◌*◌, ◌+◌, ◌-◌, ◌/◌, ◌<◌, ◌||◌, ◌≡◌, ◌≤◌}
+use Rattle.laws.specs.Prelude.{Bool, Element, List, cond, element_in, eqb, key, leb, length, ltb, not, pred, set, true, ℕ}
 use Rattle.cluster_node.specs.declared.Seen.{Seen}
 use Rattle.cluster_node.specs.declared.Lead.{Lead}
 use Rattle.cluster_node.specs.declared.Found.{Found}

@@ -1,5 +1,6 @@
 -- One scan of a node's places: neat so far, how many are flagged, the first that is not, the lowest, the highest.
-use Rattle.laws.specs.Prelude.{Bool, List, ◌&&◌, ◌*◌, ◌+◌, cond, element_words, eqb, not, suc, true, zero, ℕ}
+use Rattle.std.specs.Prelude.{◌&&◌, ◌*◌, ◌+◌}
+use Rattle.laws.specs.Prelude.{Bool, List, cond, element_words, eqb, not, suc, true, zero, ℕ}
 use Rattle.cluster_node.specs.declared.Seen.{Seen}
 use Rattle.cluster_model.specs.Prelude.{neat_place, place_of, place_words, word}
 use Rattle.cluster_node.specs.Scan.{lower_than, high_as}

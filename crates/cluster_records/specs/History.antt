@@ -1,5 +1,6 @@
 -- What is promised of lent calls is said in these words: the host's memory beside a machine that goes by value.
-use Rattle.laws.specs.Prelude.{Answer, Idle, List, Refusal, Refused, Request, ◌-◌, ◌≡◌, cond, length, not, replicate, true, ℕ}
+use Rattle.std.specs.Prelude.{◌-◌, ◌≡◌}
+use Rattle.laws.specs.Prelude.{Answer, Idle, List, Refusal, Refused, Request, cond, length, not, replicate, true, ℕ}
 use Rattle.promise.specs.Prelude.{Step, is_bad_shape, leaves, step}
 use Rattle.cluster_clock_model.specs.Prelude.{Machine}
 use Rattle.cluster_records.specs.Lent.{ClusterRecord, lent_cleared, lent_drain, LentDrain, lent_cycled, readable, stages_read}

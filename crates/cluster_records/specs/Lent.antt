@@ -1,6 +1,7 @@
 -- The clocked cluster heap's calls over records in the host's own memory, as 02 [13] has them for the tree: each is the by-value call on the records read,
 -- and what that leaves is written back.
-use Rattle.laws.specs.Prelude.{Answer, BadShape, Bool, Element, List, Refused, Request, [], ◌&&◌, ◌-◌, ◌∷◌, cond, element, eqb, false, get_or, has_run, leb, length, ltb, set, suc, true, zero, ℕ}
+use Rattle.std.specs.Prelude.{◌&&◌, ◌-◌, ◌∷◌}
+use Rattle.laws.specs.Prelude.{Answer, BadShape, Bool, Element, List, Refused, Request, [], cond, element, eqb, false, get_or, has_run, leb, length, ltb, set, suc, true, zero, ℕ}
 use Rattle.cluster_clock_model.specs.Prelude.{CycleOutcome, DrainOutcome, clock_cleared, cycled, drains, fresh, no_stage, stage, stage_at}
 use Rattle.cluster_clock_model.specs.declared.Due.{Due}
 use Rattle.cluster_clock_model.specs.declared.Due.TheVariants.{Fill, Nothing, Put, Swap}

@@ -1,5 +1,6 @@
 -- The tables of refusals of the lent calls, and what each refusal leaves behind: words and records. A drain's is in `History.antt`, beside the list of calls.
-use Rattle.laws.specs.Prelude.{BadShape, Idle, Ladder, List, Refusal, Refused, Request, ◌-◌, ◌<◌, ◌≤◌, cond, fine, get_or, length, rung, runs_idle, ℕ}
+use Rattle.std.specs.Prelude.{◌-◌, ◌<◌, ◌≤◌}
+use Rattle.laws.specs.Prelude.{BadShape, Idle, Ladder, List, Refusal, Refused, Request, cond, fine, get_or, length, rung, runs_idle, ℕ}
 use Rattle.cluster_clock_model.specs.Prelude.{cycle_refusals, drain_refusals}
 use Rattle.cluster_records.specs.Lent.{ClusterRecord, kind_in, lent_outcome, LentOutcome, lent_cycled, no_record, stages_read}
 use Rattle.cluster_model.specs.Prelude.{Shape}

@@ -1,5 +1,6 @@
 -- What the code between the slice and the by-value calls asks and says.
-use Rattle.laws.specs.Prelude.{Answer, BadShape, Bool, List, Refused, Request, ◌&&◌, ◌-◌, ◌<◌, ◌≤◌, cond, false, has_run, leb, ltb, ℕ}
+use Rattle.std.specs.Prelude.{◌&&◌, ◌-◌, ◌<◌, ◌≤◌}
+use Rattle.laws.specs.Prelude.{Answer, BadShape, Bool, List, Refused, Request, cond, false, has_run, leb, ltb, ℕ}
 use Rattle.cluster_clock_model.specs.Prelude.{CycleOutcome, DrainOutcome, clock_cleared, cycle_outcome, cycled, drain_outcome, drains, fresh, stage_at, stage_count}
 use Rattle.cluster_clock_model.specs.declared.Stage.{Stage}
 use Rattle.cluster_records.specs.Lent.{at_node, at_place, ClusterRecord, kinds_ok, record_of, stages_read}

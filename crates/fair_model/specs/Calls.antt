@@ -1,5 +1,6 @@
 -- The calls of fair ranks over the one-at-a-time tree, each a total function of all numbers and words handed in to an answer and all words afterwards.
-use Rattle.laws.specs.Prelude.{Answer, BadShape, Bool, Count, Done, Element, Held, List, Out, Pop, Push, Refused, Unknown, ◌&&◌, ◌++◌, ◌<◌, ◌≤◌, blank, cond, drop, element, eqb, get_or, leb, length, ltb, refusal_number, replicate, set, suc, ℕ}
+use Rattle.std.specs.Prelude.{◌&&◌, ◌++◌, ◌<◌, ◌≤◌}
+use Rattle.laws.specs.Prelude.{Answer, BadShape, Bool, Count, Done, Element, Held, List, Out, Pop, Push, Refused, Unknown, blank, cond, drop, element, eqb, get_or, leb, length, ltb, refusal_number, replicate, set, suc, ℕ}
 use Rattle.promise.specs.Prelude.{Step, TableOf, bars, decided, ends, needs, step}
 use Rattle.tree_model.specs.Prelude.{Outcome, called, held_count}
 use Rattle.fair_model.specs.Ranks.{finish, flows, Good, heaviest, latest, longest}

@@ -1,5 +1,6 @@
 -- Worked cases, order 2, levels 2: the bound reached, every refusal, and the largest finish.
-use Rattle.laws.specs.Prelude.{List, [], ◌*◌, ◌++◌, ◌+◌, ◌∷◌, get_or, map, replicate, take, ℕ}
+use Rattle.std.specs.Prelude.{◌*◌, ◌++◌, ◌+◌, ◌∷◌}
+use Rattle.laws.specs.Prelude.{List, [], get_or, map, replicate, take, ℕ}
 use Rattle.promise.specs.Prelude.{answers, leaves}
 use Rattle.fair_model.specs.Calls.{answer_number, Desk, desk, pushes, Reply, resets, served_element}
 use Rattle.fair_model.specs.Promise.{Call, Entry, fair_queue, opened, pop, push, reset, served_in}

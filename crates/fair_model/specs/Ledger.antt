@@ -1,6 +1,7 @@
 -- The strips that wait, each with its flow and weight, and what one call makes of them. A queue keeps neither flow nor weight, so which of two
 -- waiting strips with one and the same element has left is not told: a ledger may strike out either.
-use Rattle.laws.specs.Prelude.{All, Any, Bool, Element, List, [], ◌*◌, ◌++◌, ◌+◌, ◌<◌, ◌∷◌, ◌≡◌, ◌≤◌, element, eqb, false, get_or, length, suc, sum_of, true, upd, zero, ℕ}
+use Rattle.std.specs.Prelude.{◌*◌, ◌++◌, ◌+◌, ◌<◌, ◌∷◌, ◌≡◌, ◌≤◌}
+use Rattle.laws.specs.Prelude.{All, Any, Bool, Element, List, [], element, eqb, false, get_or, length, suc, sum_of, true, upd, zero, ℕ}
 use Rattle.promise.specs.Prelude.{hit}
 use Rattle.fair_model.specs.Ranks.{cells, finish, Good, latest, step}
 

@@ -1,5 +1,6 @@
 -- What is promised of fair ranks is said in these words: the table of refusals, a list of calls, and the ledger that goes with it.
-use Rattle.laws.specs.Prelude.{All, BadShape, Bool, Done, Element, Ladder, List, Out, Pop, Push, Refusal, Request, [], ◌&&◌, ◌++◌, ◌+◌, ◌<◌, ◌∷◌, ◌≡◌, ◌≤◌, ◌⊎◌, cond, fine, get_or, leb, length, ltb, refusal_number, rung, stop, suc, take, ℕ}
+use Rattle.std.specs.Prelude.{◌&&◌, ◌++◌, ◌+◌, ◌<◌, ◌∷◌, ◌≡◌, ◌≤◌, ◌⊎◌}
+use Rattle.laws.specs.Prelude.{All, BadShape, Bool, Done, Element, Ladder, List, Out, Pop, Push, Refusal, Request, [], cond, fine, get_or, leb, length, ltb, refusal_number, rung, stop, suc, take, ℕ}
 use Rattle.promise.specs.Prelude.{Step, leaves, lower, triple}
 use Rattle.tree_model.specs.Prelude.{Shape, after, called, held_refusals, outcome, refusals, room, root_of, stored_count, sum_counts}
 use Rattle.fair_model.specs.Calls.{answer_number, clock_of, Desk, desk, last_of, Long, next_element, next_finish, pops, pushes, Reply, resets, state_ok, state_words, strip_ok}

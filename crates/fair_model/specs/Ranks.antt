@@ -1,5 +1,6 @@
 -- The numbers of 02 [10]: cells, steps and finishes.
-use Rattle.laws.specs.Prelude.{◌*◌, ◌+◌, ◌/◌, ◌<◌, ◌≤◌, max, ℕ}
+use Rattle.std.specs.Prelude.{◌*◌, ◌+◌, ◌/◌, ◌<◌, ◌≤◌}
+use Rattle.laws.specs.Prelude.{max, ℕ}
 
 -- "for up to 64 flows, weight 1 to 1,024"
 abbrev pub flows : ℕ

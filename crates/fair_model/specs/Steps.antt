@@ -1,5 +1,6 @@
 -- "A constant table of 1,024 step sizes holds, for weight w, 65,536 / w rounded down": the table in plain numbers, entry w − 1 for weight w.
-use Rattle.laws.specs.Prelude.{List, [], ◌∷◌, ℕ}
+use Rattle.std.specs.Prelude.{◌∷◌}
+use Rattle.laws.specs.Prelude.{List, [], ℕ}
 
 unfoldable pub step_table : List ℕ
 step_table =

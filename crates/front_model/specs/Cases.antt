@@ -1,5 +1,6 @@
 -- Cases of the front, to be computed. These are definitions.
-use Rattle.laws.specs.Prelude.{Answer, Done, Idle, List, Out, Pop, Push, Replace, Request, [], ◌∷◌, element}
+use Rattle.std.specs.Prelude.{◌∷◌}
+use Rattle.laws.specs.Prelude.{Answer, Done, Idle, List, Out, Pop, Push, Replace, Request, [], element}
 use Rattle.bucket_clock_model.specs.declared.Maybe.TheVariants.{None, Some}
 use Rattle.front_model.specs.Front.{State, state}
 

@@ -1,5 +1,6 @@
 -- What the front's tests ask, in facts. These are definitions.
-use Rattle.laws.specs.Prelude.{All, Bool, Element, List, Request, Zeros, [], ◌+◌, ◌<◌, ◌∷◌, ◌≡◌, ◌≤◌, false, length, true, ℕ}
+use Rattle.std.specs.Prelude.{◌+◌, ◌<◌, ◌∷◌, ◌≡◌, ◌≤◌}
+use Rattle.laws.specs.Prelude.{All, Bool, Element, List, Request, Zeros, [], false, length, true, ℕ}
 use Rattle.bucket_clock_model.specs.Damage.{DeskShaped, StagesFit}
 use Rattle.bucket_clock_model.specs.Desk.{waiting}
 use Rattle.bucket_clock_model.specs.Lists.{takes}

@@ -1,7 +1,8 @@
 -- The front on its words, before the clocked bucket queue: its calls as functions of every word that they are lent to what they answer and every word
 -- that they leave.
 -- These are definitions, and the contracts cite them.
-use Rattle.laws.specs.Prelude.{BadShape, Bool, Count, Damaged, Done, Element, Held, Idle, List, Refused, Request, Unknown, [], ◌%◌, ◌&&◌, ◌*◌, ◌+◌, ◌/◌, ◌∷◌, blank, cond, element_in, element_numbers, eqb, false, get_or, is_blank, leb, length, ltb, not, pred, suc, true, zero, ℕ}
+use Rattle.std.specs.Prelude.{◌%◌, ◌&&◌, ◌*◌, ◌+◌, ◌/◌, ◌∷◌}
+use Rattle.laws.specs.Prelude.{BadShape, Bool, Count, Damaged, Done, Element, Held, Idle, List, Refused, Request, Unknown, [], blank, cond, element_in, element_numbers, eqb, false, get_or, is_blank, leb, length, ltb, not, pred, suc, true, zero, ℕ}
 use Rattle.bucket_clock_model.specs.Clock.{late_table}
 use Rattle.bucket_clock_model.specs.declared.Maybe.{Maybe}
 use Rattle.bucket_clock_model.specs.declared.Waiting.{Waiting}

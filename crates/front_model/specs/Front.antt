@@ -1,5 +1,6 @@
 -- A sorted front of k places before a queue whose lowest arrives p cycles after it is asked for (document 000, section 5). These are definitions.
-use Rattle.laws.specs.Prelude.{Answer, Bool, Damaged, Done, Element, Empty, Full, Idle, List, NoTag, Out, Pop, Push, Refused, Replace, Request, [], ◌+◌, ◌∷◌, ◌≡◌, ◌≤◌, cond, eqb, false, length, ltb, min, number_of, replicate, suc, true, untagged, zero, ℕ}
+use Rattle.std.specs.Prelude.{◌+◌, ◌∷◌, ◌≡◌, ◌≤◌}
+use Rattle.laws.specs.Prelude.{Answer, Bool, Damaged, Done, Element, Empty, Full, Idle, List, NoTag, Out, Pop, Push, Refused, Replace, Request, [], cond, eqb, false, length, ltb, min, number_of, replicate, suc, true, untagged, zero, ℕ}
 use Rattle.bucket_model.specs.Prelude.{Sorted}
 use Rattle.bucket_clock_model.specs.declared.Maybe.{Maybe}
 use Rattle.bucket_clock_model.specs.declared.Maybe.TheVariants.{None, Some}

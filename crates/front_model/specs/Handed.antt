@@ -1,5 +1,6 @@
 -- What the front hands to the queue behind it. These are definitions.
-use Rattle.laws.specs.Prelude.{Bool, Element, Idle, List, Pop, Push, Replace, Request, ◌&&◌, eqb, false, not, true, ℕ}
+use Rattle.std.specs.Prelude.{◌&&◌}
+use Rattle.laws.specs.Prelude.{Bool, Element, Idle, List, Pop, Push, Replace, Request, eqb, false, not, true, ℕ}
 use Rattle.bucket_clock_model.specs.declared.Maybe.{Maybe}
 use Rattle.bucket_clock_model.specs.declared.Maybe.TheVariants.{None, Some}
 use Rattle.bucket_clock_model.specs.Lists.{but_last, last}

@@ -1,5 +1,6 @@
 -- What is promised of the front is said in these words: the front as a clock, its drain, and what it holds. These are definitions.
-use Rattle.laws.specs.Prelude.{Answer, Bool, Element, Idle, List, Pop, Push, Replace, Request, ◌&&◌, ◌*◌, ◌+◌, ◌≡◌, ◌≤◌, cond, element, false, ltb, not, suc, true, zero, ℕ}
+use Rattle.std.specs.Prelude.{◌&&◌, ◌*◌, ◌+◌, ◌≡◌, ◌≤◌}
+use Rattle.laws.specs.Prelude.{Answer, Bool, Element, Idle, List, Pop, Push, Replace, Request, cond, element, false, ltb, not, suc, true, zero, ℕ}
 use Rattle.agreement.specs.Plain.{number_for}
 use Rattle.bucket_clock_model.specs.Clock.{late_table}
 use Rattle.bucket_clock_model.specs.declared.Waiting.{Waiting}

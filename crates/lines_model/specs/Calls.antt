@@ -1,5 +1,6 @@
 -- The lines as a queue that does one operation at a time: what they bring to the calls that every queue has (`promise/specs/Calls.antt`). These are definitions.
-use Rattle.laws.specs.Prelude.{Answer, BadShape, Bool, Count, Element, List, Request, [], ◌∷◌, element_in, length, suc, zero, ℕ}
+use Rattle.std.specs.Prelude.{◌∷◌}
+use Rattle.laws.specs.Prelude.{Answer, BadShape, Bool, Count, Element, List, Request, [], element_in, length, suc, zero, ℕ}
 use Rattle.promise.specs.Calls as calls
 use Rattle.promise.specs.Prelude.{Queue, Step, ends, needs}
 use Rattle.lines_model.specs.Causes.{CountsFit, Shaped}

@@ -1,5 +1,6 @@
 -- For which facts the lines refuse, in the words of the rules. These are definitions.
-use Rattle.laws.specs.Prelude.{All, Element, Idle, List, Pop, Push, Replace, Request, [], ◌+◌, ◌<◌, ◌∷◌, ◌≡◌, ◌≤◌, ◌⊎◌, true, ℕ}
+use Rattle.std.specs.Prelude.{◌+◌, ◌<◌, ◌∷◌, ◌≡◌, ◌≤◌, ◌⊎◌}
+use Rattle.laws.specs.Prelude.{All, Element, Idle, List, Pop, Push, Replace, Request, [], true, ℕ}
 use Rattle.lines_model.specs.Layout.{line_of, power_of_two, row_at, row_in, Rows, store_words, word}
 
 -- ---- 1, bad shape: "the kind is 1 or 2, Q a power of two from 1 to 512, W from 1 to 1,024"

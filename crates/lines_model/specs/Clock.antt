@@ -1,6 +1,7 @@
 -- The lines by clock cycles: "The counts change in the request's own cycle, the line in the next". What they bring to the calls that every clocked machine has
 -- (`promise/specs/Clock.antt`). These are definitions.
-use Rattle.laws.specs.Prelude.{Answer, Bool, Count, Element, List, Request, ◌&&◌, ◌*◌, ◌+◌, ◌-◌, ◌<◌, ◌||◌, ◌≡◌, ◌≤◌, ◌⊎◌, cond, eqb, false, length, ltb, true, ℕ}
+use Rattle.std.specs.Prelude.{◌&&◌, ◌*◌, ◌+◌, ◌-◌, ◌<◌, ◌||◌, ◌≡◌, ◌≤◌, ◌⊎◌}
+use Rattle.laws.specs.Prelude.{Answer, Bool, Count, Element, List, Request, cond, eqb, false, length, ltb, true, ℕ}
 use Rattle.promise.specs.Calls as calls
 use Rattle.promise.specs.Prelude.{Clock, Drained, Step, cycling, drained_by, grants}
 use Rattle.promise.specs.Clock as clocks

@@ -1,5 +1,6 @@
 -- The plain first-in list that kind 1 is, and one line in either kind: its own cause of "full". These are definitions.
-use Rattle.laws.specs.Prelude.{Answer, Bool, Element, Empty, Full, Idle, List, NoTag, Pop, Push, Replace, Request, [], ◌∷◌, ◌≡◌, ◌≤◌, ◌⊎◌, cond, eqb, false, length, ltb, number_of, rank_of, true, untagged, ℕ}
+use Rattle.std.specs.Prelude.{◌∷◌, ◌≡◌, ◌≤◌, ◌⊎◌}
+use Rattle.laws.specs.Prelude.{Answer, Bool, Element, Empty, Full, Idle, List, NoTag, Pop, Push, Replace, Request, [], cond, eqb, false, length, ltb, number_of, rank_of, true, untagged, ℕ}
 use Rattle.promise.specs.FirstIn.{plain_by}
 use Rattle.promise.specs.Prelude.{Step, Table, Untagged, bars, ends, stops}
 use Rattle.lines_model.specs.Layout.{behind, Rows}

@@ -1,5 +1,6 @@
 -- What is promised of the lines' words, and what they hold. These are definitions.
-use Rattle.laws.specs.Prelude.{All, Bool, Element, List, [], ◌*◌, ◌++◌, ◌+◌, ◌<◌, ◌≡◌, ◌≤◌, length, suc, zero, ℕ}
+use Rattle.std.specs.Prelude.{◌*◌, ◌++◌, ◌+◌, ◌<◌, ◌≡◌, ◌≤◌}
+use Rattle.laws.specs.Prelude.{All, Bool, Element, List, [], length, suc, zero, ℕ}
 use Rattle.promise.specs.FirstIn.{Sorted, times}
 use Rattle.lines_model.specs.Causes.{Own, Shaped}
 use Rattle.lines_model.specs.Layout.{row_at, row_in, Rows, word}

@@ -1,5 +1,6 @@
 -- What a request is asked and comes to, by the counts and the lines' first places; and what is done for it. These are definitions.
-use Rattle.laws.specs.Prelude.{Answer, BadRank, Bool, Element, Empty, Full, Idle, List, NoTag, Pop, Push, Refusal, Refused, Replace, Request, [], ◌&&◌, ◌+◌, ◌-◌, ◌||◌, ◌∷◌, ◌≡◌, cond, eqb, leb, ltb, not, set, suc, true, zero, ℕ}
+use Rattle.std.specs.Prelude.{◌&&◌, ◌+◌, ◌-◌, ◌||◌, ◌∷◌, ◌≡◌}
+use Rattle.laws.specs.Prelude.{Answer, BadRank, Bool, Element, Empty, Full, Idle, List, NoTag, Pop, Push, Refusal, Refused, Replace, Request, [], cond, eqb, leb, ltb, not, set, suc, true, zero, ℕ}
 use Rattle.promise.specs.Prelude.{Table, Untagged, bars, decided, ends, grants, lacks_tag, needs, stops}
 use Rattle.lines_model.specs.Causes.{LineFit, NoRoom, NoRoomAfter, Ranked}
 use Rattle.lines_model.specs.Layout.{line_of, put_in, row_at, row_in, Rows, without, word}

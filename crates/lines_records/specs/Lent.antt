@@ -1,6 +1,7 @@
 -- The clocked lines' calls over a record in the host's own memory: each is the by-value call on what the record holds, and what that leaves is written back. These
 -- are definitions.
-use Rattle.laws.specs.Prelude.{Answer, BadShape, Bool, Element, List, Refused, Request, [], ◌&&◌, ◌∷◌, cond, element, eqb, false, get_or, has_run, leb, length, ltb, set, ℕ}
+use Rattle.std.specs.Prelude.{◌&&◌, ◌∷◌}
+use Rattle.laws.specs.Prelude.{Answer, BadShape, Bool, Element, List, Refused, Request, [], cond, element, eqb, false, get_or, has_run, leb, length, ltb, set, ℕ}
 use Rattle.lines_model.specs.Clock.{clock_cleared, drains, Machine, machine, cycled}
 use Rattle.lines_model.specs.declared.Due.{Due}
 use Rattle.lines_model.specs.declared.Due.TheVariants.{Put, Rest, Swap, Take}

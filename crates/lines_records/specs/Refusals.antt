@@ -1,5 +1,6 @@
 -- The tables of refusals of the lent calls, and what each refusal leaves behind: words and record. These are definitions.
-use Rattle.laws.specs.Prelude.{BadShape, Idle, Ladder, List, Refusal, Refused, Request, ◌≤◌, length, rung, ℕ}
+use Rattle.std.specs.Prelude.{◌≤◌}
+use Rattle.laws.specs.Prelude.{BadShape, Idle, Ladder, List, Refusal, Refused, Request, length, rung, ℕ}
 use Rattle.lines_model.specs.Clock.{clock, machine, ticking}
 use Rattle.lines_model.specs.declared.Due.TheVariants.{Rest}
 use Rattle.lines_model.specs.declared.Rows.{Rows}

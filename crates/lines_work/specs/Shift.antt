@@ -1,5 +1,6 @@
 -- Words of a line that move by a place, as a copy of words; and a newcomer at its spot. These are definitions.
-use Rattle.laws.specs.Prelude.{Element, List, [], ◌+◌, ◌∷◌, leb, set, suc, zero, ℕ}
+use Rattle.std.specs.Prelude.{◌+◌, ◌∷◌}
+use Rattle.laws.specs.Prelude.{Element, List, [], leb, set, suc, zero, ℕ}
 use Rattle.lines_model.specs.Layout.{word}
 use Rattle.promise.specs.Prelude.{hit}
 

@@ -1,5 +1,6 @@
 -- How many elements the lines of what is to be done have: where the counts have not changed yet, and where they have. These are definitions.
-use Rattle.laws.specs.Prelude.{◌<◌, ℕ}
+use Rattle.std.specs.Prelude.{◌<◌}
+use Rattle.laws.specs.Prelude.{ℕ}
 use Rattle.lines_model.specs.Rules.{goal}
 use Rattle.lines_model.specs.declared.Due.{Due}
 use Rattle.lines_model.specs.declared.Due.TheVariants.{Put, Rest, Swap, Take}

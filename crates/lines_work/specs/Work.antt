@@ -1,5 +1,6 @@
 -- What the steps of the lines' work read and write, by the numbers of elements that the lines have. These are definitions.
-use Rattle.laws.specs.Prelude.{Bool, Element, List, ◌&&◌, ◌*◌, ◌+◌, ◌-◌, ◌<◌, ◌||◌, ◌≡◌, ◌≤◌, cond, eqb, false, length, ltb, not, suc, true, zero, ℕ}
+use Rattle.std.specs.Prelude.{◌&&◌, ◌*◌, ◌+◌, ◌-◌, ◌<◌, ◌||◌, ◌≡◌, ◌≤◌}
+use Rattle.laws.specs.Prelude.{Bool, Element, List, cond, eqb, false, length, ltb, not, suc, true, zero, ℕ}
 use Rattle.lines_model.specs.Calls.{heads}
 use Rattle.lines_model.specs.Layout.{put_in, row_at, row_in, without, word}
 use Rattle.lines_model.specs.Rules.{ascends, counts_below, goal, is_blank, line_ok, own_rank, total}

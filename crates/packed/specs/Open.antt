@@ -1,5 +1,6 @@
 -- A call past the tests that every call makes.
-use Rattle.laws.specs.Prelude.{List, ◌<◌, ◌≡◌, length, true, ℕ}
+use Rattle.std.specs.Prelude.{◌<◌, ◌≡◌}
+use Rattle.laws.specs.Prelude.{List, length, true, ℕ}
 use Rattle.packed_model.specs.Words.{word}
 use Rattle.packed_model.specs.Calls.{shape_ok, root_ok}
 

@@ -1,6 +1,7 @@
 -- The five calls of the packed heap, each a total function of H, levels, the heap's number and the words to an answer and the words afterwards: what a heap
 -- brings, to the calls that every queue has (`promise/specs/Calls.antt`).
-use Rattle.laws.specs.Prelude.{Answer, BadShape, Bool, Count, Idle, List, NoHeap, Pop, Push, Replace, Request, ◌&&◌, ◌*◌, ◌++◌, ◌+◌, ◌-◌, ◌<◌, ◌||◌, cond, drop, eqb, leb, length, ltb, replicate, set, true, ℕ}
+use Rattle.std.specs.Prelude.{◌&&◌, ◌*◌, ◌++◌, ◌+◌, ◌-◌, ◌<◌, ◌||◌}
+use Rattle.laws.specs.Prelude.{Answer, BadShape, Bool, Count, Idle, List, NoHeap, Pop, Push, Replace, Request, cond, drop, eqb, leb, length, ltb, replicate, set, true, ℕ}
 use Rattle.packed_model.specs.Causes.{RootDamaged, Shape, WayDamaged}
 use Rattle.packed_model.specs.Heap.{many}
 use Rattle.packed_model.specs.Node.{sink}

@@ -1,6 +1,7 @@
 -- The rules' worked store: H = 2, L = 2, pushes of 5/50, 3/30, 9/90 at heap 0 and of 8/80, 1/10 at heap 1; then a full heap, a heap that is not there, a push
 -- without a tag, a pop, a replace and pops to the end at heap 0.
-use Rattle.laws.specs.Prelude.{Answer, List, Pop, Push, Replace, Request, [], ◌++◌, ◌∷◌, element, element_numbers, element_of, map, number_of, replicate, ℕ}
+use Rattle.std.specs.Prelude.{◌++◌, ◌∷◌}
+use Rattle.laws.specs.Prelude.{Answer, List, Pop, Push, Replace, Request, [], element, element_numbers, element_of, map, number_of, replicate, ℕ}
 use Rattle.packed_model.specs.Calls.{called}
 use Rattle.packed_model.specs.Promise.{after, said}
 use Rattle.promise.specs.Forest.{At}

@@ -1,5 +1,6 @@
 -- Causes: column "Exactly when" of the table of refusals, in words.
-use Rattle.laws.specs.Prelude.{Idle, List, Pop, Push, Replace, Request, ◌*◌, ◌+◌, ◌-◌, ◌<◌, ◌≡◌, ◌≤◌, ◌⊎◌, suc, zero, ℕ}
+use Rattle.std.specs.Prelude.{◌*◌, ◌+◌, ◌-◌, ◌<◌, ◌≡◌, ◌≤◌, ◌⊎◌}
+use Rattle.laws.specs.Prelude.{Idle, List, Pop, Push, Replace, Request, suc, zero, ℕ}
 use Rattle.packed_model.specs.Node.{none, Op, put, sink}
 use Rattle.packed_model.specs.Words.{below, capacity, child, cut_last, extent, last_in, last_slot, step_in, towards, word}
 

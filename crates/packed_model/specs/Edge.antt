@@ -1,5 +1,6 @@
 -- Shapes at the edge of the limits: "1 to 256" heaps, "L at least 1", "H(2^L − 1) is at most 131,071: L is at most 17 with 1 heap, 16 with 2, 15 up to 4, .. 9 up to 256".
-use Rattle.laws.specs.Prelude.{List, ◌≡◌, ◌≤◌, length, number_of, ℕ}
+use Rattle.std.specs.Prelude.{◌≡◌, ◌≤◌}
+use Rattle.laws.specs.Prelude.{List, length, number_of, ℕ}
 use Rattle.packed_model.specs.Calls.{cleared}
 use Rattle.packed_model.specs.Words.{capacity, extent}
 

@@ -1,5 +1,6 @@
 -- One heap as a tree of slots: an operation done to its end, the last entry, what the heap holds, and when it is packed and in order.
-use Rattle.laws.specs.Prelude.{Bool, Element, ◌+◌, ◌-◌, ◌≡◌, blank, cond, false, key, ltb, suc, untagged, zero, ℕ}
+use Rattle.std.specs.Prelude.{◌+◌, ◌-◌, ◌≡◌}
+use Rattle.laws.specs.Prelude.{Bool, Element, blank, cond, false, key, ltb, suc, untagged, zero, ℕ}
 use Rattle.promise.specs.Prelude.{hit}
 use Rattle.packed_model.specs.Node.{size, pick, turn_of, rest_of, Op, step, to_left, to_right}
 

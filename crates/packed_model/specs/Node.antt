@@ -1,5 +1,6 @@
 -- One step at one position of a packed heap: of a put on its way to a position, and of a sink.
-use Rattle.laws.specs.Prelude.{Bool, Element, ◌&&◌, ◌+◌, ◌-◌, ◌||◌, cond, false, keep, key, leb, ltb, not, pass, suc, true, untagged, zero, ℕ}
+use Rattle.std.specs.Prelude.{◌&&◌, ◌+◌, ◌-◌, ◌||◌}
+use Rattle.laws.specs.Prelude.{Bool, Element, cond, false, keep, key, leb, ltb, not, pass, suc, true, untagged, zero, ℕ}
 
 -- ---- numbers. 2^d, by doubling
 unfoldable pub size : ℕ → ℕ

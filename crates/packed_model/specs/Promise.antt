@@ -1,5 +1,6 @@
 -- What is promised of the packed heap is said in these words: the table of refusals, when a heap is packed, and what a list of calls leaves and is answered.
-use Rattle.laws.specs.Prelude.{Answer, BadShape, Bool, Damaged, Element, Ladder, List, NoHeap, NoTag, Refusal, Request, ◌+◌, ◌<◌, ◌≡◌, ◌≤◌, ◌⊎◌, fine, length, rung, stop, ℕ}
+use Rattle.std.specs.Prelude.{◌+◌, ◌<◌, ◌≡◌, ◌≤◌, ◌⊎◌}
+use Rattle.laws.specs.Prelude.{Answer, BadShape, Bool, Damaged, Element, Ladder, List, NoHeap, NoTag, Refusal, Request, fine, length, rung, stop, ℕ}
 use Rattle.packed_model.specs.Calls.{called, cleared, rule_at}
 use Rattle.packed_model.specs.Causes.{RootDamaged, Shape, WayDamaged}
 use Rattle.packed_model.specs.Heap.{many, Sound}

@@ -1,5 +1,6 @@
 -- The rules at a position, in their own words: the lower child, put and sink; and the way to a position.
-use Rattle.laws.specs.Prelude.{Element, ◌*◌, ◌+◌, ◌<◌, ◌≡◌, ◌≤◌, ◌⊎◌, suc, zero, ℕ}
+use Rattle.std.specs.Prelude.{◌*◌, ◌+◌, ◌<◌, ◌≡◌, ◌≤◌, ◌⊎◌}
+use Rattle.laws.specs.Prelude.{Element, suc, zero, ℕ}
 use Rattle.packed_model.specs.Node.{lhs, none, Op, pick, put, rest_of, rhs, Side, sink, size, Stepped, stepped, turn_of}
 use Rattle.packed_model.specs.Words.{below}
 

@@ -1,5 +1,6 @@
 -- A put's way by itself, as the code walks it: read from its end up, written from the first exchange down.
-use Rattle.laws.specs.Prelude.{Bool, Element, List, ◌&&◌, ◌*◌, ◌+◌, ◌<◌, ◌≡◌, ◌≤◌, false, keep, pass, suc, true, zero, ℕ}
+use Rattle.std.specs.Prelude.{◌&&◌, ◌*◌, ◌+◌, ◌<◌, ◌≡◌, ◌≤◌}
+use Rattle.laws.specs.Prelude.{Bool, Element, List, false, keep, pass, suc, true, zero, ℕ}
 use Rattle.packed_model.specs.Node.{rest_of, size, turn_of}
 use Rattle.packed_model.specs.Words.{child, slot_at, slot_in, tagged, write_slot, zero_slot}
 

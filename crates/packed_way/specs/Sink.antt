@@ -1,5 +1,6 @@
 -- A sink's way, as the code walks it: down to where x comes to rest, and back up with what is lifted.
-use Rattle.laws.specs.Prelude.{Bool, Element, List, ◌&&◌, ◌*◌, ◌+◌, ◌<◌, ◌≡◌, ◌≤◌, ◌⊎◌, blank, cond, eqb, false, is_blank, length, not, suc, true, untagged, zero, ℕ}
+use Rattle.std.specs.Prelude.{◌&&◌, ◌*◌, ◌+◌, ◌<◌, ◌≡◌, ◌≤◌, ◌⊎◌}
+use Rattle.laws.specs.Prelude.{Bool, Element, List, blank, cond, eqb, false, is_blank, length, not, suc, true, untagged, zero, ℕ}
 use Rattle.packed_model.specs.Node.{lhs, lifts, lower_side, none, pick, rhs, Side, sink, size, stepped}
 use Rattle.packed_model.specs.Words.{child, Lies, run_words, slot_in, step_in, way_ok}
 

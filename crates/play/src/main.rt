@@ -3,10 +3,18 @@
 // standard error says so.
 #![tactic(auto)]
 
-ghost use Rattle.std.specs.Prelude.{◌≤◌, ◌≡◌, ltb, length};
-ghost use Rattle.io.specs.Counts.{IsPrefixLen};
-ghost use Rattle.trace_model.specs.Play.{Makes, out_bytes, piece_bytes, piece_run, program_lots};
+#[cfg(test)]
+mod tests;
 
+ghost use Rattle.std.specs.Prelude.{◌≤◌, ◌≡◌, ltb, length, take, List, ℕ, Some, IfOk, IfErr, OnOk};
+ghost use Rattle.std.specs.Io.{ReadsAtMost};
+ghost use Rattle.std.specs.Io.KnownBytes.{Appends};
+ghost use Rattle.trace_model.specs.Format.{header_bytes};
+ghost use Rattle.play.specs.Input.{Gave, Took, WritesTrace, fault_text};
+ghost use Rattle.trace_model.specs.Play.{begun, Makes, out_bytes, piece_bytes, piece_run, program_lots};
+
+use std::fmt;
+use std::io::{Read, Write};
 use trace_model::{Piece, Playing};
 
 // A store for every shape that the program takes.
@@ -20,108 +28,116 @@ const BYTES: usize = 36855;
 
 const OUT: usize = 393216;
 
-// How many bytes were read, and whether no read failed.
+// What ended the play before its input did.
 #[derive(Clone, Copy)]
-struct Filled {
-    bytes: usize,
-    good: bool,
+enum Fault {
+    Read,
+    Write,
 }
 
-// Reads until the buffer is full, the input ends or a read fails.
-fn fill(buf: &mut [u8]) -> Filled
-    ensures { IsPrefixLen result.bytes buf.new }
+impl fmt::Display for Fault {
+    ghost output = { λ fault. Some (fault_text fault) };
+
+    fn fmt<W: fmt::Write>(&self, f: &mut fmt::Formatter<W>) -> fmt::Result {
+        match self {
+            Fault::Read => write!(f, "a read failed"),
+            Fault::Write => write!(f, "a write failed"),
+        }
+    }
+}
+
+// Reads until the buffer is full or the input ends, and answers how many bytes were read.
+fn fill<R: Read>(input: &mut R, buf: &mut [u8]) -> Result<usize, Fault>
+    ensures bound { ReadsAtMost result buf.new }
+    ensures fault { IfErr result (λ fault. fault ≡ Fault.Read) }
+    ensures took { IfOk result (λ n. Took (length buf.new) (R.remaining input.old) (R.remaining input.new) (take n buf.new)) }
 {
     let mut bytes = 0;
     while bytes < buf.len() {
-        let got = libc::read(0, &mut buf[bytes..]);
-        let n = io::count(got, &buf[bytes..]);
-        if n == 0 {
-            return Filled {
-                bytes,
-                good: got == 0,
-            };
+        match input.read(&mut buf[bytes..]) {
+            Ok(0) => break,
+            Ok(n) => bytes += n,
+            Err(_) => return Err(Fault::Read),
         }
-        bytes += n;
     }
-    Filled { bytes, good: true }
+    Ok(bytes)
 }
 
-// Writes the first bytes of the buffer, and answers whether that was done.
-fn write_first(out: &[u8], n: usize) -> bool {
-    if out.len() < n {
-        return false;
-    }
-    io::write_all(1, &out[..n])
-}
-
-// The play, ended where a read or a write failed.
-fn stopped(play: Playing, why: &[u8]) -> Playing {
-    io::write_all(2, why);
-    let version = play.version;
-    let state = play.state;
-    Playing {
-        version,
-        order: play.order,
-        levels: play.levels,
-        state,
-        number: play.number,
-        live: false,
-    }
+// Writes all the lines.
+fn put<W: Write>(output: &mut W, lines: &[u8]) -> Result<(), Fault>
+    ensures fault { IfErr result (λ fault. fault ≡ Fault.Write) }
+    ensures text { OnOk result (Appends (W.contents output.old) (W.contents output.new) lines.now) }
+{
+    output.write_all(lines).map_err(|_| Fault::Write)
 }
 
 // Plays what was read. A piece that is not full is the last, and the buffer has room for all its lines.
 fn play_read(store: &mut [u32], play: Playing, bytes: &[u8], out: &mut [u8]) -> Piece
-    requires { (length bytes.now ≤ piece_bytes program_lots) × (length out.old ≡ out_bytes program_lots) }
+    requires piece { length bytes.now ≤ piece_bytes program_lots }
+    requires room { length out.old ≡ out_bytes program_lots }
     ensures { Makes (piece_run bytes.now (ltb (length bytes.now) (piece_bytes program_lots)) play store.old) 0 out.old result store.new out.new }
 {
     trace::play(store, play, bytes, bytes.len() < BYTES, out)
 }
 
 // Reads a piece, plays it and writes its lines.
-fn piece(store: &mut [u32], play: Playing, bytes: &mut [u8], out: &mut [u8]) -> Playing
-    requires { (length bytes.old ≡ piece_bytes program_lots) × (length out.old ≡ out_bytes program_lots) }
+fn piece<R: Read, W: Write>(
+    input: &mut R,
+    output: &mut W,
+    store: &mut [u32],
+    play: Playing,
+    bytes: &mut [u8],
+    out: &mut [u8],
+) -> Result<Playing, Fault>
+    requires piece { length bytes.old ≡ piece_bytes program_lots }
+    requires room { length out.old ≡ out_bytes program_lots }
+    ensures { IfOk result (λ next. (bs : List ℕ) × Took (piece_bytes program_lots) (R.remaining input.old) (R.remaining input.new) bs
+        × Gave (piece_run bs (ltb (length bs) (piece_bytes program_lots)) play store.old) next store.new (W.contents output.old) (W.contents output.new)) }
 {
-    let read = fill(bytes);
-    if !read.good {
-        return stopped(play, b"play: a read failed\n");
-    }
-    let n = read.bytes;
+    let n = fill(input, bytes)?;
     let done = play_read(store, play, &bytes[..n], out);
-    let next = done.play;
-    if !write_first(out, done.written) {
-        return stopped(next, b"play: a write failed\n");
-    }
-    next
+    put(output, &out[..done.written])?;
+    Ok(done.play)
 }
 
 // Reads the header, begins the play and writes what it says.
-fn begin(store: &mut [u32], out: &mut [u8]) -> Playing {
+fn begin<R: Read, W: Write>(
+    input: &mut R,
+    output: &mut W,
+    store: &mut [u32],
+    out: &mut [u8],
+) -> Result<Playing, Fault>
+    ensures { IfOk result (λ next. (bs : List ℕ) × Took header_bytes (R.remaining input.old) (R.remaining input.new) bs
+        × Gave (begun bs (length out.old) store.old) next store.new (W.contents output.old) (W.contents output.new)) }
+{
     let mut head = [0u8; HEAD];
-    let read = fill(&mut head);
-    let n = read.bytes;
+    let n = fill(input, &mut head)?;
     let done = trace::begin(store, &head[..n], out);
-    let play = done.play;
-    if !read.good {
-        return stopped(play, b"play: a read failed\n");
-    }
-    if !write_first(out, done.written) {
-        return stopped(play, b"play: a write failed\n");
-    }
-    play
+    put(output, &out[..done.written])?;
+    Ok(done.play)
 }
 
-// What bounds the loop is a number of pieces that no input reaches.
-fn main() {
+// Plays the whole input: what is written is the text of the trace that was read. What bounds the loop is a number of pieces that no input
+// reaches.
+fn play_input<R: Read, W: Write>(input: &mut R, output: &mut W) -> Result<(), Fault>
+    ensures { OnOk result (WritesTrace (R.remaining input.old) (W.contents output.old) (W.contents output.new)) }
+{
     let mut store = [0u32; STORE];
     let mut bytes = [0u8; BYTES];
     let mut out = [0u8; OUT];
-    let mut play = begin(&mut store, &mut out);
-    let mut left: u64 = 18446744073709551615;
-    while left > 0 {
+    let mut play = begin(input, output, &mut store, &mut out)?;
+    for _ in 0..u64::MAX {
         if !play.live {
-            return;
+            break;
         }
-        play = piece(&mut store, play, &mut bytes, &mut out);
-        left -= 1;
+        play = piece(input, output, &mut store, play, &mut bytes, &mut out)?;
+    }
+    Ok(())
+}
+
+// Where standard error takes no line either, there is nowhere left to say so.
+fn main(rt: HostRuntime) {
+    if let Err(fault) = play_input(&mut rt.stdin(), &mut rt.stdout()) {
+        let _ = eprintln!(rt; "play: {fault}");
     }
 }

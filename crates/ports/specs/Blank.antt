@@ -1,5 +1,6 @@
 -- What clear's functions ask of their callers, and what they promise. These are definitions.
-use Rattle.laws.specs.Prelude.{List, ◌*◌, ◌+◌, ◌-◌, ◌≤◌, cond, length, ltb, ℕ}
+use Rattle.std.specs.Prelude.{◌*◌, ◌+◌, ◌-◌, ◌≤◌}
+use Rattle.laws.specs.Prelude.{List, cond, length, ltb, ℕ}
 use Rattle.bucket_model.specs.declared.Lay.{Lay}
 use Rattle.bucket_model.specs.Prelude.{Laid, blank_word, pool}
 use Rattle.ports_model.specs.Prelude.{blank_port}

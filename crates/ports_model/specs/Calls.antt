@@ -1,5 +1,6 @@
 -- The five calls as functions of every word that they are lent, to their answer and every word that they leave. What is done at a port is the bucket queue's rule over the port's seat. These are definitions, and the contracts cite them.
-use Rattle.laws.specs.Prelude.{BadPort, BadShape, Count, Damaged, Done, Element, Empty, Full, Held, List, Unknown, ◌%◌, ◌&&◌, ◌+◌, ◌-◌, ◌/◌, cond, eqb, ltb, not, ℕ}
+use Rattle.std.specs.Prelude.{◌%◌, ◌&&◌, ◌+◌, ◌-◌, ◌/◌}
+use Rattle.laws.specs.Prelude.{BadPort, BadShape, Count, Damaged, Done, Element, Empty, Full, Held, List, Unknown, cond, eqb, ltb, not, ℕ}
 use Rattle.bucket_model.specs.declared.Lowest.{Lowest}
 use Rattle.bucket_model.specs.declared.Room.{Room}
 use Rattle.bucket_model.specs.Prelude.{Outcome, fill, lowest_of, outcome, pop_found, push_found, refused, replace_joined, room_with, taken_bits, taken_words, taking, word}

@@ -1,5 +1,6 @@
 -- Two ports on three nodes: calls, the answers that they want, and the words that the first leaves. These are definitions.
-use Rattle.laws.specs.Prelude.{BadPort, BadRank, Done, Empty, Full, Held, List, NoTag, Out, Pop, Push, Refused, Replace, Unknown, [], ◌∷◌, count_number, count_of, element, length_of, number_of, rank_of, tag_of, ℕ}
+use Rattle.std.specs.Prelude.{◌∷◌}
+use Rattle.laws.specs.Prelude.{BadPort, BadRank, Done, Empty, Full, Held, List, NoTag, Out, Pop, Push, Refused, Replace, Unknown, [], count_number, count_of, element, length_of, number_of, rank_of, tag_of, ℕ}
 use Rattle.bucket_model.specs.Prelude.{Said, answered, ask, counted, held}
 use Rattle.ports_model.specs.Layout.{Shape}
 use Rattle.ports_model.specs.Lists.{Ask, at}

@@ -1,5 +1,6 @@
 -- When a call at a port says no, in facts: what it asks in turn, with the refusal where it does not hold. A bucket's facts are the bucket queue's own. These are definitions.
-use Rattle.laws.specs.Prelude.{BadPort, BadShape, Damaged, Element, Empty, Full, Idle, Iff, List, Pop, Push, Replace, Request, ◌&&◌, ◌-◌, ◌<◌, ◌≡◌, ◌≤◌, ◌⊎◌, eqb, length, ltb, not, sum_to, ℕ}
+use Rattle.std.specs.Prelude.{◌&&◌, ◌-◌, ◌<◌, ◌≡◌, ◌≤◌, ◌⊎◌}
+use Rattle.laws.specs.Prelude.{BadPort, BadShape, Damaged, Element, Empty, Full, Idle, Iff, List, Pop, Push, Replace, Request, eqb, length, ltb, not, sum_to, ℕ}
 use Rattle.promise.specs.Prelude.{Table, ends, grants, needs}
 use Rattle.bucket_model.specs.Prelude.{JoinFit, Outcome, PopFit, given, joined_bits, joined_words, least_storeys, lowest_of, lowest_rank, most_storeys, new_table, outcome, pool, word}
 use Rattle.bucket_model.specs.Causes as bucket

@@ -1,5 +1,6 @@
 -- What a call at a port tests, as computed yes or no; a bucket's tests are the bucket queue's own. Causes.antt says the same in facts. These are definitions.
-use Rattle.laws.specs.Prelude.{Bool, Bool·beq, List, ◌&&◌, ◌-◌, ◌||◌, eqb, leb, length, ltb, max, suc, sum_to, true, zero, ℕ}
+use Rattle.std.specs.Prelude.{◌&&◌, ◌-◌, ◌||◌}
+use Rattle.laws.specs.Prelude.{Bool, Bool·beq, List, eqb, leb, length, ltb, max, suc, sum_to, true, zero, ℕ}
 use Rattle.bucket_model.specs.Prelude.{depth_ok, pool, word}
 use Rattle.ports_model.specs.Layout.{Shape, most_ports, bit_words, store_words, free_at, held_at, floor_at, ceiling_at, seat, limit_words, floor_of, ceiling_of}
 

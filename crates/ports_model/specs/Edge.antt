@@ -1,5 +1,6 @@
 -- Shapes, floors and ceilings at their edges, in numbers: what clear says. These are definitions.
-use Rattle.laws.specs.Prelude.{List, [], ◌++◌, ◌<◌, ◌∷◌, ◌≡◌, ◌≤◌, length, number_of, suc, zero, ℕ}
+use Rattle.std.specs.Prelude.{◌++◌, ◌<◌, ◌∷◌, ◌≡◌, ◌≤◌}
+use Rattle.laws.specs.Prelude.{List, [], length, number_of, suc, zero, ℕ}
 use Rattle.ports_model.specs.Layout.{Shape}
 use Rattle.ports_model.specs.Calls.{cleared}
 

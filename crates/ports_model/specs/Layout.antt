@@ -1,5 +1,6 @@
 -- Where the words of several ports on one pool stand: each port is a bucket queue laid out of its own, and all have the nodes and the free link together. These are definitions.
-use Rattle.laws.specs.Prelude.{List, ◌*◌, ◌+◌, ◌-◌, ◌^◌, ℕ}
+use Rattle.std.specs.Prelude.{◌*◌, ◌+◌, ◌-◌, ◌^◌}
+use Rattle.laws.specs.Prelude.{List, ℕ}
 use Rattle.bucket_model.specs.declared.Lay.{Lay}
 use Rattle.bucket_model.specs.Prelude.{node_words, word, words_of}
 pub use Rattle.ports_model.specs.declared.Shape.{Shape}

@@ -1,5 +1,6 @@
 -- Several ports as plain lists, one a port, under 02's rule of acceptance; and what one port hears of a history. These are definitions.
-use Rattle.laws.specs.Prelude.{Answer, BadPort, Bool, Done, Element, Idle, List, Out, Pop, Push, Refusal, Refused, Replace, Unknown, [], ◌&&◌, ◌++◌, ◌-◌, ◌<◌, ◌∷◌, ◌⊎◌, cond, eqb, false, leb, length, ltb, max, sum_to, true, upd, ℕ}
+use Rattle.std.specs.Prelude.{◌&&◌, ◌++◌, ◌-◌, ◌<◌, ◌∷◌, ◌⊎◌}
+use Rattle.laws.specs.Prelude.{Answer, BadPort, Bool, Done, Element, Idle, List, Out, Pop, Push, Refusal, Refused, Replace, Unknown, [], cond, eqb, false, leb, length, ltb, max, sum_to, true, upd, ℕ}
 use Rattle.promise.specs.Prelude.{Step, step}
 use Rattle.bucket_model.specs.Plain as plain
 use Rattle.bucket_model.specs.Prelude.{Call, Said, answered, ask, counted, held, plain_with}

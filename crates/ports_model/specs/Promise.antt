@@ -1,5 +1,6 @@
 -- What is promised of several ports on one pool, beside the plain lists. These are definitions.
-use Rattle.laws.specs.Prelude.{All, Done, Element, Iff, List, Pop, Push, Replace, ◌*◌, ◌+◌, ◌<◌, ◌∷◌, ◌≡◌, ◌≤◌, ◌⊎◌, eqb, length, length_of, number_of, rank_of, tag_of, ℕ}
+use Rattle.std.specs.Prelude.{◌*◌, ◌+◌, ◌<◌, ◌∷◌, ◌≡◌, ◌≤◌, ◌⊎◌}
+use Rattle.laws.specs.Prelude.{All, Done, Element, Iff, List, Pop, Push, Replace, eqb, length, length_of, number_of, rank_of, tag_of, ℕ}
 use Rattle.bucket_model.specs.Prelude.{Depth, Outcome, Store, head_at, lane, load_in, next_at, store, storeys_at, storeys_from, tail_at, walk, word, words_of}
 use Rattle.ports_model.specs.Layout.{Shape, ranks_of, bit_words, store_words, nodes_at, free_at, held_at, floor_at, ceiling_at, seat}
 use Rattle.ports_model.specs.Checks.{used_in, claimed_in}

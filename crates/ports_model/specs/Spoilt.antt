@@ -1,5 +1,6 @@
 -- One spoilt word for each test of the pool and of a port, on two ports and three nodes: what the calls say then, in numbers. These are definitions.
-use Rattle.laws.specs.Prelude.{List, Pop, Push, Replace, Request, [], ◌∷◌, ◌≡◌, count_number, element, number_of, replicate, ℕ}
+use Rattle.std.specs.Prelude.{◌∷◌, ◌≡◌}
+use Rattle.laws.specs.Prelude.{List, Pop, Push, Replace, Request, [], count_number, element, number_of, replicate, ℕ}
 use Rattle.bucket_model.specs.Prelude.{Spoil, Store, in_bits, in_words, nothing, spoil, store, write}
 use Rattle.ports_model.specs.Calls.{held_count}
 use Rattle.ports_model.specs.Runs.{asked}

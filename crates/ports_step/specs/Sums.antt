@@ -1,5 +1,6 @@
 -- What the functions ask of their callers, and what they promise: the sums over the ports as far as they have been added up, and the tests made with them. These are definitions.
-use Rattle.laws.specs.Prelude.{Bool, List, ◌&&◌, ◌*◌, ◌+◌, ◌≡◌, ◌≤◌, leb, max, sum_to, ℕ}
+use Rattle.std.specs.Prelude.{◌&&◌, ◌*◌, ◌+◌, ◌≡◌, ◌≤◌}
+use Rattle.laws.specs.Prelude.{Bool, List, leb, max, sum_to, ℕ}
 use Rattle.bucket_model.specs.declared.Lay.{Lay}
 use Rattle.bucket_model.specs.Prelude.{depth_ok, least_storeys, most_storeys, pool, word}
 use Rattle.ports_model.specs.declared.Shape.{Shape}

@@ -1,6 +1,7 @@
 -- The calls of a queue that does one operation at a time, once for every such queue: what it has to bring (`Queue`), and from that push, pop and replace
 -- (`called`), clear (`cleared`), held (`held_count`), their tables of refusals, and what is said of a list of requests.
-use Rattle.laws.specs.Prelude.{Answer, Bool, Count, Damaged, Done, Element, Empty, Full, Held, Idle, Ladder, NoTag, Out, Pop, Push, Refusal, Refused, Replace, Request, Unknown, [], ◌+◌, ◌<◌, ◌∷◌, ◌≡◌, ◌≤◌, ◌⊎◌, cond, eqb, false, fine, ltb, number_of, stop, untagged, ℕ}
+use Rattle.std.specs.Prelude.{◌+◌, ◌<◌, ◌∷◌, ◌≡◌, ◌≤◌, ◌⊎◌}
+use Rattle.laws.specs.Prelude.{Answer, Bool, Count, Damaged, Done, Element, Empty, Full, Held, Idle, Ladder, NoTag, Out, Pop, Push, Refusal, Refused, Replace, Request, Unknown, [], cond, eqb, false, fine, ltb, number_of, stop, untagged, ℕ}
 use Rattle.promise.specs.Queue.{leaves, step, Step}
 use Rattle.promise.specs.Refused.{Untagged}
 use Rattle.promise.specs.Served.{hit}

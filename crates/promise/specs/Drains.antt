@@ -1,5 +1,6 @@
 -- A drain of any machine: idle cycles until nothing is pending or the budget is spent. A machine is a queue and what is pending in its state.
-use Rattle.laws.specs.Prelude.{Answer, BadPort, BadRank, BadShape, Bool, Damaged, Done, Empty, Full, Idle, Ladder, NoHeap, NoTag, Refusal, Refused, Request, TooSoon, ◌<◌, ◌≡◌, ◌≤◌, cond, false, fine, is_refused, leb, not, replicate, rung, stop, suc, true, zero, ℕ}
+use Rattle.std.specs.Prelude.{◌<◌, ◌≡◌, ◌≤◌}
+use Rattle.laws.specs.Prelude.{Answer, BadPort, BadRank, BadShape, Bool, Damaged, Done, Empty, Full, Idle, Ladder, NoHeap, NoTag, Refusal, Refused, Request, TooSoon, cond, false, fine, is_refused, leb, not, replicate, rung, stop, suc, true, zero, ℕ}
 use Rattle.promise.specs.Queue.{leaves, Step}
 
 -- a number capped by the budget

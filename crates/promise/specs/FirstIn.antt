@@ -1,6 +1,7 @@
 -- The plain first-in list, one list in leaving order: "Lower rank leaves first", and of equal ranks the one that came first. What it refuses is a table of its
 -- own, so that it is said once for every queue that answers as such a list does.
-use Rattle.laws.specs.Prelude.{All, Answer, Bool, Done, Element, Empty, Idle, List, Out, Pop, Push, Refused, Replace, Request, [], ◌++◌, ◌+◌, ◌∷◌, ◌≡◌, ◌≤◌, cond, element_of, eqb, ltb, number_of, suc, zero, ℕ}
+use Rattle.std.specs.Prelude.{◌++◌, ◌+◌, ◌∷◌, ◌≡◌, ◌≤◌}
+use Rattle.laws.specs.Prelude.{All, Answer, Bool, Done, Element, Empty, Idle, List, Out, Pop, Push, Refused, Replace, Request, [], cond, element_of, eqb, ltb, number_of, suc, zero, ℕ}
 use Rattle.promise.specs.Queue.{step, Step}
 use Rattle.promise.specs.Served.{hit}
 use Rattle.promise.specs.Table.{decided, Table}

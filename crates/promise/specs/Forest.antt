@@ -1,5 +1,6 @@
 -- Several queues in one store, each call at one of them: what a list of calls is to one of the queues.
-use Rattle.laws.specs.Prelude.{Idle, List, Request, [], ◌∷◌, cond, eqb, ℕ}
+use Rattle.std.specs.Prelude.{◌∷◌}
+use Rattle.laws.specs.Prelude.{Idle, List, Request, [], cond, eqb, ℕ}
 
 -- a request at one of the queues
 pub record At : Type 0 where

@@ -1,6 +1,7 @@
 -- All that is promised of a queue, as two records: of its calls whatever the words (`Answers`), and from a cleared store over any list of requests
 -- (`Promised`). A queue that shows `Tested` and `IsQueue` has both (`promise/proofs/Promised.antt`).
-use Rattle.laws.specs.Prelude.{Answer, Element, Exactly, List, Replace, Request, Unknown, ◌+◌, ◌≡◌, ◌⊎◌, count_number, count_of, number_of, refusal_number, ℕ}
+use Rattle.std.specs.Prelude.{◌+◌, ◌≡◌, ◌⊎◌}
+use Rattle.laws.specs.Prelude.{Answer, Element, Exactly, List, Replace, Request, Unknown, count_number, count_of, number_of, refusal_number, ℕ}
 use Rattle.promise.specs.Calls.{called, cleared, clear_refusals, Damage, held_count, held_refusals, left, Outcome, PopThenPush, Queue, refusals, stepping}
 use Rattle.promise.specs.Queue.{answers, leaves}
 use Rattle.promise.specs.Refused.{Untagged}

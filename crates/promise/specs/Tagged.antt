@@ -1,5 +1,6 @@
 -- What follows of 7: where no queue takes in an element without a tag, none holds one and none gives one out. Said once for every queue.
-use Rattle.laws.specs.Prelude.{Answer, Bool, Element, Idle, List, Pop, Push, Replace, Request, [], ◌∷◌, ◌≡◌, arith, false, number_of, refl, suc, true, untagged, zero, ℕ}
+use Rattle.std.specs.Prelude.{◌∷◌, ◌≡◌}
+use Rattle.laws.specs.Prelude.{Answer, Bool, Element, Idle, List, Pop, Push, Replace, Request, [], arith, false, number_of, refl, suc, true, untagged, zero, ℕ}
 use Rattle.promise.specs.Queue.{answers, Step}
 use Rattle.promise.specs.Refused.{Untagged, untagged-means}
 use Rattle.promise.specs.Served.{all_brought, all_given, brought, hit, Holds, unrefused}

@@ -1,7 +1,8 @@
 -- All that is promised of a machine that works by clock cycles, as two records: of its cycles whatever stands in it (`CycleAnswers`), and from a cleared
 -- machine over any list of cycles (`Running`), or of cycles and drains. A machine that shows `Ticks`, `IsClock` and `Bag` has both
 -- (`promise/proofs/Ticked.antt`).
-use Rattle.laws.specs.Prelude.{Bool, Element, Exactly, Idle, List, Request, Unknown, ◌≡◌, ◌≤◌, ◌⊎◌, count_number, false, map, number_of, ℕ}
+use Rattle.std.specs.Prelude.{◌≡◌, ◌≤◌, ◌⊎◌}
+use Rattle.laws.specs.Prelude.{Bool, Element, Exactly, Idle, List, Request, Unknown, count_number, false, map, number_of, ℕ}
 use Rattle.promise.specs.Calls.{left, Outcome}
 use Rattle.promise.specs.Clock.{asking, Call, calls, cleared_to, Clock, count_refusals, cycled, cycle_left, cycle_refusals, cycling, drained_by, held_in, rested, sees, wipe_refusals}
 use Rattle.promise.specs.Drains.{behind, Drained, drain_refusals}

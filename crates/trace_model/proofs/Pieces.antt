@@ -270,3 +270,58 @@ pieces r some bs =
 -- .. and so with the program's own pieces
 pub program : (bs : List ℕ) → pieces_text program_lots bs ≡ trace_text bs
 program bs = pieces program_lots (omega arith) bs
+
+-- ---- piece by piece
+-- what is left, played as one last piece, is written by the next piece and what is left then
+pub next_piece : (r : ℕ) → (bs : List ℕ) (p : Playing) (ws : List ℕ)
+    → let u = piece_run (take (piece_bytes r) bs) (ltb (length bs) (piece_bytes r)) p ws in
+    u.text ++ (piece_run (drop (piece_bytes r) bs) true u.play u.words).text ≡ (piece_run bs true p ws).text
+next_piece r bs p ws = go (ltb (length bs) (piece_bytes r)) refl
+  where
+    a : List ℕ
+    a = take (piece_bytes r) bs
+
+    b : List ℕ
+    b = drop (piece_bytes r) bs
+
+    go : (t : Bool) → ltb (length bs) (piece_bytes r) ≡ t
+        → (piece_run a t p ws).text ++ (piece_run b true (piece_run a t p ws).play (piece_run a t p ws).words).text ≡ (piece_run bs true p ws).text
+    go true e =
+        let short : length bs < piece_bytes r = ltb-true (length bs) (piece_bytes r) e in
+        let u : Run = piece_run a true p ws in
+        ap (λ (v : Run). u.text ++ v.text) (piece-ended b true u.play u.words (last-ends a p ws))
+        ∙ append-nil u.text
+        ∙ ap (λ (a : List ℕ). (piece_run a true p ws).text) (take_all (piece_bytes r) bs (omega arith))
+    go false e =
+        let full : piece_bytes r ≤ length bs = ltb-false (length bs) (piece_bytes r) e in
+        let whole : length a ≡ piece_bytes r = length-take-le (piece_bytes r) bs full in
+        let u : Run = piece_run a false p ws in
+        sym (after_text u (piece_run b true))
+        ∙ ap (λ (u : Run). u.text) (sym (two-pieces a b (r * lot p.version) p (lots-whole p.version r (length a) whole) true ws) ∙ ap (λ (bs : List ℕ). piece_run bs true p ws) (take-append-drop (piece_bytes r) bs))
+
+-- a piece that leaves the play live was full
+pub live_full : (r : ℕ) → (bs : List ℕ) (p : Playing) (ws : List ℕ)
+    → (piece_run (take (piece_bytes r) bs) (ltb (length bs) (piece_bytes r)) p ws).play.live ≡ true → piece_bytes r ≤ length bs
+live_full r bs p ws = go (ltb (length bs) (piece_bytes r)) refl
+  where
+    go : (t : Bool) → ltb (length bs) (piece_bytes r) ≡ t → (piece_run (take (piece_bytes r) bs) t p ws).play.live ≡ true → piece_bytes r ≤ length bs
+    go true e live = absurd (cc (last-ends (take (piece_bytes r) bs) p ws))
+    go false e live = ltb-false (length bs) (piece_bytes r) e
+
+-- an ended play writes no more
+pub ended_text : (bs : List ℕ) (p : Playing) (ws : List ℕ) → p.live ≡ false → (piece_run bs true p ws).text ≡ []
+ended_text bs p ws e = ap (λ (u : Run). u.text) (piece-ended bs true p ws e)
+
+-- the header, and the rest as one last piece, are the whole
+pub first_piece : (r : ℕ) → 0 < r → (bs : List ℕ)
+    → let u = begun (take header_bytes bs) (out_bytes r) empty_store in
+    u.text ++ (piece_run (drop header_bytes bs) true u.play u.words).text ≡ trace_text bs
+unfolding pieces_text
+first_piece r some bs =
+    let rest : List ℕ = drop header_bytes bs in
+    let u : Run = begun (take header_bytes bs) (out_bytes r) empty_store in
+    sym (after_text u (piece_run rest true))
+    ∙ ap (λ (v : Run). v.text) (sym (after_same u (while_live (in_pieces r (suc (length rest)) rest)) (piece_run rest true)
+    (live_same (in_pieces r (suc (length rest)) rest) (piece_run rest true) u.play u.words (pieces-run r some (suc (length rest)) rest u.play u.words (omega arith))
+    ∙ live-piece rest true u.play u.words)))
+    ∙ pieces r some bs

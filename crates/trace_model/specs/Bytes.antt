@@ -1,5 +1,6 @@
 -- The trace format in the words of 01 and 02, byte by byte. `proofs/Bytes.antt` shows that header and records are these.
-use Rattle.laws.specs.Prelude.{Idle, List, Pop, Push, Replace, ◌*◌, ◌+◌, ◌<◌, ◌∷◌, ◌≡◌, ◌≤◌, ◌⊎◌, element, ℕ}
+use Rattle.std.specs.Prelude.{◌*◌, ◌+◌, ◌<◌, ◌∷◌, ◌≡◌, ◌≤◌, ◌⊎◌}
+use Rattle.laws.specs.Prelude.{Idle, List, Pop, Push, Replace, element, ℕ}
 use Rattle.trace_model.specs.declared.Record.{Record}
 use Rattle.trace_model.specs.declared.Record.TheVariants.{Bad, Good}
 use Rattle.trace_model.specs.declared.Version.{Version}

@@ -1,5 +1,6 @@
 -- 01's worked trace, one of replaces, one of elements without a tag and two of version 2, and what they give; and six of the format, byte by byte.
-use Rattle.laws.specs.Prelude.{List, [], ◌++◌, ◌∷◌, ℕ}
+use Rattle.std.specs.Prelude.{◌++◌, ◌∷◌}
+use Rattle.laws.specs.Prelude.{List, [], ℕ}
 use Rattle.text.specs.Text.{bytes_of}
 
 -- a record of nine bytes, of a small rank and tag

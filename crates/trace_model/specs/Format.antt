@@ -1,5 +1,6 @@
 -- The trace's bytes: header, records, and the text of a line.
-use Rattle.laws.specs.Prelude.{Answer, BadPort, BadRank, BadShape, Bool, Damaged, Done, Element, Empty, Full, Idle, List, NoHeap, NoTag, Out, Pop, Push, Refusal, Refused, Replace, Request, TooSoon, [], ◌%◌, ◌&&◌, ◌*◌, ◌++◌, ◌+◌, ◌/◌, ◌∷◌, cond, element, eqb, get_or, is_blank, leb, length, not, suc, zero, ℕ}
+use Rattle.std.specs.Prelude.{◌%◌, ◌&&◌, ◌*◌, ◌++◌, ◌+◌, ◌/◌, ◌∷◌}
+use Rattle.laws.specs.Prelude.{Answer, BadPort, BadRank, BadShape, Bool, Damaged, Done, Element, Empty, Full, Idle, List, NoHeap, NoTag, Out, Pop, Push, Refusal, Refused, Replace, Request, TooSoon, [], cond, element, eqb, get_or, is_blank, leb, length, not, suc, zero, ℕ}
 use Rattle.text.specs.Text.{bytes_of, decimal}
 use Rattle.trace_model.specs.declared.Header.{Header}
 use Rattle.trace_model.specs.declared.Header.TheVariants.{Shape, Wrong}

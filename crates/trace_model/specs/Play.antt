@@ -1,5 +1,6 @@
 -- The program's steps: what is carried from one to the next, and the text that each writes.
-use Rattle.laws.specs.Prelude.{Bool, List, [], ◌*◌, ◌++◌, ◌+◌, ◌/◌, ◌∷◌, ◌≡◌, ◌≤◌, cond, drop, false, leb, length, ltb, suc, take, true, zero, ℕ}
+use Rattle.std.specs.Prelude.{◌*◌, ◌++◌, ◌+◌, ◌/◌, ◌∷◌, ◌≡◌, ◌≤◌}
+use Rattle.laws.specs.Prelude.{Bool, List, [], cond, drop, false, leb, length, ltb, suc, take, true, zero, ℕ}
 use Rattle.tree_clock_model.specs.Prelude.{cleared_machine, cycled, drains, fresh}
 use Rattle.tree_clock_model.specs.declared.State.{State}
 use Rattle.text.specs.Text.{overlay}

@@ -1,5 +1,6 @@
 -- The trace program whole: from the bytes of standard input to the bytes of standard output.
-use Rattle.laws.specs.Prelude.{List, [], ◌%◌, ◌*◌, ◌++◌, ◌+◌, ◌^◌, ◌∷◌, count_of, drop, replicate, ℕ}
+use Rattle.std.specs.Prelude.{◌%◌, ◌*◌, ◌++◌, ◌+◌, ◌^◌, ◌∷◌}
+use Rattle.laws.specs.Prelude.{List, [], count_of, drop, replicate, ℕ}
 use Rattle.tree_clock_model.specs.Prelude.{cleared_machine, cycled, drains}
 use Rattle.tree_clock_model.specs.declared.State.{State}
 use Rattle.trace_model.specs.Format.{bad_line, bad_trace, end_line, header_bytes, header_of, line_of, records_of, trace_limit}

@@ -1,5 +1,6 @@
 -- What is promised of a played trace beside its text.
-use Rattle.laws.specs.Prelude.{BadPort, BadRank, BadShape, Damaged, Empty, Full, List, NoHeap, NoTag, Refusal, TooSoon, [], ◌∷◌, ◌≡◌, drop, ℕ}
+use Rattle.std.specs.Prelude.{◌∷◌, ◌≡◌}
+use Rattle.laws.specs.Prelude.{BadPort, BadRank, BadShape, Damaged, Empty, Full, List, NoHeap, NoTag, Refusal, TooSoon, [], drop, ℕ}
 use Rattle.tree_clock_model.specs.Prelude.{cleared_machine, cycled}
 use Rattle.tree_clock_model.specs.declared.State.{State}
 use Rattle.trace_model.specs.Format.{header_bytes, header_of, records_of, word_of}

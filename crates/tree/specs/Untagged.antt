@@ -1,5 +1,6 @@
 -- What a call without a tag is answered.
-use Rattle.laws.specs.Prelude.{Answer, Element, List, Push, Replace, ◌≡◌, true, untagged, ℕ}
+use Rattle.std.specs.Prelude.{◌≡◌}
+use Rattle.laws.specs.Prelude.{Answer, Element, List, Push, Replace, true, untagged, ℕ}
 use Rattle.tree_model.specs.Prelude.{called, outcome}
 
 -- the answer of a push and of a replace of any element without a tag; every word stands

@@ -1,5 +1,6 @@
 -- What the code of a request at the root asks and says.
-use Rattle.laws.specs.Prelude.{Answer, Bool, List, Request, ◌&&◌, ◌≡◌, ◌≤◌, blank, suc, true, ℕ}
+use Rattle.std.specs.Prelude.{◌&&◌, ◌≡◌, ◌≤◌}
+use Rattle.laws.specs.Prelude.{Answer, Bool, List, Request, blank, suc, true, ℕ}
 use Rattle.tree_clock_model.specs.Prelude.{asked_ok, rule_marked}
 use Rattle.tree_clock_level.specs.declared.root.RootStep.{RootStep}
 use Rattle.tree_node.specs.Room.{child_of, ChildrenIn}

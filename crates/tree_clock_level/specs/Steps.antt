@@ -1,5 +1,6 @@
 -- What the code of the levels asks and says, and of their records.
-use Rattle.laws.specs.Prelude.{Answer, Bool, Damaged, List, Refused, ◌*◌, ◌+◌, ◌<◌, ◌≡◌, ◌≤◌, cond, element, get_or, length, pred, suc, true, zero, ℕ}
+use Rattle.std.specs.Prelude.{◌*◌, ◌+◌, ◌<◌, ◌≡◌, ◌≤◌}
+use Rattle.laws.specs.Prelude.{Answer, Bool, Damaged, List, Refused, cond, element, get_or, length, pred, suc, true, zero, ℕ}
 use Rattle.tree_clock_model.specs.Prelude.{CycleOutcome, cycle_ok, cycle_outcome, cycle_words, record_count, records_after, works_of}
 use Rattle.tree_clock_model.specs.declared.State.{State}
 use Rattle.tree_clock_level.specs.declared.AtLevel.{AtLevel}

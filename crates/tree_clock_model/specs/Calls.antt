@@ -1,5 +1,6 @@
 -- The calls of the clocked tree, each a total function of order, levels, words and state to what it answers and leaves.
-use Rattle.laws.specs.Prelude.{Answer, BadShape, Bool, Damaged, Done, Idle, List, Pop, Push, Refused, Replace, Request, TooSoon, ◌&&◌, ◌||◌, cond, false, length, not, pred, replicate, suc, true, zero, ℕ}
+use Rattle.std.specs.Prelude.{◌&&◌, ◌||◌}
+use Rattle.laws.specs.Prelude.{Answer, BadShape, Bool, Damaged, Done, Idle, List, Pop, Push, Refused, Replace, Request, TooSoon, cond, false, length, not, pred, replicate, suc, true, zero, ℕ}
 use Rattle.tree_clock_model.specs.Cycle.{cycle_ok, cycle_words, quiet, Works}
 use Rattle.tree_clock_model.specs.Records.{records_after, works_of}
 use Rattle.tree_clock_model.specs.declared.State.{State}

@@ -1,6 +1,7 @@
 -- 01's worked case 6, as a list of words after each cycle; case 10, an empty machine, and elements without a tag, by their answers; lengths on their way;
 -- machines stopped in the middle of a pop and of a swap, by what remains.
-use Rattle.laws.specs.Prelude.{Answer, Bool, Done, Element, Empty, Idle, List, NoTag, Out, Pop, Push, Refused, Replace, Request, TooSoon, [], ◌++◌, ◌∷◌, element, get_or, map, replicate, ℕ}
+use Rattle.std.specs.Prelude.{◌++◌, ◌∷◌}
+use Rattle.laws.specs.Prelude.{Answer, Bool, Done, Element, Empty, Idle, List, NoTag, Out, Pop, Push, Refused, Replace, Request, TooSoon, [], element, get_or, map, replicate, ℕ}
 use Rattle.tree_clock_model.specs.Calls.{drains}
 use Rattle.tree_clock_model.specs.Lost.{carried, in_slots, remaining, struck}
 use Rattle.tree_clock_model.specs.Promise.{clocked_queue, cycle_answers, Machine, machine, ran}

@@ -1,5 +1,6 @@
 -- One cycle: each level does its own step, on levels and on words.
-use Rattle.laws.specs.Prelude.{Bool, List, ◌&&◌, ◌*◌, ◌+◌, suc, true, zero, ℕ}
+use Rattle.std.specs.Prelude.{◌&&◌, ◌*◌, ◌+◌}
+use Rattle.laws.specs.Prelude.{Bool, List, suc, true, zero, ℕ}
 use Rattle.tree_model.specs.Prelude.{Levels, is_nothing, step_level, step_words, step_work, top, work_ok}
 use Rattle.tree_model.specs.declared.Work.{Work}
 

@@ -1,6 +1,7 @@
 -- "Nothing lost in flight" (02 [14]), in the middle of any work: what stands in the slots, what pending work carries, and what it will still take out of a
 -- slot. "As often" goes by how many pass a test, for every test on elements.
-use Rattle.laws.specs.Prelude.{Answer, Bool, Element, List, Request, [], ◌+◌, ◌-◌, ◌≤◌, get_or, suc, sum_to, ℕ}
+use Rattle.std.specs.Prelude.{◌+◌, ◌-◌, ◌≤◌}
+use Rattle.laws.specs.Prelude.{Answer, Bool, Element, List, Request, [], get_or, suc, sum_to, ℕ}
 use Rattle.tree_clock_model.specs.Calls.{drains, from_two}
 use Rattle.tree_clock_model.specs.Promise.{cleared_machine, clocked_queue, level_now, Machine, machine}
 use Rattle.tree_clock_model.specs.Records.{record_at}

@@ -1,5 +1,6 @@
 -- What is promised of the clocked tree is said in these words: the one-at-a-time tree beside it, idle cycles, and 01's causes of refusal.
-use Rattle.laws.specs.Prelude.{Answer, BadShape, Bool, Damaged, Done, Element, Idle, Ladder, List, NoTag, Out, Pop, Push, Refusal, Refused, Replace, Request, TooSoon, [], ◌&&◌, ◌*◌, ◌+◌, ◌<◌, ◌^◌, ◌∷◌, ◌≡◌, ◌≤◌, ◌⊎◌, cond, false, fine, get_or, length, not, number_of, pred, replicate, rung, stop, suc, sum_to, true, zero, ℕ}
+use Rattle.std.specs.Prelude.{◌&&◌, ◌*◌, ◌+◌, ◌<◌, ◌^◌, ◌∷◌, ◌≡◌, ◌≤◌, ◌⊎◌}
+use Rattle.laws.specs.Prelude.{Answer, BadShape, Bool, Damaged, Done, Element, Idle, Ladder, List, NoTag, Out, Pop, Push, Refusal, Refused, Replace, Request, TooSoon, [], cond, false, fine, get_or, length, not, number_of, pred, replicate, rung, stop, suc, sum_to, true, zero, ℕ}
 use Rattle.tree_clock_model.specs.Calls.{all_levels, asked_ok, cycle_outcome, CycleOutcome, cycle_run, cycle_work, drain_outcome, DrainOutcome, fresh, from_two, rule_now, marks, pending, pops_or_replaces, cycled, steps_ok}
 use Rattle.tree_clock_model.specs.Cycle.{Works}
 use Rattle.tree_clock_model.specs.Records.{record_at, works_of}

@@ -1,5 +1,6 @@
 -- What the proofs say of pending work: all of it done to its end, where it may stand, and that no damage awaits it.
-use Rattle.laws.specs.Prelude.{◌≡◌, suc, true, zero, ℕ}
+use Rattle.std.specs.Prelude.{◌≡◌}
+use Rattle.laws.specs.Prelude.{suc, true, zero, ℕ}
 use Rattle.tree_clock_model.specs.Cycle.{Works}
 use Rattle.tree_model.specs.Prelude.{Levels, apply, path_ok}
 use Rattle.tree_model.specs.declared.Op.{Op}

@@ -1,5 +1,6 @@
 -- What the check's functions ask of the words.
-use Rattle.laws.specs.Prelude.{Bool, List, [], ◌*◌, ◌+◌, ◌<◌, ◌≡◌, ◌≤◌, cond, length, pred, suc, true, ℕ}
+use Rattle.std.specs.Prelude.{◌*◌, ◌+◌, ◌<◌, ◌≡◌, ◌≤◌}
+use Rattle.laws.specs.Prelude.{Bool, List, [], cond, length, pred, suc, true, ℕ}
 use Rattle.tree_model.specs.Prelude.{node_of, room, shape_ok, slot_limit, slot_words}
 use Rattle.tree_model.specs.declared.Slot.{Slot}
 

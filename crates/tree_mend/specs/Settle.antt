@@ -1,5 +1,6 @@
 -- Where a push goes in a tree that is only pushed into: by arithmetic, since its counts are known. And what the mender's functions ask of the words.
-use Rattle.laws.specs.Prelude.{Element, List, ◌%◌, ◌*◌, ◌+◌, ◌-◌, ◌/◌, ◌<◌, ◌^◌, ◌≡◌, cond, keep, length, ltb, pass, suc, zero, ℕ}
+use Rattle.std.specs.Prelude.{◌%◌, ◌*◌, ◌+◌, ◌-◌, ◌/◌, ◌<◌, ◌^◌, ◌≡◌}
+use Rattle.laws.specs.Prelude.{Element, List, cond, keep, length, ltb, pass, suc, zero, ℕ}
 use Rattle.tree_model.specs.Prelude.{Shape, room, slot_of, start, write}
 use Rattle.tree_model.specs.declared.Slot.{Slot}
 use Rattle.tree_mend_model.specs.Mend.{keeps}

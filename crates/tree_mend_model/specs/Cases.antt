@@ -1,5 +1,6 @@
 -- Worked stores of order 2, levels 2: store A of 01, stores broken in each of 02's ways, and what the mender makes of one.
-use Rattle.laws.specs.Prelude.{List, [], ◌∷◌, ◌≡◌, replicate, ℕ}
+use Rattle.std.specs.Prelude.{◌∷◌, ◌≡◌}
+use Rattle.laws.specs.Prelude.{List, [], replicate, ℕ}
 use Rattle.tree_mend_model.specs.Check.{checked, check_number, check_slot, check_yes, descended, bare_yes}
 use Rattle.tree_mend_model.specs.Mend.{mended, mend_number, mend_skipped}
 

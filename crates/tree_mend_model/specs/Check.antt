@@ -1,7 +1,8 @@
 -- When a slot of a tree's store is broken (02 [11]), the first broken slot in slice order, and the same yes or no by descent.
 -- Slots and nodes go by their numbers in the slice, from 0: node q begins with slot q * m, and the node under slot p is node suc p. That this is "Slot j of
 -- node n has below it node n_m+j of the next level" is shown in proofs/Places.antt.
-use Rattle.laws.specs.Prelude.{BadShape, Bool, List, [], ◌&&◌, ◌*◌, ◌/◌, ◌||◌, cond, eqb, length, ltb, not, pred, refusal_number, suc, true, zero, ℕ}
+use Rattle.std.specs.Prelude.{◌&&◌, ◌*◌, ◌/◌, ◌||◌}
+use Rattle.laws.specs.Prelude.{BadShape, Bool, List, [], cond, eqb, length, ltb, not, pred, refusal_number, suc, true, zero, ℕ}
 use Rattle.tree_model.specs.declared.Slot.{Slot}
 use Rattle.tree_model.specs.Prelude.{every, is_blank, is_empty, node_of, room, shape_ok, slot_of, sum_counts}
 use Rattle.tree_mend_model.specs.declared.Check.{Check}

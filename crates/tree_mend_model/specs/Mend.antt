@@ -1,5 +1,6 @@
 -- What the mender leaves and answers (02 [11]): it is a list of pushes on a cleared store.
-use Rattle.laws.specs.Prelude.{BadShape, Bool, List, Push, Request, [], ◌&&◌, ◌+◌, ◌∷◌, cond, length, not, refusal_number, suc, untagged, zero, ℕ}
+use Rattle.std.specs.Prelude.{◌&&◌, ◌+◌, ◌∷◌}
+use Rattle.laws.specs.Prelude.{BadShape, Bool, List, Push, Request, [], cond, length, not, refusal_number, suc, untagged, zero, ℕ}
 use Rattle.promise.specs.Prelude.{hit}
 use Rattle.tree_model.specs.declared.Slot.{Slot}
 use Rattle.tree_model.specs.Prelude.{after, called, is_empty, room, shape_ok, slot_of}

@@ -1,5 +1,6 @@
 -- What is promised of the check and the mender is said in these words: 02's sentence as a fact, slots by level, node and place, and what passes on.
-use Rattle.laws.specs.Prelude.{All, Answer, Any, BadShape, Bool, Element, Iff, Ladder, List, Push, Refusal, Replace, Request, Zeros, [], ◌%◌, ◌&&◌, ◌*◌, ◌+◌, ◌/◌, ◌<◌, ◌^◌, ◌∷◌, ◌≡◌, ◌⊎◌, count_number, count_of, false, fine, get_or, length, map, not, number_of, rung, suc, sum_to, true, untagged, zero, ℕ}
+use Rattle.std.specs.Prelude.{◌%◌, ◌&&◌, ◌*◌, ◌+◌, ◌/◌, ◌<◌, ◌^◌, ◌∷◌, ◌≡◌, ◌⊎◌}
+use Rattle.laws.specs.Prelude.{All, Answer, Any, BadShape, Bool, Element, Iff, Ladder, List, Push, Refusal, Replace, Request, Zeros, [], count_number, count_of, false, fine, get_or, length, map, not, number_of, rung, suc, sum_to, true, untagged, zero, ℕ}
 use Rattle.promise.specs.Prelude.{Least, Tagged, Untagged, all_brought, all_given, always, answers, leaves}
 use Rattle.tree_model.specs.Prelude.{Damage, Levels, PopThenPush, Shape, Sound, called, four_words, held_count, level_at, levels_of, room, slot_at, stored_count, sum_counts, tree_of, tree_queue}
 use Rattle.tree_model.specs.declared.Slot.{Slot}

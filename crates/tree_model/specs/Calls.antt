@@ -1,5 +1,6 @@
 -- The five calls of the one-at-a-time tree, each a total function of order, levels and words to an answer and the words afterwards: what the tree brings, to the calls that every queue has (`promise/specs/Calls.antt`).
-use Rattle.laws.specs.Prelude.{Answer, BadShape, Bool, Count, Idle, List, Pop, Push, Replace, Request, ◌&&◌, ◌*◌, ◌||◌, eqb, leb, length, pred, ℕ}
+use Rattle.std.specs.Prelude.{◌&&◌, ◌*◌, ◌||◌}
+use Rattle.laws.specs.Prelude.{Answer, BadShape, Bool, Count, Idle, List, Pop, Push, Replace, Request, eqb, leb, length, pred, ℕ}
 use Rattle.promise.specs.Calls as calls
 use Rattle.promise.specs.Prelude.{Queue, ends, last_table, needs}
 use Rattle.tree_model.specs.declared.Slot.{Slot}

@@ -1,5 +1,6 @@
 -- [9] "The strip's length travels with it", order 2, levels 2: store A with lengths, replace 4/7 and pop. And order 4 and 8, where a node has more empty slots than one.
-use Rattle.laws.specs.Prelude.{Answer, Done, List, Out, Pop, Push, Replace, Request, [], ◌*◌, ◌++◌, ◌∷◌, element, map, replicate, ℕ}
+use Rattle.std.specs.Prelude.{◌*◌, ◌++◌, ◌∷◌}
+use Rattle.laws.specs.Prelude.{Answer, Done, List, Out, Pop, Push, Replace, Request, [], element, map, replicate, ℕ}
 use Rattle.promise.specs.Prelude.{answers}
 use Rattle.tree_model.specs.Promise.{after, start, tree_queue}
 

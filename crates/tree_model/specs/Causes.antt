@@ -1,5 +1,6 @@
 -- The causes of refusal in 01's words, and what stands in a store.
-use Rattle.laws.specs.Prelude.{All, Any, Bool, Element, List, Zeros, [], ◌*◌, ◌+◌, ◌<◌, ◌≡◌, ◌≤◌, ◌⊎◌, get_or, length, pred, suc, sum_to, zero, ℕ}
+use Rattle.std.specs.Prelude.{◌*◌, ◌+◌, ◌<◌, ◌≡◌, ◌≤◌, ◌⊎◌}
+use Rattle.laws.specs.Prelude.{All, Any, Bool, Element, List, Zeros, [], get_or, length, pred, suc, sum_to, zero, ℕ}
 use Rattle.tree_model.specs.Damage.{room}
 use Rattle.tree_model.specs.Levels.{Level, Levels, step_work, top}
 use Rattle.tree_model.specs.Node.{lowest, slot_at}

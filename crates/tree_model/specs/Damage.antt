@@ -1,5 +1,6 @@
 -- The tests for damage: of a slot, a node, a step, and of an operation's whole path.
-use Rattle.laws.specs.Prelude.{Bool, List, [], ◌&&◌, ◌*◌, ◌+◌, ◌||◌, eqb, false, get_or, leb, length, ltb, not, pred, suc, true, zero, ℕ}
+use Rattle.std.specs.Prelude.{◌&&◌, ◌*◌, ◌+◌, ◌||◌}
+use Rattle.laws.specs.Prelude.{Bool, List, [], eqb, false, get_or, leb, length, ltb, not, pred, suc, true, zero, ℕ}
 unfoldable pub use Rattle.strip.specs.Words.{is_blank}
 use Rattle.tree_model.specs.declared.Slot.{Slot}
 use Rattle.tree_model.specs.declared.Op.{Op}

@@ -1,5 +1,6 @@
 -- A shape at the edge of the limits, 01's worked case 9.
-use Rattle.laws.specs.Prelude.{List, ◌*◌, ◌≡◌, ◌≤◌, length, number_of, ℕ}
+use Rattle.std.specs.Prelude.{◌*◌, ◌≡◌, ◌≤◌}
+use Rattle.laws.specs.Prelude.{List, length, number_of, ℕ}
 use Rattle.tree_model.specs.Calls.{cleared}
 use Rattle.tree_model.specs.Damage.{room}
 use Rattle.tree_model.specs.Words.{slot_words}

@@ -1,5 +1,6 @@
 -- The store as levels, and an operation done to its end.
-use Rattle.laws.specs.Prelude.{All, List, [], ◌*◌, ◌+◌, ◌≡◌, get_or, length, set, suc, zero, ℕ}
+use Rattle.std.specs.Prelude.{◌*◌, ◌+◌, ◌≡◌}
+use Rattle.laws.specs.Prelude.{All, List, [], get_or, length, set, suc, zero, ℕ}
 use Rattle.tree_model.specs.declared.Slot.{Slot}
 use Rattle.tree_model.specs.declared.Op.{Op}
 use Rattle.tree_model.specs.declared.Op.TheVariants.{Nothing, Put, Take, Swap}

@@ -1,5 +1,6 @@
 -- A node's slots, the choice of a slot, and the step of an operation at one node.
-use Rattle.laws.specs.Prelude.{Bool, Element, List, [], ◌&&◌, ◌+◌, ◌||◌, ◌∷◌, blank, cond, eqb, false, get_or, key, leb, length, ltb, not, precedes, pred, suc, true, ℕ}
+use Rattle.std.specs.Prelude.{◌&&◌, ◌+◌, ◌||◌, ◌∷◌}
+use Rattle.laws.specs.Prelude.{Bool, Element, List, [], blank, cond, eqb, false, get_or, key, leb, length, ltb, not, precedes, pred, suc, true, ℕ}
 unfoldable pub use Rattle.strip.specs.Words.{keep, pass}
 use Rattle.tree_model.specs.declared.Slot.{Slot}
 use Rattle.tree_model.specs.declared.Op.{Op}

@@ -1,5 +1,6 @@
 -- What is promised of the tree is said in these words: 01's tables of refusal, and what a list of requests leaves.
-use Rattle.laws.specs.Prelude.{Answer, BadShape, Damaged, Element, Ladder, List, NoTag, Refusal, Request, [], ◌*◌, ◌+◌, ◌<◌, ◌≡◌, ◌≤◌, ◌⊎◌, element, fine, get_or, length, pred, rung, stop, suc, zero, ℕ}
+use Rattle.std.specs.Prelude.{◌*◌, ◌+◌, ◌<◌, ◌≡◌, ◌≤◌, ◌⊎◌}
+use Rattle.laws.specs.Prelude.{Answer, BadShape, Damaged, Element, Ladder, List, NoTag, Refusal, Request, [], element, fine, get_or, length, pred, rung, stop, suc, zero, ℕ}
 use Rattle.promise.specs.Calls as calls
 use Rattle.promise.specs.Prelude.{Step, Untagged, leaves, limits}
 use Rattle.tree_model.specs.Calls.{called, cleared, root_of, rule_at}

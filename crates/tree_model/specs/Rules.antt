@@ -1,6 +1,7 @@
 -- 01's rules in 01's own words, over ranks and counts: what each step at a node does, and what a request comes to at the root. `proofs/Rules.antt`
 -- shows that the definitions are these.
-use Rattle.laws.specs.Prelude.{Element, List, Request, ◌<◌, ◌≡◌, ◌≤◌, ◌⊎◌, element, length, pred, suc, ℕ}
+use Rattle.std.specs.Prelude.{◌<◌, ◌≡◌, ◌≤◌, ◌⊎◌}
+use Rattle.laws.specs.Prelude.{Element, List, Request, element, length, pred, suc, ℕ}
 use Rattle.promise.specs.Calls as calls
 pub use Rattle.promise.specs.Calls.{empty, full, idles, lacks, no-tag, puts, swaps, takes}
 use Rattle.tree_model.specs.Calls.{Ruling}

@@ -1,5 +1,6 @@
 -- A request served on levels, and what a store of levels has to be.
-use Rattle.laws.specs.Prelude.{Bool, Element, Request, [], ◌*◌, get_or, replicate, suc, zero, ℕ}
+use Rattle.std.specs.Prelude.{◌*◌}
+use Rattle.laws.specs.Prelude.{Bool, Element, Request, [], get_or, replicate, suc, zero, ℕ}
 use Rattle.tree_model.specs.Calls.{rule, Ruling}
 use Rattle.tree_model.specs.Damage.{room}
 use Rattle.tree_model.specs.Levels.{apply, Levels, Shaped, work}

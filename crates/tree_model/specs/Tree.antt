@@ -1,5 +1,6 @@
 -- The tree that hangs at a node of a store, what it holds, and when it is sound.
-use Rattle.laws.specs.Prelude.{All, Bool, Element, List, [], ◌*◌, ◌+◌, ◌<◌, ◌∷◌, ◌≡◌, blank, get_or, length, map, set, suc, sum_of, zero, ℕ}
+use Rattle.std.specs.Prelude.{◌*◌, ◌+◌, ◌<◌, ◌∷◌, ◌≡◌}
+use Rattle.laws.specs.Prelude.{All, Bool, Element, List, [], blank, get_or, length, map, set, suc, sum_of, zero, ℕ}
 use Rattle.promise.specs.Prelude.{always, hit, lower}
 use Rattle.tree_model.specs.declared.Slot.{Slot}
 use Rattle.tree_model.specs.declared.Op.{Op}

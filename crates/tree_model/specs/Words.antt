@@ -1,6 +1,7 @@
 -- The lent words: "Slots lie in one lent slice, level by level, node by node"; "A tree slot is then four words, with length before count" (02 [9]):
 -- rank, tag, length, count.
-use Rattle.laws.specs.Prelude.{List, [], ◌*◌, ◌++◌, ◌+◌, ◌∷◌, cond, drop, element_in, element_words, get_or, replicate, set, suc, write_element, zero, ℕ}
+use Rattle.std.specs.Prelude.{◌*◌, ◌++◌, ◌+◌, ◌∷◌}
+use Rattle.laws.specs.Prelude.{List, [], cond, drop, element_in, element_words, get_or, replicate, set, suc, write_element, zero, ℕ}
 use Rattle.tree_model.specs.declared.Slot.{Slot}
 use Rattle.tree_model.specs.declared.Op.{Op}
 use Rattle.tree_model.specs.declared.Move.{Move}

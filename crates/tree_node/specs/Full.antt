@@ -1,5 +1,6 @@
 -- What a scan of a full node says.
-use Rattle.laws.specs.Prelude.{List, ◌+◌, ◌-◌, ◌<◌, ◌≡◌, ◌≤◌, cond, ltb, true, turn, ℕ}
+use Rattle.std.specs.Prelude.{◌+◌, ◌-◌, ◌<◌, ◌≡◌, ◌≤◌}
+use Rattle.laws.specs.Prelude.{List, cond, ltb, true, turn, ℕ}
 use Rattle.tree_node.specs.declared.full.Winner.{Winner}
 use Rattle.tree_model.specs.Prelude.{is_empty, lowest, node_ok, slot_of}
 use Rattle.tree_model.specs.declared.Slot.{Slot}

@@ -1,5 +1,6 @@
 -- What a scan of a node asks of the words, and what it finds.
-use Rattle.laws.specs.Prelude.{List, ◌*◌, ◌+◌, ◌<◌, ◌≡◌, ◌≤◌, cond, length, turn, ℕ}
+use Rattle.std.specs.Prelude.{◌*◌, ◌+◌, ◌<◌, ◌≡◌, ◌≤◌}
+use Rattle.laws.specs.Prelude.{List, cond, length, turn, ℕ}
 use Rattle.tree_model.specs.Prelude.{is_empty, least_count, lowest, node_ok, slot_at, slot_words}
 use Rattle.tree_model.specs.declared.Slot.{Slot}
 

@@ -1,5 +1,6 @@
 -- What a step at a node asks of the words, and the numbers of a tree's shape.
-use Rattle.laws.specs.Prelude.{Bool, Element, List, ◌*◌, ◌+◌, ◌<◌, ◌≡◌, ◌≤◌, cond, leb, length, pred, suc, zero, ℕ}
+use Rattle.std.specs.Prelude.{◌*◌, ◌+◌, ◌<◌, ◌≡◌, ◌≤◌}
+use Rattle.laws.specs.Prelude.{Bool, Element, List, cond, leb, length, pred, suc, zero, ℕ}
 use Rattle.tree_node.specs.Look.{NodeIn}
 use Rattle.tree_model.specs.Prelude.{low, node_of, room, size, slot_limit, slot_words, step_ok}
 use Rattle.tree_model.specs.declared.Op.TheVariants.{Take}

@@ -1,5 +1,6 @@
 -- A tree's shape by its order and levels.
-use Rattle.laws.specs.Prelude.{Bool, ◌*◌, ◌-◌, ◌≡◌, ◌≤◌, cond, ℕ}
+use Rattle.std.specs.Prelude.{◌*◌, ◌-◌, ◌≡◌, ◌≤◌}
+use Rattle.laws.specs.Prelude.{Bool, cond, ℕ}
 use Rattle.tree_node.specs.declared.shape.Shape.{Shape}
 use Rattle.tree_model.specs.Prelude.{room, shape_ok, slot_limit, slot_words}
 

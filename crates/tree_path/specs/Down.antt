@@ -1,5 +1,6 @@
 -- What the recursions over the levels ask of the words, and what they answer and leave.
-use Rattle.laws.specs.Prelude.{Bool, List, ◌*◌, ◌+◌, ◌-◌, ◌<◌, ◌≡◌, ◌≤◌, cond, true, ℕ}
+use Rattle.std.specs.Prelude.{◌*◌, ◌+◌, ◌-◌, ◌<◌, ◌≡◌, ◌≤◌}
+use Rattle.laws.specs.Prelude.{Bool, List, cond, true, ℕ}
 use Rattle.tree_model.specs.Prelude.{apply_words, levels_of, lowest, node_of, node_ok, path_ok, room, work}
 use Rattle.tree_model.specs.declared.Op.{Op}
 use Rattle.tree_node.specs.Room.{Lies}

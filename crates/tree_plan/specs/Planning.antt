@@ -1,5 +1,6 @@
 -- What a step that is looked at before it is done says of its node.
-use Rattle.laws.specs.Prelude.{Bool, Element, List, ◌&&◌, ◌+◌, ◌-◌, ◌<◌, ◌||◌, ◌≡◌, ◌≤◌, blank, cond, key, leb, ltb, not, pred, suc, true, ℕ}
+use Rattle.std.specs.Prelude.{◌&&◌, ◌+◌, ◌-◌, ◌<◌, ◌||◌, ◌≡◌, ◌≤◌}
+use Rattle.laws.specs.Prelude.{Bool, Element, List, blank, cond, key, leb, ltb, not, pred, suc, true, ℕ}
 use Rattle.tree_node.specs.Room.{child_of, ChildrenIn}
 use Rattle.tree_node.specs.Look.{NodeIn}
 use Rattle.tree_model.specs.Prelude.{has_some, is_empty, keep, low, move, node_move, node_of, node_ok, pass, room, slot_limit, slot_of, step_ok}

@@ -1,5 +1,6 @@
 -- What is promised of lent calls is said in these words: the host's memory beside a machine that goes by value.
-use Rattle.laws.specs.Prelude.{Answer, Bool, Idle, List, Request, ◌-◌, ◌≡◌, length, replicate, true, ℕ}
+use Rattle.std.specs.Prelude.{◌-◌, ◌≡◌}
+use Rattle.laws.specs.Prelude.{Answer, Bool, Idle, List, Request, length, replicate, true, ℕ}
 use Rattle.tree_clock_model.specs.Prelude.{Machine, record_count, works_of}
 use Rattle.tree_records.specs.Lent.{lent_cleared, lent_cycled, no_record, readable, record_of, works_read}
 use Rattle.tree_records.specs.declared.Record.{Record}

@@ -1,6 +1,7 @@
 -- The clocked tree's calls over records in the host's own memory: "entry points that are lent this slice of records and do what the by-value form does,
 -- record for record" (02 [13]). Each is the by-value call on the records read, and what that leaves is written back.
-use Rattle.laws.specs.Prelude.{Answer, BadShape, Bool, Element, List, Refused, Request, ◌&&◌, ◌-◌, cond, element, eqb, false, get_or, leb, length, ltb, not, replicate, set, suc, true, zero, ℕ}
+use Rattle.std.specs.Prelude.{◌&&◌, ◌-◌}
+use Rattle.laws.specs.Prelude.{Answer, BadShape, Bool, Element, List, Refused, Request, cond, element, eqb, false, get_or, leb, length, ltb, not, replicate, set, suc, true, zero, ℕ}
 use Rattle.tree_clock_model.specs.Prelude.{CycleOutcome, DrainOutcome, clocked_cleared, cycled, drains, fresh, has_run, record_count}
 use Rattle.tree_clock_model.specs.declared.State.{State}
 use Rattle.tree_records.specs.declared.Record.{Record}

@@ -1,5 +1,6 @@
 -- The tables of refusals of the lent calls, and what each refusal leaves behind: words, records and mark.
-use Rattle.laws.specs.Prelude.{BadShape, Bool, Ladder, List, Refusal, Refused, Request, ◌-◌, ◌<◌, ◌≤◌, cond, fine, get_or, length, not, rung, ℕ}
+use Rattle.std.specs.Prelude.{◌-◌, ◌<◌, ◌≤◌}
+use Rattle.laws.specs.Prelude.{BadShape, Bool, Ladder, List, Refusal, Refused, Request, cond, fine, get_or, length, not, rung, ℕ}
 use Rattle.tree_clock_model.specs.Prelude.{cycle_refusals, drain_refusals, is_bad_shape, runs_idle}
 use Rattle.tree_records.specs.History.{lent_idles, Memory, memory}
 use Rattle.tree_records.specs.Lent.{lent_drain, LentDrain, lent_outcome, LentOutcome, no_record, state_read}

@@ -1,5 +1,6 @@
 -- What the code between the slice and the by-value calls asks and says.
-use Rattle.laws.specs.Prelude.{Answer, BadShape, Bool, List, Refused, Request, ◌&&◌, ◌-◌, ◌<◌, ◌≤◌, cond, false, get_or, leb, ltb, ℕ}
+use Rattle.std.specs.Prelude.{◌&&◌, ◌-◌, ◌<◌, ◌≤◌}
+use Rattle.laws.specs.Prelude.{Answer, BadShape, Bool, List, Refused, Request, cond, false, get_or, leb, ltb, ℕ}
 use Rattle.tree_clock_model.specs.Prelude.{CycleOutcome, DrainOutcome, clocked_cleared, cycle_outcome, cycled, drain_outcome, drains, fresh, has_run, record_count}
 use Rattle.tree_clock_model.specs.declared.State.{State}
 use Rattle.tree_records.specs.Lent.{kinds_ok, record_of, works_read}
