@@ -1,7 +1,7 @@
 -- A queue is a step function on a state: what a call is answered, and the state it leaves. What is said of a list of calls is said here, once
 -- for every queue.
-use Rattle.std.specs.Prelude.{◌∙◌, ◌∷◌, ◌≡◌}
-use Rattle.laws.specs.Prelude.{List, [], ap₂, refl, sym}
+use Rattle.std.specs.Prelude.{◌∷◌, ◌≡◌}
+use Rattle.laws.specs.Prelude.{List, [], ap₂, refl, sym, ◌∙◌}
 
 pub record Step (A S : Type 0) : Type 0 where
   pub said : A

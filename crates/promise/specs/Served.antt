@@ -1,6 +1,6 @@
 -- What a request brings in and gives out, in 01's numbers; what a queue then holds; which kind of answer it is, and that it has the lowest rank.
-use Rattle.std.specs.Prelude.{◌&&◌, ◌+◌, ◌∙◌, ◌∷◌, ◌≡◌}
-use Rattle.laws.specs.Prelude.{Answer, Bool, Done, Element, Idle, List, Out, Pop, Push, Refused, Replace, Request, [], arith, element_of, eqb, false, ltb, number_of, rank_of, refl, suc, sym, true, zero, ℕ}
+use Rattle.std.specs.Prelude.{◌&&◌, ◌+◌, ◌∷◌, ◌≡◌}
+use Rattle.laws.specs.Prelude.{Answer, Bool, Done, Element, Idle, List, Out, Pop, Push, Refused, Replace, Request, [], arith, element_of, eqb, false, ltb, number_of, rank_of, refl, suc, sym, true, zero, ℕ, ◌∙◌}
 use Rattle.promise.specs.Queue.{answers, leaves, Step}
 
 -- ---- tests on elements. What a queue holds is said by how many of its elements pass, for every test

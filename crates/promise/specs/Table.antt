@@ -1,7 +1,7 @@
 -- A table of refusals with the tests that decide it: what a call asks in turn, by which test, and for which cause it refuses. From the one table come the
 -- outcome (`decided`), the ladder that says it in words (`ladder`), and what has to be shown of it (`Told`): that each test stands for its fact.
-use Rattle.std.specs.Prelude.{◌∙◌, ◌≡◌, ◌⊎◌}
-use Rattle.laws.specs.Prelude.{Bool, Exactly, Fails, Ladder, Means, Refusal, climb-by, climb-stop, cond, false, false≢true, inl, inr, refl, rung, stop, sym, true, true≢false}
+use Rattle.std.specs.Prelude.{◌≡◌, ◌⊎◌}
+use Rattle.laws.specs.Prelude.{Bool, Exactly, Fails, Ladder, Means, Refusal, climb-by, climb-stop, cond, false, false≢true, inl, inr, refl, rung, stop, sym, true, true≢false, ◌∙◌}
 
 -- `needs x t P`: P is needed, the test t says whether it holds, else x. `stops x t D`: refused with x for cause D, t says D. `bars x t D`: refused with x
 -- for cause D, t says that D does not hold, as the tests for damage do
