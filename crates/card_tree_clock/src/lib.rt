@@ -1,5 +1,5 @@
-// The clocked tree's calls: the host lends its pending records as structs and the mark as one word. Each call over records is proved by a walk of its
-// code by hand, so it is thin: it reads the records, has the call made on what was read, and writes the records back.
+// The clocked tree's calls: the host lends its pending records as structs and the mark as one word. Each call over records is
+// thin: it reads the records, has the call made on what was read, and writes the records back.
 #![tactic(auto)]
 
 ghost use Rattle.std.specs.Prelude.{◌≡◌};

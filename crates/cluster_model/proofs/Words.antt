@@ -1,5 +1,5 @@
 -- What is written in the words of one node is a store into that node of its level, and nothing else changes.
-use Rattle.laws.specs.Prelude.{Element, List, ◌*◌, ◌+◌, ◌<◌, ◌∙◌, ◌∷◌, ◌≡◌, ◌≤◌, ◌⊎◌, ap, ap₂, arith, element_in, eqb, get_or-set_other, get_or-set_same, inl, inr, le_of_suc-le-suc, length, length-set, mul-le-mul_right, not-suc-le-zero, refl, set, suc, sym, write_element, zero, ℕ, ⊎_elim}
+use Rattle.laws.specs.Prelude.{Element, List, ◌*◌, ◌+◌, ◌<◌, ◌∙◌, ◌∷◌, ◌≡◌, ◌≤◌, ap, ap₂, arith, element_in, eqb, get_or-set_other, get_or-set_same, inl, inr, le_of_suc-le-suc, length, length-set, mul-le-mul_right, not-suc-le-zero, refl, set, suc, sym, write_element, zero, ℕ, ⊎_elim}
 use Rattle.strip.proofs.Words.{read-local, write-apart as element-apart, write-back, write-length as element-length}
 use Rattle.cluster_model.specs.Prelude.{Node, Only, Place, count_words, elem_of, gap, has, flag_at, flag_of, node_of, place_by, place_of, place_words, right_at, row_of, width, word, write_place}
 use Rattle.cluster_model.proofs.Levels.{Levels}

@@ -5,7 +5,7 @@ use Rattle.promise.specs.Prelude.{Queue, Step, ends, needs}
 use Rattle.lines_model.specs.Causes.{CountsFit, Shaped}
 use Rattle.lines_model.specs.Layout.{row_at, Rows, shape_ok, store_words, word}
 use Rattle.lines_model.specs.Promise.{stored_by}
-use Rattle.lines_model.specs.Rules.{ask_table, Choice, choose, counted, counts_below, Due, due_of, giver, late_table, LinesFit, lines_ok, total, worked}
+use Rattle.lines_model.specs.Rules.{ask_table, Choice, counted, counts_below, Due, due_of, giver, late_table, LinesFit, lines_ok, total, worked}
 
 abbrev pub Outcome : Type 0
 Outcome = calls.Outcome (List ℕ)

@@ -2,7 +2,7 @@
 -- (`promise/specs/Clock.antt`). These are definitions.
 use Rattle.laws.specs.Prelude.{Answer, Bool, Count, Element, List, Request, ◌&&◌, ◌*◌, ◌+◌, ◌-◌, ◌<◌, ◌||◌, ◌≡◌, ◌≤◌, ◌⊎◌, cond, eqb, false, length, ltb, true, ℕ}
 use Rattle.promise.specs.Calls as calls
-use Rattle.promise.specs.Prelude.{Clock, Drained, Step, Table, cycling, drained_by, grants}
+use Rattle.promise.specs.Prelude.{Clock, Drained, Step, cycling, drained_by, grants}
 use Rattle.promise.specs.Clock as clocks
 use Rattle.lines_model.specs.Causes.{CountsFit, InRange, Shaped}
 use Rattle.lines_model.specs.Layout.{row_at, Rows, shape_ok, store_words, word}

@@ -1,5 +1,5 @@
 -- Where the words of the lines stand, and one line as a list of elements. These are definitions.
-use Rattle.laws.specs.Prelude.{Bool, Element, List, [], ◌&&◌, ◌*◌, ◌++◌, ◌+◌, ◌/◌, ◌||◌, ◌∷◌, blank, cond, element_in, eqb, get_or, leb, ltb, suc, write_element, zero, ℕ}
+use Rattle.laws.specs.Prelude.{Bool, Element, List, [], ◌&&◌, ◌*◌, ◌++◌, ◌+◌, ◌/◌, ◌||◌, ◌∷◌, blank, element_in, eqb, get_or, leb, suc, write_element, zero, ℕ}
 use Rattle.promise.specs.FirstIn.{insert}
 pub use Rattle.lines_model.specs.declared.Rows.{Rows}
 

@@ -1,5 +1,5 @@
 -- In a packed heap nothing is found damaged: positions up to n are occupied, and no others.
-use Rattle.laws.specs.Prelude.{Bool, Element, List, ◌*◌, ◌+◌, ◌-◌, ◌<◌, ◌≡◌, ◌≤◌, and-true, ap, arith, blank, false, le-leb, leb, leb-false, leb-true, length, lt-leb, pass, refl, subst, suc, true, untagged, zero, ℕ}
+use Rattle.laws.specs.Prelude.{Bool, Element, List, ◌*◌, ◌+◌, ◌-◌, ◌<◌, ◌≡◌, ◌≤◌, and-true, arith, blank, false, le-leb, leb, leb-false, leb-true, lt-leb, pass, refl, subst, suc, true, untagged, zero, ℕ}
 use native.Mathlib.Nat.{le-mul_of_pos_right}
 use Rattle.strip.proofs.Words.{blank-words}
 use Rattle.packed_model.specs.Node.{size, Side, lhs, rhs, pick, turn_of, rest_of, lower_side, lifts, Op, none, put, sink, step, sink_by}

@@ -1,5 +1,5 @@
 -- Words and heaps: what is written in one slot, which slots a heap has, and that an operation on the words is the operation on the heap that hangs there.
-use Rattle.laws.specs.Prelude.{Bool, Element, List, ◌*◌, ◌+◌, ◌-◌, ◌<◌, ◌∙◌, ◌≡◌, ◌≤◌, ◌⊎◌, ap, arith, blank, element, false, get_or-set_other, get_or-set_same, inl, inr, length, length-set, not-suc-le-zero, refl, set, suc, sym, true, zero, ℕ, ⊎_elim}
+use Rattle.laws.specs.Prelude.{Bool, Element, List, ◌*◌, ◌+◌, ◌<◌, ◌∙◌, ◌≡◌, ◌≤◌, ◌⊎◌, ap, arith, blank, element, false, get_or-set_other, get_or-set_same, inl, inr, length, length-set, not-suc-le-zero, refl, set, suc, sym, true, zero, ℕ, ⊎_elim}
 use Rattle.packed_model.specs.Node.{Side, lhs, rhs, pick, turn_of, rest_of, Op, none, put, sink, Stepped, step, to_left, to_right}
 use Rattle.packed_model.specs.Heap.{Heap, top, run, at, cut}
 use Rattle.packed_model.specs.Words.{word, works, slot_in, write_slot, child, Lies, top_in, heap_in, slot_at, step_in, touch, run_words}

@@ -1,6 +1,6 @@
 -- The lent words: H held words, then the slots, level by level, three words each: rank, tag, length. Slot m's children are slots 2m + H and 2m + H + 1; the top
 -- of heap h is slot h.
-use Rattle.laws.specs.Prelude.{Bool, Element, List, ◌&&◌, ◌*◌, ◌+◌, ◌-◌, ◌≤◌, blank, cond, element, element_in, eqb, false, get_or, leb, length, not, suc, true, write_element, zero, ℕ}
+use Rattle.laws.specs.Prelude.{Bool, Element, List, ◌&&◌, ◌*◌, ◌+◌, ◌-◌, ◌≤◌, blank, cond, element_in, eqb, false, get_or, leb, not, suc, true, write_element, zero, ℕ}
 use Rattle.packed_model.specs.Node.{size, Side, lhs, rhs, turn_of, rest_of, Op, none, put, sink, Stepped, step}
 use Rattle.packed_model.specs.Heap.{Heap}
 

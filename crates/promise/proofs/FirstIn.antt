@@ -1,5 +1,5 @@
 -- The plain first-in list, one call after another: in leaving order, and first in first out within a rank, whatever its table refuses.
-use Rattle.laws.specs.Prelude.{All, Answer, Bool, Done, Element, Empty, Idle, List, Out, Pop, Push, Refusal, Refused, Replace, Request, [], ◌++◌, ◌+◌, ◌<◌, ◌∙◌, ◌∷◌, ◌≡◌, ◌≤◌, all_map, ap, arith, blank, cond, dec_lt, eqb, false, le-ltb, length, lt-ltb, ltb, ne_eqb, refl, refusal_number, subst, suc, sym, true, zero, ℕ, ℕ_discrete}
+use Rattle.laws.specs.Prelude.{All, Answer, Bool, Element, Empty, Idle, List, Pop, Push, Refusal, Refused, Replace, Request, [], ◌++◌, ◌+◌, ◌<◌, ◌∙◌, ◌∷◌, ◌≡◌, ◌≤◌, all_map, ap, arith, blank, cond, dec_lt, eqb, false, le-ltb, length, lt-ltb, ltb, ne_eqb, refl, refusal_number, suc, sym, true, zero, ℕ, ℕ_discrete}
 use mathlib.Core.List.{append_assoc, append-nil}
 use Rattle.promise.specs.FirstIn.{all_came, all_went, came, FirstOut, if_done, insert, of_rank, plain_by, served, Sorted, times, went}
 use Rattle.promise.specs.Prelude.{Step, Table, always, answers, decided-either, each-any, hit, leaves, step, zero-told}

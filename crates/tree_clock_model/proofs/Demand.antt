@@ -7,7 +7,7 @@ use Rattle.tree_clock_model.proofs.Step.{one-by-one-is, idle-ruling, in_step, In
 use Rattle.tree_clock_model.proofs.Turn.{plain-rest, works-after}
 use Rattle.tree_clock_model.specs.Prelude.{CycleOutcome, Lead, Machine, State, clocked_queue, cycle_answers, cycle_run, cycled, fresh, idles, marks, one_by_one, one_by_one_answers, one_by_one_queue, one_by_one_words, pending, quiet, ran, record_at, record_count, works_of}
 use Rattle.promise.specs.Prelude.{answers-same, leaves, leaves-in-step}
-use Rattle.tree_model.proofs.Laws.{Kept, op-work, past, same-words, start-kept, words-none, work_none}
+use Rattle.tree_model.proofs.Laws.{Kept, op-work, same-words, start-kept, words-none, work_none}
 use Rattle.tree_model.specs.Prelude.{Levels, Outcome, Ruling, Shape, idle, is_nothing, level_of, levels_of, room, root_of, ruling, start, top, under, work}
 use Rattle.tree_model.specs.declared.Op.TheVariants.{Nothing}
 use Rattle.tree_model.specs.declared.Work.{Work}

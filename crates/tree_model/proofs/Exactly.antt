@@ -1,7 +1,6 @@
 -- Every refusal is given exactly for its cause.
 -- ---- each test for damage fails exactly where the node, the step or the path is damaged
 use Rattle.laws.specs.Prelude.{All, BadShape, Bool, Count, Damaged, Done, Exactly, Fails, Held, Idle, List, Means, Pop, Push, Refusal, Refused, Replace, Request, Unknown, [], ◌*◌, ◌+◌, ◌<◌, ◌||◌, ◌∙◌, ◌∷◌, ◌≡◌, ◌≤◌, ◌⊎◌, and_left, and_right, ap, arith, count_number, eq-eqb, eqb, eqb-true, fails-and, fails-every, fails-leb, fails-not-eqb, fails-not-every, fails-or, fails-true, false, false≢true, get_or, inl, inr, le-ltb, leb, leb-true, length, ltb, ltb-false, ltb-true, means-and, means-by, means-leb, not, not-suc-le-zero, number_of, or_right, pred, refl, refusal_number, subst, suc, sym, true, true≢false, zero, ℕ, ⊎_elim}
-use lib.Seq.{slice}
 use Rattle.promise.proofs.Calls as calls
 use Rattle.promise.proofs.Calls.{last-guards, last-told, said, Tested}
 use Rattle.promise.specs.Prelude.{Barred, Kind, blank-fails, left}

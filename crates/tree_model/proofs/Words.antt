@@ -7,7 +7,7 @@ use Rattle.tree_model.proofs.Choice.{filled, least-in, lowest-is}
 use Rattle.tree_model.proofs.Hang.{below_less, digits}
 use Rattle.tree_model.proofs.Nothing.{is_none, step-none}
 use Rattle.tree_model.proofs.Rules.{put-rule, swap-rule, take-rule}
-use Rattle.tree_model.specs.Prelude.{Level, Levels, Move, Nothing, Op, Put, Puts, Slot, Swap, Swaps, Take, Takes, Work, apply, apply_words, at, clears, ends, every, exchanges, goes, has_some, is_empty, is_nothing, level_move, level_of, levels_of, node_of, node_ok, op_move, passes, path_ok, read_ok, receives, rest_words, room, size, slot_at, slot_of, slot_words, stays, step_level, step_ok, step_words, step_work, sum_counts, tabulate, top, under, vacant, work_ok, write}
+use Rattle.tree_model.specs.Prelude.{Level, Levels, Move, Nothing, Op, Put, Puts, Slot, Swap, Swaps, Take, Takes, Work, apply, apply_words, clears, ends, every, exchanges, goes, has_some, is_empty, is_nothing, level_move, level_of, levels_of, node_of, node_ok, op_move, passes, path_ok, read_ok, receives, rest_words, room, size, slot_at, slot_of, slot_words, stays, step_level, step_ok, step_words, step_work, sum_counts, tabulate, top, under, vacant, work_ok, write}
 
 module _ {A : Type 0} where
   pub length-tab : (n : ℕ) (f : ℕ → A) → length (tabulate n f) ≡ n

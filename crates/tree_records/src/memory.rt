@@ -1,5 +1,5 @@
-// The host's own records, read and written back. These two functions are proved by walks of their code by hand, so they are thin: whatever is
-// decided or computed is in functions that have no slice of structs.
+// The host's own records, read and written back. These two functions are thin: whatever is decided or computed is in functions that have no
+// slice of structs.
 ghost use Rattle.std.specs.Prelude.{◌≡◌, length};
 ghost use Rattle.strip.specs.Answers.{number_of};
 ghost use Rattle.tree_records.specs.Lent.{works_back};

@@ -1,6 +1,5 @@
 -- `bitmap::with` meets its contract.
 use native.Mathlib.Omega.{arith}
-use borrow.Author.Rules.{rules}
 use Rattle.bitmap.specs.Bits.{with-is, with-fits}
 use Rattle.bitmap.proofs.with.Goals as goal
 

@@ -1,5 +1,4 @@
 -- `bitmap::without` meets its contract.
-use borrow.Author.Rules.{rules}
 use Rattle.bitmap.specs.Bits.{without_is, without-fits}
 use Rattle.bitmap.proofs.without.Goals as goal
 

@@ -1,5 +1,5 @@
 -- `bucket::clear` meets its contract.
-use Rattle.laws.specs.Prelude.{◌∙◌, ap, rules, not-false, not-true, sym}
+use Rattle.laws.specs.Prelude.{◌∙◌, ap, not-false, not-true, sym}
 use Rattle.bucket_model.specs.declared.Lay.{Lay}
 use Rattle.bucket_model.specs.Prelude.{cleared}
 use Rattle.bucket_model.proofs.Laws.{clear-bad}

@@ -1,5 +1,5 @@
 -- `bucket::clear_laid` meets its contract.
-use Rattle.laws.specs.Prelude.{◌∙◌, ◌≡◌, rules, not-false, not-true, sym, true}
+use Rattle.laws.specs.Prelude.{◌∙◌, ◌≡◌, not-false, not-true, sym, true}
 use Rattle.bucket_model.specs.Prelude.{is_shaped}
 use Rattle.bucket_step.specs.Tested.{Stands}
 use Rattle.bucket_model.proofs.Laws.{clear-bad, clear-done}
@@ -11,7 +11,6 @@ use Rattle.bucket.proofs.clear_laid.Goals.{Else-not-is_shaped}
 -- places on the way, each from a later one
 
 -- what has been tested so far
-
 ok : (c : Else-not-is_shaped) → is_shaped c.args.k c.args.bits.now c.args.words.now ≡ true
 ok c = sym c.is_shaped.ensures ∙ not-false c.is_shaped.result c.if-not-is_shaped.false-raw
 

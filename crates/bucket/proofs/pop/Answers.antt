@@ -1,15 +1,14 @@
 -- `bucket::pop` meets its contract.
-use Rattle.laws.specs.Prelude.{List, ◌+◌, ◌-◌, ◌∙◌, ◌≡◌, ◌≤◌, ap, arith, length, refl, ℕ, ⊎_elim}
-use Rattle.bucket_model.specs.Prelude.{Outcome, least_storeys, most_storeys, outcome, popped, queue}
+use Rattle.laws.specs.Prelude.{◌-◌, ◌∙◌, ap, arith, length, refl}
+use Rattle.bucket_model.specs.Prelude.{popped}
 use Rattle.bucket_model.proofs.Laws.{pop-bad}
 use Rattle.bucket.proofs.Steps.{queue-placed}
-use Rattle.bucket_step.proofs.Depths.{undeep, at-lay, Gone, none-gone, gone-here, gone-on, all-gone}
+use Rattle.bucket_step.proofs.Depths.{undeep, at-lay, none-gone, gone-here, gone-on, all-gone}
 use Rattle.bucket.proofs.pop.Goals as goal
 use Rattle.bucket.proofs.pop.Invariants.{call}
 use Rattle.bucket.proofs.pop.Goals.{else-d-storeys, then-d-storeys}
 
 -- what is done at the depth asked for
-
 pub loop-d-init : goal.loop-d-init
 loop-d-init c = (omega arith, omega arith, refl, refl, none-gone (call c.args.n) c.args.storeys _ _)
 

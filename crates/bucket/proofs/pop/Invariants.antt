@@ -1,9 +1,7 @@
 -- `bucket::pop` meets its contract.
-use Rattle.laws.specs.Prelude.{List, ◌+◌, ◌-◌, ◌∙◌, ◌≡◌, ◌≤◌, ap, arith, length, refl, ℕ, ⊎_elim}
+use Rattle.laws.specs.Prelude.{List, ◌+◌, ◌-◌, ◌≡◌, ◌≤◌, length, ℕ}
 use Rattle.bucket_model.specs.Prelude.{Outcome, least_storeys, most_storeys, outcome, popped, queue}
-use Rattle.bucket_model.proofs.Laws.{pop-bad}
-use Rattle.bucket.proofs.Steps.{queue-placed}
-use Rattle.bucket_step.proofs.Depths.{undeep, at-lay, Gone, none-gone, gone-here, gone-on, all-gone}
+use Rattle.bucket_step.proofs.Depths.{Gone}
 use Rattle.bucket.proofs.pop.Given as goal
 
 abbrev pub call : ℕ → ℕ → List ℕ → List ℕ → Outcome

@@ -1,5 +1,5 @@
 -- `bucket::pop_laid` meets its contract.
-use Rattle.laws.specs.Prelude.{◌&&◌, ◌∙◌, ◌≡◌, eqb, rules, not, not-false, not-true, refl, sym, true}
+use Rattle.laws.specs.Prelude.{◌&&◌, ◌∙◌, ◌≡◌, eqb, not, not-false, not-true, refl, sym, true}
 use Rattle.bucket_model.specs.Prelude.{is_shaped, is_whole, lowest_of, word}
 use Rattle.bucket_step.specs.Tested.{Stands, Freeing}
 use Rattle.bucket_model.proofs.Laws.{pop-bad, pop-limit, pop-out, pop-unfit}
@@ -11,7 +11,6 @@ use Rattle.bucket.proofs.pop_laid.Goals.{Else-not-has_some, Else-not-is_shaped, 
 -- places on the way, each from a later one
 
 -- what has been tested so far
-
 ok : (c : Else-not-is_shaped) → is_shaped c.args.k c.args.bits.now c.args.words.now ≡ true
 ok c = sym c.is_shaped.ensures ∙ not-false c.is_shaped.result c.if-not-is_shaped.false-raw
 

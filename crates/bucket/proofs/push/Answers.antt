@@ -1,16 +1,15 @@
 -- `bucket::push` meets its contract.
-use Rattle.laws.specs.Prelude.{Element, List, ◌+◌, ◌-◌, ◌∙◌, ◌≡◌, ◌≤◌, ap, arith, length, refl, ℕ, ⊎_elim}
+use Rattle.laws.specs.Prelude.{Element, List, ◌-◌, ◌∙◌, ap, arith, length, refl, ℕ}
 use Rattle.bucket_model.specs.declared.Lay.{Lay}
-use Rattle.bucket_model.specs.Prelude.{Outcome, least_storeys, most_storeys, outcome, pushed, queue}
+use Rattle.bucket_model.specs.Prelude.{Outcome, pushed}
 use Rattle.bucket_model.proofs.Laws.{push-bad}
 use Rattle.bucket.proofs.Steps.{queue-placed}
-use Rattle.bucket_step.proofs.Depths.{undeep, at-lay, Gone, none-gone, gone-here, gone-on, all-gone}
+use Rattle.bucket_step.proofs.Depths.{undeep, at-lay, none-gone, gone-here, gone-on, all-gone}
 use Rattle.bucket.proofs.push.Goals as goal
 use Rattle.bucket.proofs.push.Invariants.{call}
 use Rattle.bucket.proofs.push.Goals.{else-d-storeys, then-d-storeys}
 
 -- what is done with a layout, and at the depth asked for
-
 abbrev laid : Element → Lay → List ℕ → List ℕ → Outcome
 laid e k b w = pushed k b w e
 

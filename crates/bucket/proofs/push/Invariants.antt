@@ -1,10 +1,7 @@
 -- `bucket::push` meets its contract.
-use Rattle.laws.specs.Prelude.{Element, List, ◌+◌, ◌-◌, ◌∙◌, ◌≡◌, ◌≤◌, ap, arith, length, refl, ℕ, ⊎_elim}
-use Rattle.bucket_model.specs.declared.Lay.{Lay}
+use Rattle.laws.specs.Prelude.{Element, List, ◌+◌, ◌-◌, ◌≡◌, ◌≤◌, length, ℕ}
 use Rattle.bucket_model.specs.Prelude.{Outcome, least_storeys, most_storeys, outcome, pushed, queue}
-use Rattle.bucket_model.proofs.Laws.{push-bad}
-use Rattle.bucket.proofs.Steps.{queue-placed}
-use Rattle.bucket_step.proofs.Depths.{undeep, at-lay, Gone, none-gone, gone-here, gone-on, all-gone}
+use Rattle.bucket_step.proofs.Depths.{Gone}
 use Rattle.bucket.proofs.push.Given as goal
 
 abbrev pub call : Element → ℕ → ℕ → List ℕ → List ℕ → Outcome

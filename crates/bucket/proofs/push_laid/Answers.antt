@@ -1,5 +1,5 @@
 -- `bucket::push_laid` meets its contract.
-use Rattle.laws.specs.Prelude.{◌&&◌, ◌<◌, ◌∙◌, ◌≡◌, and_left, and_right, eqb, false, ltb, ltb-true, rules, not, not-false, not-true, refl, subst, sym, true, untagged, ℕ}
+use Rattle.laws.specs.Prelude.{◌&&◌, ◌<◌, ◌∙◌, ◌≡◌, and_left, and_right, eqb, false, ltb, ltb-true, not, not-false, not-true, refl, subst, sym, true, untagged, ℕ}
 use Rattle.bucket_model.specs.Prelude.{is_shaped, is_whole, room_of, word}
 use Rattle.bucket_step.specs.Tested.{Stands, Roomy, FoundLinks, FoundRoom, join_ok}
 use Rattle.bucket_step.proofs.Read.{fits, room-found}
@@ -12,7 +12,6 @@ use Rattle.bucket.proofs.push_laid.Goals.{After-agrees, Else-not-has_room, Else-
 -- places on the way, each from a later one
 
 -- what has been tested so far
-
 ok : (c : Else-not-is_shaped) → is_shaped c.args.k c.args.bits.now c.args.words.now ≡ true
 ok c = sym c.is_shaped.ensures ∙ not-false c.is_shaped.result c.if-not-is_shaped.false-raw
 
@@ -42,7 +41,6 @@ room c =
     room_of_lem c.args.k c.args.bits.now c.args.words.now (given c)
 
 -- the bucket, with as many nodes in use as are held
-
 found : (c : After-agrees) → FoundRoom (c.find_room-to.result.good && c.agrees.result) c.find_room-to.result (room_of c.args.k c.args.bits.now c.args.words.now c.args.e.rank.0)
 found c =
     let a = c.args in

@@ -1,5 +1,5 @@
 -- `bucket::replace_laid` meets its contract.
-use Rattle.laws.specs.Prelude.{◌&&◌, ◌<◌, ◌∙◌, ◌≡◌, and_left, and_right, eqb, false, ltb, ltb-true, rules, not, not-false, not-true, refl, sym, true, untagged}
+use Rattle.laws.specs.Prelude.{◌&&◌, ◌<◌, ◌∙◌, ◌≡◌, and_left, and_right, eqb, false, ltb, ltb-true, not, not-false, not-true, refl, sym, true, untagged}
 use Rattle.bucket_model.specs.Prelude.{is_shaped, is_whole, lowest_of, room_after, taken_bits, taken_words, word}
 use Rattle.bucket_step.specs.Tested.{Stands, Freeing, FoundRoom, room_freed}
 use Rattle.bucket_step.proofs.Read.{fits, freed-found}
@@ -12,7 +12,6 @@ use Rattle.bucket.proofs.replace_laid.Goals.{After-agrees_after, Else-not-has_so
 -- places on the way, each from a later one
 
 -- what has been tested so far
-
 ok : (c : Else-not-is_shaped) → is_shaped c.args.k c.args.bits.now c.args.words.now ≡ true
 ok c = sym c.is_shaped.ensures ∙ not-false c.is_shaped.result c.if-not-is_shaped.false-raw
 
@@ -49,7 +48,6 @@ takes c =
     freeing _ _ _ (st (goal.at.Else-not-low c).Else-not-is_shaped) _ (some (goal.at.Else-not-low c).Else-not-has_some) c.find_lowest-low.ensures (good c)
 
 -- the newcomer's bucket as after the pop
-
 found : (c : After-agrees_after) → FoundRoom (c.room_after-room.result.good && c.agrees_after.result) c.room_after-room.result (room_freed c.args.k (taken_bits c.args.k c.args.bits.now c.find_lowest-low.result) (taken_words c.args.k c.args.words.now c.find_lowest-low.result) c.args.e.rank.0)
 found c =
     freed-found c.args.k c.args.bits.now c.args.words.now c.find_lowest-low.result (takes (goal.at.After-agrees_after c).Else-not-low).takable c.args.e.rank.0 c.room_after-room.result c.room_after-room.ensures _ _ c.held_count-held.ensures c.agrees_after.ensures

@@ -1,7 +1,7 @@
 -- `bucket_bits::agreement` meets its contract.
-use Rattle.laws.specs.Prelude.{◌-◌, ◌<◌, and_right, arith, ltb, ltb-true, rules}
+use Rattle.laws.specs.Prelude.{◌-◌, ◌<◌, and_right, arith, ltb, ltb-true}
 use Rattle.bucket_bits.specs.Climbs.{Climbable}
-use Rattle.bucket_bits.proofs.Up.{Climbing, climbing-start, climbing-room, climbing-step, climbing-end}
+use Rattle.bucket_bits.proofs.Up.{climbing-start, climbing-room, climbing-step, climbing-end}
 use Rattle.bucket_bits.proofs.agreement.Goals as goal
 use Rattle.bucket_bits.proofs.agreement.Goals.{In-loop-c}
 
@@ -9,7 +9,6 @@ pub loop-c-init : goal.loop-c-init
 loop-c-init c = climbing-start _ _ _ _ _ _ _ _ c.requires.tall.words c.requires.gone_in c.requires.own_in c.requires.switchable
 
 -- a storey is left; the numbers of both bits, and their words
-
 some : (c : In-loop-c) → 0 < c.loop-c.d
 some c = ltb-true 0 c.loop-c.d (and_right c.loop-c.c.agrees (ltb 0 c.loop-c.d) c.loop-c-test.true)
 

@@ -1,7 +1,6 @@
 -- `bucket_bits::agreement` meets its contract.
-use Rattle.laws.specs.Prelude.{◌-◌, ◌<◌, and_right, arith, ltb, ltb-true, rules}
-use Rattle.bucket_bits.specs.Climbs.{Climbable}
-use Rattle.bucket_bits.proofs.Up.{Climbing, climbing-start, climbing-room, climbing-step, climbing-end}
+use Rattle.laws.specs.Prelude.{◌-◌}
+use Rattle.bucket_bits.proofs.Up.{Climbing}
 use Rattle.bucket_bits.proofs.agreement.Given as goal
 
 abbrev pub invariant-loop-c : goal.invariant-loop-c

@@ -1,6 +1,5 @@
 -- `bucket_bits::climb_one` meets its contract.
 use Rattle.bucket_bits.proofs.Up.{climbed-is}
-use Rattle.laws.specs.Prelude.{rules}
 use Rattle.bucket_bits.proofs.climb_one.Goals as goal
 
 pub returns : goal.returns

@@ -1,16 +1,15 @@
 -- `bucket_bits::lowest_rank` meets its contract.
-use Rattle.laws.specs.Prelude.{◌-◌, ◌<◌, ◌^◌, ◌≤◌, arith, rules, not-false, not-true, true}
+use Rattle.laws.specs.Prelude.{◌-◌, ◌<◌, ◌^◌, ◌≤◌, arith, not-false, not-true, true}
 use Rattle.bucket_model.specs.Prelude.{words_of}
 use Rattle.bucket_bits.specs.Climbs.{Leads}
 use Rattle.bucket_bits.proofs.Numbers.{words-lt}
-use Rattle.bucket_bits.proofs.Down.{Down, down-start, down-in, down-some, down_step, down-none, down-end}
+use Rattle.bucket_bits.proofs.Down.{down-start, down-in, down-some, down_step, down-none, down-end}
 use Rattle.bucket_bits.proofs.lowest_rank.Goals as goal
 use Rattle.bucket_bits.proofs.lowest_rank.Goals.{Else-not-open, In-loop-open}
 
 -- places on the way, each from a later one
 
 -- a word of the storeys, and the end of the way
-
 below : (c : In-loop-open) → c.loop-open.i < words_of c.args.storeys
 below c =
     down-some c.args.bits.now c.args.base c.args.storeys c.loop-open.d c.loop-open.i c.loop-open.«open» c.loop-open.invariant c.loop-open-test.true

@@ -1,5 +1,5 @@
 -- `bucket_bits::signal` meets its contract.
-use Rattle.laws.specs.Prelude.{◌%◌, ◌+◌, ◌-◌, ◌/◌, ◌<◌, ◌∙◌, ◌≤◌, and_right, arith, cond, length, ltb, ltb-true, rules, true}
+use Rattle.laws.specs.Prelude.{◌%◌, ◌+◌, ◌-◌, ◌/◌, ◌<◌, ◌∙◌, ◌≤◌, and_right, arith, cond, length, ltb, ltb-true, true}
 use Rattle.bucket_model.specs.Prelude.{edit, storeys_from, words_of}
 use Rattle.bucket_bits.specs.Climbs.{Switching}
 use Rattle.bucket_bits.proofs.Numbers.{words-le}
@@ -8,7 +8,6 @@ use Rattle.bucket_bits.proofs.signal.Goals as goal
 use Rattle.bucket_bits.proofs.signal.Goals.{After-slice_known-1, After-slice_known-2-1, In-loop-more}
 
 -- the lowest storey's bit
-
 lowest : (c : After-slice_known-1) → (0 < c.args.tower + c.args.rank) × Switching c.args.bits.now c.args.on c.args.changes (c.args.base + (c.args.tower + c.args.rank - 1) / 64) ((c.args.tower + c.args.rank - 1) % 64)
 lowest c = first-turns c.args.on c.args.changes c.args.bits.now c.args.base c.args.storeys c.args.tower c.args.rank c.requires.tall c.requires.rank_in c.requires.signalling
 
@@ -27,7 +26,6 @@ overflow_sub-d c = c.requires.tall.some
 -- places on the way, each from a later one
 
 -- .. written; the storeys above it
-
 first : (c : After-slice_known-2-1) → Rising c.args.on c.args.bits.now (cond c.args.changes (edit c.args.on c.args.bits.now (storeys_from c.args.base c.args.storeys) c.args.rank) c.args.bits.now) c.args.base c.args.storeys c.switch-more.new.bits c.switch-more.result (c.args.storeys - 1) ((c.args.tower + c.args.rank - 1) / 64)
 first c =
     rising-first c.args.on c.args.changes c.args.bits.now c.args.base c.args.storeys c.args.tower c.args.rank c.requires.tall c.requires.rank_in c.requires.signalling c.switch-more.new.bits c.switch-more.result c.switch-more.ensures.0 c.switch-more.ensures.1
@@ -40,7 +38,6 @@ pub loop-more-init : goal.loop-more-init
 loop-more-init c = rising-from _ _ _ _ _ _ _ _ _ (first c)
 
 -- the number of a bit, and its word
-
 turns : (c : In-loop-more) → (0 < c.loop-more.i) × Switching c.loop-more.bits c.args.on true (c.args.base + (c.loop-more.i - 1) / 64) ((c.loop-more.i - 1) % 64)
 turns c = rising-turns _ _ _ _ _ _ c.loop-more.more c.loop-more.d c.loop-more.i (long (goal.at.In-loop-more c).After-slice_known-2-1) c.loop-more-test.true c.loop-more.invariant
 

@@ -1,9 +1,7 @@
 -- `bucket_bits::signal` meets its contract.
-use Rattle.laws.specs.Prelude.{◌%◌, ◌+◌, ◌-◌, ◌/◌, ◌<◌, ◌∙◌, ◌≤◌, and_right, arith, cond, length, ltb, ltb-true, rules, true}
+use Rattle.laws.specs.Prelude.{◌-◌, cond}
 use Rattle.bucket_model.specs.Prelude.{edit, storeys_from, words_of}
-use Rattle.bucket_bits.specs.Climbs.{Switching}
-use Rattle.bucket_bits.proofs.Numbers.{words-le}
-use Rattle.bucket_bits.proofs.Up.{Rising, first-turns, rising-first, rising-goal, rising-from, rising-turns, rising_step, rising-end}
+use Rattle.bucket_bits.proofs.Up.{Rising}
 use Rattle.bucket_bits.proofs.signal.Given as goal
 
 abbrev pub invariant-loop-more : goal.invariant-loop-more

@@ -1,6 +1,5 @@
 -- `bucket_bits::switch` meets its contract.
 use Rattle.bucket_bits.proofs.Up.{switch-on, switch-off, bit-clear, bit-set}
-use Rattle.laws.specs.Prelude.{rules}
 use Rattle.bucket_bits.proofs.switch.Goals as goal
 
 pub with-requires : goal.with-requires

@@ -1,7 +1,6 @@
 -- `bucket_bits::wipe` meets its contract.
-use Rattle.laws.specs.Prelude.{◌-◌, ◌∙◌, ◌≡◌, ◌≤◌, ap, arith, length, length-set, refl, ℕ}
+use Rattle.laws.specs.Prelude.{◌-◌, ◌≡◌, ◌≤◌, length}
 use Rattle.bucket_model.specs.Prelude.{fill}
-use Rattle.bucket_model.proofs.Laws.{fill_none, fill_step}
 use Rattle.bucket_bits.proofs.wipe.Given as goal
 
 abbrev pub invariant-loop-j : goal.invariant-loop-j

@@ -1,6 +1,5 @@
 -- `bucket_bits::word_or` meets its contract.
 use Rattle.bucket_bits.proofs.Up.{word-known, word_read}
-use Rattle.laws.specs.Prelude.{rules}
 use Rattle.bucket_bits.proofs.word_or.Goals as goal
 
 pub returns-then-same : goal.returns-then-same

@@ -1,5 +1,5 @@
 use Rattle.bucket_clock.proofs.Cycles.{cleared-bad, cleared-is, depth, few, ready, ready-fits}
-use Rattle.laws.specs.Prelude.{arith, rules, not-false, not-true}
+use Rattle.laws.specs.Prelude.{arith, not-false, not-true}
 use Rattle.bucket_clock.proofs.clear.Goals as goal
 
 pub returns-then-not-is_lent : goal.returns-then-not-is_lent

@@ -1,5 +1,5 @@
 use Rattle.bucket_clock.proofs.Cycles.{cycled-bad, cycled-is, depth, ready}
-use Rattle.laws.specs.Prelude.{rules, not-false, not-true}
+use Rattle.laws.specs.Prelude.{not-false, not-true}
 use Rattle.bucket_clock.proofs.cycle.Goals as goal
 
 pub returns-then-not-is_lent : goal.returns-then-not-is_lent

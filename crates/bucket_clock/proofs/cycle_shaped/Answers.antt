@@ -1,5 +1,5 @@
 use Rattle.bucket_clock.proofs.Cycles.{ready-fits, runs, torn-held, torn-stages}
-use Rattle.laws.specs.Prelude.{◌∙◌, arith, rules, not-false, not-true, refl, sym}
+use Rattle.laws.specs.Prelude.{◌∙◌, arith, not-false, not-true, refl, sym}
 use Rattle.bucket_clock.proofs.cycle_shaped.Goals as goal
 
 pub held_count-held-requires : goal.held_count-held-requires

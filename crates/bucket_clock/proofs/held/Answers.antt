@@ -1,5 +1,5 @@
 use Rattle.bucket_clock.proofs.Cycles.{depth, held-bad-shape, held-told, held-torn, ready, ready-fits}
-use Rattle.laws.specs.Prelude.{rules, not-false, not-true}
+use Rattle.laws.specs.Prelude.{not-false, not-true}
 use Rattle.bucket_clock.proofs.held.Goals as goal
 
 pub returns-then-not-is_lent : goal.returns-then-not-is_lent

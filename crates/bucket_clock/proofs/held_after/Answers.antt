@@ -1,5 +1,5 @@
 use Rattle.bucket_clock.proofs.Cycles.{after-pop, after_push, after_same, after-swap, pop-counts, push-counts}
-use Rattle.laws.specs.Prelude.{arith, rules}
+use Rattle.laws.specs.Prelude.{arith}
 use Rattle.bucket_clock.proofs.held_after.Goals as goal
 
 pub overflow_add-result : goal.overflow_add-result

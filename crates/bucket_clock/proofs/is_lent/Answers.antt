@@ -1,6 +1,6 @@
 use Rattle.bucket_clock.proofs.Cycles.{few, lent_is, lent-shallow}
 use Rattle.bucket_step.proofs.Depths.{deep_of}
-use Rattle.laws.specs.Prelude.{◌∙◌, arith, rules, not-false, not-true, sym}
+use Rattle.laws.specs.Prelude.{◌∙◌, arith, not-false, not-true, sym}
 use Rattle.bucket_clock.proofs.is_lent.Goals as goal
 
 pub returns-then-not-is_deep : goal.returns-then-not-is_deep

@@ -1,4 +1,3 @@
-use Rattle.laws.specs.Prelude.{rules}
 use Rattle.bucket_clock.proofs.replace.Goals as goal
 
 pub returns : goal.returns

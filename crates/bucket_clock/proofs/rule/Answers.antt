@@ -1,5 +1,4 @@
 use Rattle.bucket_clock.proofs.Cycles.{idle-goes, rules-as}
-use Rattle.laws.specs.Prelude.{rules}
 use Rattle.bucket_clock.proofs.rule.Goals as goal
 
 pub returns-in-Idle : goal.returns-in-Idle

@@ -1,5 +1,4 @@
 use Rattle.bucket_clock.proofs.Cycles.{pop_goes, pop-none}
-use Rattle.laws.specs.Prelude.{rules}
 use Rattle.bucket_clock.proofs.rule_pop.Goals as goal
 
 pub returns-then-held-eq0 : goal.returns-then-held-eq0

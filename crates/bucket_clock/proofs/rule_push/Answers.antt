@@ -1,5 +1,4 @@
 use Rattle.bucket_clock.proofs.Cycles.{push-bare, push-far, push-full, push_goes}
-use Rattle.laws.specs.Prelude.{rules}
 use Rattle.bucket_clock.proofs.rule_push.Goals as goal
 
 pub returns-then-k-rank : goal.returns-then-k-rank

@@ -1,5 +1,4 @@
 use Rattle.bucket_clock.proofs.Cycles.{replace-bare, replace-far, replace-goes, replace-none}
-use Rattle.laws.specs.Prelude.{rules}
 use Rattle.bucket_clock.proofs.rule_replace.Goals as goal
 
 pub returns-then-k-rank : goal.returns-then-k-rank

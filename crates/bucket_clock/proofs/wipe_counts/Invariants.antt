@@ -1,7 +1,6 @@
 -- `bucket_clock::wipe_counts` meets its contract.
-use Rattle.laws.specs.Prelude.{◌-◌, ◌∙◌, ◌≡◌, ◌≤◌, ap, arith, length, length-set, refl, ℕ}
+use Rattle.laws.specs.Prelude.{◌-◌, ◌≡◌, ◌≤◌, length}
 use Rattle.bucket_model.specs.Prelude.{fill}
-use Rattle.bucket_model.proofs.Laws.{fill_none, fill_step}
 use Rattle.bucket_clock.proofs.wipe_counts.Given as goal
 
 abbrev pub invariant-loop-j : goal.invariant-loop-j

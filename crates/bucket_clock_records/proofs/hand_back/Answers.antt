@@ -1,7 +1,6 @@
 use Rattle.bucket_clock_records.proofs.Records.{back-ends, back-length, back_more, back_none}
 use Rattle.bucket_clock_model.specs.Desk.{work_at}
-use Rattle.bucket_clock_records.specs.Lent.{works_back}
-use Rattle.laws.specs.Prelude.{◌∙◌, ◌-◌, ◌≤◌, ◌≡◌, ap, arith, length, rules}
+use Rattle.laws.specs.Prelude.{◌∙◌, ◌-◌, ap, arith, length}
 use Rattle.bucket_clock_records.proofs.hand_back.Goals as goal
 
 pub loop-i-init : goal.loop-i-init

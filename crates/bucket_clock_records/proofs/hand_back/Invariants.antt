@@ -1,7 +1,5 @@
-use Rattle.bucket_clock_records.proofs.Records.{back-ends, back-length, back_more, back_none}
-use Rattle.bucket_clock_model.specs.Desk.{work_at}
 use Rattle.bucket_clock_records.specs.Lent.{works_back}
-use Rattle.laws.specs.Prelude.{◌∙◌, ◌-◌, ◌≤◌, ◌≡◌, ap, arith, length, rules}
+use Rattle.laws.specs.Prelude.{◌-◌, ◌≤◌, ◌≡◌}
 use Rattle.bucket_clock_records.proofs.hand_back.Given as goal
 
 abbrev pub invariant-loop-i : goal.invariant-loop-i

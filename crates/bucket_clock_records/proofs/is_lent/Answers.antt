@@ -1,5 +1,4 @@
 use Rattle.bucket_clock_records.proofs.Records.{lends-is}
-use Rattle.laws.specs.Prelude.{}
 use Rattle.bucket_clock_records.proofs.is_lent.Goals as goal
 
 pub returns : goal.returns

@@ -1,7 +1,7 @@
 use Rattle.bucket_clock_records.proofs.Records.{here, kinds-more, kinds-none, load-ends, reach-fits, works-more, works-none}
 use Rattle.bucket_clock_model.specs.Desk.{record_count}
-use Rattle.bucket_clock_records.specs.Lent.{BucketRecord, kind_in, kinds_from, waiting_of, works_read}
-use Rattle.laws.specs.Prelude.{◌∙◌, ◌-◌, ◌≤◌, ◌≡◌, ap, arith, length, rules, leb, replicate}
+use Rattle.bucket_clock_records.specs.Lent.{BucketRecord, kind_in, waiting_of}
+use Rattle.laws.specs.Prelude.{◌∙◌, ◌-◌, ap, arith, length, leb, replicate}
 use Rattle.bucket_clock_records.proofs.load.Goals as goal
 
 pub loop-i-init : goal.loop-i-init

@@ -1,7 +1,5 @@
-use Rattle.bucket_clock_records.proofs.Records.{here, kinds-more, kinds-none, load-ends, reach-fits, works-more, works-none}
-use Rattle.bucket_clock_model.specs.Desk.{record_count}
-use Rattle.bucket_clock_records.specs.Lent.{BucketRecord, kind_in, kinds_from, waiting_of, works_read}
-use Rattle.laws.specs.Prelude.{◌∙◌, ◌-◌, ◌≤◌, ◌≡◌, ap, arith, length, rules, leb, replicate}
+use Rattle.bucket_clock_records.specs.Lent.{kinds_from, works_read}
+use Rattle.laws.specs.Prelude.{◌-◌, ◌≤◌, ◌≡◌}
 use Rattle.bucket_clock_records.proofs.load.Given as goal
 
 abbrev pub invariant-loop-i : goal.invariant-loop-i

@@ -1,5 +1,4 @@
 use Rattle.bucket_clock_records.proofs.Records.{reach-no, reach-yes}
-use Rattle.laws.specs.Prelude.{rules}
 use Rattle.bucket_clock_records.proofs.reached.Goals as goal
 
 pub returns-then-is_lent : goal.returns-then-is_lent

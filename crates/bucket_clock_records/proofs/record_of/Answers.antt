@@ -1,5 +1,4 @@
 use Rattle.bucket_clock_records.proofs.Records.{record_is}
-use Rattle.laws.specs.Prelude.{rules}
 use Rattle.bucket_clock_records.proofs.record_of.Goals as goal
 
 pub returns-in-Idle : goal.returns-in-Idle

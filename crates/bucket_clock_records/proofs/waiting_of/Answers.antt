@@ -1,5 +1,4 @@
 use Rattle.bucket_clock_records.proofs.Records.{is-nothing, is-pop, is-push, is-replace}
-use Rattle.laws.specs.Prelude.{rules}
 use Rattle.bucket_clock_records.proofs.waiting_of.Goals as goal
 
 pub returns-then-kind-eq1 : goal.returns-then-kind-eq1

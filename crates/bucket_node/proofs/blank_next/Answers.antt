@@ -1,6 +1,5 @@
 -- `bucket_node::blank_next` meets its contract.
 use Rattle.bucket_node.proofs.Blanks.{next_last, next-other}
-use Rattle.laws.specs.Prelude.{rules}
 use Rattle.bucket_node.proofs.blank_next.Goals as goal
 
 pub returns-then-link-n : goal.returns-then-link-n

@@ -1,6 +1,5 @@
 -- `bucket_node::next_of` meets its contract.
 use Rattle.bucket_node.proofs.Answers.{next-zero, next-high, next_word}
-use Rattle.laws.specs.Prelude.{rules}
 use Rattle.bucket_node.proofs.next_of.Goals as goal
 
 pub returns-then-link-eq0 : goal.returns-then-link-eq0

@@ -1,5 +1,5 @@
 -- `bucket_node::queue_of` meets its contract.
-use Rattle.laws.specs.Prelude.{◌∙◌, ◌≡◌, ap, arith, rules, sym, ℕ}
+use Rattle.laws.specs.Prelude.{◌∙◌, ◌≡◌, ap, arith, sym, ℕ}
 use Rattle.bucket_model.specs.Prelude.{queue}
 use Rattle.bucket_node.proofs.queue_of.Goals as goal
 

@@ -1,17 +1,15 @@
 -- `bucket_node::wipe_lists` meets its contract.
-use Rattle.laws.specs.Prelude.{◌*◌, ◌+◌, ◌-◌, ◌<◌, ◌∙◌, ◌≡◌, ◌≤◌, ap, arith, length, length-set, refl, sym, ℕ}
-use Rattle.bucket_model.specs.Prelude.{blank_word, fill, node_words}
+use Rattle.laws.specs.Prelude.{◌-◌, ◌<◌, ◌∙◌, ◌≡◌, arith, length, length-set, refl}
+use Rattle.bucket_model.specs.Prelude.{blank_word}
 use Rattle.bucket_node.proofs.Blanks.{blank-lists, ends-lists, fill-node, fill-there}
 use Rattle.bucket_node.proofs.wipe_lists.Goals as goal
 use Rattle.bucket_node.proofs.wipe_lists.Goals.{At-loop-link, Start}
 
 -- places on the way, each from a later one
-
 abbrev to_start : At-loop-link → Start
 to_start c = (goal.at.At-loop-link c).Start
 
 -- there is room for the free link
-
 long : (c : At-loop-link) → (to_start c).args.k.free < length c.loop-link.words
 long c = omega (arith, (to_start c).requires.free_in, c.zero_words.auto.words, c.loop-link.invariant.4)
 

@@ -1,7 +1,6 @@
 -- `bucket_node::wipe_lists` meets its contract.
-use Rattle.laws.specs.Prelude.{◌*◌, ◌+◌, ◌-◌, ◌<◌, ◌∙◌, ◌≡◌, ◌≤◌, ap, arith, length, length-set, refl, sym, ℕ}
+use Rattle.laws.specs.Prelude.{◌*◌, ◌+◌, ◌-◌, ◌≡◌, ◌≤◌, length}
 use Rattle.bucket_model.specs.Prelude.{blank_word, fill, node_words}
-use Rattle.bucket_node.proofs.Blanks.{blank-lists, ends-lists, fill-node, fill-there}
 use Rattle.bucket_node.proofs.wipe_lists.Given as goal
 
 abbrev pub invariant-loop-link : goal.invariant-loop-link

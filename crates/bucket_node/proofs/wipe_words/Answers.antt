@@ -1,17 +1,15 @@
 -- `bucket_node::wipe_words` meets its contract.
-use Rattle.laws.specs.Prelude.{◌+◌, ◌-◌, ◌<◌, ◌∙◌, ◌≡◌, ◌≤◌, ap, arith, length, length-set, refl, ℕ}
-use Rattle.bucket_model.specs.Prelude.{blank_word, fill, store_words}
+use Rattle.laws.specs.Prelude.{◌+◌, ◌-◌, ◌∙◌, ◌≡◌, ◌≤◌, arith, length, length-set, refl}
+use Rattle.bucket_model.specs.Prelude.{blank_word, store_words}
 use Rattle.bucket_node.proofs.Blanks.{fill-behind, fill-ends, fill-there}
 use Rattle.bucket_node.proofs.wipe_words.Goals as goal
 use Rattle.bucket_node.proofs.wipe_words.Goals.{At-loop-j, Start}
 
 -- places on the way, each from a later one
-
 abbrev to_start : At-loop-j → Start
 to_start c = (goal.at.At-loop-j c).Start
 
 -- there is room for all words
-
 long : (c : At-loop-j) → store_words (to_start c).args.k ≤ length c.wipe_lists.new.words
 long c = omega (arith, (to_start c).requires.fits.words, c.wipe_lists.auto.words)
 

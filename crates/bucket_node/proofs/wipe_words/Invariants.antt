@@ -1,7 +1,6 @@
 -- `bucket_node::wipe_words` meets its contract.
-use Rattle.laws.specs.Prelude.{◌+◌, ◌-◌, ◌<◌, ◌∙◌, ◌≡◌, ◌≤◌, ap, arith, length, length-set, refl, ℕ}
+use Rattle.laws.specs.Prelude.{◌-◌, ◌<◌, ◌≡◌, ◌≤◌, length}
 use Rattle.bucket_model.specs.Prelude.{blank_word, fill, store_words}
-use Rattle.bucket_node.proofs.Blanks.{fill-behind, fill-ends, fill-there}
 use Rattle.bucket_node.proofs.wipe_words.Given as goal
 
 abbrev pub invariant-loop-j : goal.invariant-loop-j

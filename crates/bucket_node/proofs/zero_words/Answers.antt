@@ -1,5 +1,5 @@
 -- `bucket_node::zero_words` meets its contract.
-use Rattle.laws.specs.Prelude.{◌-◌, ◌∙◌, ◌≡◌, ◌≤◌, ap, arith, length, length-set, refl, ℕ}
+use Rattle.laws.specs.Prelude.{◌-◌, ◌∙◌, ap, arith, length-set, refl, ℕ}
 use Rattle.bucket_model.specs.Prelude.{fill}
 use Rattle.bucket_model.proofs.Laws.{fill_none, fill_step}
 use Rattle.bucket_node.proofs.zero_words.Goals as goal

@@ -1,6 +1,5 @@
 -- `bucket_step::show` meets its contract.
 use Rattle.bucket_step.proofs.Steps.{joined_is}
-use Rattle.laws.specs.Prelude.{rules}
 use Rattle.bucket_step.proofs.show.Goals as goal
 
 pub signal-requires : goal.signal-requires

@@ -1,5 +1,5 @@
 -- `bucket_step::take` meets its contract.
-use Rattle.laws.specs.Prelude.{arith, rules}
+use Rattle.laws.specs.Prelude.{arith}
 use Rattle.bucket_step.proofs.Read.{tall}
 use Rattle.bucket_step.proofs.Steps.{clears, taken_is}
 use Rattle.bucket_step.proofs.take.Goals as goal

@@ -1,5 +1,4 @@
 -- `card_bucket::card_bucket_clear` meets its contract.
-use Rattle.laws.specs.Prelude.{rules}
 use Rattle.card_bucket.proofs.Calls.{bucket-done}
 use Rattle.card_bucket.proofs.card_bucket_clear.Goals as goal
 

@@ -1,5 +1,4 @@
 -- `card_bucket::card_bucket_held` meets its contract.
-use Rattle.laws.specs.Prelude.{rules}
 use Rattle.card_words.proofs.Out.{count-short, count-told}
 use Rattle.card_bucket.proofs.card_bucket_held.Goals as goal
 

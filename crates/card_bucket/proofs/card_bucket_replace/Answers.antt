@@ -1,5 +1,4 @@
 -- `card_bucket::card_bucket_replace` meets its contract.
-use Rattle.laws.specs.Prelude.{rules}
 use Rattle.card_bucket.proofs.Calls.{bucket-short, bucket-told}
 use Rattle.card_bucket.proofs.card_bucket_replace.Goals as goal
 

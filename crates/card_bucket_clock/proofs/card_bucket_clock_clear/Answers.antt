@@ -1,5 +1,5 @@
 use Rattle.card_bucket_clock.proofs.Told.{clear-short, clear_told, due-fits}
-use Rattle.laws.specs.Prelude.{◌∙◌, length, rules, not-false, not-true, sym}
+use Rattle.laws.specs.Prelude.{◌∙◌, length, not-false, not-true, sym}
 use Rattle.card_bucket_clock.proofs.card_bucket_clock_clear.Goals as goal
 
 pub returns-then-not-is_lent : goal.returns-then-not-is_lent

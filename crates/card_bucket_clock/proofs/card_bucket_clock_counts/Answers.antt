@@ -1,5 +1,4 @@
 use Rattle.card_bucket_clock.proofs.Told.{counts-none, counts-three, counts-two}
-use Rattle.laws.specs.Prelude.{}
 use Rattle.card_bucket_clock.proofs.card_bucket_clock_counts.Goals as goal
 
 pub returns-then-storeys-eq2 : goal.returns-then-storeys-eq2

@@ -1,6 +1,6 @@
 use Rattle.card_bucket_clock.proofs.Told.{cycle-bad, cycle-short, cycle-told, due-fits, lent}
 use Rattle.laws.specs.Prelude.{◌&&◌}
-use Rattle.laws.specs.Prelude.{length, rules, not-false, not-true, leb}
+use Rattle.laws.specs.Prelude.{length, not-false, not-true, leb}
 use Rattle.card_bucket_clock.proofs.card_bucket_clock_cycle.Goals as goal
 
 pub returns-then-out-lt-LEAVES : goal.returns-then-out-lt-LEAVES

@@ -1,5 +1,4 @@
 use Rattle.card_bucket_clock.proofs.Told.{held-short, held-told}
-use Rattle.laws.specs.Prelude.{rules}
 use Rattle.card_bucket_clock.proofs.card_bucket_clock_held.Goals as goal
 
 pub returns-then-out-lt1 : goal.returns-then-out-lt1

@@ -1,4 +1,4 @@
-use Rattle.laws.specs.Prelude.{arith, length-set, rules}
+use Rattle.laws.specs.Prelude.{arith, length-set}
 use Rattle.card_bucket_clock.proofs.tell_element.Goals as goal
 
 pub bounds-out-1 : goal.bounds-out-1

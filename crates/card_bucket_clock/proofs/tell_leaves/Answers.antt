@@ -1,5 +1,4 @@
 use Rattle.card_bucket_clock.proofs.Told.{told_none, told-some}
-use Rattle.laws.specs.Prelude.{rules}
 use Rattle.card_bucket_clock.proofs.tell_leaves.Goals as goal
 
 pub returns-in-None : goal.returns-in-None

@@ -1,5 +1,4 @@
 -- `card_cluster::card_cluster_held` meets its contract.
-use Rattle.laws.specs.Prelude.{rules}
 use Rattle.card_words.proofs.Out.{count-short, count-told}
 use Rattle.card_cluster.proofs.card_cluster_held.Goals as goal
 

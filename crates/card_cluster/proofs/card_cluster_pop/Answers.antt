@@ -1,5 +1,4 @@
 -- `card_cluster::card_cluster_pop` meets its contract.
-use Rattle.laws.specs.Prelude.{rules}
 use Rattle.card_words.proofs.Store.{store-short, store_told}
 use Rattle.card_cluster.proofs.card_cluster_pop.Goals as goal
 

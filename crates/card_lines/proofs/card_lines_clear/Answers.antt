@@ -1,5 +1,5 @@
 -- `card_lines::card_lines_clear` meets its contract.
-use Rattle.laws.specs.Prelude.{◌∙◌, ap, rules}
+use Rattle.laws.specs.Prelude.{◌∙◌, ap}
 use Rattle.card_words.proofs.Store.{store-done}
 use Rattle.lines_model.specs.Calls.{cleared}
 use Rattle.lines_model.specs.declared.Rows.{Rows}

@@ -1,5 +1,5 @@
 -- `card_lines::card_lines_held` meets its contract.
-use Rattle.laws.specs.Prelude.{◌∙◌, ap, rules}
+use Rattle.laws.specs.Prelude.{◌∙◌, ap}
 use Rattle.card_words.proofs.Out.{count-short, count-told}
 use Rattle.lines_model.specs.Calls.{held_count}
 use Rattle.lines_model.specs.declared.Rows.{Rows}

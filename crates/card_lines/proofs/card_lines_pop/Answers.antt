@@ -1,5 +1,5 @@
 -- `card_lines::card_lines_pop` meets its contract.
-use Rattle.laws.specs.Prelude.{Pop, ◌∙◌, ap, rules}
+use Rattle.laws.specs.Prelude.{Pop, ◌∙◌, ap}
 use Rattle.card_words.proofs.Store.{store-short, store_told}
 use Rattle.lines_model.specs.Calls.{called}
 use Rattle.lines_model.specs.declared.Rows.{Rows}

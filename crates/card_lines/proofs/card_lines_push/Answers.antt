@@ -1,5 +1,5 @@
 -- `card_lines::card_lines_push` meets its contract.
-use Rattle.laws.specs.Prelude.{Element, Push, ◌∙◌, ap₂, rules}
+use Rattle.laws.specs.Prelude.{Element, Push, ◌∙◌, ap₂}
 use Rattle.card_words.proofs.Store.{store-done}
 use Rattle.lines_model.specs.Calls.{called}
 use Rattle.lines_model.specs.declared.Rows.{Rows}

@@ -1,5 +1,5 @@
 -- `card_lines::card_lines_replace` meets its contract.
-use Rattle.laws.specs.Prelude.{Element, Replace, ◌∙◌, ap₂, rules}
+use Rattle.laws.specs.Prelude.{Element, Replace, ◌∙◌, ap₂}
 use Rattle.card_words.proofs.Store.{store-short, store_told}
 use Rattle.lines_model.specs.Calls.{called}
 use Rattle.lines_model.specs.declared.Rows.{Rows}

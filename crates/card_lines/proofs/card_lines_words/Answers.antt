@@ -1,5 +1,5 @@
 -- `card_lines::card_lines_words` meets its contract.
-use Rattle.laws.specs.Prelude.{◌∙◌, ap, arith, rules, sym}
+use Rattle.laws.specs.Prelude.{◌∙◌, ap, arith, sym}
 use Rattle.card_lines.proofs.Sized.{words-none, words-some}
 use Rattle.lines_model.specs.Layout.{shape_ok, store_words}
 use Rattle.lines_model.specs.declared.Rows.{Rows}

@@ -1,6 +1,5 @@
 -- `card_packed::card_packed_clear` meets its contract.
 use Rattle.card_words.proofs.Store.{store-done}
-use Rattle.laws.specs.Prelude.{rules}
 use Rattle.card_packed.proofs.card_packed_clear.Goals as goal
 
 pub returns : goal.returns

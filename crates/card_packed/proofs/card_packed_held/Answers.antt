@@ -1,6 +1,5 @@
 -- `card_packed::card_packed_held` meets its contract.
 use Rattle.card_words.proofs.Out.{count-short, count-told}
-use Rattle.laws.specs.Prelude.{rules}
 use Rattle.card_packed.proofs.card_packed_held.Goals as goal
 
 pub returns-then-out-lt1 : goal.returns-then-out-lt1

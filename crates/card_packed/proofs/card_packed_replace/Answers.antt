@@ -1,6 +1,5 @@
 -- `card_packed::card_packed_replace` meets its contract.
 use Rattle.card_words.proofs.Store.{store-short, store_told}
-use Rattle.laws.specs.Prelude.{rules}
 use Rattle.card_packed.proofs.card_packed_replace.Goals as goal
 
 pub returns-then-out-lt-OUT : goal.returns-then-out-lt-OUT

@@ -1,5 +1,5 @@
 -- `card_packed::card_packed_words` meets its contract.
-use Rattle.laws.specs.Prelude.{arith, rules, not-false, not-true}
+use Rattle.laws.specs.Prelude.{arith, not-false, not-true}
 use Rattle.card_packed.proofs.Sized.{words-few, words-fit, words-none, words-some}
 use Rattle.packed_model.proofs.Tests.{size-pos}
 use Rattle.card_packed.proofs.card_packed_words.Goals as goal

@@ -1,5 +1,4 @@
 -- `card_tree::card_tree_held` meets its contract.
-use Rattle.laws.specs.Prelude.{rules}
 use Rattle.card_words.proofs.Out.{count-short, count-told}
 use Rattle.card_tree.proofs.card_tree_held.Goals as goal
 

@@ -1,5 +1,4 @@
 -- `card_tree::card_tree_push` meets its contract.
-use Rattle.laws.specs.Prelude.{rules}
 use Rattle.card_words.proofs.Store.{store-done}
 use Rattle.card_tree.proofs.card_tree_push.Goals as goal
 

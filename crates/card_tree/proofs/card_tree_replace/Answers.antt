@@ -1,5 +1,4 @@
 -- `card_tree::card_tree_replace` meets its contract.
-use Rattle.laws.specs.Prelude.{rules}
 use Rattle.card_words.proofs.Store.{store-short, store_told}
 use Rattle.card_tree.proofs.card_tree_replace.Goals as goal
 

@@ -1,5 +1,5 @@
 -- `card_tree_clock::card_clocked_drain` meets its contract.
-use Rattle.laws.specs.Prelude.{List, ◌∙◌, ◌≡◌, ap, length, subst, sym, ℕ}
+use Rattle.laws.specs.Prelude.{◌∙◌, ◌≡◌, ap, length, subst, sym}
 use Rattle.card_tree_clock.specs.Clocked.{clocked_after_out, drain_told, told_out, ToldOut}
 use Rattle.card_tree_clock.proofs.Clocked.{drain-ends, drain-goes, cycle_back}
 use Rattle.tree_records.specs.Steps.{reach, read_of, Ready}

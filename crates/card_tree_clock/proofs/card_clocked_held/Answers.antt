@@ -1,5 +1,4 @@
 -- `card_tree_clock::card_clocked_held` meets its contract.
-use Rattle.laws.specs.Prelude.{rules}
 use Rattle.card_words.proofs.Out.{count-short, count-told}
 use Rattle.card_tree_clock.proofs.card_clocked_held.Goals as goal
 

@@ -1,6 +1,6 @@
 -- `card_tree_clock::clear_told` meets its contract.
 use Rattle.card_tree_clock.proofs.Clocked.{clear-done, clear-refused, clear-unmarked}
-use Rattle.laws.specs.Prelude.{BadShape, Refused, ◌∙◌, ap, false, rules}
+use Rattle.laws.specs.Prelude.{BadShape, Refused, ◌∙◌, ap, false}
 use Rattle.tree_clock_model.specs.Prelude.{fresh}
 use Rattle.tree_clock_model.specs.declared.State.{State}
 use Rattle.tree_records.specs.Steps.{ended}

@@ -1,7 +1,6 @@
 -- `card_tree_clock::cycle_told` meets its contract.
 use Rattle.card_tree_clock.proofs.Clocked.{cycle-done, cycle-refused, cycle-short}
 use Rattle.card_words.proofs.Asked.{asked-some}
-use Rattle.laws.specs.Prelude.{rules}
 use Rattle.card_tree_clock.proofs.cycle_told.Goals as goal
 
 pub returns-then-not-is_asked : goal.returns-then-not-is_asked

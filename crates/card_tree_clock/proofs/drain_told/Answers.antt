@@ -1,5 +1,5 @@
 -- `card_tree_clock::drain_told` meets its contract.
-use Rattle.laws.specs.Prelude.{◌≤◌, arith, rules}
+use Rattle.laws.specs.Prelude.{◌≤◌, arith}
 use Rattle.card_tree_clock.proofs.Clocked.{drain-done, drain-few, drain-refused, drain-short}
 use Rattle.card_words.proofs.Asked.{marked-some}
 use Rattle.card_tree_clock.proofs.drain_told.Goals as goal

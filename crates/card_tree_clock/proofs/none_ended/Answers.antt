@@ -1,5 +1,4 @@
 -- `card_tree_clock::none_ended` meets its contract.
-use Rattle.laws.specs.Prelude.{rules}
 use Rattle.card_tree_clock.proofs.none_ended.Goals as goal
 
 pub returns : goal.returns

@@ -1,6 +1,5 @@
 -- `card_words::is_asked` meets its contract.
 use Rattle.card_words.proofs.Asked.{asked_is}
-use Rattle.laws.specs.Prelude.{rules}
 use Rattle.card_words.proofs.is_asked.Goals as goal
 
 pub returns : goal.returns

@@ -1,6 +1,5 @@
 -- `card_words::is_marked` meets its contract.
 use Rattle.card_words.proofs.Asked.{marked-is, unmarked}
-use Rattle.laws.specs.Prelude.{rules}
 use Rattle.card_words.proofs.is_marked.Goals as goal
 
 pub returns-then-mark-lt1 : goal.returns-then-mark-lt1

@@ -1,5 +1,4 @@
 -- `card_words::refuse` meets its contract.
-use Rattle.laws.specs.Prelude.{rules}
 use Rattle.card_words.proofs.Out.{refused-short, refused-told}
 use Rattle.card_words.proofs.refuse.Goals as goal
 

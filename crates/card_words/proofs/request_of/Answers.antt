@@ -1,5 +1,5 @@
 -- `card_words::request_of` meets its contract.
-use Rattle.laws.specs.Prelude.{Push, Replace, ◌∙◌, ap, rules}
+use Rattle.laws.specs.Prelude.{Push, Replace, ◌∙◌, ap}
 use Rattle.card_words.proofs.Asked.{request-idle, request-pop, request-push, request-replace}
 use Rattle.card_words.proofs.request_of.Goals as goal
 

@@ -1,5 +1,4 @@
 -- `card_words::tell` meets its contract.
-use Rattle.laws.specs.Prelude.{rules}
 use Rattle.card_words.proofs.tell.Goals as goal
 
 pub returns : goal.returns

@@ -1,5 +1,4 @@
 -- `card_words::tell_count` meets its contract.
-use Rattle.laws.specs.Prelude.{rules}
 use Rattle.card_words.proofs.tell_count.Goals as goal
 
 pub returns : goal.returns

@@ -1,5 +1,4 @@
 -- `card_words::tell_drain` meets its contract.
-use Rattle.laws.specs.Prelude.{rules}
 use Rattle.card_words.proofs.tell_drain.Goals as goal
 
 pub returns : goal.returns

@@ -1,27 +1,23 @@
-use Rattle.laws.specs.Prelude.{◌+◌, ◌<◌, ◌∙◌, ◌≡◌, ◌≤◌, arith, get_or, length, ltb, rules, refl, ℕ}
+use Rattle.laws.specs.Prelude.{◌+◌, ◌<◌, ◌∙◌, ◌≡◌, ◌≤◌, arith, get_or, length, ltb, refl, ℕ}
 use Rattle.cluster_node.specs.Leaf.{Lies, Under}
 use Rattle.cluster.proofs.Downs.{put-within, put_under, goes-ready, high-in, put-leaf, put-end, put-bad, put_full, put-stop, put-done, put-counts}
 use Rattle.cluster.proofs.+put.Goals as goal
 use Rattle.cluster.proofs.+put.Goals.{After-high_lead-f, Else-left-eq0, Else-limit-wide-2, Start}
 
 -- the node lies within the words
-
 lies : (t : ℕ) (c : Start t) → Lies c.args.k c.args.at (length c.args.s.now)
 lies t c = put-within _ _ _ _ _ c.requires
 
 -- .. and there are levels left: so do its children
-
 under : (t : ℕ) (c : Else-left-eq0 t) → Under c.args.k c.args.at (length c.args.s.now)
 under t c = put_under _ _ _ _ _ c.requires c.if-left-eq0.false
 
 -- the highest place is one of them
-
 high : (t : ℕ) (c : After-high_lead-f t) → c.high_lead-f.result.place < c.args.k
 high t c =
     high-in c.args.s.now (c.args.at + 2) c.args.k c.high_lead-f.result (omega (arith, lies t (goal.at.After-high_lead-f t c).Start)) c.high_lead-f.ensures
 
 -- where the element goes on, both counts have been tested
-
 counts : (t : ℕ) (c : Else-limit-wide-2 t) → (get_or c.args.s.now c.args.at 0 ≤ 5460) × (get_or c.args.s.now (c.args.at + 1) 0 ≤ 5460)
 counts t c =
     put-counts _ c.args.left c.requires.node _ c.args.x _ _ c.requires.begins _ c.high_lead-f.ensures c.if-not-f.false (lies t (goal.at.Else-limit-wide-2 t c).Start).some _ (c.wide.ensures ∙ c.choose_word-more.ensures) c.if-limit-wide.false c.requires.small

@@ -1,26 +1,22 @@
-use Rattle.laws.specs.Prelude.{◌<◌, ◌∙◌, ◌≡◌, arith, length, rules, refl, true, ℕ, ⊎_elim}
+use Rattle.laws.specs.Prelude.{◌∙◌, ◌≡◌, arith, length, refl, true, ℕ}
 use Rattle.cluster_node.specs.Leaf.{ChoiceFrom, Lies, Under}
 use Rattle.cluster.proofs.Downs.{take_within, take-under, child-ready, scanned, choice-four, choice-none, choice-any, choice-first, take-zero, take_bare, take-bad, take-stop, take_done}
 use Rattle.cluster.proofs.+take.Goals as goal
 use Rattle.cluster.proofs.+take.Goals.{Else-left-eq0, Joined-k-eq4, Joined-not-c, Start, else-k-eq4, else-not-c, then-k-eq4, then-not-c}
 
 -- the node lies within the words
-
 lies : (t : ℕ) (c : Start t) → Lies c.args.k c.args.at (length c.args.s.now)
 lies t c = take_within _ _ _ _ _ c.requires
 
 -- .. and there are levels left: so do its children
-
 under : (t : ℕ) (c : Else-left-eq0 t) → Under c.args.k c.args.at (length c.args.s.now)
 under t c = take-under _ _ _ _ _ c.requires c.if-left-eq0.false
 
 -- a choice of two full children, if one was made
-
 first : (t : ℕ) (c : Joined-k-eq4 t) → c.if-k-eq4.c.ok ≡ true → ChoiceFrom c.args.k c.room_under-below.result c.args.s.now c.args.at c.if-k-eq4.c
 first t c = elim c.if-k-eq4.branch [ then-k-eq4 w ↦ choice-four _ _ _ _ _ _ w.if-k-eq4.true w.choice_full-c.ensures w.c-is | else-k-eq4 w ↦ choice-none _ _ _ _ _ _ c.no_choice-c.ensures w.c-is ]
 
 -- .. or else of any
-
 chosen : (t : ℕ) (c : Joined-not-c t) → ChoiceFrom c.args.k c.room_under-below.result c.args.s.now c.args.at c.if-not-c.c
 chosen t c = elim c.if-not-c.branch [ then-not-c w ↦ choice-any _ _ _ _ _ _ w.choice-c.ensures w.c-is | else-not-c w ↦ choice-first _ _ _ _ _ _ (first t (goal.at.Joined-not-c t c).Joined-k-eq4) w.if-not-c.false w.c-is ]
 

@@ -1,5 +1,4 @@
 -- `cluster::bar` meets its contract.
-use Rattle.laws.specs.Prelude.{rules}
 use Rattle.cluster.proofs.Barred.{bar-refused, bar-tag}
 use Rattle.cluster.proofs.bar.Goals as goal
 

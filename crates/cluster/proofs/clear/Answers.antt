@@ -1,6 +1,6 @@
 use Rattle.cluster.proofs.Opened.{clear-shape, clear-fits, clear-done}
 use Rattle.cluster.proofs.Shapes.{nodes-counted, shape-here}
-use Rattle.laws.specs.Prelude.{arith, rules}
+use Rattle.laws.specs.Prelude.{arith}
 use Rattle.cluster.proofs.clear.Goals as goal
 
 pub returns-then-not-shape_ok : goal.returns-then-not-shape_ok

@@ -1,7 +1,7 @@
 use Rattle.cluster.proofs.Called.{held-eq}
 use Rattle.cluster.proofs.Opened.{held-shape, held-root, root-here, look-count, held_small, held-done}
 use Rattle.cluster.proofs.Shapes.{shape-here, nodes-less}
-use Rattle.laws.specs.Prelude.{◌∙◌, arith, rules}
+use Rattle.laws.specs.Prelude.{◌∙◌, arith}
 use Rattle.cluster.proofs.held.Goals as goal
 
 pub returns-then-not-shape_ok : goal.returns-then-not-shape_ok

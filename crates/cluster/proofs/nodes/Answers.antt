@@ -1,4 +1,4 @@
-use Rattle.laws.specs.Prelude.{arith, rules}
+use Rattle.laws.specs.Prelude.{arith}
 use Rattle.cluster.proofs.Shapes.{shift_is, nodes-shift, nodes-many}
 use Rattle.cluster.proofs.nodes.Goals as goal
 

@@ -2,7 +2,7 @@ use Rattle.cluster.proofs.Called.{pop-eq}
 use Rattle.cluster.proofs.Opened.{bad-shape, bad-root, root-here, look-count, look-low, take-ready, pop-empty, pop-stop, pop-done}
 use Rattle.cluster.proofs.Shapes.{shape-here, nodes-less}
 use Rattle.cluster.specs.Coded.{pop_down}
-use Rattle.laws.specs.Prelude.{◌∙◌, arith, rules}
+use Rattle.laws.specs.Prelude.{◌∙◌, arith}
 use Rattle.cluster.proofs.pop.Goals as goal
 
 pub returns-then-not-shape_ok : goal.returns-then-not-shape_ok

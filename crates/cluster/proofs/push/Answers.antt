@@ -1,5 +1,5 @@
 -- `cluster::push` meets its contract.
-use Rattle.laws.specs.Prelude.{◌∙◌, rules, sym}
+use Rattle.laws.specs.Prelude.{◌∙◌, sym}
 use Rattle.cluster.proofs.Called.{push-eq}
 use Rattle.cluster.proofs.push.Goals as goal
 

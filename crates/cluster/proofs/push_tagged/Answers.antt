@@ -1,4 +1,4 @@
-use Rattle.laws.specs.Prelude.{List, ◌∙◌, arith, length, rules, sym, ℕ}
+use Rattle.laws.specs.Prelude.{List, ◌∙◌, arith, length, sym, ℕ}
 use Rattle.cluster.specs.Coded.{push_down}
 use Rattle.cluster.proofs.Opened.{bad-shape, put-ready}
 use Rattle.cluster.proofs.Pushed.{push-done, push-root, push-over, push-below}
@@ -7,7 +7,6 @@ use Rattle.cluster.proofs.push_tagged.Goals as goal
 use Rattle.cluster.proofs.push_tagged.Goals.{Else-not-shape_ok}
 
 -- the shape is tested
-
 abbrev words : Else-not-shape_ok → List ℕ
 words c = c.args.store.now
 

@@ -1,5 +1,4 @@
 use Rattle.cluster.proofs.Downs.{end-bad, end-room, end_none}
-use Rattle.laws.specs.Prelude.{rules}
 use Rattle.cluster.proofs.put_end.Goals as goal
 
 pub returns-then-not-node_ok : goal.returns-then-not-node_ok

@@ -1,5 +1,5 @@
 -- `cluster::replace` meets its contract.
-use Rattle.laws.specs.Prelude.{◌∙◌, rules, sym}
+use Rattle.laws.specs.Prelude.{◌∙◌, sym}
 use Rattle.cluster.proofs.Called.{replace-eq}
 use Rattle.cluster.proofs.replace.Goals as goal
 

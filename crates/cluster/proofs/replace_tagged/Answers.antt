@@ -1,7 +1,7 @@
 use Rattle.cluster.proofs.Opened.{bad-shape, bad-root, root-here, look-count, look-low, take-ready, replace-empty, replace-stop, replace-done}
 use Rattle.cluster.proofs.Shapes.{shape-here, nodes-less}
 use Rattle.cluster.specs.Coded.{replace_down}
-use Rattle.laws.specs.Prelude.{arith, rules}
+use Rattle.laws.specs.Prelude.{arith}
 use Rattle.cluster.proofs.replace_tagged.Goals as goal
 
 pub returns-then-not-shape_ok : goal.returns-then-not-shape_ok

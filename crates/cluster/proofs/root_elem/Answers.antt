@@ -1,5 +1,5 @@
 -- `cluster::root_elem` meets its contract.
-use Rattle.laws.specs.Prelude.{◌∙◌, rules}
+use Rattle.laws.specs.Prelude.{◌∙◌}
 use Rattle.cluster.proofs.Root.{root-has}
 use Rattle.cluster.proofs.root_elem.Goals as goal
 

@@ -1,5 +1,5 @@
 -- `cluster::root_held` meets its contract.
-use Rattle.laws.specs.Prelude.{arith, rules}
+use Rattle.laws.specs.Prelude.{arith}
 use Rattle.cluster.proofs.Root.{root-counts}
 use Rattle.cluster.proofs.root_held.Goals as goal
 

@@ -1,5 +1,5 @@
 -- `cluster::root_ok` meets its contract.
-use Rattle.laws.specs.Prelude.{◌∙◌, rules}
+use Rattle.laws.specs.Prelude.{◌∙◌}
 use Rattle.cluster.proofs.Root.{root-tested}
 use Rattle.cluster.proofs.root_ok.Goals as goal
 

@@ -1,5 +1,5 @@
 use Rattle.cluster.proofs.Shapes.{nodes-counted, shape-low, shape-high, shape-none, shape-above, shape-rest}
-use Rattle.laws.specs.Prelude.{arith, mul-le-mul_right, rules}
+use Rattle.laws.specs.Prelude.{arith, mul-le-mul_right}
 use Rattle.cluster.proofs.shape_ok.Goals as goal
 
 pub returns-then-k-lt2 : goal.returns-then-k-lt2

@@ -1,4 +1,4 @@
-use Rattle.laws.specs.Prelude.{◌++◌, ◌-◌, ◌≡◌, ◌≤◌, arith, drop, length, length-set, rules, refl, replicate}
+use Rattle.laws.specs.Prelude.{◌-◌, ◌≡◌, arith, length-set, rules, refl}
 use borrow.Author.Fill.{fill_more, fill_none}
 use Rattle.cluster.proofs.zero_words.Goals as goal
 

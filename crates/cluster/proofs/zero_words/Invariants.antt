@@ -1,5 +1,4 @@
-use Rattle.laws.specs.Prelude.{◌++◌, ◌-◌, ◌≡◌, ◌≤◌, arith, drop, length, length-set, rules, refl, replicate}
-use borrow.Author.Fill.{fill_more, fill_none}
+use Rattle.laws.specs.Prelude.{◌++◌, ◌-◌, ◌≡◌, ◌≤◌, drop, length, replicate}
 use Rattle.cluster.proofs.zero_words.Given as goal
 
 abbrev pub invariant-loop-i : goal.invariant-loop-i

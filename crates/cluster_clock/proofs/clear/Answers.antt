@@ -1,5 +1,4 @@
 use Rattle.cluster_clock.proofs.Public.{bad-clear, good-clear}
-use Rattle.laws.specs.Prelude.{rules}
 use Rattle.cluster_clock.proofs.clear.Goals as goal
 
 pub returns-then-not-shape_ok : goal.returns-then-not-shape_ok

@@ -1,6 +1,6 @@
 use Rattle.cluster_clock.proofs.Public.{bad-drain, good-drain, good-shape}
 use Rattle.cluster.proofs.Shapes.{nodes-less, shape-here}
-use Rattle.laws.specs.Prelude.{arith, rules}
+use Rattle.laws.specs.Prelude.{arith}
 use Rattle.cluster_clock.proofs.drain.Goals as goal
 
 pub returns-then-not-shape_ok : goal.returns-then-not-shape_ok

@@ -1,5 +1,5 @@
 use Rattle.cluster.proofs.Shapes.{capacity-is, nodes-counted}
-use Rattle.laws.specs.Prelude.{arith, mul-le-mul_right, rules}
+use Rattle.laws.specs.Prelude.{arith, mul-le-mul_right}
 use Rattle.cluster_clock.proofs.room_of.Goals as goal
 
 pub overflow_mul-result : goal.overflow_mul-result

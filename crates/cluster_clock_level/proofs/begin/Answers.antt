@@ -1,5 +1,5 @@
 use Rattle.cluster_clock_level.proofs.Beginning.{put-begins, rest-begins, swap_begins, take_begins}
-use Rattle.laws.specs.Prelude.{◌+◌, rules, subst}
+use Rattle.laws.specs.Prelude.{◌+◌, subst}
 use Rattle.cluster_clock_level.specs.Stage.{Works}
 use Rattle.cluster_clock_level.specs.declared.Job.{Job}
 use Rattle.cluster_clock_level.proofs.begin.Goals as goal

@@ -1,5 +1,5 @@
 use Rattle.cluster_clock_level.proofs.Settling.{fill-settles, under-here}
-use Rattle.laws.specs.Prelude.{rules, refl}
+use Rattle.laws.specs.Prelude.{refl}
 use Rattle.cluster_clock_level.proofs.fill_gap.Goals as goal
 
 pub choice-c-requires : goal.choice-c-requires

@@ -1,5 +1,5 @@
 use Rattle.cluster_clock_level.proofs.Testing.{gives-some}
-use Rattle.laws.specs.Prelude.{arith, eq-eqb, rules, refl}
+use Rattle.laws.specs.Prelude.{arith, eq-eqb, refl}
 use Rattle.cluster_clock_model.specs.Prelude.{gives_ok}
 use Rattle.cluster_clock_level.proofs.gives_ok.Goals as goal
 

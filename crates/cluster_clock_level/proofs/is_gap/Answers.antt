@@ -1,5 +1,4 @@
 use Rattle.cluster_clock_level.proofs.Testing.{gap_is}
-use Rattle.laws.specs.Prelude.{rules}
 use Rattle.cluster_clock_level.proofs.is_gap.Goals as goal
 
 pub returns : goal.returns

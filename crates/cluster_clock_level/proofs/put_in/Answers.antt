@@ -1,5 +1,5 @@
 use Rattle.cluster_clock_level.proofs.Beginning.{high-in, put-free, put_full}
-use Rattle.laws.specs.Prelude.{arith, rules, refl}
+use Rattle.laws.specs.Prelude.{arith, refl}
 use Rattle.cluster_clock_level.proofs.put_in.Goals as goal
 
 pub returns-then-v-k : goal.returns-then-v-k

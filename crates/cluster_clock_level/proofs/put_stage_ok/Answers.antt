@@ -1,5 +1,5 @@
 use Rattle.cluster_clock_level.proofs.Testing.{next_here, test-lacks, test-there}
-use Rattle.laws.specs.Prelude.{◌&&◌, ◌+◌, ◌∙◌, ap, arith, rules, ℕ}
+use Rattle.laws.specs.Prelude.{◌&&◌, ◌+◌, ◌∙◌, ap, arith, ℕ}
 use Rattle.cluster_clock_model.specs.Prelude.{sane_at}
 use Rattle.cluster_model.specs.Prelude.{node_in, roomy}
 use Rattle.cluster_clock_level.proofs.put_stage_ok.Goals as goal

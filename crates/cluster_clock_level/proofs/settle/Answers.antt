@@ -1,5 +1,5 @@
 use Rattle.cluster_clock_level.proofs.Settling.{settle-fill, settle-none, settle-put, settle-swap}
-use Rattle.laws.specs.Prelude.{◌+◌, rules, subst}
+use Rattle.laws.specs.Prelude.{◌+◌, subst}
 use Rattle.cluster_clock_level.specs.Stage.{Pends}
 use Rattle.cluster_clock_model.specs.declared.Due.{Due}
 use Rattle.cluster_clock_level.proofs.settle.Goals as goal

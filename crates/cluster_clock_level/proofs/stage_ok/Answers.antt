@@ -1,5 +1,4 @@
 use Rattle.cluster_clock_level.proofs.Testing.{stage-fill, stage-none, stage-put, stage-swap}
-use Rattle.laws.specs.Prelude.{rules}
 use Rattle.cluster_clock_level.proofs.stage_ok.Goals as goal
 
 pub returns-in-Nothing : goal.returns-in-Nothing

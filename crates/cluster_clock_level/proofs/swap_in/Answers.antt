@@ -1,5 +1,4 @@
 use Rattle.cluster_clock_level.proofs.Beginning.{swap-last, swap-more}
-use Rattle.laws.specs.Prelude.{rules}
 use Rattle.cluster_clock_level.proofs.swap_in.Goals as goal
 
 pub returns-then-bare : goal.returns-then-bare

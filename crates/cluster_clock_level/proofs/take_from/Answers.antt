@@ -1,5 +1,4 @@
 use Rattle.cluster_clock_level.proofs.Beginning.{take_last, take_more}
-use Rattle.laws.specs.Prelude.{rules}
 use Rattle.cluster_clock_level.proofs.take_from.Goals as goal
 
 pub returns-then-bare : goal.returns-then-bare

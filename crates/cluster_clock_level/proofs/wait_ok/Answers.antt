@@ -1,5 +1,5 @@
 use Rattle.cluster_clock_level.proofs.Testing.{wait-is}
-use Rattle.laws.specs.Prelude.{arith, rules}
+use Rattle.laws.specs.Prelude.{arith}
 use Rattle.cluster_clock_level.proofs.wait_ok.Goals as goal
 
 pub returns : goal.returns

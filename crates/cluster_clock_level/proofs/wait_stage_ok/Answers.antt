@@ -1,5 +1,5 @@
 use Rattle.cluster_clock_level.proofs.Testing.{level-three, place-lacks, place-there, test-lacks}
-use Rattle.laws.specs.Prelude.{arith, rules}
+use Rattle.laws.specs.Prelude.{arith}
 use Rattle.cluster_clock_level.proofs.wait_stage_ok.Goals as goal
 
 pub returns-then-a-n : goal.returns-then-a-n

@@ -1,11 +1,10 @@
-use Rattle.laws.specs.Prelude.{◌*◌, ◌+◌, ◌<◌, ◌≤◌, arith, rules}
+use Rattle.laws.specs.Prelude.{◌*◌, ◌+◌, ◌<◌, ◌≤◌, arith}
 use Rattle.cluster_model.specs.Prelude.{place_words}
 use Rattle.cluster_node.proofs.Children.{peek-place, chosen-here, choice-from}
 use Rattle.cluster_node.proofs.choice.Goals as goal
 use Rattle.cluster_node.proofs.choice.Goals.{After-choose-place}
 
 -- the chosen child lies within the words, and its place within it
-
 here : (c : After-choose-place) → (c.choose-child.result ≤ c.args.at + c.args.at + (2 + c.args.k * place_words) + (2 + c.args.k * place_words)) × (c.choose-place.result < c.args.k)
 here c =
     chosen-here c.args.k (c.args.at + c.args.at + (2 + c.args.k * place_words)) (2 + c.args.k * place_words) _ _ c.choose-child.result c.choose-place.result c.right_lower-right.result c.choose-child.ensures c.choose-place.ensures

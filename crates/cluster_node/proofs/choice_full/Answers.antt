@@ -1,4 +1,4 @@
-use Rattle.laws.specs.Prelude.{◌+◌, ◌/◌, ◌<◌, ◌≤◌, arith, ltb, rules, refl}
+use Rattle.laws.specs.Prelude.{◌+◌, ◌/◌, ◌<◌, ◌≤◌, arith, ltb, refl}
 use Rattle.cluster_model.specs.Prelude.{width}
 use Rattle.cluster_node.proofs.Children.{chosen-here}
 use Rattle.cluster_node.proofs.Fours.{lead-lt, four-choice}
@@ -9,7 +9,6 @@ abbrev st : After-choose-place → Start
 st c = (goal.at.After-choose-place c).Start
 
 -- the chosen child lies within the words, and its place within it
-
 here : (c : After-choose-place) → (c.choose-child.result ≤ (st c).args.at + (st c).args.at + width 4 + width 4) × (c.choose-place.result < 4)
 here c =
     chosen-here 4 ((st c).args.at + (st c).args.at + width 4) 18 _ _ c.choose-child.result c.choose-place.result (ltb ((st c).args.q.best / 4294967296) ((st c).args.p.best / 4294967296)) c.choose-child.ensures c.choose-place.ensures

@@ -1,5 +1,5 @@
 -- `cluster_node::clear_place` meets its contract.
-use Rattle.laws.specs.Prelude.{List, ◌∙◌, ap, rules, set, write_element, ℕ}
+use Rattle.laws.specs.Prelude.{List, ◌∙◌, ap, set, write_element, ℕ}
 use Rattle.cluster_model.specs.Prelude.{flag_at, flag_of, write_place}
 use Rattle.cluster_node.proofs.clear_place.Goals as goal
 

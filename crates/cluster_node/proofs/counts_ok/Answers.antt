@@ -1,4 +1,4 @@
-use Rattle.laws.specs.Prelude.{rules, refl}
+use Rattle.laws.specs.Prelude.{refl}
 use Rattle.cluster_node.specs.Leaf.{counts_ok}
 use Rattle.cluster_node.proofs.counts_ok.Goals as goal
 

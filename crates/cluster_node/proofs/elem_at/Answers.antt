@@ -1,6 +1,5 @@
 -- `cluster_node::elem_at` meets its contract.
 use Rattle.cluster_node.specs.Leaf.{elem_at}
-use Rattle.laws.specs.Prelude.{rules}
 use Rattle.cluster_node.proofs.elem_at.Goals as goal
 
 pub returns : goal.returns

@@ -1,5 +1,4 @@
 use Rattle.cluster_node.proofs.ScanCode.{high-none, high-over, high-both}
-use Rattle.laws.specs.Prelude.{rules}
 use Rattle.cluster_node.proofs.high_as.Goals as goal
 
 pub returns-then-s-i-eq0 : goal.returns-then-s-i-eq0

@@ -1,6 +1,6 @@
-use Rattle.laws.specs.Prelude.{◌*◌, ◌+◌, ◌-◌, ◌≡◌, ◌≤◌, arith, le-leb, lt-leb, refl, ⊎_elim}
+use Rattle.laws.specs.Prelude.{◌*◌, ◌+◌, ◌-◌, arith, le-leb, lt-leb, refl}
 use Rattle.cluster_model.specs.Prelude.{place_words}
-use Rattle.cluster_node.specs.Full.{full_to, high_to, ranks, is_high}
+use Rattle.cluster_node.specs.Full.{ranks, is_high}
 use Rattle.cluster_node.proofs.Fulls.{full-first, full-next, high-first, high_end, best-taken, best-stays}
 use Rattle.cluster_node.proofs.high_each.Goals as goal
 use Rattle.cluster_node.proofs.high_each.Goals.{else-best-rank, then-best-rank}

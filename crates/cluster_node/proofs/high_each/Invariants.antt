@@ -1,7 +1,5 @@
-use Rattle.laws.specs.Prelude.{◌*◌, ◌+◌, ◌-◌, ◌≡◌, ◌≤◌, arith, le-leb, lt-leb, refl, ⊎_elim}
-use Rattle.cluster_model.specs.Prelude.{place_words}
-use Rattle.cluster_node.specs.Full.{full_to, high_to, ranks, is_high}
-use Rattle.cluster_node.proofs.Fulls.{full-first, full-next, high-first, high_end, best-taken, best-stays}
+use Rattle.laws.specs.Prelude.{◌-◌, ◌≡◌, ◌≤◌}
+use Rattle.cluster_node.specs.Full.{full_to, high_to, ranks}
 use Rattle.cluster_node.proofs.high_each.Given as goal
 
 abbrev pub invariant-loop-j : goal.invariant-loop-j

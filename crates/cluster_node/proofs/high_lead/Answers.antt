@@ -1,4 +1,4 @@
-use Rattle.laws.specs.Prelude.{◌∙◌, ap, rules, sym}
+use Rattle.laws.specs.Prelude.{◌∙◌, ap, sym}
 use Rattle.cluster_node.specs.Full.{high_lead}
 use Rattle.cluster_node.proofs.high_lead.Goals as goal
 

@@ -1,4 +1,4 @@
-use Rattle.laws.specs.Prelude.{◌∙◌, ap, arith, rules, sym}
+use Rattle.laws.specs.Prelude.{◌∙◌, ap, arith, sym}
 use Rattle.cluster_node.specs.declared.Lead.{Lead}
 use Rattle.cluster_node.specs.Seeing.{low_only}
 use Rattle.cluster_node.proofs.Fulls.{look-full}

@@ -1,5 +1,5 @@
-use Rattle.laws.specs.Prelude.{◌-◌, ◌≡◌, ◌≤◌, arith, le-ltb, lt-ltb, ltb, ⊎_elim}
-use Rattle.cluster_node.specs.Full.{full_to, low_to, turns}
+use Rattle.laws.specs.Prelude.{◌-◌, arith, le-ltb, lt-ltb, ltb}
+use Rattle.cluster_node.specs.Full.{turns}
 use Rattle.cluster_node.proofs.Fulls.{full-first, full-next, low_first, low_end, best-taken, best-stays}
 use Rattle.cluster_node.proofs.low_each.Goals as goal
 use Rattle.cluster_node.proofs.low_each.Goals.{else-turn-best, then-turn-best}

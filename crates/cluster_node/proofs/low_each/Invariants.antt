@@ -1,6 +1,5 @@
-use Rattle.laws.specs.Prelude.{◌-◌, ◌≡◌, ◌≤◌, arith, le-ltb, lt-ltb, ltb, ⊎_elim}
+use Rattle.laws.specs.Prelude.{◌-◌, ◌≡◌, ◌≤◌}
 use Rattle.cluster_node.specs.Full.{full_to, low_to, turns}
-use Rattle.cluster_node.proofs.Fulls.{full-first, full-next, low_first, low_end, best-taken, best-stays}
 use Rattle.cluster_node.proofs.low_each.Given as goal
 
 abbrev pub invariant-loop-j : goal.invariant-loop-j

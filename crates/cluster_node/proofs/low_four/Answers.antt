@@ -1,5 +1,4 @@
 use Rattle.cluster_node.proofs.Fours.{four_low}
-use Rattle.laws.specs.Prelude.{rules}
 use Rattle.cluster_node.proofs.low_four.Goals as goal
 
 pub returns : goal.returns

@@ -1,4 +1,4 @@
-use Rattle.laws.specs.Prelude.{◌∙◌, ap, rules, sym}
+use Rattle.laws.specs.Prelude.{◌∙◌, ap, sym}
 use Rattle.cluster_node.specs.Full.{low_lead}
 use Rattle.cluster_node.proofs.low_lead.Goals as goal
 

@@ -1,5 +1,4 @@
 use Rattle.cluster_node.proofs.ScanCode.{lower-none, lower-over, lower-both}
-use Rattle.laws.specs.Prelude.{rules}
 use Rattle.cluster_node.proofs.lower_than.Goals as goal
 
 pub returns-then-s-i-eq0 : goal.returns-then-s-i-eq0

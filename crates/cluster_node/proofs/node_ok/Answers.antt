@@ -1,6 +1,5 @@
 use Rattle.cluster_node.proofs.Looks.{ok-is}
 use Rattle.cluster_node.specs.Leaf.{bare_at}
-use Rattle.laws.specs.Prelude.{rules}
 use Rattle.cluster_node.proofs.node_ok.Goals as goal
 
 pub returns : goal.returns

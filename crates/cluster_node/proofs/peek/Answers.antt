@@ -1,4 +1,4 @@
-use Rattle.laws.specs.Prelude.{arith, rules}
+use Rattle.laws.specs.Prelude.{arith}
 use Rattle.cluster_node.proofs.Looks.{peek-none, peek-some}
 use Rattle.cluster_node.proofs.Fulls.{peek-full}
 use Rattle.cluster_node.proofs.peek.Goals as goal

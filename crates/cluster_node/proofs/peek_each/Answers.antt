@@ -1,4 +1,4 @@
-use Rattle.laws.specs.Prelude.{◌*◌, ◌+◌, arith, rules}
+use Rattle.laws.specs.Prelude.{◌*◌, ◌+◌, arith}
 use Rattle.cluster_model.specs.Prelude.{place_words}
 use Rattle.cluster_node.proofs.Looks.{peek-here}
 use Rattle.cluster_node.proofs.Children.{seen_low}

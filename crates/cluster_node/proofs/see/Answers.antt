@@ -1,6 +1,5 @@
 -- `cluster_node::see` meets its contract.
 use Rattle.cluster_node.proofs.Looks.{see-is}
-use Rattle.laws.specs.Prelude.{rules}
 use Rattle.cluster_node.proofs.see.Goals as goal
 
 pub returns : goal.returns

@@ -1,6 +1,5 @@
 -- `cluster_node::set_place` meets its contract.
 use Rattle.cluster_model.specs.Prelude.{flag_of, write_place}
-use Rattle.laws.specs.Prelude.{rules}
 use Rattle.cluster_node.proofs.set_place.Goals as goal
 
 pub returns : goal.returns

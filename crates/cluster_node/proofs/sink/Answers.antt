@@ -1,5 +1,5 @@
 use Rattle.cluster_node.proofs.Looks.{side-le, sink-is}
-use Rattle.laws.specs.Prelude.{arith, rules}
+use Rattle.laws.specs.Prelude.{arith}
 use Rattle.cluster_node.proofs.sink.Goals as goal
 
 pub overflow_add-s : goal.overflow_add-s

@@ -1,5 +1,5 @@
 -- `cluster_node::turn_at` meets its contract.
-use Rattle.laws.specs.Prelude.{◌∙◌, ap, rules, turn}
+use Rattle.laws.specs.Prelude.{◌∙◌, ap, turn}
 use Rattle.cluster_node.specs.Full.{turn_at}
 use Rattle.cluster_node.proofs.turn_at.Goals as goal
 

@@ -1,6 +1,5 @@
 -- `cluster_records::is_lent` meets its contract.
 use Rattle.cluster_records.proofs.Records.{lends_some, lends-zero}
-use Rattle.laws.specs.Prelude.{rules}
 use Rattle.cluster_records.proofs.is_lent.Goals as goal
 
 pub returns-then-levels-eq0 : goal.returns-then-levels-eq0

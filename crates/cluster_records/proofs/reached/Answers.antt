@@ -1,5 +1,5 @@
 -- `cluster_records::reached` meets its contract.
-use Rattle.laws.specs.Prelude.{◌∙◌, rules, sym}
+use Rattle.laws.specs.Prelude.{◌∙◌, sym}
 use Rattle.cluster_records.proofs.Records.{lends-levels, reach-no, reach-yes}
 use Rattle.cluster_records.proofs.reached.Goals as goal
 

@@ -1,5 +1,5 @@
 -- `cluster_records::record_of` meets its contract.
-use Rattle.laws.specs.Prelude.{arith, rules}
+use Rattle.laws.specs.Prelude.{arith}
 use Rattle.cluster_records.proofs.Records.{node-is, place_is, record_is}
 use Rattle.cluster_records.proofs.record_of.Goals as goal
 

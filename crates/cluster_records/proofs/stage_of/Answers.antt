@@ -1,6 +1,5 @@
 -- `cluster_records::stage_of` meets its contract.
 use Rattle.cluster_records.proofs.Records.{stage-fill, stage-nothing, stage-put, stage-swap}
-use Rattle.laws.specs.Prelude.{rules}
 use Rattle.cluster_records.proofs.stage_of.Goals as goal
 
 pub returns-then-kind-eq1 : goal.returns-then-kind-eq1

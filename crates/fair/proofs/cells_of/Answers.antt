@@ -1,5 +1,5 @@
 -- `fair::cells_of` meets its contract.
-use Rattle.laws.specs.Prelude.{rules, refl}
+use Rattle.laws.specs.Prelude.{refl}
 use Rattle.fair_model.specs.Ranks.{cells}
 use Rattle.fair.proofs.cells_of.Goals as goal
 

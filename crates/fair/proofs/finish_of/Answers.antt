@@ -1,5 +1,5 @@
 -- `fair::finish_of` meets its contract.
-use Rattle.laws.specs.Prelude.{arith, rules}
+use Rattle.laws.specs.Prelude.{arith}
 use Rattle.fair.proofs.Notes.{cost-fits, finish-clock, finish-last}
 use Rattle.fair.proofs.finish_of.Goals as goal
 

@@ -1,5 +1,4 @@
 -- `fair::note` meets its contract.
-use Rattle.laws.specs.Prelude.{rules}
 use Rattle.fair.proofs.Notes.{note-done, note-out, note-refused}
 use Rattle.fair.proofs.note.Goals as goal
 

@@ -1,5 +1,4 @@
 -- `fair::pop` meets its contract.
-use Rattle.laws.specs.Prelude.{rules}
 use Rattle.fair.proofs.Notes.{pop-gone, pop-short}
 use Rattle.fair.proofs.pop.Goals as goal
 

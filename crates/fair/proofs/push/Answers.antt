@@ -1,5 +1,5 @@
 -- `fair::push` meets its contract.
-use Rattle.laws.specs.Prelude.{arith, rules}
+use Rattle.laws.specs.Prelude.{arith}
 use Rattle.fair.proofs.Notes.{good-strip, push-bad, push-short, push-spent, push-taken}
 use Rattle.fair.proofs.push.Goals as goal
 

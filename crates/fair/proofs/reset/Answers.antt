@@ -1,5 +1,4 @@
 -- `fair::reset` meets its contract.
-use Rattle.laws.specs.Prelude.{rules}
 use Rattle.fair.proofs.Notes.{reset-done, reset-held, reset-refused, reset-short}
 use Rattle.fair.proofs.reset.Goals as goal
 

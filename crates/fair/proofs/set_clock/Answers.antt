@@ -1,5 +1,4 @@
 -- `fair::set_clock` meets its contract.
-use Rattle.laws.specs.Prelude.{rules}
 use Rattle.fair.proofs.Notes.{clock-out, clock-refused}
 use Rattle.fair.proofs.set_clock.Goals as goal
 

@@ -1,4 +1,4 @@
-use Rattle.laws.specs.Prelude.{◌∙◌, arith, length, rules, sym}
+use Rattle.laws.specs.Prelude.{◌∙◌, arith, length, sym}
 use Rattle.lines_model.specs.Layout.{shape_ok}
 use Rattle.lines_model.specs.Rules.{rank_fit}
 use Rattle.lines_work.proofs.Finds.{room, small, told-no, told-yes}

@@ -1,4 +1,4 @@
-use Rattle.laws.specs.Prelude.{arith, length, rules}
+use Rattle.laws.specs.Prelude.{arith, length}
 use Rattle.lines_model.specs.Layout.{shape_ok}
 use Rattle.lines_work.proofs.Finds.{room, small, told-no, told-yes}
 use Rattle.lines.proofs.Calls.{held-most, held-no, held-told, held-torn}

@@ -1,4 +1,4 @@
-use Rattle.laws.specs.Prelude.{arith, length, rules, subst}
+use Rattle.laws.specs.Prelude.{arith, length, subst}
 use Rattle.lines_work.specs.Sizes.{Standing}
 use Rattle.lines.proofs.Calls.{sizes-put, sizes-rest, sizes-swap, sizes-take}
 use Rattle.lines.proofs.sizes_now.Goals as goal

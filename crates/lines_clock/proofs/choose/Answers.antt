@@ -1,4 +1,3 @@
-use Rattle.laws.specs.Prelude.{rules}
 use Rattle.lines_clock.proofs.Cycles.{choose-come, choose-rank, choose-tag}
 use Rattle.lines_model.specs.Rules.{rank_fit}
 use Rattle.lines_work.proofs.Finds.{told-yes}

@@ -1,5 +1,5 @@
 -- `lines_clock::clear` meets its contract.
-use Rattle.laws.specs.Prelude.{◌∙◌, rules, sym}
+use Rattle.laws.specs.Prelude.{◌∙◌, sym}
 use Rattle.lines_clock.proofs.Drained.{clear-no, clear-yes}
 use Rattle.lines_clock.proofs.clear.Goals as goal
 

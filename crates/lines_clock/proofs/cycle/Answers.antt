@@ -1,4 +1,4 @@
-use Rattle.laws.specs.Prelude.{arith, length, rules}
+use Rattle.laws.specs.Prelude.{arith, length}
 use Rattle.lines_clock.proofs.Cycles.{counts-no, counts-yes, cycle-answered, cycle-counts, cycle-done, cycle-due, cycle-line, cycle-shape, due-fits, due_in, look-passed, next-countable, work-shape, work-total}
 use Rattle.lines_model.specs.Clock.{due_ok}
 use Rattle.lines_model.specs.Layout.{shape_ok}

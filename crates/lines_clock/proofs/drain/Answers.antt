@@ -1,4 +1,4 @@
-use Rattle.laws.specs.Prelude.{◌∙◌, length, rules, sym}
+use Rattle.laws.specs.Prelude.{◌∙◌, length, sym}
 use Rattle.lines_clock.proofs.Drained.{drain-answered, drain-none, drain-one, drain-shape, drain-still, drain-torn}
 use Rattle.lines_model.specs.Clock.{is_pending}
 use Rattle.lines_model.specs.Layout.{shape_ok}

@@ -1,4 +1,3 @@
-use Rattle.laws.specs.Prelude.{rules}
 use Rattle.lines_clock.proofs.Cycles.{due-as, rest_ok}
 use Rattle.lines_clock.proofs.due_ok.Goals as goal
 

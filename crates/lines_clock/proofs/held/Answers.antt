@@ -1,5 +1,5 @@
 -- `lines_clock::held` meets its contract.
-use Rattle.laws.specs.Prelude.{◌∙◌, rules}
+use Rattle.laws.specs.Prelude.{◌∙◌}
 use Rattle.lines_clock.proofs.Drained.{held-as}
 use Rattle.lines_clock.proofs.held.Goals as goal
 

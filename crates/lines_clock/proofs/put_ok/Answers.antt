@@ -1,4 +1,4 @@
-use Rattle.laws.specs.Prelude.{arith, length, rules}
+use Rattle.laws.specs.Prelude.{arith, length}
 use Rattle.lines_clock.proofs.Cycles.{put-no, put-yes}
 use Rattle.lines_work.proofs.Choices.{at-line}
 use Rattle.lines_work.proofs.Finds.{small}

@@ -1,4 +1,4 @@
-use Rattle.laws.specs.Prelude.{ap, arith, length, rules}
+use Rattle.laws.specs.Prelude.{ap, arith, length}
 use Rattle.lines_clock.proofs.Cycles.{due-fit, had-apart, had-put, had-rest, had-same, had-take, stands-as}
 use Rattle.lines_model.specs.Layout.{word}
 use Rattle.lines_clock.proofs.sizes_had.Goals as goal

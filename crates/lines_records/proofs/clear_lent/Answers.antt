@@ -1,5 +1,4 @@
 -- `lines_records::clear_lent` meets its contract.
-use Rattle.laws.specs.Prelude.{rules}
 use Rattle.lines_records.proofs.Told.{clear-short, clear-stood, clear-wrote}
 use Rattle.lines_records.proofs.clear_lent.Goals as goal
 

@@ -1,5 +1,4 @@
 -- `lines_records::cycle_lent` meets its contract.
-use Rattle.laws.specs.Prelude.{arith, rules}
 use Rattle.lines_records.proofs.Records.{some}
 use Rattle.lines_records.proofs.Told.{cycle-fit, cycle-stood, cycle-unread, cycle-wrote}
 use Rattle.lines_records.proofs.cycle_lent.Goals as goal

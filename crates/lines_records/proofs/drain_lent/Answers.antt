@@ -1,5 +1,4 @@
 -- `lines_records::drain_lent` meets its contract.
-use Rattle.laws.specs.Prelude.{arith, rules}
 use Rattle.lines_records.proofs.Records.{some}
 use Rattle.lines_records.proofs.Told.{drain-fit, drain-stood, drain-unread, drain-wrote}
 use Rattle.lines_records.proofs.drain_lent.Goals as goal

@@ -1,5 +1,4 @@
 -- `lines_records::is_readable` meets its contract.
-use Rattle.laws.specs.Prelude.{rules}
 use Rattle.lines_records.proofs.Records.{lent, unlent}
 use Rattle.lines_records.proofs.is_readable.Goals as goal
 

@@ -1,5 +1,4 @@
 -- `lines_records::pending_of` meets its contract.
-use Rattle.laws.specs.Prelude.{rules}
 use Rattle.lines_records.proofs.Records.{pending-none, pending-put, pending-swap, pending-take}
 use Rattle.lines_records.proofs.pending_of.Goals as goal
 

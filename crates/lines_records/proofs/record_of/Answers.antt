@@ -1,5 +1,5 @@
 -- `lines_records::record_of` meets its contract.
-use Rattle.laws.specs.Prelude.{arith, rules}
+use Rattle.laws.specs.Prelude.{arith}
 use Rattle.lines_records.proofs.Records.{line-is, record_is}
 use Rattle.lines_records.proofs.record_of.Goals as goal
 

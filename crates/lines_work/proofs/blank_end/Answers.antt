@@ -1,4 +1,3 @@
-use Rattle.laws.specs.Prelude.{rules}
 use Rattle.lines_work.proofs.Choices.{end_none, end-some}
 use Rattle.lines_work.proofs.blank_end.Goals as goal
 

@@ -1,4 +1,4 @@
-use Rattle.laws.specs.Prelude.{arith, length, rules}
+use Rattle.laws.specs.Prelude.{arith, length}
 use Rattle.lines_work.proofs.Choices.{at-line}
 use Rattle.lines_work.proofs.Comes.{come-empty, come-take, giver-in}
 use Rattle.lines_work.proofs.Finds.{small}

@@ -1,4 +1,4 @@
-use Rattle.laws.specs.Prelude.{arith, length, rules}
+use Rattle.laws.specs.Prelude.{arith, length}
 use Rattle.lines_work.proofs.Comes.{come-full, come-put}
 use Rattle.lines_work.proofs.Finds.{room}
 use Rattle.lines_work.proofs.come_push.Goals as goal

@@ -1,4 +1,4 @@
-use Rattle.laws.specs.Prelude.{arith, length, rules}
+use Rattle.laws.specs.Prelude.{arith, length}
 use Rattle.lines_work.proofs.Choices.{at-line}
 use Rattle.lines_work.proofs.Comes.{come-barred, come-none, come-swap, giver-in, goal-in}
 use Rattle.lines_work.proofs.Finds.{room, small}

@@ -1,4 +1,4 @@
-use Rattle.laws.specs.Prelude.{Request, ◌≡◌, rules, subst, true}
+use Rattle.laws.specs.Prelude.{Request, ◌≡◌, subst, true}
 use Rattle.lines_model.specs.Rules.{rank_fit}
 use Rattle.lines_work.proofs.Comes.{come-as, come-idle}
 use Rattle.lines_work.proofs.come_to.Goals as goal

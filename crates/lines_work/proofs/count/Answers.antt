@@ -1,4 +1,4 @@
-use Rattle.laws.specs.Prelude.{arith, length-set, rules, subst}
+use Rattle.laws.specs.Prelude.{arith, length-set, subst}
 use Rattle.lines_work.proofs.Comes.{count-put, count-rest, count-swap, count-take, swap-room}
 use Rattle.lines_work.specs.Work.{Countable}
 use Rattle.lines_work.proofs.count.Goals as goal

@@ -1,4 +1,4 @@
-use Rattle.laws.specs.Prelude.{rules, refl}
+use Rattle.laws.specs.Prelude.{refl}
 use Rattle.lines_work.proofs.Choices.{ends-none, ends_some}
 use Rattle.lines_work.proofs.ends_own.Goals as goal
 

@@ -1,7 +1,6 @@
-use Rattle.laws.specs.Prelude.{◌-◌, ◌∙◌, ◌≡◌, ◌≤◌, ap, arith, le-ltb, lt-ltb, ltb, sym}
+use Rattle.laws.specs.Prelude.{◌-◌, ◌≡◌, ◌≤◌, ltb}
 use Rattle.lines_model.specs.Layout.{word}
 use Rattle.lines_model.specs.Rules.{seek}
-use Rattle.lines_work.proofs.Finds.{seek_found, seek-none, seek-past}
 use Rattle.lines_work.proofs.first_open.Given as goal
 
 abbrev pub invariant-loop-i : goal.invariant-loop-i

@@ -1,4 +1,4 @@
-use Rattle.laws.specs.Prelude.{◌-◌, ◌∙◌, ◌≡◌, ◌≤◌, ap, arith, le-ltb, lt-ltb, ltb, sym}
+use Rattle.laws.specs.Prelude.{◌-◌, ◌∙◌, ◌≡◌, ap, arith, le-ltb, lt-ltb, ltb, sym}
 use Rattle.lines_model.specs.Layout.{word}
 use Rattle.lines_model.specs.Rules.{seek}
 use Rattle.lines_work.proofs.Finds.{seek_found, seek-none, seek-past}

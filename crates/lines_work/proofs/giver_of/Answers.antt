@@ -1,7 +1,6 @@
-use Rattle.laws.specs.Prelude.{arith, length, rules}
+use Rattle.laws.specs.Prelude.{arith, length}
 use Rattle.lines_work.proofs.Choices.{giver-one, giver-two}
 use Rattle.lines_work.proofs.Finds.{room}
-use Rattle.lines_work.proofs.giver_of.Lts as lts
 use Rattle.lines_work.proofs.giver_of.Goals as goal
 
 pub first_some-requires : goal.first_some-requires

@@ -1,6 +1,4 @@
-use Rattle.laws.specs.Prelude.{rules}
 use Rattle.lines_work.proofs.Choices.{goal-one, goal-two}
-use Rattle.lines_work.proofs.goal_of.Lts as lts
 use Rattle.lines_work.proofs.goal_of.Goals as goal
 
 pub returns-then-kind-eq1 : goal.returns-then-kind-eq1

@@ -1,4 +1,4 @@
-use Rattle.laws.specs.Prelude.{arith, rules}
+use Rattle.laws.specs.Prelude.{arith}
 use Rattle.lines_model.specs.Layout.{word}
 use Rattle.lines_work.proofs.Comes.{room_in, room_out}
 use Rattle.lines_work.proofs.has_room.Goals as goal

@@ -1,4 +1,3 @@
-use Rattle.laws.specs.Prelude.{rules}
 use Rattle.lines_work.proofs.Comes.{lacks-as, lacks-with}
 use Rattle.lines_work.proofs.lacks_tag.Goals as goal
 

@@ -1,7 +1,6 @@
 use Rattle.laws.specs.Prelude.{arith, refl}
 use Rattle.lines_model.proofs.Which.{spans}
 use Rattle.lines_model.specs.Layout.{line_of}
-use Rattle.lines_work.proofs.line_of.Lts as lts
 use Rattle.lines_work.proofs.line_of.Goals as goal
 
 pub nonzero_div-span : goal.nonzero_div-span

@@ -1,4 +1,4 @@
-use Rattle.laws.specs.Prelude.{arith, rules, refl, subst}
+use Rattle.laws.specs.Prelude.{arith, refl, subst}
 use Rattle.lines_work.proofs.Works.{looked-put, looked-rest, looked-swap, looked-take}
 use Rattle.lines_work.specs.Work.{Fits}
 use Rattle.lines_work.proofs.look_lines.Goals as goal

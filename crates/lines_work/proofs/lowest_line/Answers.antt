@@ -1,11 +1,10 @@
-use Rattle.laws.specs.Prelude.{◌-◌, ◌<◌, ◌∙◌, ◌≡◌, ◌≤◌, ap, arith, inl, inr, length, ⊎_elim}
+use Rattle.laws.specs.Prelude.{◌-◌, ◌∙◌, ◌≡◌, ap, arith, inl, inr, length}
 use Rattle.lines_model.proofs.Which.{spans}
 use Rattle.lines_model.specs.Calls.{heads}
 use Rattle.lines_model.specs.Layout.{word}
 use Rattle.lines_model.specs.Rules.{lowest}
 use Rattle.lines_work.proofs.Choices.{lowest-in, lowest-none, lowest-again}
 use Rattle.lines_work.proofs.Finds.{small}
-use Rattle.lines_work.specs.Work.{front}
 use Rattle.lines_work.proofs.lowest_line.Goals as goal
 use Rattle.lines_work.proofs.lowest_line.Goals.{else-here-best, then-here-best}
 

@@ -1,10 +1,7 @@
-use Rattle.laws.specs.Prelude.{◌-◌, ◌<◌, ◌∙◌, ◌≡◌, ◌≤◌, ap, arith, inl, inr, length, ⊎_elim}
-use Rattle.lines_model.proofs.Which.{spans}
+use Rattle.laws.specs.Prelude.{◌-◌, ◌<◌, ◌≡◌, ◌≤◌}
 use Rattle.lines_model.specs.Calls.{heads}
 use Rattle.lines_model.specs.Layout.{word}
 use Rattle.lines_model.specs.Rules.{lowest}
-use Rattle.lines_work.proofs.Choices.{lowest-in, lowest-none, lowest-again}
-use Rattle.lines_work.proofs.Finds.{small}
 use Rattle.lines_work.specs.Work.{front}
 use Rattle.lines_work.proofs.lowest_line.Given as goal
 

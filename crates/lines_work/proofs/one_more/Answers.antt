@@ -1,4 +1,3 @@
-use Rattle.laws.specs.Prelude.{rules}
 use Rattle.lines_work.proofs.Choices.{more_no, more_yes}
 use Rattle.lines_work.proofs.one_more.Goals as goal
 

@@ -1,6 +1,4 @@
-use Rattle.laws.specs.Prelude.{rules}
 use Rattle.lines_work.proofs.Choices.{own_is}
-use Rattle.lines_work.proofs.own_rank.Lts as lts
 use Rattle.lines_work.proofs.own_rank.Goals as goal
 
 pub returns : goal.returns

@@ -1,4 +1,4 @@
-use Rattle.laws.specs.Prelude.{arith, rules, refl}
+use Rattle.laws.specs.Prelude.{arith, refl}
 use Rattle.lines_work.proofs.Spots.{put-from, spot-most}
 use Rattle.lines_work.proofs.put_at.Goals as goal
 

@@ -1,4 +1,3 @@
-use Rattle.laws.specs.Prelude.{rules}
 use Rattle.lines_work.proofs.Comes.{fit-as, fit-with}
 use Rattle.lines_work.proofs.rank_fit.Goals as goal
 

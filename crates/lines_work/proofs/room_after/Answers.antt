@@ -1,4 +1,4 @@
-use Rattle.laws.specs.Prelude.{arith, rules}
+use Rattle.laws.specs.Prelude.{arith}
 use Rattle.lines_work.proofs.room_after.Goals as goal
 
 pub overflow_cast-c : goal.overflow_cast-c

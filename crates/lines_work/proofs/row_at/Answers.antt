@@ -1,6 +1,5 @@
-use Rattle.laws.specs.Prelude.{◌*◌, ◌≤◌, arith, rules, ℕ}
+use Rattle.laws.specs.Prelude.{◌*◌, ◌≤◌, arith, ℕ}
 use native.Mathlib.Nat.{mul-le-mul}
-use Rattle.lines_work.proofs.row_at.Lts as lts
 use Rattle.lines_work.proofs.row_at.Goals as goal
 
 area : (l w : ℕ) → l ≤ 512 → w ≤ 1024 → l * w ≤ 524288

@@ -1,5 +1,5 @@
 use Rattle.laws.specs.Prelude.{◌≡◌, arith, refl}
-use Rattle.lines_work.proofs.Choices.{scan-first, scan-last, scan-next, Scanning}
+use Rattle.lines_work.proofs.Choices.{scan-first, scan-last, scan-next}
 use Rattle.promise.specs.Prelude.{left}
 use Rattle.lines_work.proofs.scan.Goals as goal
 

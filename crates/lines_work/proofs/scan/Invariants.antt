@@ -1,5 +1,4 @@
-use Rattle.laws.specs.Prelude.{◌≡◌, arith, refl}
-use Rattle.lines_work.proofs.Choices.{scan-first, scan-last, scan-next, Scanning}
+use Rattle.lines_work.proofs.Choices.{Scanning}
 use Rattle.promise.specs.Prelude.{left}
 use Rattle.lines_work.proofs.scan.Given as goal
 

@@ -1,6 +1,5 @@
-use Rattle.laws.specs.Prelude.{arith, rules}
+use Rattle.laws.specs.Prelude.{arith}
 use Rattle.lines_work.proofs.Finds.{shape-no, shape-small, shape-yes}
-use Rattle.lines_work.proofs.shape_ok.Lts as lts
 use Rattle.lines_work.proofs.shape_ok.Goals as goal
 
 pub returns-then-not-fine : goal.returns-then-not-fine

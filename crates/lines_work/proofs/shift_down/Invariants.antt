@@ -1,6 +1,4 @@
-use Rattle.laws.specs.Prelude.{◌+◌, ◌∙◌, ◌≡◌, ◌≤◌, arith, length, length-set, rules, refl}
-use Rattle.lines_model.specs.Layout.{word}
-use Rattle.lines_work.proofs.Shifts.{down-again, down-none}
+use Rattle.laws.specs.Prelude.{◌+◌, ◌≡◌, ◌≤◌, length}
 use Rattle.lines_work.specs.Shift.{down}
 use Rattle.promise.specs.Prelude.{left}
 use Rattle.lines_work.proofs.shift_down.Given as goal

@@ -1,7 +1,6 @@
-use Rattle.laws.specs.Prelude.{◌+◌, ◌-◌, ◌∙◌, ◌≡◌, ◌≤◌, arith, length, length-set, rules, refl}
+use Rattle.laws.specs.Prelude.{◌+◌, ◌-◌, ◌∙◌, ◌≡◌, arith, length-set, refl}
 use Rattle.lines_model.specs.Layout.{word}
 use Rattle.lines_work.proofs.Shifts.{up-again, up_none}
-use Rattle.lines_work.specs.Shift.{up}
 use Rattle.promise.specs.Prelude.{left}
 use Rattle.lines_work.proofs.shift_up.Goals as goal
 

@@ -1,8 +1,5 @@
-use Rattle.laws.specs.Prelude.{◌*◌, ◌-◌, ◌≡◌, ◌≤◌, arith}
-use Rattle.lines_model.specs.Layout.{word}
-use Rattle.lines_model.specs.Rules.{counts_below, total}
+use Rattle.laws.specs.Prelude.{◌-◌, ◌≡◌, arith}
 use Rattle.lines_work.proofs.Counts.{below_next, below_none, total-next, total-none, totals-is}
-use Rattle.lines_work.proofs.sum_up.Lts as lts
 use Rattle.lines_work.proofs.sum_up.Goals as goal
 
 pub loop-i-init : goal.loop-i-init

@@ -1,4 +1,4 @@
-use Rattle.laws.specs.Prelude.{arith, inl, inr, rules, refl, ⊎_elim}
+use Rattle.laws.specs.Prelude.{arith, inl, inr, refl}
 use Rattle.lines_work.proofs.Spots.{swap-from}
 use Rattle.lines_work.proofs.Works.{swap-few, swap-place}
 use Rattle.lines_work.proofs.swap_at.Goals as goal

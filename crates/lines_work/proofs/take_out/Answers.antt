@@ -1,4 +1,4 @@
-use Rattle.laws.specs.Prelude.{rules, refl}
+use Rattle.laws.specs.Prelude.{refl}
 use Rattle.lines_work.proofs.Spots.{take-from}
 use Rattle.lines_work.proofs.take_out.Goals as goal
 

@@ -1,7 +1,6 @@
 use Rattle.laws.specs.Prelude.{arith, length}
 use Rattle.lines_work.proofs.Choices.{taker-one, taker-two}
 use Rattle.lines_work.proofs.Finds.{room, small}
-use Rattle.lines_work.proofs.taker_of.Lts as lts
 use Rattle.lines_work.proofs.taker_of.Goals as goal
 
 pub line_of-requires : goal.line_of-requires

@@ -1,7 +1,6 @@
-use Rattle.laws.specs.Prelude.{◌-◌, ◌∙◌, ◌≡◌, ◌≤◌, ap, arith, length, length-set, refl, ℕ}
+use Rattle.laws.specs.Prelude.{◌-◌, ◌∙◌, ◌≡◌, ap, arith, length-set, refl, ℕ}
 use Rattle.lines_model.specs.Calls.{wipe}
 use Rattle.lines_work.proofs.Finds.{wipe-next, wipe-none}
-use Rattle.lines_work.proofs.wipe_words.Lts as lts
 use Rattle.lines_work.proofs.wipe_words.Goals as goal
 
 pub loop-i-init : goal.loop-i-init

@@ -1,7 +1,5 @@
-use Rattle.laws.specs.Prelude.{◌-◌, ◌∙◌, ◌≡◌, ◌≤◌, ap, arith, length, length-set, refl, ℕ}
+use Rattle.laws.specs.Prelude.{◌-◌, ◌≡◌, ◌≤◌, length}
 use Rattle.lines_model.specs.Calls.{wipe}
-use Rattle.lines_work.proofs.Finds.{wipe-next, wipe-none}
-use Rattle.lines_work.proofs.wipe_words.Lts as lts
 use Rattle.lines_work.proofs.wipe_words.Given as goal
 
 abbrev pub invariant-loop-i : goal.invariant-loop-i

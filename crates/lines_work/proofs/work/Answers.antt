@@ -1,4 +1,4 @@
-use Rattle.laws.specs.Prelude.{length, rules, subst}
+use Rattle.laws.specs.Prelude.{length, subst}
 use Rattle.lines_model.specs.declared.Due.{Due}
 use Rattle.lines_work.proofs.Finds.{small}
 use Rattle.lines_work.proofs.Works.{put-ready, take-ready, work-put, work-rest, work-swap, work-take}

@@ -1,4 +1,3 @@
-use Rattle.laws.specs.Prelude.{rules}
 use Rattle.lines_work.proofs.Works.{lined-both, lined-gives, lined-none, lined-takes, lying-both, lying-gives, lying-takes}
 use Rattle.lines_work.proofs.work_line.Goals as goal
 

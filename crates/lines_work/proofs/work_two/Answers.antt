@@ -1,4 +1,4 @@
-use Rattle.laws.specs.Prelude.{eqb, eqb-false, eqb-true, length, rules, not-false, not-true}
+use Rattle.laws.specs.Prelude.{eqb, eqb-false, eqb-true, length, not-false, not-true}
 use Rattle.lines_work.proofs.Finds.{small}
 use Rattle.lines_work.proofs.Works.{goal-ready, swap-both, swap-ready, swap-same}
 use Rattle.lines_work.proofs.work_two.Goals as goal

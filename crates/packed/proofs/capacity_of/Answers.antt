@@ -1,5 +1,5 @@
 -- `packed::capacity_of` meets its contract.
-use Rattle.laws.specs.Prelude.{◌-◌, ap, arith, rules, ℕ}
+use Rattle.laws.specs.Prelude.{◌-◌, ap, arith, ℕ}
 use Rattle.packed_model.specs.Words.{capacity}
 use Rattle.packed_model.proofs.Tests.{size-pos}
 use Rattle.packed.proofs.capacity_of.Goals as goal

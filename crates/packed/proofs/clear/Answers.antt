@@ -1,5 +1,5 @@
 -- `packed::clear` meets its contract.
-use Rattle.laws.specs.Prelude.{arith, rules, not-false, not-true}
+use Rattle.laws.specs.Prelude.{arith, not-false, not-true}
 use Rattle.packed.proofs.Calls.{clear-shape, clear-few, clear-fits, clear-done}
 use Rattle.packed.proofs.clear.Goals as goal
 

@@ -1,6 +1,5 @@
 -- `packed::depth_of` meets its contract.
-use Rattle.laws.specs.Prelude.{◌≡◌, ◌≤◌, arith, refl}
-use Rattle.packed_model.specs.Words.{depth}
+use Rattle.laws.specs.Prelude.{arith, refl}
 use Rattle.packed.proofs.Shapes.{depth-here, depth-less, depth-none}
 use Rattle.packed.proofs.depth_of.Goals as goal
 

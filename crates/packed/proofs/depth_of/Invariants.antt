@@ -1,7 +1,6 @@
 -- `packed::depth_of` meets its contract.
-use Rattle.laws.specs.Prelude.{◌≡◌, ◌≤◌, arith, refl}
+use Rattle.laws.specs.Prelude.{◌≡◌, ◌≤◌}
 use Rattle.packed_model.specs.Words.{depth}
-use Rattle.packed.proofs.Shapes.{depth-here, depth-less, depth-none}
 use Rattle.packed.proofs.depth_of.Given as goal
 
 abbrev pub invariant-loop-k : goal.invariant-loop-k

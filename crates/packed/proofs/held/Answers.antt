@@ -1,5 +1,5 @@
 -- `packed::held` meets its contract.
-use Rattle.laws.specs.Prelude.{◌∙◌, arith, rules, not-false, not-true, sym}
+use Rattle.laws.specs.Prelude.{◌∙◌, arith, not-false, not-true, sym}
 use Rattle.packed.proofs.Shapes.{ground}
 use Rattle.packed.proofs.Calls.{held-shape, held_none, held-bad, held-fine}
 use Rattle.packed.proofs.held.Goals as goal

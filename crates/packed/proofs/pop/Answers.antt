@@ -1,6 +1,6 @@
 -- `packed::pop` meets its contract.
 use Rattle.packed.proofs.Calls.{opened, called-refused, called-open}
-use Rattle.laws.specs.Prelude.{◌∙◌, rules, sym}
+use Rattle.laws.specs.Prelude.{◌∙◌, sym}
 use Rattle.packed.proofs.pop.Goals as goal
 
 pub pop_open-requires : goal.pop_open-requires

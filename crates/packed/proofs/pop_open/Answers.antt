@@ -1,6 +1,6 @@
 -- `packed::pop_open` meets its contract.
 use native.Mathlib.Nat.{pos_of_ne-zero}
-use Rattle.laws.specs.Prelude.{◌-◌, ◌∙◌, ◌≡◌, arith, inl, length-set, rules}
+use Rattle.laws.specs.Prelude.{◌-◌, ◌∙◌, ◌≡◌, arith, inl, length-set}
 use Rattle.packed.proofs.Calls.{before_last, depth-few, last-is, not_first, open-ground, pop-bare, pop-done, pop-none, pop-only, pop-room, pop-stop, seat-of, sink-ready, slot-at-of, slot-lies}
 use Rattle.packed.proofs.pop_open.Goals as goal
 

@@ -1,6 +1,6 @@
 -- `packed::push` meets its contract.
 use Rattle.packed.proofs.Calls.{opened, called-refused, called-open}
-use Rattle.laws.specs.Prelude.{◌∙◌, rules, sym}
+use Rattle.laws.specs.Prelude.{◌∙◌, sym}
 use Rattle.packed.proofs.push.Goals as goal
 
 pub push_open-requires : goal.push_open-requires

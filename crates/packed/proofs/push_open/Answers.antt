@@ -1,5 +1,5 @@
 -- `packed::push_open` meets its contract.
-use Rattle.laws.specs.Prelude.{◌+◌, arith, rules}
+use Rattle.laws.specs.Prelude.{◌+◌, arith}
 use native.Mathlib.Nat.{pos_of_ne-zero}
 use Rattle.packed.proofs.Calls.{depth-few, end-lies, open-ground, open-small, push_at, push-bad, push-done, push-full, push-ready, push-tag}
 use Rattle.packed.proofs.push_open.Goals as goal

@@ -1,6 +1,6 @@
 -- `packed::replace` meets its contract.
 use Rattle.packed.proofs.Calls.{opened, called-refused, called-open}
-use Rattle.laws.specs.Prelude.{◌∙◌, rules, sym}
+use Rattle.laws.specs.Prelude.{◌∙◌, sym}
 use Rattle.packed.proofs.replace.Goals as goal
 
 pub replace_open-requires : goal.replace_open-requires

@@ -1,6 +1,6 @@
 -- `packed::replace_open` meets its contract.
 use native.Mathlib.Nat.{pos_of_ne-zero}
-use Rattle.laws.specs.Prelude.{arith, inr, rules, refl}
+use Rattle.laws.specs.Prelude.{arith, inr, refl}
 use Rattle.packed.proofs.Calls.{depth-few, found-replace, found-room, open-ground, replace-bad, replace-done, replace-none, replace-tag, seat-of, sink-ready, slot-at-of, slot-lies}
 use Rattle.packed.proofs.replace_open.Goals as goal
 

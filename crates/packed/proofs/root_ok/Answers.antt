@@ -1,5 +1,5 @@
 -- `packed::root_ok` meets its contract.
-use Rattle.laws.specs.Prelude.{◌∙◌, arith, rules, sym}
+use Rattle.laws.specs.Prelude.{◌∙◌, arith, sym}
 use Rattle.packed.proofs.Shapes.{ground, root_over, root_none, root-some}
 use Rattle.packed.proofs.root_ok.Goals as goal
 

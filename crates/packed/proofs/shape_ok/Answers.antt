@@ -1,5 +1,5 @@
 -- `packed::shape_ok` meets its contract.
-use Rattle.laws.specs.Prelude.{arith, rules}
+use Rattle.laws.specs.Prelude.{arith}
 use Rattle.packed.proofs.Shapes.{shape-low, shape-high, shape-none, shape-deep, shape-bounds, shape-rest}
 use Rattle.packed_model.proofs.Tests.{size-pos}
 use Rattle.packed.proofs.shape_ok.Goals as goal

@@ -1,5 +1,5 @@
 -- `packed::slot_at` meets its contract.
-use Rattle.laws.specs.Prelude.{arith, rules}
+use Rattle.laws.specs.Prelude.{arith}
 use Rattle.packed.proofs.Shapes.{slot-at-bounds, slot-at-is, size-most}
 use Rattle.packed.proofs.slot_at.Goals as goal
 

@@ -1,6 +1,5 @@
 -- `packed::zero_words` meets its contract.
-use Rattle.laws.specs.Prelude.{◌++◌, ◌-◌, ◌≡◌, ◌≤◌, arith, drop, length, length-set, rules, refl, replicate}
-use borrow.Author.Fill.{fill_more, fill_none}
+use Rattle.laws.specs.Prelude.{◌++◌, ◌-◌, ◌≡◌, ◌≤◌, drop, length, replicate}
 use Rattle.packed.proofs.zero_words.Given as goal
 
 abbrev pub invariant-loop-i : goal.invariant-loop-i

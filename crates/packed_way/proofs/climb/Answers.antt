@@ -1,7 +1,6 @@
 -- `packed_way::climb` meets its contract.
-use Rattle.laws.specs.Prelude.{◌<◌, ◌∙◌, ◌≡◌, ◌≤◌, arith, length, refl, subst, sym, ℕ}
+use Rattle.laws.specs.Prelude.{◌∙◌, arith, refl, subst, sym}
 use Rattle.packed_way.proofs.Walked.{Climb, climb-end, climb-on, climb-top}
-use Rattle.packed_way.specs.Sink.{Ends}
 use Rattle.packed_way.proofs.climb.Goals as goal
 
 pub loop-m-init : goal.loop-m-init

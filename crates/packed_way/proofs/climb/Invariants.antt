@@ -1,6 +1,6 @@
 -- `packed_way::climb` meets its contract.
-use Rattle.laws.specs.Prelude.{◌<◌, ◌∙◌, ◌≡◌, ◌≤◌, arith, length, refl, subst, sym, ℕ}
-use Rattle.packed_way.proofs.Walked.{Climb, climb-end, climb-on, climb-top}
+use Rattle.laws.specs.Prelude.{◌<◌, ◌≡◌, ◌≤◌, length, ℕ}
+use Rattle.packed_way.proofs.Walked.{Climb}
 use Rattle.packed_way.specs.Sink.{Ends}
 use Rattle.packed_way.proofs.climb.Given as goal
 

@@ -1,6 +1,5 @@
 -- `packed_way::edge_to` meets its contract.
 use Rattle.packed_way.proofs.Sinks.{last-torn, none_stays, none-torn, one-goes, one-stays, one-torn}
-use Rattle.laws.specs.Prelude.{rules}
 use Rattle.packed_way.proofs.edge_to.Goals as goal
 
 pub returns-then-not-is_blank : goal.returns-then-not-is_blank

@@ -1,5 +1,5 @@
 -- `packed_way::lower_at` meets its contract.
-use Rattle.laws.specs.Prelude.{le-ltb, lt-ltb, rules, refl}
+use Rattle.laws.specs.Prelude.{le-ltb, lt-ltb, refl}
 use Rattle.packed_way.proofs.lower_at.Goals as goal
 
 pub returns-then-b-a : goal.returns-then-b-a

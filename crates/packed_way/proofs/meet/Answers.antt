@@ -1,5 +1,5 @@
 -- `packed_way::meet` meets its contract.
-use Rattle.laws.specs.Prelude.{rules, refl}
+use Rattle.laws.specs.Prelude.{refl}
 use Rattle.packed_way.proofs.Putted.{met-high, met-low}
 use Rattle.packed_way.proofs.meet.Goals as goal
 

@@ -1,8 +1,6 @@
 -- `packed_way::put_down` meets its contract.
-use Rattle.laws.specs.Prelude.{◌*◌, ◌+◌, ◌<◌, ◌∙◌, ◌≡◌, ◌≤◌, arith, length, refl, ℕ}
-use Rattle.packed_model.specs.Node.{size}
-use Rattle.packed_model.specs.Words.{slot_at}
-use Rattle.packed_way.proofs.Putted.{below_on, Falls, falls-from, falls-last, falls-on, up_least, up-most}
+use Rattle.laws.specs.Prelude.{◌+◌, ◌∙◌, arith, refl}
+use Rattle.packed_way.proofs.Putted.{below_on, falls-from, falls-last, falls-on, up_least, up-most}
 use Rattle.packed_way.proofs.put_down.Goals as goal
 
 pub loop-k-init : goal.loop-k-init

@@ -1,8 +1,8 @@
 -- `packed_way::put_down` meets its contract.
-use Rattle.laws.specs.Prelude.{◌*◌, ◌+◌, ◌<◌, ◌∙◌, ◌≡◌, ◌≤◌, arith, length, refl, ℕ}
+use Rattle.laws.specs.Prelude.{◌*◌, ◌+◌, ◌<◌, ◌≡◌, ◌≤◌, length, ℕ}
 use Rattle.packed_model.specs.Node.{size}
 use Rattle.packed_model.specs.Words.{slot_at}
-use Rattle.packed_way.proofs.Putted.{below_on, Falls, falls-from, falls-last, falls-on, up_least, up-most}
+use Rattle.packed_way.proofs.Putted.{Falls}
 use Rattle.packed_way.proofs.put_down.Given as goal
 
 abbrev pub invariant-loop-k : goal.invariant-loop-k

@@ -1,7 +1,6 @@
 -- `packed_way::put_from` meets its contract.
-use Rattle.laws.specs.Prelude.{◌+◌, ◌<◌, ◌∙◌, ◌≡◌, ◌≤◌, add-one, arith, ltb, not-false, not-true, sym, ℕ}
-use Rattle.packed_model.specs.Words.{slot_at}
-use Rattle.packed_way.proofs.Putted.{Climbs, climbs-end, climbs-on, climbs-top, climbs-torn, end-torn, higher-most}
+use Rattle.laws.specs.Prelude.{◌∙◌, add-one, arith, ltb, not-false, not-true, sym}
+use Rattle.packed_way.proofs.Putted.{climbs-end, climbs-on, climbs-top, climbs-torn, end-torn, higher-most}
 use Rattle.packed_way.proofs.put_from.Goals as goal
 
 pub slot-e-requires : goal.slot-e-requires

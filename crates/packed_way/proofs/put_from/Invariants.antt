@@ -1,7 +1,7 @@
 -- `packed_way::put_from` meets its contract.
-use Rattle.laws.specs.Prelude.{◌+◌, ◌<◌, ◌∙◌, ◌≡◌, ◌≤◌, add-one, arith, ltb, not-false, not-true, sym, ℕ}
+use Rattle.laws.specs.Prelude.{◌+◌, ◌<◌, ◌≡◌, ◌≤◌, ℕ}
 use Rattle.packed_model.specs.Words.{slot_at}
-use Rattle.packed_way.proofs.Putted.{Climbs, climbs-end, climbs-on, climbs-top, climbs-torn, end-torn, higher-most}
+use Rattle.packed_way.proofs.Putted.{Climbs}
 use Rattle.packed_way.proofs.put_from.Given as goal
 
 abbrev pub invariant-loop-at : goal.invariant-loop-at

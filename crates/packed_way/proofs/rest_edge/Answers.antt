@@ -1,9 +1,8 @@
 -- `packed_way::rest_edge` meets its contract.
-use Rattle.laws.specs.Prelude.{List, ◌+◌, ◌≡◌, ◌≤◌, add-one, arith, leb, length, subst, suc, ℕ}
-use Rattle.packed_model.specs.Words.{Lies}
+use Rattle.laws.specs.Prelude.{◌+◌, ◌≡◌, add-one, arith, leb, length, subst, ℕ}
 use Rattle.packed_way.proofs.Putted.{under-lies}
 use Rattle.packed_way.proofs.Walked.{lies-on, to-few, walk-goes, walk-last, walk-stays, walk-torn}
-use Rattle.packed_way.specs.Sink.{HeldTo, Reads, slot_but, Walk}
+use Rattle.packed_way.specs.Sink.{slot_but, Walk}
 use Rattle.packed_way.proofs.rest_edge.Goals as goal
 
 pub loop-k-init : goal.loop-k-init

@@ -1,9 +1,7 @@
 -- `packed_way::rest_edge` meets its contract.
-use Rattle.laws.specs.Prelude.{List, ◌+◌, ◌≡◌, ◌≤◌, add-one, arith, leb, length, subst, suc, ℕ}
+use Rattle.laws.specs.Prelude.{List, ◌+◌, ◌≤◌, length, suc, ℕ}
 use Rattle.packed_model.specs.Words.{Lies}
-use Rattle.packed_way.proofs.Putted.{under-lies}
-use Rattle.packed_way.proofs.Walked.{lies-on, to-few, walk-goes, walk-last, walk-stays, walk-torn}
-use Rattle.packed_way.specs.Sink.{HeldTo, Reads, slot_but, Walk}
+use Rattle.packed_way.specs.Sink.{HeldTo, Reads, Walk}
 use Rattle.packed_way.proofs.rest_edge.Given as goal
 
 abbrev pub invariant-loop-k : goal.invariant-loop-k

@@ -1,8 +1,8 @@
 -- `packed_way::rest_slot` meets its contract.
-use Rattle.laws.specs.Prelude.{◌≤◌, arith, length, refl, subst, suc, sym, ℕ}
+use Rattle.laws.specs.Prelude.{arith, length, refl, subst, suc, sym, ℕ}
 use Rattle.packed_model.specs.Words.{Lies}
 use Rattle.packed_way.proofs.Putted.{under-lies}
-use Rattle.packed_way.proofs.Walked.{down-on, down-stays, down-torn, slot_of, Stands, stands-edge, stands-last, stands-top}
+use Rattle.packed_way.proofs.Walked.{down-on, down-stays, down-torn, slot_of, stands-edge, stands-last, stands-top}
 use Rattle.packed_way.proofs.rest_slot.Goals as goal
 
 pub overflow_mul-end : goal.overflow_mul-end

@@ -1,5 +1,5 @@
 -- `packed_way::slot_but` meets its contract.
-use Rattle.laws.specs.Prelude.{◌∙◌, rules}
+use Rattle.laws.specs.Prelude.{◌∙◌}
 use Rattle.packed_way.proofs.Sinks.{hole-is, hole-not}
 use Rattle.packed_way.proofs.slot_but.Goals as goal
 

@@ -1,5 +1,5 @@
 -- `ports::clear` meets its contract.
-use Rattle.laws.specs.Prelude.{◌∙◌, ◌≡◌, ◌≤◌, length, rules, not-false, not-true, subst, sym, true, ℕ}
+use Rattle.laws.specs.Prelude.{◌∙◌, ◌≡◌, ◌≤◌, length, not-false, not-true, subst, sym, true, ℕ}
 use Rattle.ports_model.specs.Prelude.{Shaped, is_shaped, limits_ok}
 use Rattle.ports_model.proofs.Laws.{shape-means}
 use Rattle.ports.proofs.Blanks.{first-numbers, first-long, first-wiping}
@@ -10,7 +10,6 @@ use Rattle.ports.proofs.clear.Goals.{Else-not-is_shaped, Else-not-limits_fit}
 -- places on the way, each from a later one
 
 -- what has been tested so far
-
 ok : (c : Else-not-is_shaped) → is_shaped c.args.s c.args.bits.now c.args.words.now ≡ true
 ok c = sym c.is_shaped.ensures ∙ not-false c.is_shaped.result c.if-not-is_shaped.false-raw
 

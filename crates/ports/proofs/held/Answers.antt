@@ -1,5 +1,5 @@
 -- `ports::held` meets its contract.
-use Rattle.laws.specs.Prelude.{◌∙◌, rules, not-false, not-true, sym}
+use Rattle.laws.specs.Prelude.{◌∙◌, not-false, not-true, sym}
 use Rattle.bucket_step.specs.Tested.{Stands}
 use Rattle.bucket_step.proofs.Read.{fits}
 use Rattle.ports.proofs.Pool.{Known, numbers, port<, stands, all_there}
@@ -8,7 +8,6 @@ use Rattle.ports.proofs.held.Goals as goal
 use Rattle.ports.proofs.held.Goals.{After-seat_of-k, Else-not-is_known}
 
 -- what has been tested so far
-
 ok : (c : Else-not-is_known) → Known c.args.s c.args.port c.args.bits.now c.args.words.now
 ok c = record { both = sym c.is_known.ensures ∙ not-false c.is_known.result c.if-not-is_known.false-raw }
 

@@ -1,10 +1,9 @@
 -- `ports::pop` meets its contract.
-use Rattle.laws.specs.Prelude.{List, ◌+◌, ◌-◌, ◌∙◌, ◌≡◌, ◌≤◌, ap, arith, length, rules, refl, ℕ, ⊎_elim}
+use Rattle.laws.specs.Prelude.{List, ◌+◌, ◌-◌, ◌≡◌, ◌≤◌, length, ℕ}
 use Rattle.bucket_model.specs.Prelude.{Outcome, least_storeys, most_storeys, outcome}
-use Rattle.bucket_step.proofs.Depths.{Gone, none-gone, gone-here, gone-on, all-gone}
+use Rattle.bucket_step.proofs.Depths.{Gone}
 use Rattle.ports_model.specs.declared.Shape.{Shape}
 use Rattle.ports_model.specs.Prelude.{popped}
-use Rattle.ports.proofs.Returns.{pop-undeep}
 use Rattle.ports.proofs.pop.Given as goal
 
 abbrev pub call : Shape → ℕ → ℕ → List ℕ → List ℕ → Outcome

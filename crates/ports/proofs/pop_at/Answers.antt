@@ -1,5 +1,5 @@
 -- `ports::pop_at` meets its contract.
-use Rattle.laws.specs.Prelude.{◌&&◌, ◌∙◌, ◌≡◌, eqb, rules, not, not-false, not-true, sym, true}
+use Rattle.laws.specs.Prelude.{◌&&◌, ◌∙◌, ◌≡◌, eqb, not, not-false, not-true, sym, true}
 use Rattle.bucket_model.specs.Prelude.{word}
 use Rattle.bucket_step.specs.Tested.{Stands, Freeing}
 use Rattle.bucket_step.proofs.Steps.{freeing}
@@ -12,7 +12,6 @@ use Rattle.ports.proofs.pop_at.Goals.{After-seat_of-k, Else-not-has_some, Else-n
 -- places on the way, each from a later one
 
 -- what has been tested so far
-
 ok : (c : Else-not-is_known) → Known c.args.s c.args.port c.args.bits.now c.args.words.now
 ok c = record { both = sym c.is_known.ensures ∙ not-false c.is_known.result c.if-not-is_known.false-raw }
 

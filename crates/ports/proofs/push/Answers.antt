@@ -1,16 +1,12 @@
 -- `ports::push` meets its contract.
-use Rattle.laws.specs.Prelude.{Element, List, ◌+◌, ◌-◌, ◌∙◌, ◌≡◌, ◌≤◌, ap, arith, length, rules, refl, ℕ, ⊎_elim}
-use Rattle.bucket_model.specs.Prelude.{Outcome, least_storeys, most_storeys, outcome}
-use Rattle.bucket_step.proofs.Depths.{Gone, none-gone, gone-here, gone-on, all-gone}
-use Rattle.ports_model.specs.declared.Shape.{Shape}
-use Rattle.ports_model.specs.Prelude.{pushed}
+use Rattle.laws.specs.Prelude.{◌-◌, ◌∙◌, ap, arith, length, refl}
+use Rattle.bucket_step.proofs.Depths.{none-gone, gone-here, gone-on, all-gone}
 use Rattle.ports.proofs.Returns.{push-undeep}
 use Rattle.ports.proofs.push.Goals as goal
 use Rattle.ports.proofs.push.Invariants.{call}
 use Rattle.ports.proofs.push.Goals.{else-d-s, then-d-s}
 
 -- what is done at the depth asked for
-
 pub loop-d-init : goal.loop-d-init
 loop-d-init c =
     let a = c.args in

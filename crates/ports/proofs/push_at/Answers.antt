@@ -1,5 +1,5 @@
 -- `ports::push_at` meets its contract.
-use Rattle.laws.specs.Prelude.{◌&&◌, ◌<◌, ◌∙◌, ◌≡◌, and_left, arith, ltb, ltb-true, rules, not, not-false, not-true, sym, true, untagged}
+use Rattle.laws.specs.Prelude.{◌&&◌, ◌<◌, ◌∙◌, ◌≡◌, and_left, arith, ltb, ltb-true, not, not-false, not-true, sym, true, untagged}
 use Rattle.bucket_step.specs.Tested.{Stands, FoundRoom}
 use Rattle.bucket_step.proofs.Read.{fits, room-found}
 use Rattle.bucket_step.proofs.Steps.{all-tall, within}
@@ -13,7 +13,6 @@ use Rattle.ports.proofs.push_at.Goals.{After-agrees, After-seat_of-k, Else-not-h
 -- places on the way, each from a later one
 
 -- what has been tested so far
-
 ok : (c : Else-not-is_known) → Known c.args.s c.args.port c.args.bits.now c.args.words.now
 ok c = record { both = sym c.is_known.ensures ∙ not-false c.is_known.result c.if-not-is_known.false-raw }
 

@@ -1,5 +1,5 @@
 -- `ports::replace` meets its contract.
-use Rattle.laws.specs.Prelude.{◌&&◌, ◌<◌, ◌∙◌, ◌≡◌, and_left, eqb, ltb, ltb-true, rules, not, not-false, not-true, sym, true, untagged}
+use Rattle.laws.specs.Prelude.{◌&&◌, ◌<◌, ◌∙◌, ◌≡◌, and_left, eqb, ltb, ltb-true, not, not-false, not-true, sym, true, untagged}
 use Rattle.bucket_model.specs.Prelude.{taken_bits, taken_words, word}
 use Rattle.bucket_step.specs.Tested.{Stands, Freeing, FoundRoom, room_freed}
 use Rattle.bucket_step.proofs.Read.{fits, freed-found}
@@ -13,7 +13,6 @@ use Rattle.ports.proofs.replace.Goals.{After-agrees_after, After-seat_of-k, Else
 -- places on the way, each from a later one
 
 -- what has been tested so far
-
 ok : (c : Else-not-is_known) → Known c.args.s c.args.port c.args.bits.now c.args.words.now
 ok c = record { both = sym c.is_known.ensures ∙ not-false c.is_known.result c.if-not-is_known.false-raw }
 
@@ -44,7 +43,6 @@ takes c =
     freeing _ _ _ (st (goal.at.Else-not-low c).After-seat_of-k) _ (give-some _ _ _ _ _ c.seat_of-k.ensures (ok (goal.at.Else-not-low c).Else-not-is_known) _ c.add_up-t.ensures (given (goal.at.Else-not-low c).Else-not-has_some)) c.find_lowest-low.ensures (good c)
 
 -- the newcomer's bucket as after the pop
-
 found : (c : After-agrees_after) → FoundRoom (c.room_after-room.result.good && c.agrees_after.result) c.room_after-room.result (room_freed c.seat_of-k.result (taken_bits c.seat_of-k.result c.args.bits.now c.find_lowest-low.result) (taken_words c.seat_of-k.result c.args.words.now c.find_lowest-low.result) c.args.e.rank.0)
 found c =
     freed-found _ c.args.bits.now _ c.find_lowest-low.result (takes (goal.at.After-agrees_after c).Else-not-low).takable _ _ c.room_after-room.ensures _ _ c.held_count-held.ensures c.agrees_after.ensures

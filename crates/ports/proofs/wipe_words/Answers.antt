@@ -1,6 +1,5 @@
 -- `ports::wipe_words` meets its contract.
-use Rattle.laws.specs.Prelude.{◌*◌, ◌+◌, ◌-◌, ◌∙◌, ◌≡◌, ◌≤◌, arith, length, length-set, refl, ℕ}
-use Rattle.bucket_model.specs.Prelude.{fill}
+use Rattle.laws.specs.Prelude.{◌*◌, ◌+◌, ◌-◌, ◌∙◌, ◌≤◌, arith, length, length-set, refl}
 use Rattle.bucket_node.proofs.Blanks.{fill-ends}
 use Rattle.ports.specs.Blank.{blank_at}
 use Rattle.ports.proofs.Blanks.{blank-lists, fill-first, fill-port}
@@ -8,12 +7,10 @@ use Rattle.ports.proofs.wipe_words.Goals as goal
 use Rattle.ports.proofs.wipe_words.Goals.{At-loop-p, Start}
 
 -- places on the way, each from a later one
-
 abbrev to_start : At-loop-p → Start
 to_start c = (goal.at.At-loop-p c).Start
 
 -- there is room for all words
-
 long : (c : At-loop-p) → (to_start c).args.k.free + (1 + 3 * (to_start c).args.ports) ≤ length c.wipe_lists.new.words
 long c = omega (arith, (to_start c).requires.words_in, c.wipe_lists.auto.words)
 

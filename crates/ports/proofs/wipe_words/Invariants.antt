@@ -1,9 +1,7 @@
 -- `ports::wipe_words` meets its contract.
-use Rattle.laws.specs.Prelude.{◌*◌, ◌+◌, ◌-◌, ◌∙◌, ◌≡◌, ◌≤◌, arith, length, length-set, refl, ℕ}
+use Rattle.laws.specs.Prelude.{◌*◌, ◌+◌, ◌-◌, ◌≡◌, ◌≤◌, length}
 use Rattle.bucket_model.specs.Prelude.{fill}
-use Rattle.bucket_node.proofs.Blanks.{fill-ends}
 use Rattle.ports.specs.Blank.{blank_at}
-use Rattle.ports.proofs.Blanks.{blank-lists, fill-first, fill-port}
 use Rattle.ports.proofs.wipe_words.Given as goal
 
 abbrev pub invariant-loop-p : goal.invariant-loop-p

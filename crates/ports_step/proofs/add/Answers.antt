@@ -1,5 +1,5 @@
 -- `ports_step::add` meets its contract.
-use Rattle.laws.specs.Prelude.{◌*◌, ◌+◌, arith, rules, refl}
+use Rattle.laws.specs.Prelude.{◌*◌, ◌+◌, arith, refl}
 use Rattle.ports_step.proofs.Sums.{sums-more}
 use Rattle.ports_step.proofs.add.Goals as goal
 

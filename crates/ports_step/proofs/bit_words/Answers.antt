@@ -1,5 +1,5 @@
 -- `ports_step::bit_words` meets its contract.
-use Rattle.laws.specs.Prelude.{arith, rules}
+use Rattle.laws.specs.Prelude.{arith}
 use Rattle.ports_step.proofs.Sums.{seat-small, tall-is}
 use Rattle.ports_step.proofs.bit_words.Goals as goal
 

@@ -1,5 +1,5 @@
 -- `ports_step::has_room` meets its contract.
-use Rattle.laws.specs.Prelude.{◌&&◌, rules}
+use Rattle.laws.specs.Prelude.{◌&&◌}
 use Rattle.ports_step.proofs.has_room.Goals as goal
 
 pub returns : goal.returns

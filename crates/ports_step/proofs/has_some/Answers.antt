@@ -1,5 +1,5 @@
 -- `ports_step::has_some` meets its contract.
-use Rattle.laws.specs.Prelude.{◌&&◌, eqb, rules, not}
+use Rattle.laws.specs.Prelude.{◌&&◌, eqb, not}
 use Rattle.ports_step.proofs.has_some.Goals as goal
 
 pub returns : goal.returns

@@ -1,5 +1,5 @@
 -- `ports_step::is_known` meets its contract.
-use Rattle.laws.specs.Prelude.{Bool, ◌&&◌, ap, ltb, rules}
+use Rattle.laws.specs.Prelude.{Bool, ◌&&◌, ap, ltb}
 use Rattle.ports_step.proofs.is_known.Goals as goal
 
 pub returns : goal.returns

@@ -1,5 +1,5 @@
 -- `ports_step::is_numbered` meets its contract.
-use Rattle.laws.specs.Prelude.{Bool, ◌&&◌, ap, leb, rules}
+use Rattle.laws.specs.Prelude.{Bool, ◌&&◌, ap, leb}
 use Rattle.bucket_model.specs.Prelude.{pool}
 use Rattle.ports_model.specs.Prelude.{most_ports}
 use Rattle.ports_step.proofs.is_numbered.Goals as goal

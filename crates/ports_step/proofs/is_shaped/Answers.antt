@@ -1,12 +1,11 @@
 -- `ports_step::is_shaped` meets its contract.
-use Rattle.laws.specs.Prelude.{◌∙◌, ◌≡◌, rules, not-false, not-true, sym, true}
+use Rattle.laws.specs.Prelude.{◌∙◌, ◌≡◌, not-false, not-true, sym, true}
 use Rattle.ports_step.specs.Sums.{Numbers, numbers_ok}
 use Rattle.ports_step.proofs.Sums.{numbers-mean, shape-no, shape-yes}
 use Rattle.ports_step.proofs.is_shaped.Goals as goal
 use Rattle.ports_step.proofs.is_shaped.Goals.{Else-not-is_numbered}
 
 -- places on the way, each from a later one
-
 ok : (c : Else-not-is_numbered) → numbers_ok c.args.s ≡ true
 ok c = sym c.is_numbered.ensures ∙ not-false c.is_numbered.result c.if-not-is_numbered.false-raw
 

@@ -1,5 +1,5 @@
 -- `ports_step::is_whole` meets its contract.
-use Rattle.laws.specs.Prelude.{◌∙◌, rules}
+use Rattle.laws.specs.Prelude.{◌∙◌}
 use Rattle.bucket_model.specs.Prelude.{word}
 use Rattle.bucket_step.proofs.Read.{top_in}
 use Rattle.ports_model.specs.Prelude.{whole_ok}

@@ -1,5 +1,5 @@
 -- `ports_step::limit_or_damage` meets its contract.
-use Rattle.laws.specs.Prelude.{◌∙◌, rules, sym}
+use Rattle.laws.specs.Prelude.{◌∙◌, sym}
 use Rattle.bucket_step.proofs.Read.{pick_yes, pick_no}
 use Rattle.ports_step.proofs.limit_or_damage.Goals as goal
 

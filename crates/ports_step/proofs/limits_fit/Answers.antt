@@ -1,7 +1,6 @@
 -- `ports_step::limits_fit` meets its contract.
-use Rattle.laws.specs.Prelude.{◌&&◌, ◌*◌, ◌-◌, ◌∙◌, ◌≡◌, ◌≤◌, arith, leb, length, sym}
-use Rattle.ports_model.specs.Prelude.{all_to, ceiling_of, floor_of}
-use Rattle.ports_step.specs.Sums.{Floors}
+use Rattle.laws.specs.Prelude.{◌&&◌, ◌-◌, ◌∙◌, arith, leb, sym}
+use Rattle.ports_model.specs.Prelude.{ceiling_of, floor_of}
 use Rattle.ports_step.proofs.Sums.{all_none, all_more, floors-none, floors-more, limits-short, limits-are}
 use Rattle.ports_step.proofs.limits_fit.Goals as goal
 

@@ -1,5 +1,5 @@
 -- `ports_step::seat_of` meets its contract.
-use Rattle.laws.specs.Prelude.{◌*◌, arith, rules}
+use Rattle.laws.specs.Prelude.{◌*◌, arith}
 use Rattle.ports_step.proofs.Sums.{few-of, some_of, seat-is, tower-le, ranks-le}
 use Rattle.ports_step.proofs.seat_of.Goals as goal
 

@@ -1,5 +1,5 @@
 -- `ports_step::shape_or_port` meets its contract.
-use Rattle.laws.specs.Prelude.{◌∙◌, rules, sym}
+use Rattle.laws.specs.Prelude.{◌∙◌, sym}
 use Rattle.bucket_step.proofs.Read.{pick_yes, pick_no}
 use Rattle.ports_step.proofs.shape_or_port.Goals as goal
 

@@ -1,5 +1,5 @@
 -- `ports_step::store_words` meets its contract.
-use Rattle.laws.specs.Prelude.{arith, rules}
+use Rattle.laws.specs.Prelude.{arith}
 use Rattle.ports_step.proofs.Sums.{seat-small, long-is}
 use Rattle.ports_step.proofs.store_words.Goals as goal
 

@@ -1,6 +1,5 @@
 -- `strip::asks_something` meets its contract.
 use mathlib.Core.Path.{ap, sym}
-use borrow.Author.Rules.{rules}
 use Rattle.strip.specs.Answers.{asks}
 use Rattle.strip.proofs.asks_something.Goals as goal
 

@@ -1,6 +1,5 @@
 -- `strip::due` meets its contract.
 use native.Mathlib.Omega.{arith}
-use borrow.Author.Rules.{rules}
 use borrow.Author.Tests.{not-false, not-true}
 use Rattle.strip.proofs.due.Goals as goal
 

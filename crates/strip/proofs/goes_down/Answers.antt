@@ -1,7 +1,6 @@
 -- `strip::goes_down` meets its contract.
 use mathlib.Core.Path.{◌∙◌, sym}
 use Rattle.strip.specs.Words.{pass}
-use borrow.Author.Rules.{rules}
 use Rattle.strip.proofs.goes_down.Goals as goal
 
 pub returns-then-lower : goal.returns-then-lower

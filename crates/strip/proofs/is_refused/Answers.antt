@@ -1,6 +1,5 @@
 -- `strip::is_refused` meets its contract.
 use mathlib.Core.Path.{ap, sym}
-use borrow.Author.Rules.{rules}
 use Rattle.strip.specs.Answers.{is_refused}
 use Rattle.strip.proofs.is_refused.Goals as goal
 

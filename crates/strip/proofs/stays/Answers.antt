@@ -1,7 +1,6 @@
 -- `strip::stays` meets its contract.
 use mathlib.Core.Path.{◌∙◌, sym}
 use Rattle.strip.specs.Words.{keep}
-use borrow.Author.Rules.{rules}
 use Rattle.strip.proofs.stays.Goals as goal
 
 pub returns-then-lower : goal.returns-then-lower

@@ -1,7 +1,6 @@
 -- `strip::write_element` meets its contract.
 use native.Mathlib.Omega.{arith}
 use lib.ListN.{length-set}
-use borrow.Author.Rules.{rules}
 use Rattle.strip.proofs.write_element.Goals as goal
 
 pub bounds-s-at-2 : goal.bounds-s-at-2

@@ -1,8 +1,7 @@
 -- `text::put_digits` meets its contract.
-use Prim.Native.Nat.{◌-◌, ◌/◌, ◌<◌, ℕ}
+use Prim.Native.Nat.{◌-◌, ◌/◌}
 use native.Mathlib.Omega.{arith}
 use mathlib.Core.Path.{◌≡◌}
-use borrow.Author.Rules.{rules}
 use Rattle.text.proofs.Laws.{decimal-short, digits-end, digits_more, digits-one}
 use Rattle.text.proofs.+put_digits.Goals as goal
 

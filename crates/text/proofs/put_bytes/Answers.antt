@@ -1,10 +1,9 @@
 -- `text::put_bytes` meets its contract.
-use Prim.Native.Nat.{◌+◌, ◌-◌, ◌≤◌, ℕ}
+use Prim.Native.Nat.{◌+◌, ℕ}
 use native.Mathlib.Omega.{arith}
 use mathlib.Core.Path.{◌∙◌, ◌≡◌, ap, refl}
-use lib.ListN.{length, length-set, take}
+use lib.ListN.{length, length-set}
 use lib.Seq.{take_all}
-use borrow.Author.Rules.{rules}
 use Rattle.text.proofs.Laws.{bytes_next}
 use Rattle.text.specs.Text.{overlay}
 use Rattle.text.proofs.put_bytes.Goals as goal

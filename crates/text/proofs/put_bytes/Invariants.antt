@@ -1,11 +1,7 @@
 -- `text::put_bytes` meets its contract.
-use Prim.Native.Nat.{◌+◌, ◌-◌, ◌≤◌, ℕ}
-use native.Mathlib.Omega.{arith}
-use mathlib.Core.Path.{◌∙◌, ◌≡◌, ap, refl}
-use lib.ListN.{length, length-set, take}
-use lib.Seq.{take_all}
-use borrow.Author.Rules.{rules}
-use Rattle.text.proofs.Laws.{bytes_next}
+use Prim.Native.Nat.{◌-◌, ◌≤◌}
+use mathlib.Core.Path.{◌≡◌}
+use lib.ListN.{length, take}
 use Rattle.text.specs.Text.{overlay}
 use Rattle.text.proofs.put_bytes.Given as goal
 

@@ -1,6 +1,5 @@
 -- `text::put_number` meets its contract.
 use native.Mathlib.Omega.{arith}
-use borrow.Author.Rules.{rules}
 use Rattle.text.proofs.Laws.{decimal-short}
 use Rattle.text.specs.Text.{decimal}
 use Rattle.text.proofs.put_number.Goals as goal

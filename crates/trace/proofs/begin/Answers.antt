@@ -1,5 +1,4 @@
 -- `trace::begin` meets its contract.
-use Rattle.laws.specs.Prelude.{rules}
 use Rattle.trace_model.proofs.Laws.{begun-none, begun-shape, begun-wrong}
 use Rattle.trace.proofs.begin.Goals as goal
 

@@ -1,5 +1,5 @@
 -- `trace::closed` meets its contract.
-use Rattle.laws.specs.Prelude.{rules, refl}
+use Rattle.laws.specs.Prelude.{refl}
 use Rattle.trace_model.proofs.Laws.{closed-made}
 use Rattle.trace.proofs.closed.Goals as goal
 

@@ -1,5 +1,5 @@
 -- `trace::opened` meets its contract.
-use Rattle.laws.specs.Prelude.{rules, refl}
+use Rattle.laws.specs.Prelude.{refl}
 use Rattle.trace_model.proofs.Laws.{opened-made}
 use Rattle.tree_clock.proofs.Public.{clear-machine}
 use Rattle.trace.proofs.opened.Goals as goal

@@ -1,5 +1,5 @@
 -- `trace::play` meets its contract.
-use Rattle.laws.specs.Prelude.{arith, length, rules, refl}
+use Rattle.laws.specs.Prelude.{arith, length, refl}
 use Rattle.trace_model.proofs.Laws.{lines-room, piece-made, piece-none, size-some}
 use Rattle.trace.proofs.play.Goals as goal
 

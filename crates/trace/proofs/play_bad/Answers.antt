@@ -1,5 +1,5 @@
 -- `trace::play_bad` meets its contract.
-use Rattle.laws.specs.Prelude.{ap, rules}
+use Rattle.laws.specs.Prelude.{ap}
 use Rattle.text.proofs.Laws.{laid_then, laid-to}
 use Rattle.trace_model.specs.Format.{bad_line}
 use Rattle.trace.proofs.play_bad.Goals as goal

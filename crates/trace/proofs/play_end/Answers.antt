@@ -1,5 +1,4 @@
 -- `trace::play_end` meets its contract.
-use Rattle.laws.specs.Prelude.{rules}
 use Rattle.trace_model.proofs.Laws.{end-made}
 use Rattle.trace.proofs.play_end.Goals as goal
 

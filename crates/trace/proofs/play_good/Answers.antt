@@ -1,5 +1,4 @@
 -- `trace::play_good` meets its contract.
-use Rattle.laws.specs.Prelude.{rules}
 use Rattle.trace_model.proofs.Laws.{good-made}
 use Rattle.trace.proofs.play_good.Goals as goal
 

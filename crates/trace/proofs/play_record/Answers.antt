@@ -1,5 +1,4 @@
 -- `trace::play_record` meets its contract.
-use Rattle.laws.specs.Prelude.{rules}
 use Rattle.trace_model.proofs.Laws.{record-bad, record-ended, record-good}
 use Rattle.trace.proofs.play_record.Goals as goal
 

@@ -1,7 +1,6 @@
 -- `trace::play_records` meets its contract.
-use Rattle.laws.specs.Prelude.{◌*◌, ◌+◌, ◌/◌, ◌∙◌, ◌≡◌, ◌≤◌, arith, length, rules, refl}
-use Rattle.trace_model.proofs.Laws.{At, at-end, at_next, at-start, next_fits, records-left, records-start, size-some, written_next}
-use Rattle.trace_model.specs.Format.{longest_line, record_bytes}
+use Rattle.laws.specs.Prelude.{◌∙◌, arith, length, refl}
+use Rattle.trace_model.proofs.Laws.{at-end, at_next, at-start, next_fits, records-left, records-start, size-some, written_next}
 use Rattle.trace.proofs.play_records.Goals as goal
 
 pub nonzero_div-left : goal.nonzero_div-left

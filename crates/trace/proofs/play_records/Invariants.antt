@@ -1,6 +1,6 @@
 -- `trace::play_records` meets its contract.
-use Rattle.laws.specs.Prelude.{◌*◌, ◌+◌, ◌/◌, ◌∙◌, ◌≡◌, ◌≤◌, arith, length, rules, refl}
-use Rattle.trace_model.proofs.Laws.{At, at-end, at_next, at-start, next_fits, records-left, records-start, size-some, written_next}
+use Rattle.laws.specs.Prelude.{◌*◌, ◌+◌, ◌/◌, ◌≡◌, ◌≤◌, length}
+use Rattle.trace_model.proofs.Laws.{At}
 use Rattle.trace_model.specs.Format.{longest_line, record_bytes}
 use Rattle.trace.proofs.play_records.Given as goal
 

@@ -1,5 +1,4 @@
 -- `trace::play_rest` meets its contract.
-use Rattle.laws.specs.Prelude.{rules}
 use Rattle.trace_model.proofs.Laws.{rest-cut, rest_ended, rest-last, rest_more}
 use Rattle.trace.proofs.play_rest.Goals as goal
 

@@ -1,5 +1,4 @@
 -- `tree::bar` meets its contract.
-use Rattle.laws.specs.Prelude.{rules}
 use Rattle.tree.proofs.Calls.{bar-refused, bar-tag}
 use Rattle.tree.proofs.bar.Goals as goal
 

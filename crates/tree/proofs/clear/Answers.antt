@@ -1,5 +1,5 @@
 -- `tree::clear` meets its contract.
-use Rattle.laws.specs.Prelude.{arith, rules}
+use Rattle.laws.specs.Prelude.{arith}
 use Rattle.tree.proofs.Calls.{clear-done, clear-fits, clear-shape, shape-few}
 use Rattle.tree.proofs.clear.Goals as goal
 

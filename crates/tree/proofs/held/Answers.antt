@@ -1,12 +1,11 @@
 -- `tree::held` meets its contract.
-use Rattle.laws.specs.Prelude.{arith, rules}
+use Rattle.laws.specs.Prelude.{arith}
 use Rattle.tree.proofs.Calls.{counted-root, counted-shape, counted-sum, Fit, fit, root_stands, shape-few, shape-here}
 use Rattle.tree_path.proofs.Once.{look_in}
 use Rattle.tree.proofs.held.Goals as goal
 use Rattle.tree.proofs.held.Goals.{After-capacity, Start}
 
 -- the shape is tested, and the room below the root counted
-
 abbrev start : After-capacity → Start
 start c = (goal.at.After-capacity c).Start
 

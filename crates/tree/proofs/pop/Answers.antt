@@ -1,12 +1,11 @@
 -- `tree::pop` meets its contract.
-use Rattle.laws.specs.Prelude.{arith, rules}
+use Rattle.laws.specs.Prelude.{arith}
 use Rattle.tree.proofs.Calls.{called-damaged, called-shape, Fit, fit, Opened, opened, pop-broken, pop-done, pop-none, root_stands, shape-few, shape-here}
 use Rattle.tree_path.proofs.Once.{look_in, numbers}
 use Rattle.tree.proofs.pop.Goals as goal
 use Rattle.tree.proofs.pop.Goals.{After-capacity-cap, Else-j-order, Start}
 
 -- the shape is tested, and the room below the root counted
-
 abbrev start : After-capacity-cap → Start
 start c = (goal.at.After-capacity-cap c).Start
 
@@ -14,7 +13,6 @@ fitting : (c : After-capacity-cap) → Fit (start c).args.order (start c).args.l
 fitting c = fit _ _ _ _ c.shape_ok.ensures c.if-not-shape_ok.false-raw _ c.capacity-cap.ensures.counts
 
 -- the root is looked at, whole, and holds something
-
 abbrev at_count : Else-j-order → After-capacity-cap
 at_count c = (goal.at.Else-j-order c).After-capacity-cap
 

@@ -1,11 +1,10 @@
 -- `tree::push` meets its contract.
-use Rattle.laws.specs.Prelude.{◌∙◌, ◌≡◌, arith, false, rules, sym, untagged}
+use Rattle.laws.specs.Prelude.{◌∙◌, ◌≡◌, arith, false, sym, untagged}
 use Rattle.tree.proofs.Calls.{called-shape, Fit, fit, push-below, push-done, push-over, push-root, root_stands, shape-few, shape-here}
 use Rattle.tree.proofs.push.Goals as goal
 use Rattle.tree.proofs.push.Goals.{After-capacity-cap, Start}
 
 -- the shape is tested, and the room below the root counted
-
 abbrev start : After-capacity-cap → Start
 start c = (goal.at.After-capacity-cap c).Start
 

@@ -1,12 +1,11 @@
 -- `tree::replace` meets its contract.
-use Rattle.laws.specs.Prelude.{◌∙◌, ◌≡◌, arith, false, rules, sym, untagged}
+use Rattle.laws.specs.Prelude.{◌∙◌, ◌≡◌, arith, false, sym, untagged}
 use Rattle.tree.proofs.Calls.{called-damaged, called-shape, Fit, fit, Opened, opened, replace-broken, replace-done, replace-none, root_stands, shape-few, shape-here}
 use Rattle.tree_path.proofs.Once.{look_in, numbers}
 use Rattle.tree.proofs.replace.Goals as goal
 use Rattle.tree.proofs.replace.Goals.{After-capacity-cap, Else-j-order, Start}
 
 -- the shape is tested, and the room below the root counted
-
 abbrev start : After-capacity-cap → Start
 start c = (goal.at.After-capacity-cap c).Start
 
@@ -18,7 +17,6 @@ fitting : (c : After-capacity-cap) → Fit (start c).args.order (start c).args.l
 fitting c = fit _ _ _ _ c.shape_ok.ensures c.if-not-shape_ok.false-raw _ c.capacity-cap.ensures.counts
 
 -- the root is looked at, whole, and holds something
-
 abbrev at_count : Else-j-order → After-capacity-cap
 at_count c = (goal.at.Else-j-order c).After-capacity-cap
 

@@ -1,5 +1,4 @@
 -- `tree_clock::clear` meets its contract.
-use Rattle.laws.specs.Prelude.{rules}
 use Rattle.tree_clock.proofs.Public.{clear-shape, shape-yes}
 use Rattle.tree_clock_level.proofs.Cycles.{clear-levels, slots-within}
 use Rattle.tree_clock.proofs.clear.Goals as goal

@@ -1,7 +1,6 @@
 -- `tree_clock::cycle` meets its contract.
 use Rattle.tree_clock.proofs.Public.{cycle-shape, shape-yes}
 use Rattle.tree_clock_level.proofs.Cycles.{cycle-levels, shape-below}
-use Rattle.laws.specs.Prelude.{rules}
 use Rattle.tree_clock.proofs.cycle.Goals as goal
 
 pub shape_fits-requires : goal.shape_fits-requires

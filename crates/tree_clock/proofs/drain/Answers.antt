@@ -1,7 +1,6 @@
 -- `tree_clock::drain` meets its contract.
 use Rattle.tree_clock.proofs.Public.{drain-shape, shape-yes}
 use Rattle.tree_clock_level.proofs.Cycles.{drain-levels, shape-below}
-use Rattle.laws.specs.Prelude.{rules}
 use Rattle.tree_clock.proofs.drain.Goals as goal
 
 pub shape_fits-requires : goal.shape_fits-requires

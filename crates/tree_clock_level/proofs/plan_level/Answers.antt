@@ -1,11 +1,10 @@
 -- `tree_clock_level::plan_level` meets its contract.
-use Rattle.laws.specs.Prelude.{arith, rules}
+use Rattle.laws.specs.Prelude.{arith}
 use Rattle.tree_clock_level.proofs.Rounds.{level-lacks, level-off, level-on, Numbers, numbers, place-less, plan-in}
 use Rattle.tree_clock_level.proofs.plan_level.Goals as goal
 use Rattle.tree_clock_level.proofs.plan_level.Goals.{Else-at-node}
 
 -- where the level has the node
-
 has-node : (c : Else-at-node) → Numbers c.args.order c.args.at.base c.args.at.nodes c.args.w.node
 has-node c =
     let a = c.args in

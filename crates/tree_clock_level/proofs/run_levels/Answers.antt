@@ -1,6 +1,6 @@
 -- `tree_clock_level::run_levels` meets its contract.
-use Rattle.laws.specs.Prelude.{◌-◌, ◌∙◌, ◌≤◌, arith, rules, not-false, not-true, sym, ⊎_elim}
-use Rattle.tree_clock_level.proofs.Rounds.{end-records, end-tests, end-words, Going, going_end, going-here, level_in, next_small, root-place, run-levels-damaged, run-levels-idle, run-levels-root, run-levels-step, cycle_run-off, cycle_run-on, passing-as}
+use Rattle.laws.specs.Prelude.{◌-◌, ◌∙◌, arith, not-false, not-true, sym}
+use Rattle.tree_clock_level.proofs.Rounds.{end-records, end-tests, end-words, going_end, going-here, level_in, next_small, root-place, run-levels-damaged, run-levels-idle, run-levels-root, run-levels-step, cycle_run-off, cycle_run-on, passing-as}
 use Rattle.tree_clock_level.proofs.run_levels.Goals as goal
 use Rattle.tree_clock_level.proofs.run_levels.Goals.{else-not-is_idle, then-not-is_idle+else-not-p}
 

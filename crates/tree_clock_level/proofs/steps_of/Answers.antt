@@ -1,6 +1,5 @@
 -- `tree_clock_level::steps_of` meets its contract.
 use Rattle.tree_clock_level.proofs.Works.{steps-none, steps-one}
-use Rattle.laws.specs.Prelude.{rules}
 use Rattle.tree_clock_level.proofs.steps_of.Goals as goal
 
 pub returns-then-is_nothing : goal.returns-then-is_nothing

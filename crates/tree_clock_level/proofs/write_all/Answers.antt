@@ -1,6 +1,5 @@
 -- `tree_clock_level::write_all` meets its contract.
-use Rattle.laws.specs.Prelude.{◌-◌, ◌∙◌, ◌≡◌, ◌≤◌, arith, length, rules, refl}
-use Rattle.tree_clock_level.specs.Steps.{written}
+use Rattle.laws.specs.Prelude.{◌-◌, ◌∙◌, ◌≡◌, arith, refl}
 use Rattle.tree_clock_level.proofs.Rounds.{written_next, written_none}
 use Rattle.tree_clock_level.proofs.write_all.Goals as goal
 

@@ -1,7 +1,6 @@
 -- `tree_clock_level::write_all` meets its contract.
-use Rattle.laws.specs.Prelude.{◌-◌, ◌∙◌, ◌≡◌, ◌≤◌, arith, length, rules, refl}
+use Rattle.laws.specs.Prelude.{◌-◌, ◌≡◌, ◌≤◌, length}
 use Rattle.tree_clock_level.specs.Steps.{written}
-use Rattle.tree_clock_level.proofs.Rounds.{written_next, written_none}
 use Rattle.tree_clock_level.proofs.write_all.Given as goal
 
 abbrev pub invariant-loop-i : goal.invariant-loop-i

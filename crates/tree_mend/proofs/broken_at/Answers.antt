@@ -1,6 +1,5 @@
 -- `tree_mend::broken_at` meets its contract.
 use Rattle.tree_mend.proofs.Steps.{walk-above, walk-broken, walk-slot}
-use Rattle.laws.specs.Prelude.{rules}
 use Rattle.tree_mend.proofs.broken_at.Goals as goal
 
 pub rank_above-above-requires : goal.rank_above-above-requires

@@ -1,6 +1,5 @@
 -- `tree_mend::check` meets its contract.
 use Rattle.tree_mend.proofs.Shapes.{check-shape, store-lies}
-use Rattle.laws.specs.Prelude.{rules}
 use Rattle.tree_mend.proofs.check.Goals as goal
 
 pub returns-then-not-shape_fits : goal.returns-then-not-shape_fits

@@ -1,5 +1,5 @@
 -- `tree_mend::counts_under` meets its contract.
-use Rattle.laws.specs.Prelude.{arith, rules}
+use Rattle.laws.specs.Prelude.{arith}
 use Rattle.tree_mend.proofs.Steps.{under-fits, under-in, under_none, under_some}
 use Rattle.tree_mend.proofs.counts_under.Goals as goal
 

@@ -1,7 +1,7 @@
 -- `tree_mend::first_broken` meets its contract.
-use Rattle.laws.specs.Prelude.{◌-◌, ◌<◌, ◌∙◌, ap, arith, ⊎_elim}
+use Rattle.laws.specs.Prelude.{◌-◌, ◌<◌, ◌∙◌, ap, arith}
 use Rattle.tree_mend_model.specs.declared.Check.TheVariants.{Broken}
-use Rattle.tree_mend.proofs.Walk.{AtLevel, AtSlot, level-begins, level-ends, level-fits, slot-found, slot-in, slot-passed, slot_small, walk_begins, walk_ends}
+use Rattle.tree_mend.proofs.Walk.{level-begins, level-ends, level-fits, slot-found, slot-in, slot-passed, slot_small, walk_begins, walk_ends}
 use Rattle.tree_mend.proofs.first_broken.Goals as goal
 use Rattle.tree_mend.proofs.first_broken.Goals.{else-walk-test, then-walk-test+then-loop-p-test+then-broken_at}
 

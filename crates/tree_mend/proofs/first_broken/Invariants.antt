@@ -1,7 +1,6 @@
 -- `tree_mend::first_broken` meets its contract.
-use Rattle.laws.specs.Prelude.{◌-◌, ◌<◌, ◌∙◌, ap, arith, ⊎_elim}
-use Rattle.tree_mend_model.specs.declared.Check.TheVariants.{Broken}
-use Rattle.tree_mend.proofs.Walk.{AtLevel, AtSlot, level-begins, level-ends, level-fits, slot-found, slot-in, slot-passed, slot_small, walk_begins, walk_ends}
+use Rattle.laws.specs.Prelude.{◌-◌}
+use Rattle.tree_mend.proofs.Walk.{AtLevel, AtSlot}
 use Rattle.tree_mend.proofs.first_broken.Given as goal
 
 abbrev pub invariant-loop-p : goal.invariant-loop-p

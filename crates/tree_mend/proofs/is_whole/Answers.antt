@@ -1,7 +1,6 @@
 -- `tree_mend::is_whole` meets its contract.
 use Rattle.tree_mend.proofs.Descent.{descent-no, descent-shape, descent-yes}
 use Rattle.tree_mend.proofs.Shapes.{root-lies}
-use Rattle.laws.specs.Prelude.{rules}
 use Rattle.tree_mend.proofs.is_whole.Goals as goal
 
 pub returns-then-not-shape_fits : goal.returns-then-not-shape_fits

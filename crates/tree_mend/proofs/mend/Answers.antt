@@ -1,7 +1,7 @@
 -- `tree_mend::mend` meets its contract.
 use Rattle.tree_mend.proofs.Mends.{mend-able, mend-done, mend-first, mend-second, skipped-small}
 use Rattle.tree_mend.proofs.Shapes.{slots-are, slots-lie}
-use Rattle.laws.specs.Prelude.{◌<◌, arith, rules}
+use Rattle.laws.specs.Prelude.{◌<◌, arith}
 use Rattle.tree_mend.proofs.mend.Goals as goal
 
 pub returns-then-not-shape_fits : goal.returns-then-not-shape_fits

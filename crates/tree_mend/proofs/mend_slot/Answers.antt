@@ -1,5 +1,5 @@
 -- `tree_mend::mend_slot` meets its contract.
-use Rattle.laws.specs.Prelude.{arith, rules}
+use Rattle.laws.specs.Prelude.{arith}
 use Rattle.tree_mend.proofs.Mends.{slot-none, slot-settles, slot-skips}
 use Rattle.tree_mend.proofs.mend_slot.Goals as goal
 

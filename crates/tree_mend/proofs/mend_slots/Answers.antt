@@ -1,7 +1,5 @@
 -- `tree_mend::mend_slots` meets its contract.
-use Rattle.laws.specs.Prelude.{◌-◌, ◌≡◌, arith, suc, ℕ}
-use Rattle.tree_model.specs.Prelude.{room}
-use Rattle.tree_mend.specs.Settle.{Cleared}
+use Rattle.laws.specs.Prelude.{◌-◌, arith}
 use Rattle.tree_mend.proofs.Mends.{mend-asks, mend-begins, mend-ends, mend-goes, Mending}
 use Rattle.tree_mend.proofs.mend_slots.Goals as goal
 use Rattle.tree_mend.proofs.mend_slots.Goals.{At-loop-i}
@@ -9,7 +7,6 @@ use Rattle.tree_mend.proofs.mend_slots.Goals.{At-loop-i}
 -- places on the way, each from a later one
 
 -- the shape is one that the store has
-
 mending : (c : At-loop-i) → Mending c.args.order c.requires.below c.args.from.now c.args.to.now c.args.slots c.loop-i.to c.loop-i.t.pushed c.loop-i.t.skipped c.loop-i.i
 mending c = c.loop-i.invariant c.requires.below c.requires.cleared c.requires.slots
 

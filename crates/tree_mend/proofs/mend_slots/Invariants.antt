@@ -1,8 +1,8 @@
 -- `tree_mend::mend_slots` meets its contract.
-use Rattle.laws.specs.Prelude.{◌-◌, ◌≡◌, arith, suc, ℕ}
+use Rattle.laws.specs.Prelude.{◌-◌, ◌≡◌, suc, ℕ}
 use Rattle.tree_model.specs.Prelude.{room}
 use Rattle.tree_mend.specs.Settle.{Cleared}
-use Rattle.tree_mend.proofs.Mends.{mend-asks, mend-begins, mend-ends, mend-goes, Mending}
+use Rattle.tree_mend.proofs.Mends.{Mending}
 use Rattle.tree_mend.proofs.mend_slots.Given as goal
 
 abbrev pub invariant-loop-i : goal.invariant-loop-i

@@ -1,6 +1,5 @@
 -- `tree_mend::power_of` meets its contract.
 use Rattle.tree_mend.proofs.Paths.{power-three}
-use Rattle.laws.specs.Prelude.{rules}
 use Rattle.tree_mend.proofs.power_of.Goals as goal
 
 pub returns : goal.returns

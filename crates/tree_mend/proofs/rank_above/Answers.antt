@@ -1,6 +1,5 @@
 -- `tree_mend::rank_above` meets its contract.
 use Rattle.tree_mend.proofs.Steps.{rank-none, rank-some}
-use Rattle.laws.specs.Prelude.{rules}
 use Rattle.tree_mend.proofs.rank_above.Goals as goal
 
 pub returns-then-node-eq0 : goal.returns-then-node-eq0

@@ -1,5 +1,5 @@
 -- `tree_mend::rank_at` meets its contract.
-use Rattle.laws.specs.Prelude.{ap, rules}
+use Rattle.laws.specs.Prelude.{ap}
 use Rattle.tree_model.specs.declared.Slot.{Slot}
 use Rattle.tree_mend.proofs.rank_at.Goals as goal
 

@@ -1,16 +1,15 @@
 -- `tree_mend::settle` meets its contract.
-use Rattle.laws.specs.Prelude.{Element, ◌*◌, ◌+◌, ◌-◌, ◌/◌, ◌<◌, ◌^◌, ◌∙◌, ◌≡◌, ◌≤◌, ap, arith, rules, refl, subst, sym, ℕ}
+use Rattle.laws.specs.Prelude.{Element, ◌*◌, ◌+◌, ◌-◌, ◌/◌, ◌<◌, ◌^◌, ◌∙◌, ◌≡◌, ◌≤◌, ap, arith, refl, subst, sym, ℕ}
 use native.Mathlib.Nat.{div-le_self, div-mul-le_self, mod-eq-sub-div-mul, mod-lt}
 use Rattle.tree_mend.specs.Settle.{slot}
 use Rattle.tree_mend.proofs.Settles.{high}
-use Rattle.tree_mend.proofs.Paths.{Bounds, settle-begins, settle-bounds, settle-ends, settle_goes, Settling}
+use Rattle.tree_mend.proofs.Paths.{Bounds, settle-begins, settle-bounds, settle-ends, settle_goes}
 use Rattle.tree_mend.proofs.settle.Goals as goal
 use Rattle.tree_mend.proofs.settle.Goals.{After-loop-left, In-loop-left}
 
 -- places on the way, each from a later one
 
 -- what is known of the next push's number and of its place
-
 module _ (c : In-loop-left) where
   abbrev m : ℕ
   m = c.args.order

@@ -1,6 +1,5 @@
 -- `tree_mend::slot_broken` meets its contract.
 use Rattle.tree_mend.proofs.Steps.{broken-empty, broken-full}
-use Rattle.laws.specs.Prelude.{rules}
 use Rattle.tree_mend.proofs.slot_broken.Goals as goal
 
 pub returns-then-count-eq0 : goal.returns-then-count-eq0

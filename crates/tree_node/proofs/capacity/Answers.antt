@@ -1,5 +1,5 @@
 -- `tree_node::capacity` meets its contract.
-use Rattle.laws.specs.Prelude.{arith, rules}
+use Rattle.laws.specs.Prelude.{arith}
 use Rattle.tree_node.proofs.Steps.{sum-eight, sum-four, sum-two, summed}
 use Rattle.tree_model.specs.Prelude.{room}
 use Rattle.tree_node.proofs.capacity.Goals as goal

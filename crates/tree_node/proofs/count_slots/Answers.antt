@@ -1,8 +1,8 @@
 -- `tree_node::count_slots` meets its contract.
-use Rattle.laws.specs.Prelude.{◌*◌, ◌+◌, ◌-◌, ◌∙◌, ◌≡◌, ◌≤◌, ap, arith, leb-false, leb-true, mul-le-mul_right, rules, ℕ}
+use Rattle.laws.specs.Prelude.{◌*◌, ◌+◌, ◌∙◌, ap, arith, leb-false, leb-true, mul-le-mul_right, rules, ℕ}
 use Rattle.tree_node.proofs.Steps.{capacity-above, capacity-end, counted-above, counted_next, room_next}
 use Rattle.tree_node.specs.Room.{slots_counted}
-use Rattle.tree_model.specs.Prelude.{room, slot_limit, slots}
+use Rattle.tree_model.specs.Prelude.{room, slot_limit}
 use Rattle.tree_node.proofs.count_slots.Goals as goal
 
 pub loop-i-init : goal.loop-i-init

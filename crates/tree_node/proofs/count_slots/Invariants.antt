@@ -1,8 +1,7 @@
 -- `tree_node::count_slots` meets its contract.
-use Rattle.laws.specs.Prelude.{◌*◌, ◌+◌, ◌-◌, ◌∙◌, ◌≡◌, ◌≤◌, ap, arith, leb-false, leb-true, mul-le-mul_right, rules, ℕ}
-use Rattle.tree_node.proofs.Steps.{capacity-above, capacity-end, counted-above, counted_next, room_next}
+use Rattle.laws.specs.Prelude.{◌-◌, ◌≡◌, ◌≤◌}
 use Rattle.tree_node.specs.Room.{slots_counted}
-use Rattle.tree_model.specs.Prelude.{room, slot_limit, slots}
+use Rattle.tree_model.specs.Prelude.{room}
 use Rattle.tree_node.proofs.count_slots.Given as goal
 
 abbrev pub invariant-loop-i : goal.invariant-loop-i

@@ -1,5 +1,4 @@
 -- `tree_node::shape_ok` meets its contract.
-use Rattle.laws.specs.Prelude.{rules}
 use Rattle.tree_node.proofs.shape_ok.Goals as goal
 
 pub returns : goal.returns

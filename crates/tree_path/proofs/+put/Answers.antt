@@ -1,10 +1,9 @@
 -- `tree_path::put` meets its contract.
-use Rattle.laws.specs.Prelude.{◌<◌, ◌∙◌, arith, rules, ℕ}
+use Rattle.laws.specs.Prelude.{◌∙◌, arith}
 use Rattle.tree_path.proofs.Once.{below-small, look_in, numbers, put-cap, put-crowded, put-ends, put-fails, put-inside, put-off, put-passes, put-stands}
 use Rattle.tree_path.proofs.+put.Goals as goal
 
 -- the levels left fall
-
 pub find_least-j-requires : goal.find_least-j-requires
 find_least-j-requires t c = look_in c.requires
 

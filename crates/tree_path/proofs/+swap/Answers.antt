@@ -1,10 +1,9 @@
 -- `tree_path::swap` meets its contract.
-use Rattle.laws.specs.Prelude.{◌<◌, ◌∙◌, arith, rules, ℕ}
+use Rattle.laws.specs.Prelude.{◌∙◌, arith}
 use Rattle.tree_path.proofs.Once.{below-small, lift-stands, lift-cap, look_in, lift-looked, numbers, swap-fails, swap-keeps, swap-last, swap-off, swap-passes}
 use Rattle.tree_path.proofs.+swap.Goals as goal
 
 -- the levels left fall
-
 pub overflow_add-i : goal.overflow_add-i
 overflow_add-i t c = omega (arith, numbers c.requires.stands, c.requires.inside)
 

@@ -1,10 +1,9 @@
 -- `tree_path::take` meets its contract.
-use Rattle.laws.specs.Prelude.{◌<◌, ◌∙◌, arith, rules, ℕ}
+use Rattle.laws.specs.Prelude.{◌∙◌, arith}
 use Rattle.tree_path.proofs.Once.{below-small, lift-stands, lift-cap, look_in, lift-looked, numbers, take-fails, take_last, take-off, take-passes}
 use Rattle.tree_path.proofs.+take.Goals as goal
 
 -- the levels left fall
-
 pub overflow_add-i : goal.overflow_add-i
 overflow_add-i t c = omega (arith, numbers c.requires.stands, c.requires.inside)
 

@@ -1,6 +1,5 @@
 -- `tree_plan::choose_least` meets its contract.
 use Rattle.tree_plan.proofs.Planning.{least-chosen, least-order, least-small}
-use Rattle.laws.specs.Prelude.{rules}
 use Rattle.tree_plan.proofs.choose_least.Goals as goal
 
 pub returns : goal.returns

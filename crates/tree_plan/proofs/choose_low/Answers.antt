@@ -1,6 +1,6 @@
 -- `tree_plan::choose_low` meets its contract.
 use Rattle.tree_plan.proofs.Planning.{low-chosen, low-none, low-order}
-use Rattle.laws.specs.Prelude.{false≢true, rules}
+use Rattle.laws.specs.Prelude.{false≢true}
 use Rattle.tree_plan.proofs.choose_low.Goals as goal
 
 pub returns-then-place-order : goal.returns-then-place-order

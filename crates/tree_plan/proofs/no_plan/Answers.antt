@@ -1,5 +1,5 @@
 -- `tree_plan::no_plan` meets its contract.
-use Rattle.laws.specs.Prelude.{Element, ap, rules, refl}
+use Rattle.laws.specs.Prelude.{Element, ap, refl}
 use Rattle.tree_model.specs.Prelude.{move}
 use Rattle.tree_model.specs.declared.Op.TheVariants.{Nothing}
 use Rattle.tree_plan.proofs.no_plan.Goals as goal

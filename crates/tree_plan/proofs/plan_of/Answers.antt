@@ -1,6 +1,5 @@
 -- `tree_plan::plan_of` meets its contract.
 use Rattle.tree_plan.proofs.Planning.{planned-as, planned-none}
-use Rattle.laws.specs.Prelude.{rules}
 use Rattle.tree_plan.proofs.plan_of.Goals as goal
 
 pub returns-in-Nothing : goal.returns-in-Nothing

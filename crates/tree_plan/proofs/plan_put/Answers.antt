@@ -1,6 +1,5 @@
 -- `tree_plan::plan_put` meets its contract.
 use Rattle.tree_plan.proofs.Planning.{put-empty, put-over}
-use Rattle.laws.specs.Prelude.{rules}
 use Rattle.tree_plan.proofs.plan_put.Goals as goal
 
 pub returns-then-count-eq0 : goal.returns-then-count-eq0

@@ -1,5 +1,5 @@
 -- `tree_plan::plan_take` meets its contract.
-use Rattle.laws.specs.Prelude.{◌∙◌, arith, rules, not-false, sym, true≢false}
+use Rattle.laws.specs.Prelude.{◌∙◌, arith, not-false, sym, true≢false}
 use Rattle.tree_plan.proofs.Planning.{chosen-low, lift-last, lift-off, lift-on, take_last, take-lifted}
 use Rattle.tree_plan.proofs.plan_take.Goals as goal
 

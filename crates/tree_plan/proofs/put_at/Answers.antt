@@ -1,6 +1,6 @@
 -- `tree_plan::put_at` meets its contract.
 use Rattle.tree_plan.proofs.Planning.{put-planned, put-planned-off}
-use Rattle.laws.specs.Prelude.{rules, not-false}
+use Rattle.laws.specs.Prelude.{not-false}
 use Rattle.tree_plan.proofs.put_at.Goals as goal
 
 pub returns-then-not-c : goal.returns-then-not-c

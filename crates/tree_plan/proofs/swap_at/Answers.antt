@@ -1,6 +1,5 @@
 -- `tree_plan::swap_at` meets its contract.
 use Rattle.tree_plan.proofs.Planning.{below_in, swap-planned, swap-planned-off}
-use Rattle.laws.specs.Prelude.{rules}
 use Rattle.tree_plan.proofs.swap_at.Goals as goal
 
 pub returns-then-not-c : goal.returns-then-not-c

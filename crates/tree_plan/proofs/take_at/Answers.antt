@@ -1,6 +1,5 @@
 -- `tree_plan::take_at` meets its contract.
 use Rattle.tree_plan.proofs.Planning.{below_in, take-planned, take-planned-off}
-use Rattle.laws.specs.Prelude.{rules}
 use Rattle.tree_plan.proofs.take_at.Goals as goal
 
 pub returns-then-not-c : goal.returns-then-not-c

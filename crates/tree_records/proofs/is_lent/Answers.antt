@@ -1,6 +1,5 @@
 -- `tree_records::is_lent` meets its contract.
 use Rattle.tree_records.proofs.Records.{lends_some, lends-zero}
-use Rattle.laws.specs.Prelude.{rules}
 use Rattle.tree_records.proofs.is_lent.Goals as goal
 
 pub returns-then-levels-eq0 : goal.returns-then-levels-eq0

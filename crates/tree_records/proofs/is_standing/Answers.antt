@@ -1,6 +1,5 @@
 -- `tree_records::is_standing` meets its contract.
 use Rattle.tree_records.proofs.Records.{stands-nothing, stands-put, stands-swap, stands-take}
-use Rattle.laws.specs.Prelude.{rules}
 use Rattle.tree_records.proofs.is_standing.Goals as goal
 
 pub returns-in-Nothing : goal.returns-in-Nothing

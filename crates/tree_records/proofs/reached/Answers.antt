@@ -1,5 +1,5 @@
 -- `tree_records::reached` meets its contract.
-use Rattle.laws.specs.Prelude.{◌∙◌, rules, sym}
+use Rattle.laws.specs.Prelude.{◌∙◌, sym}
 use Rattle.tree_records.proofs.Records.{lends-levels, reach-no, reach-yes}
 use Rattle.tree_records.proofs.reached.Goals as goal
 

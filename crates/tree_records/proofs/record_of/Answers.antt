@@ -1,5 +1,5 @@
 -- `tree_records::record_of` meets its contract.
-use Rattle.laws.specs.Prelude.{arith, rules}
+use Rattle.laws.specs.Prelude.{arith}
 use Rattle.tree_records.proofs.Records.{node-is, record_is}
 use Rattle.tree_records.proofs.record_of.Goals as goal
 

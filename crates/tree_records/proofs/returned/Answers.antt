@@ -1,6 +1,5 @@
 -- `tree_records::returned` meets its contract.
 use Rattle.tree_records.proofs.Records.{handed-stands, handed-written}
-use Rattle.laws.specs.Prelude.{rules}
 use Rattle.tree_records.proofs.returned.Goals as goal
 
 pub returns-then-is_standing : goal.returns-then-is_standing

@@ -1,6 +1,5 @@
 -- `tree_records::work_of` meets its contract.
 use Rattle.tree_records.proofs.Records.{work-nothing, work-put, work-swap, work-take}
-use Rattle.laws.specs.Prelude.{rules}
 use Rattle.tree_records.proofs.work_of.Goals as goal
 
 pub returns-then-kind-eq1 : goal.returns-then-kind-eq1

@@ -1,5 +1,5 @@
 use Rattle.bucket_clock_step.proofs.Linking.{ok-idle, ok-pop, ok-push, ok-replace, ok-shut}
-use Rattle.laws.specs.Prelude.{rules, not-false, not-true}
+use Rattle.laws.specs.Prelude.{not-false, not-true}
 use Rattle.bucket_clock_step.proofs.buckets.bucket_ok.Goals as goal
 
 pub returns-then-not-low : goal.returns-then-not-low

@@ -1,5 +1,5 @@
 use Rattle.bucket_clock_step.proofs.Linking.{found-far, found-is}
-use Rattle.laws.specs.Prelude.{rules, refl}
+use Rattle.laws.specs.Prelude.{refl}
 use Rattle.bucket_clock_step.proofs.buckets.find_first.Goals as goal
 
 pub returns-then-k-way : goal.returns-then-k-way

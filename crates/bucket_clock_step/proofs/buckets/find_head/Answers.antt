@@ -1,5 +1,4 @@
 use Rattle.bucket_clock_step.proofs.Linking.{head-is}
-use Rattle.laws.specs.Prelude.{rules}
 use Rattle.bucket_clock_step.proofs.buckets.find_head.Goals as goal
 
 pub returns : goal.returns

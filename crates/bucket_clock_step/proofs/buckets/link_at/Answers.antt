@@ -1,5 +1,4 @@
 use Rattle.bucket_clock_step.proofs.Linking.{link-head, link-next}
-use Rattle.laws.specs.Prelude.{rules}
 use Rattle.bucket_clock_step.proofs.buckets.link_at.Goals as goal
 
 pub returns-then-tail-eq0-clause-is : goal.returns-then-tail-eq0-clause-is

@@ -1,5 +1,5 @@
 use Rattle.bucket_clock_step.proofs.Linking.{in_is, in-linkable}
-use Rattle.laws.specs.Prelude.{arith, length-set, rules}
+use Rattle.laws.specs.Prelude.{arith, length-set}
 use Rattle.bucket_clock_step.proofs.buckets.put_in.Goals as goal
 
 pub link_at-link-requires : goal.link_at-link-requires

@@ -1,5 +1,4 @@
 use Rattle.bucket_clock_step.proofs.Linking.{put-far, put_is}
-use Rattle.laws.specs.Prelude.{rules}
 use Rattle.bucket_clock_step.proofs.buckets.put_ok.Goals as goal
 
 pub returns-then-k-rank : goal.returns-then-k-rank

@@ -1,5 +1,4 @@
 use Rattle.bucket_clock_step.proofs.Linking.{tail-here, tail-stays}
-use Rattle.laws.specs.Prelude.{rules}
 use Rattle.bucket_clock_step.proofs.buckets.tail_after.Goals as goal
 
 pub returns-then-rank-low : goal.returns-then-rank-low

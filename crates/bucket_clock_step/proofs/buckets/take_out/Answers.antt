@@ -1,5 +1,5 @@
 use Rattle.bucket_clock_step.proofs.Linking.{out-is, out-node}
-use Rattle.laws.specs.Prelude.{arith, length-set, rules}
+use Rattle.laws.specs.Prelude.{arith, length-set}
 use Rattle.bucket_clock_step.proofs.buckets.take_out.Goals as goal
 
 pub element_of-out-requires : goal.element_of-out-requires

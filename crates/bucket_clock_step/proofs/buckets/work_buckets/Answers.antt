@@ -1,5 +1,4 @@
 use Rattle.bucket_clock_step.proofs.Linking.{done-idle, done-pop, done-push, done-replace, pop-leaves, push-joins, replace-joins, replace-leaves}
-use Rattle.laws.specs.Prelude.{rules}
 use Rattle.bucket_clock_step.proofs.buckets.work_buckets.Goals as goal
 
 pub put_in-requires : goal.put_in-requires

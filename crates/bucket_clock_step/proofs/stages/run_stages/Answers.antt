@@ -1,5 +1,5 @@
-use Rattle.bucket_clock_model.specs.Desk.{desk, stages, work_at}
-use Rattle.bucket_clock_step.proofs.Rounds.{Going, go-end, go-first, go-held, go-here, go-last-ok, go-next, go-ok, here-is, ready-fits}
+use Rattle.bucket_clock_model.specs.Desk.{work_at}
+use Rattle.bucket_clock_step.proofs.Rounds.{go-end, go-first, go-held, go-here, go-last-ok, go-next, go-ok, here-is, ready-fits}
 use Rattle.laws.specs.Prelude.{◌-◌, arith, length, refl}
 use Rattle.bucket_clock_step.proofs.stages.run_stages.Goals as goal
 

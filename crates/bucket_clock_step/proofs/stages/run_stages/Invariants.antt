@@ -1,6 +1,6 @@
-use Rattle.bucket_clock_model.specs.Desk.{desk, stages, work_at}
-use Rattle.bucket_clock_step.proofs.Rounds.{Going, go-end, go-first, go-held, go-here, go-last-ok, go-next, go-ok, here-is, ready-fits}
-use Rattle.laws.specs.Prelude.{◌-◌, arith, length, refl}
+use Rattle.bucket_clock_model.specs.Desk.{desk, stages}
+use Rattle.bucket_clock_step.proofs.Rounds.{Going}
+use Rattle.laws.specs.Prelude.{◌-◌, length}
 use Rattle.bucket_clock_step.proofs.stages.run_stages.Given as goal
 
 abbrev pub invariant-loop-e : goal.invariant-loop-e

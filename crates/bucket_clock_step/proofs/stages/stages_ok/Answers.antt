@@ -1,5 +1,5 @@
-use Rattle.bucket_clock_model.specs.Desk.{desk, stages_ok, work_at}
-use Rattle.bucket_clock_step.proofs.Rounds.{Testing, here-is, ready-fits, test-first, test-last, test-next}
+use Rattle.bucket_clock_model.specs.Desk.{work_at}
+use Rattle.bucket_clock_step.proofs.Rounds.{here-is, ready-fits, test-first, test-last, test-next}
 use Rattle.laws.specs.Prelude.{◌-◌, arith, length}
 use Rattle.bucket_clock_step.proofs.stages.stages_ok.Goals as goal
 

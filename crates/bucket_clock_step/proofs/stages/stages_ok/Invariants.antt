@@ -1,6 +1,6 @@
-use Rattle.bucket_clock_model.specs.Desk.{desk, stages_ok, work_at}
-use Rattle.bucket_clock_step.proofs.Rounds.{Testing, here-is, ready-fits, test-first, test-last, test-next}
-use Rattle.laws.specs.Prelude.{◌-◌, arith, length}
+use Rattle.bucket_clock_model.specs.Desk.{desk, stages_ok}
+use Rattle.bucket_clock_step.proofs.Rounds.{Testing}
+use Rattle.laws.specs.Prelude.{◌-◌}
 use Rattle.bucket_clock_step.proofs.stages.stages_ok.Given as goal
 
 abbrev pub invariant-loop-e : goal.invariant-loop-e

@@ -1,5 +1,4 @@
 use Rattle.bucket_clock_step.proofs.Storeys.{else_is}
-use Rattle.laws.specs.Prelude.{rules}
 use Rattle.bucket_clock_step.proofs.storey.count_or.Goals as goal
 
 pub returns : goal.returns

@@ -1,6 +1,5 @@
-use Rattle.bucket_clock_model.specs.Pipe.{lead}
 use Rattle.bucket_clock_step.proofs.Storeys.{lead-next, lead-none}
-use Rattle.laws.specs.Prelude.{◌-◌, ◌≤◌, ◌≡◌, arith}
+use Rattle.laws.specs.Prelude.{◌-◌, ◌≡◌, arith}
 use Rattle.bucket_clock_step.proofs.storey.lead_of.Goals as goal
 
 pub loop-i-init : goal.loop-i-init

@@ -1,6 +1,5 @@
 use Rattle.bucket_clock_model.specs.Pipe.{lead}
-use Rattle.bucket_clock_step.proofs.Storeys.{lead-next, lead-none}
-use Rattle.laws.specs.Prelude.{◌-◌, ◌≤◌, ◌≡◌, arith}
+use Rattle.laws.specs.Prelude.{◌-◌, ◌≤◌, ◌≡◌}
 use Rattle.bucket_clock_step.proofs.storey.lead_of.Given as goal
 
 abbrev pub invariant-loop-i : goal.invariant-loop-i

@@ -1,5 +1,5 @@
 use Rattle.bucket_clock_step.proofs.Storeys.{new-far, new_is}
-use Rattle.laws.specs.Prelude.{arith, rules}
+use Rattle.laws.specs.Prelude.{arith}
 use Rattle.bucket_clock_step.proofs.storey.push_ok.Goals as goal
 
 pub returns-then-k-rank : goal.returns-then-k-rank

@@ -1,5 +1,5 @@
 use Rattle.bucket_clock_step.proofs.Storeys.{after_is, counted, low-set, low<, way<}
-use Rattle.laws.specs.Prelude.{arith, rules}
+use Rattle.laws.specs.Prelude.{arith}
 use Rattle.bucket_clock_step.proofs.storey.put_after_ok.Goals as goal
 
 pub bounds-counts-base : goal.bounds-counts-base

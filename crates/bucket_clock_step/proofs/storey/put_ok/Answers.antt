@@ -1,5 +1,4 @@
 use Rattle.bucket_clock_step.proofs.Storeys.{put_is}
-use Rattle.laws.specs.Prelude.{rules}
 use Rattle.bucket_clock_step.proofs.storey.put_ok.Goals as goal
 
 pub returns : goal.returns

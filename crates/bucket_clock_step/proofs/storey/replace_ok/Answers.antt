@@ -1,5 +1,5 @@
 use Rattle.bucket_clock_step.proofs.Storeys.{falls-if, swap-far, swap_is, swap-unfit}
-use Rattle.laws.specs.Prelude.{◌∙◌, arith, rules, not-false, not-true, sym}
+use Rattle.laws.specs.Prelude.{◌∙◌, arith, not-false, not-true, sym}
 use Rattle.bucket_clock_step.proofs.storey.replace_ok.Goals as goal
 
 pub returns-then-not-take_ok : goal.returns-then-not-take_ok

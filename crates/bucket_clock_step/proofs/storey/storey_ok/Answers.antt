@@ -1,5 +1,4 @@
 use Rattle.bucket_clock_step.proofs.Storeys.{ok-idle, ok-pop, ok-push, ok-replace}
-use Rattle.laws.specs.Prelude.{rules}
 use Rattle.bucket_clock_step.proofs.storey.storey_ok.Goals as goal
 
 pub returns-in-Idle : goal.returns-in-Idle

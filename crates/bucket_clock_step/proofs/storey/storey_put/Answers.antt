@@ -1,6 +1,6 @@
 use Rattle.bucket_clock_step.proofs.Storeys.{put}
 use borrow.Author.Tests.{eqb-true}
-use Rattle.laws.specs.Prelude.{arith, rules}
+use Rattle.laws.specs.Prelude.{arith}
 use Rattle.bucket_clock_step.proofs.storey.storey_put.Goals as goal
 
 pub with-full-requires : goal.with-full-requires

@@ -1,5 +1,5 @@
 use Rattle.bucket_clock_step.proofs.Storeys.{counted, low-set, low<, took, way-is, way<}
-use Rattle.laws.specs.Prelude.{arith, rules, refl}
+use Rattle.laws.specs.Prelude.{arith, refl}
 use Rattle.bucket_clock_step.proofs.storey.storey_take.Goals as goal
 
 pub bounds-counts-base : goal.bounds-counts-base

@@ -1,5 +1,5 @@
 use Rattle.bucket_clock_step.proofs.Storeys.{low-in, take-far, take-is, take_none}
-use Rattle.laws.specs.Prelude.{arith, rules}
+use Rattle.laws.specs.Prelude.{arith}
 use Rattle.bucket_clock_step.proofs.storey.take_ok.Goals as goal
 
 pub returns-then-words-way : goal.returns-then-words-way

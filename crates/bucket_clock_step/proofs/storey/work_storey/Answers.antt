@@ -1,5 +1,4 @@
 use Rattle.bucket_clock_step.proofs.Storeys.{pop-falls, push-rises, replace-falls, replace-rises, took-long, worked-idle, worked-pop, worked-push, worked-replace}
-use Rattle.laws.specs.Prelude.{rules}
 use Rattle.bucket_clock_step.proofs.storey.work_storey.Goals as goal
 
 pub storey_put-requires : goal.storey_put-requires

@@ -1,6 +1,5 @@
 -- `bucket_node::links::link_at` meets its contract.
 use Rattle.bucket_node.proofs.Linked.{link-head, link-next}
-use Rattle.laws.specs.Prelude.{rules}
 use Rattle.bucket_node.proofs.links.link_at.Goals as goal
 
 pub returns-then-tail-eq0-clause-is : goal.returns-then-tail-eq0-clause-is

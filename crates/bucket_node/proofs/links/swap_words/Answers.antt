@@ -1,10 +1,9 @@
 -- `bucket_node::links::swap_words` meets its contract.
-use Rattle.laws.specs.Prelude.{arith, length-set, rules}
+use Rattle.laws.specs.Prelude.{arith, length-set}
 use Rattle.bucket_node.proofs.Linked.{swapped-is}
 use Rattle.bucket_node.proofs.links.swap_words.Goals as goal
 
 -- the places of the writes
-
 pub overflow_add-tail_at : goal.overflow_add-tail_at
 overflow_add-tail_at c = omega (arith, c.requires.node.fits.words, c.requires.node.fits.laid.lists, c.requires.node.fits.laid.pool, c.requires.node.fits.laid.held, c.requires.rank<)
 

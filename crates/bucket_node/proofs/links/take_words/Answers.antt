@@ -1,5 +1,5 @@
 -- `bucket_node::links::take_words` meets its contract.
-use Rattle.laws.specs.Prelude.{arith, length-set, rules}
+use Rattle.laws.specs.Prelude.{arith, length-set}
 use Rattle.bucket_node.proofs.Linked.{taken_is}
 use Rattle.bucket_node.proofs.links.take_words.Goals as goal
 

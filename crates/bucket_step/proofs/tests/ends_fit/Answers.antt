@@ -1,5 +1,5 @@
 -- `bucket_step::tests::ends_fit` meets its contract.
-use Rattle.laws.specs.Prelude.{◌∙◌, rules, sym}
+use Rattle.laws.specs.Prelude.{◌∙◌, sym}
 use Rattle.bucket_model.specs.Prelude.{next_of}
 use Rattle.bucket_step.proofs.Read.{ends-high, ends-behind, ends-both}
 use Rattle.bucket_step.proofs.tests.ends_fit.Goals as goal

@@ -1,11 +1,10 @@
 -- `bucket_step::tests::find_lowest` meets its contract.
-use Rattle.laws.specs.Prelude.{◌≡◌, rules, not-false, not-true, true}
+use Rattle.laws.specs.Prelude.{◌≡◌, not-false, not-true, true}
 use Rattle.bucket_step.proofs.Read.{fits, found-shut, found-rank, found-headless, found-tailless, found-open}
 use Rattle.bucket_step.proofs.tests.find_lowest.Goals as goal
 use Rattle.bucket_step.proofs.tests.find_lowest.Goals.{Else-not-found}
 
 -- the way down is open
-
 way : (c : Else-not-found) → c.lowest_rank-found.result.open ≡ true
 way c = not-false c.lowest_rank-found.result.open c.if-not-found.false
 
@@ -16,7 +15,6 @@ pub head_of-head-requires : goal.head_of-head-requires
 head_of-head-requires c = (fits _ _ _ c.requires, found-rank _ _ _ c.requires _ _ c.lowest_rank-found.ensures (way c))
 
 -- places on the way, each from a later one
-
 pub tail_of-tail-requires : goal.tail_of-tail-requires
 tail_of-tail-requires c = (fits _ _ _ c.requires, found-rank _ _ _ c.requires _ _ c.lowest_rank-found.ensures (way (goal.at.tail_of-tail-requires c).Else-not-found))
 

@@ -1,5 +1,5 @@
 -- `bucket_step::tests::find_room` meets its contract.
-use Rattle.laws.specs.Prelude.{rules, not-false, not-true}
+use Rattle.laws.specs.Prelude.{not-false, not-true}
 use Rattle.bucket_step.proofs.Read.{room-nodeless, room-linked}
 use Rattle.bucket_step.proofs.tests.find_room.Goals as goal
 

@@ -1,6 +1,5 @@
 -- `bucket_step::tests::has_room` meets its contract.
 use Rattle.bucket_step.proofs.Read.{top_in, room-left-is}
-use Rattle.laws.specs.Prelude.{rules}
 use Rattle.bucket_step.proofs.tests.has_room.Goals as goal
 
 pub bounds-bits-top : goal.bounds-bits-top

@@ -1,6 +1,5 @@
 -- `bucket_step::tests::has_some` meets its contract.
 use Rattle.bucket_step.proofs.Read.{top_in, some_is}
-use Rattle.laws.specs.Prelude.{rules}
 use Rattle.bucket_step.proofs.tests.has_some.Goals as goal
 
 pub bounds-bits-top : goal.bounds-bits-top

@@ -1,6 +1,5 @@
 -- `bucket_step::tests::head_after` meets its contract.
 use Rattle.bucket_step.proofs.Read.{head-is, head-stays}
-use Rattle.laws.specs.Prelude.{rules}
 use Rattle.bucket_step.proofs.tests.head_after.Goals as goal
 
 pub returns-then-rank-low : goal.returns-then-rank-low

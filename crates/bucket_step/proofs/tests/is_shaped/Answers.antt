@@ -1,5 +1,5 @@
 -- `bucket_step::tests::is_shaped` meets its contract.
-use Rattle.laws.specs.Prelude.{Bool, ◌&&◌, ap, leb, length, ltb, rules}
+use Rattle.laws.specs.Prelude.{Bool, ◌&&◌, ap, leb, length, ltb}
 use Rattle.bucket_model.specs.Prelude.{bit_words, pool, shape_ok}
 use Rattle.bucket_step.proofs.tests.is_shaped.Goals as goal
 

@@ -1,6 +1,5 @@
 -- `bucket_step::tests::is_whole` meets its contract.
 use Rattle.bucket_step.proofs.Read.{top_in, whole_is}
-use Rattle.laws.specs.Prelude.{rules}
 use Rattle.bucket_step.proofs.tests.is_whole.Goals as goal
 
 pub bounds-bits-top : goal.bounds-bits-top

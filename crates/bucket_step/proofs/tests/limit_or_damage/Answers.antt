@@ -1,5 +1,5 @@
 -- `bucket_step::tests::limit_or_damage` meets its contract.
-use Rattle.laws.specs.Prelude.{◌∙◌, rules, sym}
+use Rattle.laws.specs.Prelude.{◌∙◌, sym}
 use Rattle.bucket_step.proofs.Read.{pick_yes, pick_no}
 use Rattle.bucket_step.proofs.tests.limit_or_damage.Goals as goal
 

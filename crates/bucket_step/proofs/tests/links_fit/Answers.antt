@@ -1,5 +1,5 @@
 -- `bucket_step::tests::links_fit` meets its contract.
-use Rattle.laws.specs.Prelude.{◌∙◌, ap, eqb, rules, not-false, not-true, sym, ℕ}
+use Rattle.laws.specs.Prelude.{◌∙◌, ap, eqb, not-false, not-true, sym, ℕ}
 use Rattle.bucket_node.proofs.Answers.{next-zero}
 use Rattle.bucket_model.specs.Prelude.{next_of}
 use Rattle.bucket_step.proofs.Read.{links-empty, links-headless, links-tailless, links-taken, links-both}

@@ -1,5 +1,5 @@
 -- `bucket_step::tests::may_come` meets its contract.
-use Rattle.laws.specs.Prelude.{Bool, ◌&&◌, ap, ltb, rules, not}
+use Rattle.laws.specs.Prelude.{Bool, ◌&&◌, ap, ltb, not}
 use Rattle.bucket_step.proofs.tests.may_come.Goals as goal
 
 pub returns : goal.returns

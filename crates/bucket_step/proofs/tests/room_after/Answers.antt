@@ -1,6 +1,5 @@
 -- `bucket_step::tests::room_after` meets its contract.
 use Rattle.bucket_step.proofs.Read.{room-after-is}
-use Rattle.laws.specs.Prelude.{rules}
 use Rattle.bucket_step.proofs.tests.room_after.Goals as goal
 
 pub returns : goal.returns

@@ -1,6 +1,5 @@
 -- `bucket_step::tests::tail_after` meets its contract.
 use Rattle.bucket_step.proofs.Read.{tail-is, tail-stays}
-use Rattle.laws.specs.Prelude.{rules}
 use Rattle.bucket_step.proofs.tests.tail_after.Goals as goal
 
 pub returns-then-rank-low : goal.returns-then-rank-low

@@ -1,5 +1,5 @@
 -- `card_bucket::pool::card_ports_bits` meets its contract.
-use Rattle.laws.specs.Prelude.{◌∙◌, ◌≡◌, ap, rules}
+use Rattle.laws.specs.Prelude.{◌∙◌, ◌≡◌, ap}
 use Rattle.ports_model.specs.Prelude.{bit_words}
 use Rattle.ports_step.specs.Sums.{numbers_ok}
 use Rattle.card_bucket.specs.Ports.{shape}
@@ -8,7 +8,6 @@ use Rattle.card_bucket.proofs.pool.card_ports_bits.Goals as goal
 use Rattle.card_bucket.proofs.pool.card_ports_bits.Goals.{After-is_numbered}
 
 -- the numbers have been tested
-
 tested : (c : After-is_numbered) → c.is_numbered.result ≡ numbers_ok (shape c.args.storeys 1 c.args.ports)
 tested c = c.is_numbered.ensures ∙ ap numbers_ok c.shape_of-s.ensures
 

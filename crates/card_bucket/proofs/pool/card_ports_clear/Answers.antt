@@ -3,7 +3,6 @@ use Rattle.ports_model.specs.declared.Shape.{Shape}
 use Rattle.ports_model.specs.Prelude.{cleared}
 use Rattle.card_bucket.proofs.Calls.{bucket-done}
 use Rattle.card_bucket.proofs.Ports.{at-shape}
-use Rattle.laws.specs.Prelude.{rules}
 use Rattle.card_bucket.proofs.pool.card_ports_clear.Goals as goal
 
 pub returns : goal.returns

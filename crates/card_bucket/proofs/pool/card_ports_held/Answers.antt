@@ -1,5 +1,5 @@
 -- `card_bucket::pool::card_ports_held` meets its contract.
-use Rattle.laws.specs.Prelude.{◌∙◌, ap, rules}
+use Rattle.laws.specs.Prelude.{◌∙◌, ap}
 use Rattle.ports_model.specs.declared.Shape.{Shape}
 use Rattle.ports_model.specs.Prelude.{held_count}
 use Rattle.card_words.proofs.Out.{count-short, count-told}

@@ -3,7 +3,6 @@ use Rattle.ports_model.specs.declared.Shape.{Shape}
 use Rattle.ports_model.specs.Prelude.{popped}
 use Rattle.card_bucket.proofs.Calls.{bucket-short, bucket-told}
 use Rattle.card_bucket.proofs.Ports.{at-shape}
-use Rattle.laws.specs.Prelude.{rules}
 use Rattle.card_bucket.proofs.pool.card_ports_pop.Goals as goal
 
 pub returns-then-out-lt-OUT : goal.returns-then-out-lt-OUT

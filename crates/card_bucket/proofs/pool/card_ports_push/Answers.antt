@@ -1,6 +1,6 @@
 -- `card_bucket::pool::card_ports_push` meets its contract.
 use Rattle.ports_model.specs.declared.Shape.{Shape}
-use Rattle.laws.specs.Prelude.{element, rules}
+use Rattle.laws.specs.Prelude.{element}
 use Rattle.ports_model.specs.Prelude.{pushed}
 use Rattle.card_bucket.proofs.Calls.{bucket-done}
 use Rattle.card_bucket.proofs.Ports.{at-shape}

@@ -1,6 +1,6 @@
 -- `card_bucket::pool::card_ports_replace` meets its contract.
 use Rattle.ports_model.specs.declared.Shape.{Shape}
-use Rattle.laws.specs.Prelude.{element, rules}
+use Rattle.laws.specs.Prelude.{element}
 use Rattle.ports_model.specs.Prelude.{replaced}
 use Rattle.card_bucket.proofs.Calls.{bucket-short, bucket-told}
 use Rattle.card_bucket.proofs.Ports.{at-shape}

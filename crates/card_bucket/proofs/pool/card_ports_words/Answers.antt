@@ -1,5 +1,5 @@
 -- `card_bucket::pool::card_ports_words` meets its contract.
-use Rattle.laws.specs.Prelude.{◌∙◌, ◌≡◌, ap, rules}
+use Rattle.laws.specs.Prelude.{◌∙◌, ◌≡◌, ap}
 use Rattle.ports_model.specs.Prelude.{store_words}
 use Rattle.ports_step.specs.Sums.{numbers_ok}
 use Rattle.card_bucket.specs.Ports.{shape}
@@ -8,7 +8,6 @@ use Rattle.card_bucket.proofs.pool.card_ports_words.Goals as goal
 use Rattle.card_bucket.proofs.pool.card_ports_words.Goals.{After-is_numbered}
 
 -- the numbers have been tested
-
 tested : (c : After-is_numbered) → c.is_numbered.result ≡ numbers_ok (shape c.args.storeys c.args.nodes c.args.ports)
 tested c = c.is_numbered.ensures ∙ ap numbers_ok c.shape_of-s.ensures
 

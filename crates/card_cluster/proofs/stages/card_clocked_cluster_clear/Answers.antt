@@ -1,6 +1,5 @@
 -- `card_cluster::stages::card_clocked_cluster_clear` meets its contract.
 use Rattle.card_cluster.proofs.ClockedCluster.{clear-ready-now, clear_whole}
-use Rattle.laws.specs.Prelude.{rules}
 use Rattle.card_cluster.proofs.stages.card_clocked_cluster_clear.Goals as goal
 
 pub hand_back-requires : goal.hand_back-requires

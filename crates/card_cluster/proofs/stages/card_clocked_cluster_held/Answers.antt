@@ -1,5 +1,4 @@
 -- `card_cluster::stages::card_clocked_cluster_held` meets its contract.
-use Rattle.laws.specs.Prelude.{rules}
 use Rattle.card_words.proofs.Out.{count-short, count-told}
 use Rattle.card_cluster.proofs.stages.card_clocked_cluster_held.Goals as goal
 

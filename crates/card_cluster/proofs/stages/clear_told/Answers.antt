@@ -1,6 +1,5 @@
 -- `card_cluster::stages::clear_told` meets its contract.
 use Rattle.card_cluster.proofs.ClockedCluster.{clear_told_lem}
-use Rattle.laws.specs.Prelude.{rules}
 use Rattle.card_cluster.proofs.stages.clear_told.Goals as goal
 
 pub returns : goal.returns

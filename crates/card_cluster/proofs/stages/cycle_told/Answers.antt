@@ -1,6 +1,5 @@
 -- `card_cluster::stages::cycle_told` meets its contract.
 use Rattle.card_cluster.proofs.ClockedCluster.{cycle-done, cycle-refused, cycle-short}
-use Rattle.laws.specs.Prelude.{rules}
 use Rattle.card_cluster.proofs.stages.cycle_told.Goals as goal
 
 pub returns-then-request-gt3 : goal.returns-then-request-gt3

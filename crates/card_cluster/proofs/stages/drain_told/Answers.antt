@@ -1,5 +1,5 @@
 -- `card_cluster::stages::drain_told` meets its contract.
-use Rattle.laws.specs.Prelude.{◌≤◌, arith, rules}
+use Rattle.laws.specs.Prelude.{◌≤◌, arith}
 use Rattle.card_cluster.proofs.ClockedCluster.{drain-done, drain-few, drain-short}
 use Rattle.card_cluster.proofs.stages.drain_told.Goals as goal
 

@@ -1,5 +1,5 @@
 -- `card_lines::clock::card_lines_clock_clear` meets its contract.
-use Rattle.laws.specs.Prelude.{◌∙◌, ap, rules}
+use Rattle.laws.specs.Prelude.{◌∙◌, ap}
 use Rattle.card_lines.proofs.Clocked.{clear_told}
 use Rattle.lines_model.specs.declared.Rows.{Rows}
 use Rattle.lines_records.specs.Lent.{lent_cleared}

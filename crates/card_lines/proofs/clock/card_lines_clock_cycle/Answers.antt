@@ -1,5 +1,5 @@
 -- `card_lines::clock::card_lines_clock_cycle` meets its contract.
-use Rattle.laws.specs.Prelude.{◌∙◌, ap, rules}
+use Rattle.laws.specs.Prelude.{◌∙◌, ap}
 use Rattle.card_lines.proofs.Clocked.{cycle-refused, cycle-short, cycle-told}
 use Rattle.lines_model.specs.declared.Rows.{Rows}
 use Rattle.lines_records.specs.Lent.{lent_cycled}

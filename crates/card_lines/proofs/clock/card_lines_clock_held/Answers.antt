@@ -1,5 +1,5 @@
 -- `card_lines::clock::card_lines_clock_held` meets its contract.
-use Rattle.laws.specs.Prelude.{◌∙◌, ap, rules}
+use Rattle.laws.specs.Prelude.{◌∙◌, ap}
 use Rattle.card_words.proofs.Out.{count-short, count-told}
 use Rattle.lines_model.specs.Clock.{clock_held, machine}
 use Rattle.lines_model.specs.declared.Due.TheVariants.{Rest}

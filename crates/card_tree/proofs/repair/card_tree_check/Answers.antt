@@ -1,6 +1,5 @@
 -- `card_tree::repair::card_tree_check` meets its contract.
 use Rattle.card_tree.proofs.Mend.{check-short, check-told}
-use Rattle.laws.specs.Prelude.{rules}
 use Rattle.card_tree.proofs.repair.card_tree_check.Goals as goal
 
 pub returns-then-out-lt-CHECK_OUT : goal.returns-then-out-lt-CHECK_OUT

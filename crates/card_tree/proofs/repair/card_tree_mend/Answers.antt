@@ -1,6 +1,5 @@
 -- `card_tree::repair::card_tree_mend` meets its contract.
 use Rattle.card_tree.proofs.Mend.{mend-short, mend-told}
-use Rattle.laws.specs.Prelude.{rules}
 use Rattle.card_tree.proofs.repair.card_tree_mend.Goals as goal
 
 pub returns-then-out-lt1 : goal.returns-then-out-lt1

@@ -1,5 +1,4 @@
 -- `card_tree::repair::tell_check` meets its contract.
-use Rattle.laws.specs.Prelude.{rules}
 use Rattle.card_tree.proofs.repair.tell_check.Goals as goal
 
 pub returns : goal.returns

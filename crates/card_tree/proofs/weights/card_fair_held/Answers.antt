@@ -1,6 +1,5 @@
 -- `card_tree::weights::card_fair_held` meets its contract.
 use Rattle.card_words.proofs.Out.{count-short, count-told}
-use Rattle.laws.specs.Prelude.{rules}
 use Rattle.card_tree.proofs.weights.card_fair_held.Goals as goal
 
 pub returns-then-out-lt1 : goal.returns-then-out-lt1

@@ -1,6 +1,5 @@
 -- `card_tree::weights::card_fair_pop` meets its contract.
 use Rattle.card_tree.proofs.Fair.{fair-short, fair-told}
-use Rattle.laws.specs.Prelude.{rules}
 use Rattle.card_tree.proofs.weights.card_fair_pop.Goals as goal
 
 pub returns-then-out-lt-OUT : goal.returns-then-out-lt-OUT

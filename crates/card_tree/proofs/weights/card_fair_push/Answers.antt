@@ -1,6 +1,5 @@
 -- `card_tree::weights::card_fair_push` meets its contract.
 use Rattle.card_tree.proofs.Fair.{fair-done}
-use Rattle.laws.specs.Prelude.{rules}
 use Rattle.card_tree.proofs.weights.card_fair_push.Goals as goal
 
 pub returns : goal.returns

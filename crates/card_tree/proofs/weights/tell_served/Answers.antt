@@ -1,5 +1,5 @@
 -- `card_tree::weights::tell_served` meets its contract.
-use Rattle.laws.specs.Prelude.{arith, length-set, rules}
+use Rattle.laws.specs.Prelude.{arith, length-set}
 use Rattle.card_tree.proofs.weights.tell_served.Goals as goal
 
 pub bounds-out-1 : goal.bounds-out-1

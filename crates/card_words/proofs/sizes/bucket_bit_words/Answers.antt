@@ -6,7 +6,6 @@ use Rattle.card_words.proofs.sizes.bucket_bit_words.Goals as goal
 use Rattle.card_words.proofs.sizes.bucket_bit_words.Goals.{Else-not-is_deep}
 
 -- the depth has been tested
-
 deep : (c : Else-not-is_deep) → (least_storeys ≤ c.args.storeys) × (c.args.storeys ≤ most_storeys)
 deep c = depths _ 0 _ c.is_deep.ensures c.if-not-is_deep.false-raw
 

@@ -6,12 +6,10 @@ use Rattle.card_words.proofs.sizes.bucket_words.Goals as goal
 use Rattle.card_words.proofs.sizes.bucket_words.Goals.{After-queue_of-k, Else-not-is_deep}
 
 -- the depth has been tested
-
 deep : (c : Else-not-is_deep) → (least_storeys ≤ c.args.storeys) × (c.args.storeys ≤ most_storeys)
 deep c = depths _ 0 _ c.is_deep.ensures c.if-not-is_deep.false-raw
 
 -- no more words than this
-
 few : (c : After-queue_of-k) → c.queue_of-k.result.held ≤ 720897
 few c =
     few_words _ (deep (goal.at.After-queue_of-k c).Else-not-is_deep).0 (deep (goal.at.After-queue_of-k c).Else-not-is_deep).1 _ _ c.queue_of-k.ensures c.if-nodes-gt-POOL.false

@@ -1,5 +1,5 @@
 -- `card_words::sizes::cluster_words` meets its contract.
-use Rattle.laws.specs.Prelude.{arith, rules}
+use Rattle.laws.specs.Prelude.{arith}
 use Rattle.cluster.proofs.Shapes.{nodes-counted}
 use Rattle.card_words.proofs.Cluster.{words-most, words-none, words-some}
 use Rattle.card_words.proofs.sizes.cluster_words.Goals as goal

@@ -1,5 +1,5 @@
-use Rattle.cluster_clock_level.proofs.Rounds.{end-pass, end-works, go-first, go-next, go-pends, go-small, go-works, Going}
-use Rattle.laws.specs.Prelude.{◌-◌, ◌∙◌, ◌≤◌, arith, length, rules}
+use Rattle.cluster_clock_level.proofs.Rounds.{Going}
+use Rattle.laws.specs.Prelude.{◌-◌, ◌≤◌, length}
 use Rattle.cluster_clock_model.specs.Prelude.{pass}
 use Rattle.cluster_clock_level.specs.Stage.{work_of}
 use Rattle.cluster_clock_level.proofs.levels.run_levels.Given as goal

@@ -1,6 +1,5 @@
-use Rattle.cluster_clock_level.proofs.Rounds.{test-first, test-last, test-level, test-next, Testing}
-use Rattle.laws.specs.Prelude.{◌-◌, ◌≤◌, arith, rules}
-use Rattle.cluster_clock_model.specs.Prelude.{stages_ok}
+use Rattle.cluster_clock_level.proofs.Rounds.{test-first, test-last, test-level, test-next}
+use Rattle.laws.specs.Prelude.{◌-◌, arith}
 use Rattle.cluster_clock_level.proofs.levels.stages_ok.Goals as goal
 
 pub loop-i-init : goal.loop-i-init

@@ -1,5 +1,4 @@
 use Rattle.cluster_clock_level.proofs.Cycles.{shape-lies, shape-records, shape-root, cycle-damaged, cycle-ready, cycle-root, cycle_runs}
-use Rattle.laws.specs.Prelude.{rules}
 use Rattle.cluster_clock_level.proofs.shaped.cycle_shaped.Goals as goal
 
 pub rule_root-g-requires : goal.rule_root-g-requires

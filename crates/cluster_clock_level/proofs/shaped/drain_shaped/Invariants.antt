@@ -1,7 +1,5 @@
-use Rattle.cluster_clock_level.proofs.Drains.{drain-goes, drain-quiet, drain_runs, drain-spent, drain-starts, drain-stops, Draining}
-use Rattle.cluster_clock_level.proofs.Cycles.{shape-records}
-use Rattle.laws.specs.Prelude.{◌-◌, ◌∙◌, ◌≡◌, ◌≤◌, ap, arith, length, rules, refl, suc}
-use Rattle.cluster_model.specs.Prelude.{shape_ok}
+use Rattle.cluster_clock_level.proofs.Drains.{Draining}
+use Rattle.laws.specs.Prelude.{◌-◌, ◌≡◌, ◌≤◌, length, suc}
 use Rattle.cluster_clock_level.proofs.shaped.drain_shaped.Given as goal
 
 abbrev pub invariant-loop-run : goal.invariant-loop-run

@@ -1,4 +1,4 @@
-use Rattle.laws.specs.Prelude.{ap, rules, replicate}
+use Rattle.laws.specs.Prelude.{ap, replicate}
 use Rattle.cluster_clock_model.specs.Prelude.{fresh, stage_count}
 use Rattle.cluster_clock_level.proofs.shaped.fresh_records.Goals as goal
 

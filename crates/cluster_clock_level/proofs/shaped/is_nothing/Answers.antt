@@ -1,4 +1,4 @@
-use Rattle.laws.specs.Prelude.{ap, rules, sym}
+use Rattle.laws.specs.Prelude.{ap, sym}
 use Rattle.cluster_clock_model.specs.Prelude.{is_nothing}
 use Rattle.cluster_clock_level.proofs.shaped.is_nothing.Goals as goal
 

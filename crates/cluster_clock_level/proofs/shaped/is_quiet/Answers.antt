@@ -1,5 +1,5 @@
-use Rattle.cluster_clock_level.proofs.Drains.{Quiet, quiet-first, quiet-last, quiet_next}
-use Rattle.laws.specs.Prelude.{◌-◌, ◌≤◌, arith, rules}
+use Rattle.cluster_clock_level.proofs.Drains.{quiet-first, quiet-last, quiet_next}
+use Rattle.laws.specs.Prelude.{◌-◌, arith}
 use Rattle.cluster_clock_level.proofs.shaped.is_quiet.Goals as goal
 
 pub loop-i-init : goal.loop-i-init

@@ -1,5 +1,5 @@
-use Rattle.cluster_clock_level.proofs.Drains.{Quiet, quiet-first, quiet-last, quiet_next}
-use Rattle.laws.specs.Prelude.{◌-◌, ◌≤◌, arith, rules}
+use Rattle.cluster_clock_level.proofs.Drains.{Quiet}
+use Rattle.laws.specs.Prelude.{◌-◌, ◌≤◌}
 use Rattle.cluster_clock_level.proofs.shaped.is_quiet.Given as goal
 
 abbrev pub invariant-loop-i : goal.invariant-loop-i

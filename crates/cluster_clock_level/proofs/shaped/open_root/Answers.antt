@@ -1,5 +1,5 @@
 use Rattle.cluster_clock_level.proofs.Roots.{count-few, left-few, low-few, opened, opened-not, right-few}
-use Rattle.laws.specs.Prelude.{arith, rules}
+use Rattle.laws.specs.Prelude.{arith}
 use Rattle.cluster_clock_level.proofs.shaped.open_root.Goals as goal
 
 pub overflow_mul-v : goal.overflow_mul-v

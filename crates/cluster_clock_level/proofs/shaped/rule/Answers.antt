@@ -1,5 +1,4 @@
 use Rattle.cluster_clock_level.proofs.Roots.{idle-is, rules-as, still-rules}
-use Rattle.laws.specs.Prelude.{rules}
 use Rattle.cluster_clock_level.proofs.shaped.rule.Goals as goal
 
 pub returns-in-Idle : goal.returns-in-Idle

@@ -1,5 +1,4 @@
 use Rattle.cluster_clock_level.proofs.Roots.{pop-empty, pop_goes, still-rules}
-use Rattle.laws.specs.Prelude.{rules}
 use Rattle.cluster_clock_level.proofs.shaped.rule_pop.Goals as goal
 
 pub returns-then-held-eq0 : goal.returns-then-held-eq0

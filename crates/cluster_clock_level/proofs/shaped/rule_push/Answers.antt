@@ -1,5 +1,4 @@
 use Rattle.cluster_clock_level.proofs.Roots.{push-bare, push-full, push_goes, still-rules}
-use Rattle.laws.specs.Prelude.{rules}
 use Rattle.cluster_clock_level.proofs.shaped.rule_push.Goals as goal
 
 pub returns-then-is_untagged : goal.returns-then-is_untagged

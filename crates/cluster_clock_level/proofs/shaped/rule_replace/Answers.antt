@@ -1,5 +1,4 @@
 use Rattle.cluster_clock_level.proofs.Roots.{replace-bare, replace-empty, replace-goes, still-rules}
-use Rattle.laws.specs.Prelude.{rules}
 use Rattle.cluster_clock_level.proofs.shaped.rule_replace.Goals as goal
 
 pub returns-then-is_untagged : goal.returns-then-is_untagged

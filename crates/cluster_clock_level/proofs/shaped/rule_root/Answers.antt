@@ -1,5 +1,4 @@
 use Rattle.cluster_clock_level.proofs.Roots.{root-bad, root-idle, root-rules}
-use Rattle.laws.specs.Prelude.{rules}
 use Rattle.cluster_clock_level.proofs.shaped.rule_root.Goals as goal
 
 pub returns-then-not-asks_something : goal.returns-then-not-asks_something

@@ -1,6 +1,5 @@
 -- `cluster_records::calls::clear_beside` meets its contract.
 use Rattle.cluster_records.proofs.AfterRead.{clear-cycled, clear-unread}
-use Rattle.laws.specs.Prelude.{rules}
 use Rattle.cluster_records.proofs.calls.clear_beside.Goals as goal
 
 pub returns-then-not-is_lent : goal.returns-then-not-is_lent

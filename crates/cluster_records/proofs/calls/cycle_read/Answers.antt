@@ -1,6 +1,5 @@
 -- `cluster_records::calls::cycle_read` meets its contract.
 use Rattle.cluster_records.proofs.AfterRead.{cycle-cycled, cycle-unread}
-use Rattle.laws.specs.Prelude.{rules}
 use Rattle.cluster_records.proofs.calls.cycle_read.Goals as goal
 
 pub returns-then-not-is_lent-read : goal.returns-then-not-is_lent-read

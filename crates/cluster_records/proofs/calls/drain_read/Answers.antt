@@ -1,6 +1,5 @@
 -- `cluster_records::calls::drain_read` meets its contract.
 use Rattle.cluster_records.proofs.AfterRead.{drain-cycled, drain-unread}
-use Rattle.laws.specs.Prelude.{rules}
 use Rattle.cluster_records.proofs.calls.drain_read.Goals as goal
 
 pub returns-then-not-is_lent-read : goal.returns-then-not-is_lent-read

@@ -1,13 +1,11 @@
 -- `cluster_records::memory::hand_back` meets its contract.
-use Rattle.laws.specs.Prelude.{◌-◌, ◌<◌, ◌∙◌, ◌≡◌, ◌≤◌, ap, arith, length, rules}
+use Rattle.laws.specs.Prelude.{◌-◌, ◌<◌, ◌∙◌, ap, arith, length}
 use Rattle.cluster_clock_model.specs.Prelude.{stage_count}
 use Rattle.cluster_records.proofs.Back.{back-ends, back-length, back_more, back_none}
-use Rattle.cluster_records.specs.Lent.{stages_back}
 use Rattle.cluster_records.proofs.memory.hand_back.Goals as goal
 use Rattle.cluster_records.proofs.memory.hand_back.Goals.{In-loop-i}
 
 -- in a round there is one more to be written
-
 few : (c : In-loop-i) → c.loop-i.i < stage_count
 few c = omega (arith, c.loop-i-test.true, c.requires.few)
 

@@ -1,7 +1,5 @@
 -- `cluster_records::memory::hand_back` meets its contract.
-use Rattle.laws.specs.Prelude.{◌-◌, ◌<◌, ◌∙◌, ◌≡◌, ◌≤◌, ap, arith, length, rules}
-use Rattle.cluster_clock_model.specs.Prelude.{stage_count}
-use Rattle.cluster_records.proofs.Back.{back-ends, back-length, back_more, back_none}
+use Rattle.laws.specs.Prelude.{◌-◌, ◌≡◌, ◌≤◌}
 use Rattle.cluster_records.specs.Lent.{stages_back}
 use Rattle.cluster_records.proofs.memory.hand_back.Given as goal
 

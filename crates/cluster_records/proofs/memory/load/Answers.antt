@@ -1,14 +1,13 @@
 -- `cluster_records::memory::load` meets its contract.
-use Rattle.laws.specs.Prelude.{[], ◌-◌, ◌<◌, ◌∙◌, ◌≡◌, ◌≤◌, ap, arith, get_or, leb, length, rules, replicate}
+use Rattle.laws.specs.Prelude.{[], ◌-◌, ◌<◌, ◌∙◌, ◌≡◌, ap, arith, get_or, leb, length, replicate}
 use Rattle.cluster_clock_model.specs.Prelude.{stage_count}
 use Rattle.cluster_records.proofs.Back.{here, kinds-more, kinds-none, load-ends, stages-more, stages-none}
 use Rattle.cluster_records.proofs.Records.{reach_few, reach-within}
-use Rattle.cluster_records.specs.Lent.{ClusterRecord, kind_in, kinds_ok, no_record, stage_of, stages_read}
+use Rattle.cluster_records.specs.Lent.{ClusterRecord, kind_in, no_record, stage_of}
 use Rattle.cluster_records.proofs.memory.load.Goals as goal
 use Rattle.cluster_records.proofs.memory.load.Goals.{In-loop-i}
 
 -- in a turn there is one more to be read
-
 few : (c : In-loop-i) → c.loop-i.i < stage_count
 few c =
     omega (arith, c.loop-i-test.true, c.reached-n.ensures, reach_few c.args.levels (length c.args.records.now))

@@ -1,9 +1,6 @@
 -- `cluster_records::memory::load` meets its contract.
-use Rattle.laws.specs.Prelude.{[], ◌-◌, ◌<◌, ◌∙◌, ◌≡◌, ◌≤◌, ap, arith, get_or, leb, length, rules, replicate}
-use Rattle.cluster_clock_model.specs.Prelude.{stage_count}
-use Rattle.cluster_records.proofs.Back.{here, kinds-more, kinds-none, load-ends, stages-more, stages-none}
-use Rattle.cluster_records.proofs.Records.{reach_few, reach-within}
-use Rattle.cluster_records.specs.Lent.{ClusterRecord, kind_in, kinds_ok, no_record, stage_of, stages_read}
+use Rattle.laws.specs.Prelude.{◌-◌, ◌≡◌, ◌≤◌}
+use Rattle.cluster_records.specs.Lent.{kinds_ok, stages_read}
 use Rattle.cluster_records.proofs.memory.load.Given as goal
 
 abbrev pub invariant-loop-i : goal.invariant-loop-i

@@ -1,5 +1,5 @@
 -- `trace_bytes::lines::put_done` meets its contract.
-use Rattle.laws.specs.Prelude.{ap, rules, sym}
+use Rattle.laws.specs.Prelude.{ap, sym}
 use Rattle.text.proofs.Laws.{laid_none, laid_same}
 use Rattle.trace_model.specs.Format.{done_word}
 use Rattle.trace_bytes.proofs.lines.put_done.Goals as goal

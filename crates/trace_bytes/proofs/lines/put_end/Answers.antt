@@ -1,5 +1,4 @@
 -- `trace_bytes::lines::put_end` meets its contract.
-use Rattle.laws.specs.Prelude.{rules}
 use Rattle.text.proofs.Laws.{laid_then}
 use Rattle.trace_model.specs.Format.{end_line}
 use Rattle.trace_bytes.proofs.lines.put_end.Goals as goal

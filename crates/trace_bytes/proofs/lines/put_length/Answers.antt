@@ -1,5 +1,5 @@
 -- `trace_bytes::lines::put_length` meets its contract.
-use Rattle.laws.specs.Prelude.{ap, rules, sym}
+use Rattle.laws.specs.Prelude.{ap, sym}
 use Rattle.text.proofs.Laws.{laid_none, laid_same, laid_then}
 use Rattle.trace_model.specs.Format.{length_word}
 use Rattle.trace_model.specs.declared.Version.{Version}

@@ -1,5 +1,5 @@
 -- `trace_bytes::lines::put_line` meets its contract.
-use Rattle.laws.specs.Prelude.{arith, rules}
+use Rattle.laws.specs.Prelude.{arith}
 use Rattle.text.proofs.Laws.{laid_then}
 use Rattle.trace_model.proofs.Laws.{word-short}
 use Rattle.trace_model.specs.Format.{line_of}

@@ -1,5 +1,4 @@
 -- `trace_bytes::lines::put_out` meets its contract.
-use Rattle.laws.specs.Prelude.{rules}
 use Rattle.text.proofs.Laws.{laid_then}
 use Rattle.trace_model.specs.Format.{out_word}
 use Rattle.trace_bytes.proofs.lines.put_out.Goals as goal

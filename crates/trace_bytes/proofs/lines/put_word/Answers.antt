@@ -1,5 +1,5 @@
 -- `trace_bytes::lines::put_word` meets its contract.
-use Rattle.laws.specs.Prelude.{ap, rules, sym}
+use Rattle.laws.specs.Prelude.{ap, sym}
 use Rattle.text.proofs.Laws.{laid_same}
 use Rattle.trace_model.specs.Format.{word_of}
 use Rattle.trace_bytes.proofs.lines.put_word.Goals as goal

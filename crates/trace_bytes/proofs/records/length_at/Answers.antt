@@ -1,5 +1,5 @@
 -- `trace_bytes::records::length_at` meets its contract.
-use Rattle.laws.specs.Prelude.{◌∙◌, ap, arith, rules, sym}
+use Rattle.laws.specs.Prelude.{◌∙◌, ap, arith, sym}
 use Rattle.trace_model.specs.Format.{length_at, record_bytes}
 use Rattle.trace_model.specs.declared.Version.{Version}
 use Rattle.trace_bytes.proofs.records.length_at.Goals as goal

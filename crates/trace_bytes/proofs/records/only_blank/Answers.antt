@@ -1,5 +1,5 @@
 -- `trace_bytes::records::only_blank` meets its contract.
-use Rattle.laws.specs.Prelude.{◌∙◌, rules, sym}
+use Rattle.laws.specs.Prelude.{◌∙◌, sym}
 use Rattle.trace_bytes.proofs.records.only_blank.Goals as goal
 
 pub returns-then-is_blank : goal.returns-then-is_blank

@@ -1,5 +1,5 @@
 -- `trace_bytes::records::read_header` meets its contract.
-use Rattle.laws.specs.Prelude.{◌*◌, ◌+◌, ap₂, arith, rules, ℕ}
+use Rattle.laws.specs.Prelude.{◌*◌, ◌+◌, ap₂, arith, ℕ}
 use Rattle.trace_bytes.proofs.Read.{header-sign, header-shape, header-short, header-taken}
 use Rattle.trace_bytes.proofs.records.read_header.Goals as goal
 

@@ -1,5 +1,5 @@
 -- `trace_bytes::records::record_at` meets its contract.
-use Rattle.laws.specs.Prelude.{◌∙◌, arith, rules}
+use Rattle.laws.specs.Prelude.{◌∙◌, arith}
 use Rattle.trace_model.proofs.Laws.{size-least}
 use Rattle.trace_bytes.proofs.Read.{entry-made}
 use Rattle.trace_bytes.proofs.records.record_at.Goals as goal

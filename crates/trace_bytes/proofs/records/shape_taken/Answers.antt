@@ -1,5 +1,5 @@
 -- `trace_bytes::records::shape_taken` meets its contract.
-use Rattle.laws.specs.Prelude.{◌∙◌, rules, not-false, sym}
+use Rattle.laws.specs.Prelude.{◌∙◌, not-false, sym}
 use Rattle.tree_node.proofs.Steps.{order-range}
 use Rattle.trace_bytes.proofs.Read.{shape-off, shape_on}
 use Rattle.trace_bytes.proofs.records.shape_taken.Goals as goal

@@ -1,5 +1,5 @@
 -- `tree_clock_level::records::is_nothing` meets its contract.
-use Rattle.laws.specs.Prelude.{ap, rules, sym}
+use Rattle.laws.specs.Prelude.{ap, sym}
 use Rattle.tree_model.specs.Prelude.{is_nothing}
 use Rattle.tree_clock_level.proofs.records.is_nothing.Goals as goal
 

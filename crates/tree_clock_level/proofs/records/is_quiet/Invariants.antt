@@ -1,6 +1,6 @@
 -- `tree_clock_level::records::is_quiet` meets its contract.
-use Rattle.laws.specs.Prelude.{◌-◌, ◌≤◌, arith, rules}
-use Rattle.tree_clock_level.proofs.Works.{Asking, quiet-end, quiet_next, quiet-start}
+use Rattle.laws.specs.Prelude.{◌-◌, ◌≤◌}
+use Rattle.tree_clock_level.proofs.Works.{Asking}
 use Rattle.tree_clock_level.proofs.records.is_quiet.Given as goal
 
 abbrev pub invariant-loop-i : goal.invariant-loop-i

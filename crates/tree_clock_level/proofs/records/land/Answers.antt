@@ -1,5 +1,4 @@
 -- `tree_clock_level::records::land` meets its contract.
-use Rattle.laws.specs.Prelude.{rules}
 use Rattle.tree_clock_level.proofs.Works.{land-done, land-loads, land-stands}
 use Rattle.tree_clock_level.proofs.records.land.Goals as goal
 

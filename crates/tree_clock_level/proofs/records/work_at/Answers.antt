@@ -1,5 +1,4 @@
 -- `tree_clock_level::records::work_at` meets its contract.
-use Rattle.laws.specs.Prelude.{rules}
 use Rattle.tree_clock_level.proofs.Works.{work-nothing, work-some}
 use Rattle.tree_clock_level.proofs.records.work_at.Goals as goal
 

@@ -1,5 +1,5 @@
 -- `tree_clock_level::root::leaves_mark` meets its contract.
-use Rattle.laws.specs.Prelude.{Bool, ◌&&◌, ap₂, rules, not}
+use Rattle.laws.specs.Prelude.{Bool, ◌&&◌, ap₂, not}
 use Rattle.tree_clock_model.specs.Prelude.{marks}
 use Rattle.tree_clock_level.proofs.root.leaves_mark.Goals as goal
 

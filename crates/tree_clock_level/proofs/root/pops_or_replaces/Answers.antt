@@ -1,5 +1,5 @@
 -- `tree_clock_level::root::pops_or_replaces` meets its contract.
-use Rattle.laws.specs.Prelude.{ap, rules, sym}
+use Rattle.laws.specs.Prelude.{ap, sym}
 use Rattle.tree_clock_model.specs.Prelude.{pops_or_replaces}
 use Rattle.tree_clock_level.proofs.root.pops_or_replaces.Goals as goal
 

@@ -1,5 +1,5 @@
 -- `tree_clock_level::root::rule_pop` meets its contract.
-use Rattle.laws.specs.Prelude.{rules, refl}
+use Rattle.laws.specs.Prelude.{refl}
 use Rattle.tree_clock_level.proofs.Roots.{pop_step, pop-still, root_below}
 use Rattle.tree_clock_level.proofs.root.rule_pop.Goals as goal
 

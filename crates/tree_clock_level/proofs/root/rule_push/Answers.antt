@@ -1,11 +1,10 @@
 -- `tree_clock_level::root::rule_push` meets its contract.
-use Rattle.laws.specs.Prelude.{◌∙◌, ◌≡◌, false, rules, not-false, refl, sym, untagged}
+use Rattle.laws.specs.Prelude.{◌∙◌, ◌≡◌, false, not-false, refl, sym, untagged}
 use Rattle.tree_clock_level.proofs.Roots.{push-barred, push_step, push-still}
 use Rattle.tree_clock_level.proofs.root.rule_push.Goals as goal
 use Rattle.tree_clock_level.proofs.root.rule_push.Goals.{Else-is_untagged}
 
 -- the element has a tag
-
 has : (c : Else-is_untagged) → untagged c.args.x ≡ false
 has c = sym c.is_untagged.ensures ∙ c.if-is_untagged.false
 

@@ -1,11 +1,10 @@
 -- `tree_clock_level::root::rule_replace` meets its contract.
-use Rattle.laws.specs.Prelude.{◌∙◌, ◌≡◌, false, rules, refl, sym, untagged}
+use Rattle.laws.specs.Prelude.{◌∙◌, ◌≡◌, false, refl, sym, untagged}
 use Rattle.tree_clock_level.proofs.Roots.{replace-barred, replace-step, replace-still, root_below}
 use Rattle.tree_clock_level.proofs.root.rule_replace.Goals as goal
 use Rattle.tree_clock_level.proofs.root.rule_replace.Goals.{Else-is_untagged}
 
 -- the element has a tag
-
 has : (c : Else-is_untagged) → untagged c.args.x ≡ false
 has c = sym c.is_untagged.ensures ∙ c.if-is_untagged.false
 

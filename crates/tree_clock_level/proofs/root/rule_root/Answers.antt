@@ -1,5 +1,5 @@
 -- `tree_clock_level::root::rule_root` meets its contract.
-use Rattle.laws.specs.Prelude.{rules, refl}
+use Rattle.laws.specs.Prelude.{refl}
 use Rattle.tree_clock_model.specs.Prelude.{asks}
 use Rattle.tree_clock_level.proofs.Roots.{hears-as, hears-idle, hears-soon}
 use Rattle.tree_clock_level.proofs.root.rule_root.Goals as goal

@@ -1,7 +1,6 @@
 -- `tree_clock_level::root::stands` meets its contract.
 use Rattle.tree_model.specs.Prelude.{node_of, node_ok}
 use Rattle.tree_clock_level.proofs.Roots.{stands-not, stands-tested}
-use Rattle.laws.specs.Prelude.{rules}
 use Rattle.tree_clock_level.proofs.root.stands.Goals as goal
 
 pub returns-then-not-asked : goal.returns-then-not-asked

@@ -1,10 +1,8 @@
 -- `tree_clock_level::shaped::cycle_shaped` meets its contract.
 use Rattle.tree_clock_level.proofs.Cycles.{cycle-damaged, cycle_runs, root_in, root-planned, rooted, cycle_run-still}
-use Rattle.laws.specs.Prelude.{rules}
 use Rattle.tree_clock_level.proofs.shaped.cycle_shaped.Goals as goal
 
 -- where the root has been looked at
-
 pub rule_root-g-requires : goal.rule_root-g-requires
 rule_root-g-requires c = root_in _ _ _ c.requires.0 _ c.requires.1
 

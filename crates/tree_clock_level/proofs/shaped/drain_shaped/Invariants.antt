@@ -1,8 +1,6 @@
 -- `tree_clock_level::shaped::drain_shaped` meets its contract.
-use Rattle.laws.specs.Prelude.{◌-◌, ◌∙◌, ◌≡◌, ◌≤◌, ap, arith, length, rules, refl, suc}
-use Rattle.tree_clock_level.proofs.Drains.{drain-goes, drain-quiet, drain_runs, drain-spent, drain-starts, drain-stops, Draining}
-use Rattle.tree_clock_level.proofs.Cycles.{rooted}
-use Rattle.tree_model.specs.Prelude.{shape_ok}
+use Rattle.laws.specs.Prelude.{◌-◌, ◌≡◌, ◌≤◌, length, suc}
+use Rattle.tree_clock_level.proofs.Drains.{Draining}
 use Rattle.tree_clock_level.proofs.shaped.drain_shaped.Given as goal
 
 abbrev pub invariant-loop-run : goal.invariant-loop-run

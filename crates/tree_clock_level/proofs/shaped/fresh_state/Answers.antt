@@ -1,5 +1,4 @@
 -- `tree_clock_level::shaped::fresh_state` meets its contract.
-use Rattle.laws.specs.Prelude.{rules}
 use Rattle.tree_clock_level.proofs.Cycles.{fresh-is}
 use Rattle.tree_clock_level.proofs.shaped.fresh_state.Goals as goal
 

@@ -1,5 +1,5 @@
 -- `tree_node::full::below_of` meets its contract.
-use Rattle.laws.specs.Prelude.{eq-eqb, ne_eqb, rules, refl}
+use Rattle.laws.specs.Prelude.{eq-eqb, ne_eqb, refl}
 use Rattle.tree_model.specs.Prelude.{is_empty}
 use Rattle.tree_node.specs.Full.{below}
 use Rattle.tree_node.proofs.full.below_of.Goals as goal

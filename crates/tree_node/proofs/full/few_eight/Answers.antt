@@ -1,5 +1,4 @@
 -- `tree_node::full::few_eight` meets its contract.
-use Rattle.laws.specs.Prelude.{rules}
 use Rattle.tree_node.specs.Full.{by_count}
 use Rattle.tree_node.proofs.full.few_eight.Goals as goal
 

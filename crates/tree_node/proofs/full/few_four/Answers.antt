@@ -1,5 +1,5 @@
 -- `tree_node::full::few_four` meets its contract.
-use Rattle.laws.specs.Prelude.{◌+◌, ◌≡◌, arith, rules}
+use Rattle.laws.specs.Prelude.{◌+◌, ◌≡◌, arith}
 use Rattle.tree_node.proofs.Winners.{wins-to}
 use Rattle.tree_node.specs.Full.{by_count}
 use Rattle.tree_node.proofs.full.few_four.Goals as goal

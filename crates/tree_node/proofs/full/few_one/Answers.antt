@@ -1,5 +1,5 @@
 -- `tree_node::full::few_one` meets its contract.
-use Rattle.laws.specs.Prelude.{arith, rules, refl}
+use Rattle.laws.specs.Prelude.{arith, refl}
 use Rattle.tree_node.proofs.Winners.{one-wins}
 use Rattle.tree_node.specs.Full.{by_count}
 use Rattle.tree_node.proofs.full.few_one.Goals as goal

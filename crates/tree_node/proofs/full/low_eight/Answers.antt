@@ -1,5 +1,4 @@
 -- `tree_node::full::low_eight` meets its contract.
-use Rattle.laws.specs.Prelude.{rules}
 use Rattle.tree_node.specs.Full.{by_turn}
 use Rattle.tree_node.proofs.full.low_eight.Goals as goal
 

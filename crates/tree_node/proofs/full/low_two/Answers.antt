@@ -1,5 +1,5 @@
 -- `tree_node::full::low_two` meets its contract.
-use Rattle.laws.specs.Prelude.{◌+◌, ◌≡◌, arith, rules}
+use Rattle.laws.specs.Prelude.{◌+◌, ◌≡◌, arith}
 use Rattle.tree_node.proofs.Winners.{wins-to}
 use Rattle.tree_node.specs.Full.{by_turn}
 use Rattle.tree_node.proofs.full.low_two.Goals as goal

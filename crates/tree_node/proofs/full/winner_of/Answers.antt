@@ -1,5 +1,5 @@
 -- `tree_node::full::winner_of` meets its contract.
-use Rattle.laws.specs.Prelude.{rules, refl}
+use Rattle.laws.specs.Prelude.{refl}
 use Rattle.tree_node.proofs.Winners.{left-wins, right-wins}
 use Rattle.tree_node.proofs.full.winner_of.Goals as goal
 

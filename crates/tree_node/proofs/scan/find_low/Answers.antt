@@ -1,5 +1,5 @@
 -- `tree_node::scan::find_low` meets its contract.
-use Rattle.laws.specs.Prelude.{arith, rules}
+use Rattle.laws.specs.Prelude.{arith}
 use Rattle.tree_node.proofs.Winners.{low-or-fine, low-or-full, low-or-not}
 use Rattle.tree_node.proofs.scan.find_low.Goals as goal
 

@@ -1,6 +1,6 @@
 -- `tree_node::scan::first_filled` meets its contract.
-use Rattle.laws.specs.Prelude.{◌-◌, ◌≤◌, arith, rules, not-suc-le-zero}
-use Rattle.tree_node.proofs.Leads.{FilledTo, filled-here, filled_next, filled_none}
+use Rattle.laws.specs.Prelude.{arith, rules, not-suc-le-zero}
+use Rattle.tree_node.proofs.Leads.{filled-here, filled_next, filled_none}
 use Rattle.tree_node.proofs.scan.first_filled.Goals as goal
 
 pub loop-j-init : goal.loop-j-init

@@ -1,6 +1,6 @@
 -- `tree_node::scan::first_filled` meets its contract.
-use Rattle.laws.specs.Prelude.{◌-◌, ◌≤◌, arith, rules, not-suc-le-zero}
-use Rattle.tree_node.proofs.Leads.{FilledTo, filled-here, filled_next, filled_none}
+use Rattle.laws.specs.Prelude.{◌-◌, ◌≤◌}
+use Rattle.tree_node.proofs.Leads.{FilledTo}
 use Rattle.tree_node.proofs.scan.first_filled.Given as goal
 
 abbrev pub invariant-loop-j : goal.invariant-loop-j

@@ -1,5 +1,4 @@
 -- `tree_node::scan::look_any` meets its contract.
-use Rattle.laws.specs.Prelude.{rules}
 use Rattle.tree_node.proofs.Leads.{low-found-first, low-found-here}
 use Rattle.tree_node.proofs.scan.look_any.Goals as goal
 

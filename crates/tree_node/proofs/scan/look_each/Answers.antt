@@ -1,7 +1,6 @@
 -- `tree_node::scan::look_each` meets its contract.
-use Rattle.laws.specs.Prelude.{◌-◌, ◌≡◌, ◌≤◌, arith, ltb-false, rules, refl, ⊎_elim}
-use Rattle.tree_model.specs.Prelude.{node_of, slot_ok}
-use Rattle.tree_node.proofs.Leads.{each-looked, Sofar, sofar-start, turn-stays, turn-taken}
+use Rattle.laws.specs.Prelude.{arith, ltb-false, rules, refl}
+use Rattle.tree_node.proofs.Leads.{each-looked, sofar-start, turn-stays, turn-taken}
 use Rattle.tree_node.proofs.Scans.{every-next, every_to}
 use Rattle.tree_node.proofs.scan.look_each.Goals as goal
 use Rattle.tree_node.proofs.scan.look_each.Goals.{else-k-low, then-k-low}

@@ -1,8 +1,8 @@
 -- `tree_node::scan::look_each` meets its contract.
-use Rattle.laws.specs.Prelude.{◌-◌, ◌≡◌, ◌≤◌, arith, ltb-false, rules, refl, ⊎_elim}
+use Rattle.laws.specs.Prelude.{◌-◌, ◌≡◌, ◌≤◌}
 use Rattle.tree_model.specs.Prelude.{node_of, slot_ok}
-use Rattle.tree_node.proofs.Leads.{each-looked, Sofar, sofar-start, turn-stays, turn-taken}
-use Rattle.tree_node.proofs.Scans.{every-next, every_to}
+use Rattle.tree_node.proofs.Leads.{Sofar}
+use Rattle.tree_node.proofs.Scans.{every_to}
 use Rattle.tree_node.proofs.scan.look_each.Given as goal
 
 abbrev pub invariant-loop-j : goal.invariant-loop-j

@@ -1,5 +1,5 @@
 -- `tree_node::scan::look_four` meets its contract.
-use Rattle.laws.specs.Prelude.{List, ◌&&◌, ◌≡◌, arith, rules, refl, ⊎_elim}
+use Rattle.laws.specs.Prelude.{List, ◌&&◌, ◌≡◌, arith, refl}
 use Rattle.tree_model.specs.Prelude.{node_of, node_ok}
 use Rattle.tree_model.specs.declared.Slot.{Slot}
 use Rattle.tree_node.proofs.Leads.{four-led, four-none, four-ok, IsWords, Leads, left-leads, one-leads, right-leads}
@@ -7,14 +7,12 @@ use Rattle.tree_node.proofs.scan.look_four.Goals as goal
 use Rattle.tree_node.proofs.scan.look_four.Goals.{After-slot_at-a, After-slot_at-b, After-slot_at-c, After-slot_at-d, After-slot_ok-4, After-turn_or-fourth, After-turn_or-high, After-turn_or-low, After-turn_or-second, Joined-fourth-high, Joined-high-low, Joined-second-low, else-fourth-high, else-high-low, else-second-low, then-fourth-high, then-high-low, then-second-low}
 
 -- the node, once its slots are read
-
 abbrev read : After-slot_at-d → List Slot
 read c =
     let start = c.before.before.before.before.before in
     node_of 4 start.args.s.now start.args.at
 
 -- rank and tag that were read are words
-
 small : (c : After-slot_at-a) → IsWords c.slot_at-a.result.element
 small c = (omega (arith, c.slot_at-a.type_inv), omega (arith, c.slot_at-a.type_inv))
 
@@ -28,7 +26,6 @@ small4 : (c : After-slot_at-d) → IsWords c.slot_at-d.result.element
 small4 c = (omega (arith, c.slot_at-d.type_inv), omega (arith, c.slot_at-d.type_inv))
 
 -- each slot leads its own place
-
 lead : (c : After-turn_or-low) → Leads (read (goal.at.After-turn_or-low c).After-slot_at-d) 0 1 0 c.turn_or-low.result
 lead c =
     one-leads _ _ 0 c.args.at _ _ (omega arith) (omega arith) c.slot_at-a.ensures c.turn_or-low.ensures (small (goal.at.After-turn_or-low c).After-slot_at-a)
@@ -46,19 +43,16 @@ lead4 c =
     one-leads _ _ 3 _ _ _ (omega arith) refl c.slot_at-d.ensures c.turn_or-fourth.ensures (small4 (goal.at.After-turn_or-fourth c).After-slot_at-d)
 
 -- two pairs
-
 left : (c : Joined-second-low) → Leads (read (goal.at.Joined-second-low c).After-slot_at-d) 0 2 c.if-second-low.best c.if-second-low.low
 left c =
     elim c.if-second-low.branch [ then-second-low w ↦ right-leads _ 0 1 2 _ _ _ _ (lead (goal.at.Joined-second-low c).After-turn_or-low) (lead2 (goal.at.Joined-second-low c).After-turn_or-second) _ _ w.if-second-low.true w.best-is w.low-is | else-second-low w ↦ left-leads _ 0 1 2 _ _ _ _ (lead (goal.at.Joined-second-low c).After-turn_or-low) (lead2 (goal.at.Joined-second-low c).After-turn_or-second) _ _ w.if-second-low.false w.best-is w.low-is ]
 
 -- .. the right one
-
 right : (c : Joined-fourth-high) → Leads (read (goal.at.Joined-fourth-high c).After-slot_at-d) 2 4 c.if-fourth-high.right c.if-fourth-high.high
 right c =
     elim c.if-fourth-high.branch [ then-fourth-high w ↦ right-leads _ 2 3 4 _ _ _ _ (lead3 (goal.at.Joined-fourth-high c).After-turn_or-high) (lead4 (goal.at.Joined-fourth-high c).After-turn_or-fourth) _ _ w.if-fourth-high.true w.right-is w.high-is | else-fourth-high w ↦ left-leads _ 2 3 4 _ _ _ _ (lead3 (goal.at.Joined-fourth-high c).After-turn_or-high) (lead4 (goal.at.Joined-fourth-high c).After-turn_or-fourth) _ _ w.if-fourth-high.false w.right-is w.high-is ]
 
 -- then the winners
-
 won : (c : Joined-high-low) → Leads (read (goal.at.Joined-high-low c).After-slot_at-d) 0 4 c.if-high-low.best c.if-high-low.low
 won c =
     elim c.if-high-low.branch [ then-high-low w ↦ right-leads _ 0 2 4 _ _ _ _ (left (goal.at.Joined-high-low c).Joined-second-low) (right (goal.at.Joined-high-low c).Joined-fourth-high) _ _ w.if-high-low.true w.best-is w.low-is | else-high-low w ↦ left-leads _ 0 2 4 _ _ _ _ (left (goal.at.Joined-high-low c).Joined-second-low) (right (goal.at.Joined-high-low c).Joined-fourth-high) _ _ w.if-high-low.false w.best-is w.low-is ]

@@ -1,6 +1,5 @@
 -- `tree_node::scan::look_least` meets its contract.
-use Rattle.laws.specs.Prelude.{◌-◌, ◌≡◌, ◌≤◌, arith, ltb-false, rules, ⊎_elim}
-use Rattle.tree_model.specs.Prelude.{node_of, slot_ok}
+use Rattle.laws.specs.Prelude.{arith, ltb-false, rules}
 use Rattle.tree_node.proofs.Looks.{few-stays, few-taken, least-looked}
 use Rattle.tree_node.proofs.Scans.{every-next, every_to, fewest, scan_least}
 use Rattle.tree_node.proofs.scan.look_least.Goals as goal

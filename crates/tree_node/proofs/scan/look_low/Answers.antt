@@ -1,5 +1,4 @@
 -- `tree_node::scan::look_low` meets its contract.
-use Rattle.laws.specs.Prelude.{rules}
 use Rattle.tree_node.proofs.Winners.{low-seen}
 use Rattle.tree_node.proofs.scan.look_low.Goals as goal
 

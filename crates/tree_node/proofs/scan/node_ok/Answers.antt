@@ -1,7 +1,6 @@
 -- `tree_node::scan::node_ok` meets its contract.
-use Rattle.laws.specs.Prelude.{◌-◌, ◌≡◌, ◌≤◌, arith, rules}
+use Rattle.laws.specs.Prelude.{arith, rules}
 use Rattle.tree_node.proofs.Scans.{every-next, every_to, node-ok-end}
-use Rattle.tree_model.specs.Prelude.{node_of, room, slot_ok}
 use Rattle.tree_node.proofs.scan.node_ok.Goals as goal
 
 pub loop-j-init : goal.loop-j-init

@@ -1,7 +1,7 @@
 -- `tree_node::scan::node_ok` meets its contract.
-use Rattle.laws.specs.Prelude.{◌-◌, ◌≡◌, ◌≤◌, arith, rules}
-use Rattle.tree_node.proofs.Scans.{every-next, every_to, node-ok-end}
-use Rattle.tree_model.specs.Prelude.{node_of, room, slot_ok}
+use Rattle.laws.specs.Prelude.{◌-◌, ◌≡◌, ◌≤◌}
+use Rattle.tree_node.proofs.Scans.{every_to}
+use Rattle.tree_model.specs.Prelude.{node_of, slot_ok}
 use Rattle.tree_node.proofs.scan.node_ok.Given as goal
 
 abbrev pub invariant-loop-j : goal.invariant-loop-j

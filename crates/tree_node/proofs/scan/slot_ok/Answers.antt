@@ -1,5 +1,5 @@
 -- `tree_node::scan::slot_ok` meets its contract.
-use Rattle.laws.specs.Prelude.{add-one, rules}
+use Rattle.laws.specs.Prelude.{add-one}
 use Rattle.tree_model.specs.Prelude.{is_empty, slot_ok}
 use Rattle.tree_node.proofs.scan.slot_ok.Goals as goal
 

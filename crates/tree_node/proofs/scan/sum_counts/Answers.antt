@@ -1,7 +1,6 @@
 -- `tree_node::scan::sum_counts` meets its contract.
-use Rattle.laws.specs.Prelude.{◌*◌, ◌-◌, ◌≡◌, ◌≤◌, arith, rules}
+use Rattle.laws.specs.Prelude.{arith, rules}
 use Rattle.tree_node.proofs.Scans.{sum-end, sum-next, sum_counts_to}
-use Rattle.tree_model.specs.Prelude.{node_of}
 use Rattle.tree_node.proofs.scan.sum_counts.Goals as goal
 
 pub loop-j-init : goal.loop-j-init

@@ -1,5 +1,5 @@
 -- `tree_node::scan::turn_or` meets its contract.
-use Rattle.laws.specs.Prelude.{eq-eqb, ne_eqb, rules}
+use Rattle.laws.specs.Prelude.{eq-eqb, ne_eqb}
 use Rattle.tree_node.specs.Look.{turn_or}
 use Rattle.tree_model.specs.Prelude.{is_empty}
 use Rattle.tree_node.proofs.scan.turn_or.Goals as goal

@@ -1,6 +1,5 @@
 -- `tree_node::shape::shape_fits` meets its contract.
 use Rattle.tree_node.proofs.Shapes.{fits-is}
-use Rattle.laws.specs.Prelude.{rules}
 use Rattle.tree_node.proofs.shape.shape_fits.Goals as goal
 
 pub returns : goal.returns

@@ -1,5 +1,5 @@
 -- `tree_node::shape::shape_of` meets its contract.
-use Rattle.laws.specs.Prelude.{rules, refl}
+use Rattle.laws.specs.Prelude.{refl}
 use Rattle.tree_node.proofs.Steps.{shape-range}
 use Rattle.tree_node.proofs.Shapes.{shaped-above, shaped-none, shaped-order, shaped-tree}
 use Rattle.tree_node.proofs.shape.shape_of.Goals as goal

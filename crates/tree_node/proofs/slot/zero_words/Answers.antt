@@ -1,5 +1,5 @@
 -- `tree_node::slot::zero_words` meets its contract.
-use Rattle.laws.specs.Prelude.{◌++◌, ◌-◌, ◌≡◌, ◌≤◌, arith, drop, length, length-set, rules, refl, replicate}
+use Rattle.laws.specs.Prelude.{◌≡◌, arith, length-set, rules, refl}
 use borrow.Author.Fill.{fill_more, fill_none}
 use Rattle.tree_node.proofs.slot.zero_words.Goals as goal
 

@@ -1,6 +1,5 @@
 -- `tree_records::calls::clear_beside` meets its contract.
 use Rattle.tree_records.proofs.AfterRead.{clear-ended, clear-unread, unread-is}
-use Rattle.laws.specs.Prelude.{rules}
 use Rattle.tree_records.proofs.calls.clear_beside.Goals as goal
 
 pub returns-then-not-is_lent : goal.returns-then-not-is_lent

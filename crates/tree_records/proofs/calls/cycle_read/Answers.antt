@@ -1,6 +1,5 @@
 -- `tree_records::calls::cycle_read` meets its contract.
 use Rattle.tree_records.proofs.AfterRead.{cycle-ended, cycle-unread}
-use Rattle.laws.specs.Prelude.{rules}
 use Rattle.tree_records.proofs.calls.cycle_read.Goals as goal
 
 pub returns-then-not-is_lent-read : goal.returns-then-not-is_lent-read

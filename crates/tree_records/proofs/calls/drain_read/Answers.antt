@@ -1,6 +1,5 @@
 -- `tree_records::calls::drain_read` meets its contract.
 use Rattle.tree_records.proofs.AfterRead.{drain-ended, drain-unread}
-use Rattle.laws.specs.Prelude.{rules}
 use Rattle.tree_records.proofs.calls.drain_read.Goals as goal
 
 pub returns-then-not-is_lent-read : goal.returns-then-not-is_lent-read

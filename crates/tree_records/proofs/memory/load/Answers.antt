@@ -1,7 +1,7 @@
 -- `tree_records::memory::load` meets its contract.
 use Rattle.laws.specs.Prelude.{◌∙◌, ◌≡◌, add-one, ap, ap₂, arith, length, replicate, ℕ}
 use Rattle.tree_clock_model.specs.Prelude.{record_count}
-use Rattle.tree_records.proofs.Back.{kinds-more, kinds-none, works-few, works-more, works-none}
+use Rattle.tree_records.proofs.Back.{kinds-more, kinds-none, works-more, works-none}
 use Rattle.tree_records.proofs.Records.{reach_few, reach-within}
 use Rattle.tree_records.specs.Steps.{read, read_of}
 use Rattle.tree_records.proofs.memory.load.Goals as goal
