@@ -2,7 +2,8 @@
 -- (`Refusals.antt`), so that the two cluster heaps of one shape answer the same numbers and ranks, call by call. Any K and levels.
 use Rattle.laws.specs.Prelude.{Answer, Bool, Element, List, Pop, Replace, Request, [], ◌∙◌, ◌≡◌, ap, length, map, not-suc-le-zero, number_of, suc, sym, zero, ℕ}
 use Rattle.agreement.proofs.Agreement.{heap_said}
-use Rattle.agreement.proofs.Refusals.{heap-plainly, ruled-number}
+use Rattle.agreement.proofs.Refusals.{heap-plainly}
+use Rattle.agreement.proofs.Ruled.{ruled-number}
 use Rattle.agreement.proofs.Ranks.{ranks-plainly, whole-empty}
 use Rattle.agreement.specs.Plain.{number_for, number_rank, plainly}
 use Rattle.cluster_clock_model.proofs.Exactly as clock-exactly

@@ -3,7 +3,7 @@
 use Rattle.laws.specs.Prelude.{Answer, Element, List, Pop, Replace, Request, [], ◌<◌, ◌∙◌, ◌≡◌, ap, length, map, not-suc-le-zero, number_of, rank_of, refl, suc, sym, zero, ℕ}
 use Rattle.agreement.proofs.Agreement.{tree_plain, tree_said}
 use Rattle.agreement.proofs.Ranks.{ranks-plain, ranks-plainly, same-empty, whole-empty}
-use Rattle.agreement.proofs.Refusals.{ruled-number}
+use Rattle.agreement.proofs.Ruled.{ruled-number}
 use Rattle.agreement.specs.Plain.{number_for, number_rank, plain, plainly, Taken}
 use Rattle.packed_model.proofs.Alone.{alone}
 use Rattle.packed_model.proofs.Exactly.{barred, kind}

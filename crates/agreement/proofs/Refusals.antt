@@ -1,40 +1,20 @@
 -- With refusals: for any calls from a cleared store, refused ones among them, tree and cluster heap answer the numbers and ranks of a plain list with room for
 -- their capacity. So of one capacity they answer alike, call by call; and of two, as long as neither is full. Any K, order and levels.
-use Rattle.laws.specs.Prelude.{Bool, Done, Element, Empty, Full, Idle, List, NoTag, Out, Pop, Push, Refused, Replace, Request, [], ◌∙◌, ◌∷◌, ◌≡◌, ap, cond, eqb, false, length, ltb, map, not-suc-le-zero, number_of, refl, subst, suc, sym, true, untagged, zero, ℕ}
+use Rattle.laws.specs.Prelude.{Bool, Idle, List, Pop, Push, Replace, Request, [], ◌∙◌, ◌∷◌, ◌≡◌, ap, cond, false, length, ltb, map, not-suc-le-zero, number_of, refl, subst, suc, sym, true, untagged, zero, ℕ}
 use Rattle.agreement.proofs.Agreement.{heap-pop, heap_said, tree-pop, tree_said}
 use Rattle.agreement.proofs.Ranks.{ranks-plainly, whole-empty}
+use Rattle.agreement.proofs.Ruled.{ruled-number}
 use Rattle.agreement.specs.Plain.{numbered, number_for, number_rank, plainly, Unfull}
 use Rattle.cluster_model.proofs.Exactly as heap-exactly
 use Rattle.cluster_model.proofs.Promises as heap
 use Rattle.cluster_model.proofs.Laws.{stored-many}
 use Rattle.cluster_model.specs.Prelude.{held_in, low_elem, node_in, op_of as heap_op, room as heap_room, rule as heap_rule}
 use Rattle.cluster_model.specs.Promise as heap-says
-use Rattle.promise.specs.Prelude.{Ruling, always, answers, last_table, ruled, ruling}
+use Rattle.promise.specs.Prelude.{always, answers}
 use Rattle.tree_model.proofs.Exactly as tree-exactly
 use Rattle.tree_model.proofs.Promises as tree
 use Rattle.tree_model.specs.Prelude.{Outcome, low, op_of as tree_op, room as tree_room, root_of, rule as tree_rule, sum_counts}
 use Rattle.tree_model.specs.Promise as tree-says
-
--- what a request comes to refuses as the list does: any queue that asks its tag and its limits
-pub ruled-number : {W : Type 0} (op : Request → W) (c : ℕ) (r : Request) (h : ℕ) (e : Element) → number_of (ruled op (last_table r h c) r e).answer ≡ number_for c r h
-ruled-number op c Idle h e = refl
-ruled-number {W} op c (Push x) h e = go (untagged x) (ltb h c)
-  where
-    go : (t f : Bool) → number_of (cond {A = Ruling W} t (ruling (Refused NoTag) (op Idle)) (cond {A = Ruling W} f (ruling Done (op (Push x))) (ruling (Refused Full) (op Idle)))).answer ≡ cond t 7 (cond f 0 5)
-    go true f = refl
-    go false true = refl
-    go false false = refl
-ruled-number {W} op c Pop h e = go (eqb h 0)
-  where
-    go : (b : Bool) → number_of (cond {A = Ruling W} b (ruling (Refused Empty) (op Idle)) (ruling (Out e) (op Pop))).answer ≡ cond b 6 0
-    go true = refl
-    go false = refl
-ruled-number {W} op c (Replace x) h e = go (untagged x) (eqb h 0)
-  where
-    go : (t b : Bool) → number_of (cond {A = Ruling W} t (ruling (Refused NoTag) (op Idle)) (cond {A = Ruling W} b (ruling (Refused Empty) (op Idle)) (ruling (Out e) (op (Replace x))))).answer ≡ cond t 7 (cond b 6 0)
-    go true b = refl
-    go false true = refl
-    go false false = refl
 
 heap-number : (K k : ℕ) (r : Request) (ws : List ℕ) → heap.Kept K k ws → number_of (heap-says.cluster_queue K (suc k) r ws).said ≡ number_for (heap_room K (suc k)) r (heap-says.stored_count K (suc k) ws always)
 unfolding heap_rule

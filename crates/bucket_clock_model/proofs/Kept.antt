@@ -1,83 +1,25 @@
 -- What every cycle keeps, on the words; and what a cycle then does.
-use Rattle.laws.specs.Prelude.{All, Answer, BadPort, BadRank, BadShape, Bool, Damaged, Done, Element, Empty, Full, Idle, List, NoHeap, NoTag, Pop, Push, Refusal, Refused, Replace, Request, TooSoon, ◌<◌, ◌∙◌, ◌≡◌, ◌≤◌, ap, arith, false, length, length-set, number_of, pred, refl, refusal_number, subst, suc, sym, true, zero, ℕ}
+use Rattle.laws.specs.Prelude.{All, BadPort, BadRank, BadShape, Damaged, Done, Element, Empty, Full, Idle, List, NoHeap, NoTag, Pop, Push, Refusal, Refused, Replace, Request, TooSoon, ◌<◌, ◌∙◌, ◌≡◌, ◌≤◌, ap, arith, length, number_of, refl, refusal_number, subst, suc, sym, zero, ℕ}
 use Rattle.bucket_model.proofs.Laws.{Holds, calls, other, same, shaped-after}
 use Rattle.bucket_model.specs.declared.Lay.{Lay}
-use Rattle.bucket_model.specs.Prelude.{Laid, Store, Storey, ask, called, plain, said_number, storey, word}
-use Rattle.promise.specs.Prelude.{Ruling, decided-either, decided-same, each-any, ruling}
+use Rattle.bucket_model.specs.Prelude.{Laid, Store, ask, called, plain, said_number, word}
+use Rattle.promise.specs.Prelude.{Ruling, decided-either, each-any, ruling}
 use Rattle.bucket_clock_model.specs.Clock.{clocked, held_after, late_table, Machine, number_at, out_of, sent}
 use Rattle.bucket_clock_model.specs.Damage.{BucketFit, DeskShaped, HeldFit, StagesFit, CycleFit}
 use Rattle.bucket_clock_model.specs.declared.Maybe.{Maybe}
-use Rattle.bucket_clock_model.specs.declared.Maybe.TheVariants.{None, Some}
 use Rattle.bucket_clock_model.specs.declared.Waiting.{Waiting}
-use Rattle.bucket_clock_model.specs.Desk.{Desk, floor_of, handed, held_words, rule_now, stage_done, stages, cycle_run, waiting, work_at}
+use Rattle.bucket_clock_model.specs.Desk.{Desk, held_words, rule_now, stages, cycle_run, waiting}
 use Rattle.bucket_clock_model.specs.Links.{bucket_leaves, bucket_stage}
 use Rattle.bucket_clock_model.specs.Lists.{arrives, done, heeded, left, moved, newcomer, takes}
 use Rattle.bucket_clock_model.specs.Pipe.{after, Pipe, piped, Shows}
-use Rattle.bucket_clock_model.specs.Words.{bit_off, bit_on, Floor, put_if, staged, storey_put, storey_take, take_if}
 use Rattle.bucket_clock_model.proofs.Clock.{cycles, left-all, placed-all, Same, same_at}
 use Rattle.bucket_clock_model.proofs.Fine.{fits}
 use Rattle.bucket_clock_model.proofs.Last.{after_store, last_fit, last-leaves, last_of, Linked}
 use Rattle.bucket_clock_model.proofs.Links.{But, stage-held, stage-long}
 use Rattle.bucket_clock_model.proofs.Vault.{Vaulted, vaults}
 use Rattle.bucket_clock_model.proofs.Worked.{Does, Stands, stands-off, Within, works}
-
--- ---- a cycle keeps the lengths, whatever stands in the machine
-
-pub record Long (m u : Desk) : Type 0 where
-  pub bits : length u.bits ≡ length m.bits
-  pub counts : length u.counts ≡ length m.counts
-  pub words : length u.words ≡ length m.words
-  pub records : length u.records ≡ length m.records
-
-pub record Broad (s u : Floor) : Type 0 where
-  pub bits : length u.bits ≡ length s.bits
-  pub counts : length u.counts ≡ length s.counts
-
-module _ (p : Storey) where
-  off-long : (m n : ℕ) (b : List ℕ) → length (bit_off p m n b) ≡ length b
-  off-long m zero b = length-set b _ _
-  off-long m (suc n) b = refl
-
-  on-long : (m n : ℕ) (b : List ℕ) → length (bit_on p m n b) ≡ length b
-  on-long m zero b = length-set b _ _
-  on-long m (suc n) b = refl
-
-  takes-broad : (t : Bool) (w : ℕ) (s : Floor) → Broad s (take_if p t w s)
-  unfolding storey_take
-  takes-broad true w s = record { bits = off-long _ (pred (word s.counts _)) s.bits; counts = length-set s.counts _ _ }
-  takes-broad false w s = record { bits = refl; counts = refl }
-
-  puts-broad : (d : ℕ) (x : Maybe) (s : Floor) → Broad s (put_if p d x s)
-  unfolding storey_put
-  puts-broad d None s = record { bits = refl; counts = refl }
-  puts-broad d (Some x) s = record { bits = on-long _ (word s.counts _) s.bits; counts = length-set s.counts _ _ }
-
-  pub staged-broad : (d : ℕ) (q : Request) (w : ℕ) (s : Floor) → Broad s (staged p d q w s)
-  staged-broad d q w s =
-      let a = takes-broad (takes q) w s in
-      let b = puts-broad d (newcomer q) (take_if p (takes q) w s) in
-      record { bits = b.bits ∙ a.bits; counts = b.counts ∙ a.counts }
-
-stages-long : (k : Lay) (e d : ℕ) (g : Waiting) (m : Desk) → Long m (stages k e d g m).next
-unfolding stages
-stages-long k e zero g m = record { bits = refl; counts = refl; words = stage-long k g.does g.way m.words; records = refl }
-stages-long k e (suc d) g m =
-    let p = storey k.bits e in
-    let a = staged-broad p d g.does g.way (floor_of m) in
-    let x = stages-long k (suc e) d (work_at m.records e) (stage_done k e d g m) in
-    record { bits = x.bits ∙ a.bits; counts = x.counts ∙ a.counts; words = x.words; records = x.records ∙ length-set m.records e (handed p g m.bits) }
-
-held-long : (k : Lay) (q : Request) (w : List ℕ) → length (held_words k q w) ≡ length w
-held-long k Idle w = refl
-held-long k (Push x) w = length-set w k.held _
-held-long k Pop w = length-set w k.held _
-held-long k (Replace x) w = refl
-
-pub cycle-long : (k : Lay) (q : Request) (m : Desk) → Long m (cycle_run k q m).next
-unfolding cycle_run
-cycle-long k q m =
-    let x = stages-long k 0 k.storeys (waiting q 0) m in
-    record { bits = x.bits; counts = x.counts; words = held-long k q (stages k 0 k.storeys (waiting q 0) m).next.words ∙ x.words; records = x.records }
+use Rattle.bucket_clock_model.proofs.Long.{cycle-long, held-long}
+use Rattle.bucket_clock_model.proofs.Ruled.{rule-number}
 
 -- ---- held
 
@@ -110,16 +52,11 @@ idle-by q BadPort = refl
 idle-by q NoHeap = refl
 
 module _ (k : Lay) (q : Request) (m : Desk) (h : ℕ) (e : word m.words k.held ≡ h) where
-  pub rule-number : number_of (rule_now k q m).answer ≡ number_at k.ranks k.nodes q h
-  rule-number =
-      ap number_of (decided-same (λ (g : Ruling Request). g.answer) (λ (a : Answer). a) (λ n. ruling (Refused n) Idle) Refused (late_table k.ranks k.nodes q (word m.words k.held)) (ruling Done q) Done (λ n. refl) refl)
-      ∙ ap (number_at k.ranks k.nodes q) e
-
   pub rule-sent : (rule_now k q m).op ≡ sent k q h
   rule-sent =
       decided-either (λ n. ruling (Refused n) Idle) (λ (g : Ruling Request). g.op ≡ heeded (number_of g.answer) q) (late_table k.ranks k.nodes q (word m.words k.held)) (ruling Done q)
       (each-any _ (idle-by q) (late_table k.ranks k.nodes q (word m.words k.held))) (λ c. refl)
-      ∙ ap (λ (n : ℕ). heeded n q) rule-number
+      ∙ ap (λ (n : ℕ). heeded n q) (rule-number k q m h e)
 
 -- ---- what every cycle keeps: `was i`, `ago i` are store and list of one at a time, i cycles ago; `later` what leaves in the cycles to come
 

@@ -6,12 +6,15 @@ pub mod Clock
 pub mod Words
 pub mod Damage
 pub mod Same
+pub mod StageReads
 pub mod Links
 pub mod Stage
 pub mod Last
 pub mod Worked
 pub mod Fine
 pub mod Vault
+pub mod Long
+pub mod Ruled
 pub mod Kept
 pub mod Exactly
 pub mod Clear

@@ -1,13 +1,14 @@
 -- The bucket stage writes what one at a time writes, but for the held count.
-use Rattle.laws.specs.Prelude.{Bool, Element, List, Request, [], ◌<◌, ◌∙◌, ◌∷◌, ◌≡◌, ◌≤◌, ap, arith, cond, eqb, false, length, length-set, ltb, ltb-false, refl, set, subst, suc, sym, true, zero, ℕ, ℕ_discrete}
+use Rattle.laws.specs.Prelude.{Bool, Element, List, Request, [], ◌<◌, ◌∙◌, ◌∷◌, ◌≡◌, ◌≤◌, ap, arith, cond, eqb, false, length, length-set, refl, set, subst, suc, sym, true, zero, ℕ, ℕ_discrete}
 use Rattle.bucket_model.proofs.Laws.{other, write-length, write-other}
-use Rattle.bucket_model.specs.Prelude.{Laid, cell, head_at, joined_words, link_at, lowest_in, next_at, next_of, room_of, room_with, tail_at, taken_words, word, write}
+use Rattle.bucket_model.specs.Prelude.{Laid, cell, head_at, joined_words, link_at, lowest_in, next_at, room_of, room_with, tail_at, taken_words, word, write}
 use Rattle.bucket_model.specs.declared.Lay.{Lay}
 use Rattle.bucket_clock_model.specs.Damage.{BucketFit, BucketNewFit, BucketPutFit, BucketTakeFit, BucketTakesFit}
 use Rattle.bucket_clock_model.specs.declared.Maybe.{Maybe}
 use Rattle.bucket_clock_model.specs.declared.Maybe.TheVariants.{None, Some}
 use Rattle.bucket_clock_model.specs.Links.{bucket_put, bucket_put_if, bucket_stage, bucket_take, bucket_take_if, put_writes, take_writes}
 use Rattle.bucket_clock_model.specs.Lists.{newcomer, takes}
+use Rattle.bucket_clock_model.proofs.StageReads.{put-fit-low, put_same, take-fit-low, take_same}
 
 -- the same words but for the held count
 pub record But (k : Lay) (w v : List ℕ) : Type 0 where
@@ -40,96 +41,25 @@ module _ (k : Lay) where
   pub but-held : (w v : List ℕ) (x : ℕ) → But k w v → But k w (set v k.held x)
   but-held w v x c = record { long = c.long ∙ sym (length-set v k.held x); words = λ a n. c.words a n ∙ sym (other v k.held x a n) }
 
-  -- words that are the same before held: all that a stage reads stands there
-  module _ (laid : Laid k) (w v : List ℕ) (c : (a : ℕ) → a < k.held → word w a ≡ word v a) where
-    pub free-same : word w k.free ≡ word v k.free
-    free-same = c k.free laid.held
-
-    pub head-same : (r : ℕ) → r < k.ranks → word w (head_at k r) ≡ word v (head_at k r)
-    head-same r h = c (head_at k r) (omega (arith, laid.lists, laid.pool, laid.held))
-
-    pub tail-same : (r : ℕ) → r < k.ranks → word w (tail_at k r) ≡ word v (tail_at k r)
-    tail-same r h = c (tail_at k r) (omega (arith, laid.lists, laid.pool, laid.held))
-
-    pub next-same : (l : ℕ) → next_of k w l ≡ next_of k v l
-    unfolding next_of
-    next-same l = go (eqb l 0) (ltb k.nodes l) refl
-      where
-        go : (a b : Bool) → ltb k.nodes l ≡ b → cond a 0 (cond b 0 (word w (next_at k l))) ≡ cond a 0 (cond b 0 (word v (next_at k l)))
-        go true b e = refl
-        go false true e = refl
-        go false false e = let m : l ≤ k.nodes = ltb-false k.nodes l e in c (next_at k l) (omega (arith, laid.pool, laid.held))
-
-    -- what a stage reads is what one at a time reads
-    pub take_same : (r : ℕ) → r < k.ranks → take_writes k w r ≡ take_writes k v r
-    take_same r h =
-        let n : next_of k w (word w (head_at k r)) ≡ next_of k v (word v (head_at k r)) = ap (next_of k w) (head-same r h) ∙ next-same (word v (head_at k r)) in
-        rw (n, tail-same r h, head-same r h, free-same)
-
-    pub put_same : (e : Element) → e.rank.0 < k.ranks → put_writes k w e ≡ put_writes k v e
-    put_same e h =
-        let n : next_of k w (word w k.free) ≡ next_of k v (word v k.free) = ap (next_of k w) free-same ∙ next-same (word v k.free) in
-        rw (n, tail-same e.rank.0 h, free-same)
-
-    next-at : (a : ℕ) → word w a ≡ word v a → next_of k w (word w a) ≡ next_of k v (word v a)
-    next-at a e = ap (next_of k w) e ∙ next-same (word v a)
-
-    -- the tests
-    pub take-fit-low : (r : ℕ) → BucketTakeFit k r v → BucketTakeFit k r w
-    take-fit-low r f =
-        let h : word w (head_at k r) ≡ word v (head_at k r) = head-same r f.within in
-        let t : word w (tail_at k r) ≡ word v (tail_at k r) = tail-same r f.within in
-        let n : next_of k w (word w (head_at k r)) ≡ next_of k v (word v (head_at k r)) = next-at (head_at k r) h in
-        let b : next_of k w (word w (tail_at k r)) ≡ next_of k v (word v (tail_at k r)) = next-at (tail_at k r) t in
-        record {
-          within = f.within;
-          free≤ = rw free-same f.free≤;
-          head≢ = rw h f.head≢;
-          tail≢ = rw t f.tail≢;
-          head≤ = rw h f.head≤;
-          tail≤ = rw t f.tail≤;
-          next≤ = rw n f.next≤;
-          behind0 = b ∙ f.behind0;
-          ends = record { to = λ e. h ∙ f.ends.to (sym n ∙ e) ∙ sym t; from = λ e. n ∙ f.ends.from (sym h ∙ e ∙ t) };
-        }
-
-    pub put-fit-low : (r : ℕ) → BucketPutFit k r v → BucketPutFit k r w
-    put-fit-low r f =
-        let h : word w (head_at k r) ≡ word v (head_at k r) = head-same r f.within in
-        let t : word w (tail_at k r) ≡ word v (tail_at k r) = tail-same r f.within in
-        let n : next_of k w (word w k.free) ≡ next_of k v (word v k.free) = next-at k.free free-same in
-        let b : next_of k w (word w (tail_at k r)) ≡ next_of k v (word v (tail_at k r)) = next-at (tail_at k r) t in
-        record {
-          within = f.within;
-          both = record { to = λ e. t ∙ f.both.to (sym h ∙ e); from = λ e. h ∙ f.both.from (sym t ∙ e) };
-          head≤ = rw h f.head≤;
-          tail≤ = rw t f.tail≤;
-          free≤ = rw free-same f.free≤;
-          free≢ = rw free-same f.free≢;
-          next≤ = rw n f.next≤;
-          behind0 = b ∙ f.behind0;
-          other = λ e. f.other (sym free-same ∙ e ∙ t);
-        }
-
   pub low-words : (w v : List ℕ) → But k w v → (a : ℕ) → a < k.held → word w a ≡ word v a
   low-words w v c a h = c.words a (λ e. omega arith)
 
   module _ (laid : Laid k) (w v : List ℕ) (c : But k w v) where
     -- the tests of the stage do not read the held count
     pub take-fit-but : (r : ℕ) → BucketTakeFit k r v → BucketTakeFit k r w
-    take-fit-but = take-fit-low laid w v (low-words w v c)
+    take-fit-but = take-fit-low k laid w v (low-words w v c)
 
     pub put-fit-but : (r : ℕ) → BucketPutFit k r v → BucketPutFit k r w
-    put-fit-but = put-fit-low laid w v (low-words w v c)
+    put-fit-but = put-fit-low k laid w v (low-words w v c)
 
     -- BUCKETS: the stage leaves what one at a time leaves, but for the held count
     pub take-but : (r : ℕ) → r < k.ranks → But k (bucket_take k r w) (taken_words k v (lowest_in k v r))
     unfolding bucket_take taken_words
-    take-but r h = but-held (write w (take_writes k w r)) (write v (take_writes k v r)) _ (subst (λ (ps : List (ℕ × ℕ)). But k (write w ps) (write v (take_writes k v r))) (sym (take_same laid w v (low-words w v c) r h)) (but-write (take_writes k v r) w v c))
+    take-but r h = but-held (write w (take_writes k w r)) (write v (take_writes k v r)) _ (subst (λ (ps : List (ℕ × ℕ)). But k (write w ps) (write v (take_writes k v r))) (sym (take_same k laid w v (low-words w v c) r h)) (but-write (take_writes k v r) w v c))
 
     pub put-but : (b : List ℕ) (e : Element) → e.rank.0 < k.ranks → But k (bucket_put k e w) (joined_words k v e (room_of k b v e.rank.0))
     unfolding bucket_put joined_words room_with
-    put-but b e h = but-held (write w (put_writes k w e)) (write v (put_writes k v e)) _ (subst (λ (ps : List (ℕ × ℕ)). But k (write w ps) (write v (put_writes k v e))) (sym (put_same laid w v (low-words w v c) e h)) (but-write (put_writes k v e) w v c))
+    put-but b e h = but-held (write w (put_writes k w e)) (write v (put_writes k v e)) _ (subst (λ (ps : List (ℕ × ℕ)). But k (write w ps) (write v (put_writes k v e))) (sym (put_same k laid w v (low-words w v c) e h)) (but-write (put_writes k v e) w v c))
 
 -- ---- the held count stands, and so does what is behind it
 

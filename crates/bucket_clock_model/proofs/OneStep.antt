@@ -17,7 +17,7 @@ use Rattle.bucket_clock_model.specs.Pipe.{lead}
 use Rattle.bucket_clock_model.specs.Promise.{Rest, Steps}
 use Rattle.bucket_clock_model.specs.Words.{bit_off, bit_on, count_at, Floor, put_if, staged, storey_put, storey_take, take_if, way_below, way_if}
 use Rattle.bucket_clock_model.proofs.Damage.{cycle-means}
-use Rattle.bucket_clock_model.proofs.Kept.{Broad, staged-broad}
+use Rattle.bucket_clock_model.proofs.Long.{Broad, staged-broad}
 use Rattle.bucket_clock_model.proofs.Links.{set_both, stage-past}
 use Rattle.bucket_clock_model.proofs.Worked.{rank-inside, words-le, work-other, work-same}
 

@@ -18,7 +18,7 @@ use Rattle.bucket_clock_model.specs.Pipe.{lead}
 use Rattle.bucket_clock_model.specs.Promise.{Alike, Near, Steps}
 use Rattle.bucket_clock_model.specs.Words.{bit_off, bit_on, count_at, Floor, put_if, staged, storey_put, storey_take, take_if, way_below, way_if}
 use Rattle.bucket_clock_model.proofs.Damage.{desk-means, cycle-means}
-use Rattle.bucket_clock_model.proofs.Links.{head-same, put-fit-low, put_same, take-fit-low, take_same}
+use Rattle.bucket_clock_model.proofs.StageReads.{head-same, put-fit-low, put_same, take-fit-low, take_same}
 use Rattle.bucket_clock_model.proofs.OneStep.{bits-low, counts-low, leaving-is, one-step, way_in}
 use Rattle.bucket_clock_model.proofs.Worked.{rank-inside, words-le}
 

@@ -6,7 +6,8 @@ use Rattle.bucket_model.specs.declared.Lowest.{Lowest}
 use Rattle.bucket_model.specs.Prelude.{Laid, head_at, link_at, load_in, load_of, load_writes, loaded, lowest_in, next_at, next_of, no_load, pop_ok, tail_at, tail_left, taken_words, word, write}
 use Rattle.bucket_node.specs.Places.{Fits, Linkable, NodeOf}
 use Rattle.bucket_clock_model.proofs.Damage.{bucket-means, bucket-take-means}
-use Rattle.bucket_clock_model.proofs.Links.{But, low-words, next-same, take-but, take_long}
+use Rattle.bucket_clock_model.proofs.Links.{But, low-words, take-but, take_long}
+use Rattle.bucket_clock_model.proofs.StageReads.{next-same}
 use Rattle.bucket_clock_model.specs.Damage.{BucketFit, BucketPutFit, BucketTakeFit}
 use Rattle.bucket_clock_model.specs.declared.Maybe.{Maybe}
 use Rattle.bucket_clock_model.specs.declared.Maybe.TheVariants.{None, Some}

@@ -8,7 +8,7 @@ use Rattle.bucket_model.specs.Prelude.{Storey, storey, word, words_of}
 use Rattle.bucket_node.specs.Places.{Fits}
 use Rattle.bucket_clock_model.proofs.Damage.{bucket-means, storey-means}
 use Rattle.bucket_clock_model.proofs.Links.{stage-held}
-use Rattle.bucket_clock_model.proofs.Kept.{Broad, staged-broad}
+use Rattle.bucket_clock_model.proofs.Long.{Broad, staged-broad}
 use Rattle.bucket_clock_model.proofs.OneStep.{bit-same, count_same, From, Onward, Outside, put-stood, Stood, take-stood, takes_same, way_same}
 use Rattle.bucket_clock_model.proofs.Worked.{rank-inside, words-le, work-other}
 use Rattle.bucket_clock_model.specs.Damage.{StoreyFit}

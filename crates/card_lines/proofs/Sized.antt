@@ -1,7 +1,7 @@
 -- How many words the lines need.
 use Rattle.laws.specs.Prelude.{Bool, ◌∙◌, ◌≡◌, ◌≤◌, arith, cond, false, refl, sym, true, true≢false, ℕ}
 use Rattle.card_lines.specs.Lines.{lines_words, rows}
-use Rattle.lines_model.proofs.Tests.{shape-means}
+use Rattle.lines_model.proofs.Shaped.{shape-means}
 use Rattle.lines_model.specs.Layout.{shape_ok, store_words}
 use Rattle.lines_model.specs.declared.Rows.{Rows}
 use Rattle.lines_work.proofs.Finds.{small}

@@ -1,6 +1,7 @@
 mod Table
 mod Steps
 mod Chain
+mod Finish
 mod Orderly
 mod Bound
 mod Outcomes

@@ -1,6 +1,7 @@
 -- What lawful calls keep from a reset on: no waiting rank is below the clock, each flow's waiting strips are a chain up to its last finish that
 -- starts at the clock or before, and no number is above the largest rank.
-use Rattle.laws.specs.Prelude.{All, Any, List, [], ◌*◌, ◌++◌, ◌+◌, ◌<◌, ◌∙◌, ◌∷◌, ◌≡◌, ◌≤◌, all-at, all_map, all_snoc, arith, is-upd, length, max, mul-le-mul_right, refl, subst, suc, sym, take, upd, zero, ℕ, ℕ_discrete, ⊎_elim}
+use Rattle.laws.specs.Prelude.{All, Any, List, [], ◌*◌, ◌++◌, ◌+◌, ◌<◌, ◌∙◌, ◌∷◌, ◌≡◌, ◌≤◌, all-at, all_map, all_snoc, arith, is-upd, length, mul-le-mul_right, refl, subst, suc, sym, take, upd, zero, ℕ, ℕ_discrete, ⊎_elim}
+use Rattle.fair_model.proofs.Finish.{finish-is}
 use native.Mathlib.Nat.{le-div_iff_mul-le, mul-pos}
 use Rattle.fair_model.specs.Ranks.{cell_limit, cells, finish, Good, heaviest, latest, longest, step}
 use Rattle.fair_model.specs.Ledger.{AllLawful, anew, bytes, comes, cost, entry, found, fresh, goes, Lawful, Move, moved, no_strip, rank, run, stays, Strip, without, World}
@@ -24,10 +25,6 @@ cost-some f w n h = mul-pos (cells-some n h.long) (omega (arith, step-some w h.s
 
 pub cost-most : (f w n : ℕ) → Good f w n → cells n * step w ≤ cell_limit * step w
 cost-most f w n h = mul-le-mul_right (step w) (cells-most n h.short)
-
-pub finish-is : (c l w n : ℕ) → finish c l w n ≡ max c l + cells n * step w
-unfolding finish
-finish-is c l w n = refl
 
 -- ---- a ledger in order
 -- a strip is within the limits, and its rank too

@@ -15,7 +15,8 @@ use Rattle.fair_model.specs.declared.FairRefusal.TheVariants.{NotEmpty, Queue}
 use Rattle.fair_model.proofs.Agrees.{Agrees, follows, moves-agree, moves-lawful, sum-as}
 use Rattle.fair_model.proofs.Bound.{bound}
 use Rattle.fair_model.proofs.Exactly.{exactly, queued-first}
-use Rattle.fair_model.proofs.Orderly.{cost-some, finish-is, fresh-orderly, goes_first, goes_later, Orderly, Right, run-orderly}
+use Rattle.fair_model.proofs.Orderly.{cost-some, fresh-orderly, goes_first, goes_later, Orderly, Right, run-orderly}
+use Rattle.fair_model.proofs.Finish.{finish-is}
 use Rattle.fair_model.proofs.Outcomes.{blank-at, blank-length, pop-either, push-either, push-gives-none, reset-either}
 
 -- ---- an accepted reset

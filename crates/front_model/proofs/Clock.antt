@@ -7,7 +7,7 @@ use Rattle.bucket_clock_model.proofs.Counts.{first-high}
 use Rattle.bucket_clock_model.proofs.Damage.{means-fails}
 use Rattle.bucket_clock_model.proofs.Exactly.{late-each, late-told}
 use Rattle.bucket_clock_model.proofs.Flow.{in-machine}
-use Rattle.bucket_clock_model.proofs.Kept.{Long, cycle-long}
+use Rattle.bucket_clock_model.proofs.Long.{Long, cycle-long}
 use Rattle.bucket_clock_model.proofs.Quiet.{quiet-stages}
 use Rattle.bucket_clock_model.specs.Clock.{late_table}
 use Rattle.bucket_clock_model.specs.declared.Maybe.TheVariants.{None, Some}

@@ -3,7 +3,8 @@ use Rattle.laws.specs.Prelude.{BadRank, BadShape, Bool, Damaged, Element, List, 
 use Rattle.lines_clock.specs.declared.Cycled.{Cycled}
 use Rattle.lines_model.proofs.Acts.{goal-lt}
 use Rattle.lines_model.proofs.Clocked.{due-means, work-long}
-use Rattle.lines_model.proofs.Tests.{below-means, shape-means}
+use Rattle.lines_model.proofs.Shaped.{shape-means}
+use Rattle.lines_model.proofs.Tests.{below-means}
 use Rattle.lines_model.proofs.Ticks.{choose-ext, counts_same, cycled-is}
 use Rattle.lines_model.proofs.Which.{total_ext}
 use Rattle.lines_model.specs.Calls.{counts_ok, heads}

@@ -2,7 +2,7 @@
 use Rattle.laws.specs.Prelude.{All, BadRank, Bool, Damaged, Element, Idle, List, NoTag, Pop, Push, Refused, Replace, Request, [], ◌&&◌, ◌+◌, ◌-◌, ◌<◌, ◌||◌, ◌∙◌, ◌∷◌, ◌≡◌, ◌≤◌, and_left, and_right, and-true, ap, arith, cond, dec_lt, eq-eqb, eqb, eqb-false, eqb-true, false, false≢true, inl, is-upd, le-leb, le-ltb, leb, length, length-set, lt-ltb, ltb, ltb-true, ne_eqb, not, refl, set, subst, suc, sym, true, upd, zero, ℕ, ℕ_discrete, ⊎_elim}
 use Rattle.lines_model.proofs.Keeps.{put_keeps, take-keeps}
 use Rattle.lines_model.proofs.Row.{other, row-past, same, set-length, set_other, set_past}
-use Rattle.lines_model.proofs.Tests.{shape-means}
+use Rattle.lines_model.proofs.Shaped.{shape-means}
 use Rattle.lines_model.proofs.Which.{first_some, line-lt, lowest-least, lowest-lt, or_cases, sought, spans}
 use Rattle.lines_model.specs.Calls.{acted, called, counts_ok, done, due_in, heads, Outcome, outcome}
 use Rattle.lines_model.specs.Causes.{Own, Shaped}

@@ -6,7 +6,8 @@ use Rattle.lines_model.proofs.Keeps.{row_before}
 use Rattle.lines_model.proofs.Promises.{is-queue}
 use Rattle.lines_model.proofs.Row.{Off, row-length, set-length, set_other}
 use Rattle.lines_model.proofs.Start.{always-neat, cleared-words, start-sound}
-use Rattle.lines_model.proofs.Tests.{ask-told, below-means, fails-means, late-told, lines-means, or-means, range-means, shape-means}
+use Rattle.lines_model.proofs.Shaped.{shape-means}
+use Rattle.lines_model.proofs.Tests.{ask-told, below-means, fails-means, late-told, lines-means, or-means, range-means}
 use Rattle.lines_model.proofs.Ticks.{cycle-flies, cycle-said, cycle-settled, Flying, idle-next, machine-shape, settled-counts, settled-sound, cycle-ok}
 use Rattle.lines_model.proofs.Which.{total_ext}
 use Rattle.lines_model.specs.Calls.{called, cleared, counts_ok, held_count, lines, wipe}

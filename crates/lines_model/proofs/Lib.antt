@@ -3,6 +3,7 @@ pub mod Which
 pub mod Keeps
 pub mod Order
 pub mod Tests
+pub mod Shaped
 pub mod Acts
 pub mod Start
 pub mod Serve

@@ -6,7 +6,8 @@ use Rattle.lines_model.proofs.Acts.{after, counts-ok, Granted, keeps, lets, line
 use Rattle.lines_model.proofs.Order.{order-none}
 use Rattle.lines_model.proofs.Serve.{giver-least, held_all, put-sum, stored_is, take-sum}
 use Rattle.lines_model.proofs.Start.{wiped}
-use Rattle.lines_model.proofs.Tests.{ask-told, below-means, fails-means, late-told, lines-means, shape-means}
+use Rattle.lines_model.proofs.Shaped.{shape-means}
+use Rattle.lines_model.proofs.Tests.{ask-told, below-means, fails-means, late-told, lines-means}
 use Rattle.lines_model.specs.Calls.{called, done, due_in, heads, queue, wipe}
 use Rattle.lines_model.specs.Causes.{Shaped}
 use Rattle.lines_model.specs.Layout.{Rows, store_words, word}

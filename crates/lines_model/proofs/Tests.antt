@@ -2,7 +2,7 @@
 use Rattle.laws.specs.Prelude.{All, Bool, Element, Fails, Idle, List, Means, Pop, Push, Replace, Request, [], ◌&&◌, ◌+◌, ◌<◌, ◌||◌, ◌∙◌, ◌∷◌, ◌≡◌, ◌≤◌, ◌⊎◌, and-true, ap, arith, dec_lt, eq-eqb, eqb, fails-or, false, false≢true, inl, inr, le-ltb, lt-ltb, ltb, ltb-false, means-and, means-by, means-eqb, means-leb, means-ltb, means-no, means-off, ne_eqb, not, refl, subst, suc, sym, true, true≢false, zero, ℕ, ℕ_discrete, ⊎_elim}
 use Rattle.lines_model.proofs.Which.{line-lt, line-past, sought, spans}
 use Rattle.lines_model.specs.Causes.{Ascends, InRange, LineFit, NoRoom, NoRoomAfter, Own, Ranked, Shaped}
-use Rattle.lines_model.specs.Layout.{line_of, power_of_two, row_at, row_in, Rows, shape_ok, store_words, word}
+use Rattle.lines_model.specs.Layout.{line_of, row_at, row_in, Rows, word}
 use Rattle.lines_model.specs.Rules.{ascends, ask_table, counts_below, Due, giver, goal, has_room, in_range, is_blank, late_table, line_ok, LinesFit, lines_ok, owned, Put, rank_fit, Rest, room_after, seek, Swap, Take, taker, total}
 use Rattle.promise.proofs.Calls.{tag-means}
 use Rattle.promise.specs.Prelude.{Table, Told}
@@ -17,16 +17,6 @@ imp-means false b p q = record { says = λ e x. absurd (false≢true (p.holds x)
 
 yes-means : Means true (Unit {0})
 yes-means = record { says = λ e. tt; holds = λ u. refl }
-
-same-means : (b : Bool) → Means b (b ≡ true)
-same-means b = record { says = λ e. e; holds = λ e. e }
-
-pub shape-means : (k : Rows) (n : ℕ) → Means (shape_ok k n) (Shaped k n)
-unfolding shape_ok
-shape-means k n =
-    means-by (means-and (means-and (means-and (means-and (or-means (eqb k.kind 1) (eqb k.kind 2) (means-eqb k.kind 1) (means-eqb k.kind 2)) (same-means (power_of_two k.lines))) (means-leb 1 k.places)) (means-leb k.places 1024)) (means-leb (store_words k) n))
-    (λ x. record { kind = x.0.0.0.0; lines = x.0.0.0.1; low = x.0.0.1; high = x.0.1; words = x.1 })
-    (λ s. ((((s.kind, s.lines), s.low), s.high), s.words))
 
 pub range-means : (k : Rows) (x : Element) → Means (in_range k x) (InRange k x)
 range-means k x = imp-means (eqb k.kind 1) (ltb x.rank.0 65536) (means-eqb k.kind 1) (means-ltb x.rank.0 65536)

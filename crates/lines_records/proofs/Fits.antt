@@ -2,7 +2,7 @@
 use Rattle.laws.specs.Prelude.{Answer, Bool, Element, Idle, Pop, Push, Refused, Replace, Request, ◌+◌, ◌<◌, ◌∙◌, ◌≡◌, ◌≤◌, and_left, ap, arith, eqb-false, false≢true, has_run, length, ltb, ltb-true, number_of, refl, subst, suc, sym, true, zero, ℕ}
 use Rattle.lines_model.proofs.Acts.{giver-fits}
 use Rattle.lines_model.proofs.Clocked.{ticks}
-use Rattle.lines_model.proofs.Tests.{shape-means}
+use Rattle.lines_model.proofs.Shaped.{shape-means}
 use Rattle.lines_model.specs.Clock.{clock, drains, due_at, fronts, Machine, cycled, ticking}
 use Rattle.lines_model.specs.Layout.{shape_ok, word}
 use Rattle.lines_model.specs.Rules.{ask_table, due_of, giver, late_table, taker, total}

@@ -2,7 +2,7 @@
 use Rattle.laws.specs.Prelude.{Bool, Done, Element, Empty, Full, Idle, List, Out, Pop, Push, Replace, Request, ◌+◌, ◌-◌, ◌<◌, ◌∙◌, ◌≡◌, ◌≤◌, ap, ap₂, arith, element_in, eq-eqb, false, le-ltb, length, lt-ltb, ltb, ne_eqb, not, not-false, not-true, refl, set, subst, sym, true, untagged, ℕ, ℕ_discrete}
 use Rattle.lines_model.proofs.Acts.{giver-fits, goal-lt}
 use Rattle.lines_model.proofs.Row.{other, same}
-use Rattle.lines_model.proofs.Tests.{shape-means}
+use Rattle.lines_model.proofs.Shaped.{shape-means}
 use Rattle.lines_model.specs.Calls.{heads}
 use Rattle.lines_model.specs.Layout.{row_at, shape_ok, word}
 use Rattle.lines_model.specs.Rules.{choice, come_to, counted, denied, due_of, giver, goal, has_room, in_range, rank_fit, room_after, taker, total}

@@ -2,7 +2,8 @@
 use Rattle.laws.specs.Prelude.{Idle, List, Pop, Push, Replace, Request, ◌+◌, ◌-◌, ◌<◌, ◌∙◌, ◌≡◌, ◌≤◌, and_left, and_right, ap, ap₂, arith, eq-eqb, eqb, eqb-false, eqb-true, length, length-set, ltb, ltb-true, ne_eqb, refl, set, sym, true, ℕ, ℕ_discrete, ⊎_elim}
 use Rattle.lines_model.proofs.Acts.{giver-fits, goal-lt}
 use Rattle.lines_model.proofs.Row.{other, row-past, same}
-use Rattle.lines_model.proofs.Tests.{below-means, range-means, shape-means}
+use Rattle.lines_model.proofs.Shaped.{shape-means}
+use Rattle.lines_model.proofs.Tests.{below-means, range-means}
 use Rattle.lines_model.proofs.Which.{or_cases}
 use Rattle.lines_model.specs.Calls.{counts_ok, heads}
 use Rattle.lines_model.specs.Causes.{CountsFit, Shaped}

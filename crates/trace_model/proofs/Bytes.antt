@@ -1,10 +1,12 @@
 -- Header, records and lines are those of 01 and 02, byte by byte (`specs/Bytes.antt`).
-use Rattle.laws.specs.Prelude.{Bool, Done, Element, Empty, Full, Idle, Iff, List, NoTag, Out, Pop, Push, Refused, Replace, Request, TooSoon, [], ◌%◌, ◌&&◌, ◌*◌, ◌++◌, ◌+◌, ◌/◌, ◌<◌, ◌^◌, ◌∙◌, ◌∷◌, ◌≡◌, ◌≤◌, ◌⊎◌, and_left, and_right, and-true, ap, ap₂, arith, cond, drop, element, eqb, eqb-false, eqb-true, false, get_or, inl, inr, is_blank, le-leb, leb, leb-false, leb-true, length, ne_eqb, not, refl, subst, suc, sum_to, sym, true, zero, ℕ, ⊎_elim}
+use Rattle.laws.specs.Prelude.{Bool, Done, Element, Empty, Full, Idle, Iff, List, NoTag, Out, Pop, Push, Refused, Replace, Request, TooSoon, [], ◌&&◌, ◌*◌, ◌++◌, ◌+◌, ◌<◌, ◌^◌, ◌∙◌, ◌∷◌, ◌≡◌, ◌≤◌, ◌⊎◌, and_left, and_right, and-true, ap, ap₂, arith, cond, drop, element, eqb, eqb-false, eqb-true, false, get_or, inl, inr, is_blank, le-leb, leb, leb-false, leb-true, length, ne_eqb, refl, subst, suc, sum_to, sym, true, zero, ℕ, ⊎_elim}
 use native.Mathlib.Nat.{mul-le-mul_left}
 use mathlib.Core.List.{append_assoc, append-nil}
 use Rattle.tree_clock_model.specs.Prelude.{cleared_machine}
 use Rattle.text.specs.Text.{bytes_of, decimal}
+use Rattle.trace_model.proofs.Cut.{cut_record_lem}
 use Rattle.trace_model.proofs.Pieces.{records-append, records-whole}
+use Rattle.trace_model.proofs.VersionRead.{version-read}
 use Rattle.trace_model.specs.Bytes.{four_bytes, head_bytes, Headless, idle, idle-with, other, pop, pop-with, push, replace, Said, Says, Taken, version_number}
 use Rattle.trace_model.specs.Format.{byte_at, cut_record, done_word, entry_at, entry_of, headed, header_bytes, header_of, length_at, length_word, line_of, sign_ok, number_at, only_blank, out_word, record_bytes, records_from, records_of, refusal_word, trace_limit, trace_shape, version_at, word_of}
 use Rattle.trace_model.specs.Program.{empty_store, store_words, text_from, text_of, trace_text}
@@ -108,18 +110,6 @@ seven (a ∷ b ∷ c ∷ d ∷ []) h = absurd (omega arith)
 seven (a ∷ b ∷ c ∷ d ∷ e ∷ []) h = absurd (omega arith)
 seven (a ∷ b ∷ c ∷ d ∷ e ∷ f ∷ []) h = absurd (omega arith)
 seven (a ∷ b ∷ c ∷ d ∷ e ∷ f ∷ g ∷ bs) h = refl
-
-version-read : (n a b : ℕ) (v : Version) (m levels : ℕ) → headed n a b ≡ Shape v m levels → (a ≡ m) × (b ≡ levels) × (n ≡ version_number v)
-unfolding headed
-version-read n a b v m levels e = go (eqb n 1) refl (eqb n 2) refl v e
-  where
-    go : (s : Bool) → eqb n 1 ≡ s → (t : Bool) → eqb n 2 ≡ t → (v : Version) → cond s (Shape One a b) (cond t (Shape Two a b) Wrong) ≡ Shape v m levels
-        → (a ≡ m) × (b ≡ levels) × (n ≡ version_number v)
-    go true one t two One p = (cc, cc, eqb-true n 1 one)
-    go true one t two Two p = let z : ◌≡◌ {A = ℕ} 0 1 = cc in absurd (omega arith)
-    go false one true two One p = let z : ◌≡◌ {A = ℕ} 0 1 = cc in absurd (omega arith)
-    go false one true two Two p = (cc, cc, eqb-true n 2 two)
-    go false one false two v p = let z : ◌≡◌ {A = ℕ} 0 1 = cc in absurd (omega arith)
 
 version-bytes : (v : Version) (low high : ℕ) → low + 256 * high ≡ version_number v → (low ≡ version_number v) × (high ≡ 0)
 version-bytes One low high e = (omega arith, omega arith)
@@ -236,10 +226,6 @@ thirteen-bytes code a b c d e f g h i j k l records r s =
     records-one Two bs records (omega arith)
     ∙ ap (λ (x : Record). x ∷ records_of Two records)
     ((λ p. entry_of code (element (number-says bs 1 p) (number-says bs 5 p) (number-says bs 9 p))) ∙ entry-says _ _ _ _ _ s)
-
-cut_record_lem : (v : Version) (bs : List ℕ) → length bs / record_bytes v ≡ 0 → (length bs % record_bytes v ≡ 0 → ⊥) → records_of v bs ≡ Bad ∷ []
-unfolding records_of records_from cut_record
-cut_record_lem v bs none some = ap₂ (λ (k : ℕ) (whole : Bool). records_from v k 0 bs ++ cut_record (not whole)) none (ne_eqb (length bs % record_bytes v) 0 some)
 
 -- "and so is .. a cut record"; bytes that are none have none
 pub no-records : (v : Version) → records_of v [] ≡ []
